@@ -1,0 +1,32 @@
+-- Counts of failed calls. Counts by name are functions of the name, so that an outside may keep one for each file or one for all.
+use Rattle.std.specs.Prelude.{◌≡◌, ℕ, ◌+◌, ◌-◌, ◌^◌, ◌≤◌, min, List, Ok, Err, Result}
+use Rattle.plc_io.specs.declared.faults.IoFault.{IoFault}
+use Rattle.plc_io.specs.declared.faults.IoFault.TheVariants.{Failed, NoMemory}
+
+-- the last value of a count, where it stands still
+abbrev pub last_count : ℕ
+last_count = 2 ^ 64 - 1
+
+-- a count rose: it is greater at the end than at the start, or stands at its last value
+abbrev pub Rose : ℕ → ℕ → Type 0
+Rose before now = min (before + 1) last_count ≤ now
+
+-- no count changed
+abbrev pub SameCounts : (List ℕ → ℕ) → (List ℕ → ℕ) → Type 0
+SameCounts before now = (name : List ℕ) → now name ≡ before name
+
+-- no count fell
+abbrev pub NeverFell : (List ℕ → ℕ) → (List ℕ → ℕ) → Type 0
+NeverFell before now = (name : List ℕ) → before name ≤ now name
+
+-- what a call on the file `name` leaves of the counts by name: a failed one raised this name's count, and every other raised none
+abbrev pub CountsAt : {X : Type 0} → (List ℕ → ℕ) → (List ℕ → ℕ) → List ℕ → Result X IoFault → Type 0
+CountsAt before now name (Ok x) = SameCounts before now
+CountsAt before now name (Err Failed) = NeverFell before now × Rose (before name) (now name)
+CountsAt before now name (Err NoMemory) = SameCounts before now
+
+-- what a call leaves of a single count: a failed one raised it, and every other didn't
+abbrev pub Counts : {X : Type 0} → ℕ → ℕ → Result X IoFault → Type 0
+Counts before now (Ok x) = now ≡ before
+Counts before now (Err Failed) = (before ≤ now) × Rose before now
+Counts before now (Err NoMemory) = now ≡ before

@@ -1,0 +1,46 @@
+ghost use Rattle.std.specs.Prelude.{◌≡◌, []};
+ghost use Rattle.plc_io.specs.Calls.{after_call, is_next_to_fail};
+
+use arrayvec::ArrayVec;
+
+/// The calls of one kind on an outside in memory.
+#[derive(Drop)]
+pub struct Calls {
+    /// How many calls were made.
+    pub made: u64,
+    /// How many of them failed.
+    pub failed: u64,
+    /// The numbers of the calls that are to fail. The first call has number 1.
+    pub failing: ArrayVec<u64, 16>,
+}
+
+impl Calls {
+    pub fn new() -> Self
+        ensures none { result.made ≡ 0 }
+        ensures none_failed { result.failed ≡ 0 }
+        ensures none_failing { result.failing.items ≡ [] }
+    {
+        Calls {
+            made: 0,
+            failed: 0,
+            failing: ArrayVec::new(),
+        }
+    }
+
+    /// Whether the next call is to fail.
+    pub fn is_next_to_fail(&self) -> bool
+        ensures { result ≡ is_next_to_fail self.now }
+    {
+        self.failing.contains(&self.made.saturating_add(1))
+    }
+
+    /// Counts one more call, which failed or didn't.
+    pub fn count(&mut self, failed: bool)
+        ensures { self.new ≡ after_call self.old failed }
+    {
+        self.made = self.made.saturating_add(1);
+        if failed {
+            self.failed = self.failed.saturating_add(1);
+        }
+    }
+}
