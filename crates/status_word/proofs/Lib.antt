@@ -1,0 +1,2 @@
+pub mod ExclusiveOr
+pub mod StatusNumberLaws

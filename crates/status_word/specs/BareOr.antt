@@ -1,0 +1,15 @@
+-- Bit logic instruction O without an operand: AND before OR.
+use Rattle.std.specs.Prelude.{true, false, if◌then◌else◌}
+use Rattle.status_word.specs.declared.statuses.Status.{Status}
+use Rattle.status_word.specs.declared.registers.Regs.{Regs}
+
+-- within a logic string OR takes over the RLO, else it stays; STA 1, and a new string begins
+unfoldable pub or_bare : Regs → Regs
+or_bare r =
+    record r {
+      status = record r.status {
+        or = if r.status.fc then r.status.rlo else r.status.or;
+        sta = true;
+        fc = false;
+      };
+    }

@@ -1,0 +1,20 @@
+-- Bit logic instructions FP (Edge Positive) and FN (Edge Negative).
+use Rattle.std.specs.Prelude.{Bool, true, false, not, ◌&&◌, if◌then◌else◌}
+use Rattle.status_word.specs.declared.statuses.Status.{Status}
+use Rattle.status_word.specs.declared.registers.Regs.{Regs}
+
+-- FP tells a change of the RLO from 0 to 1, FN one from 1 to 0, where the edge bit holds the RLO of the last time
+abbrev pub is_edge : (rising rlo bit : Bool) → Bool
+is_edge rising rlo bit = if rising then rlo && not bit else not rlo && bit
+
+-- RLO and STA become that answer, OR 0, /FC 1
+unfoldable pub edged : (rising bit : Bool) → Regs → Regs
+edged rising bit r =
+    record r {
+      status = record r.status {
+        rlo = is_edge rising r.status.rlo bit;
+        sta = is_edge rising r.status.rlo bit;
+        or = false;
+        fc = true;
+      };
+    }

@@ -1,0 +1,9 @@
+pub mod Registers
+pub mod Check
+pub mod BareOr
+pub mod Store
+pub mod SetClear
+pub mod Edge
+pub mod Flags
+pub mod Brackets
+pub mod StatusNumber

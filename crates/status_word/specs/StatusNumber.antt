@@ -1,0 +1,35 @@
+-- The status word as a number, bit by bit: /FC, RLO, STA, OR, OS, OV, CC 0, CC 1, BR from bit 0 on.
+use Rattle.std.specs.Prelude.{ℕ, ◌+◌, ◌*◌, ◌/◌, ◌%◌, ◌^◌, Bool, false, nat_eq, if◌then◌else◌}
+use Rattle.status_word.specs.declared.statuses.Status.{Status}
+
+-- 1 or 0
+abbrev pub bit : Bool → ℕ
+bit b = if b then 1 else 0
+
+-- whether bit k of n is 1
+abbrev pub has_bit : ℕ → ℕ → Bool
+has_bit n k = nat_eq (n / 2 ^ k % 2) 1
+
+-- the number of all nine bits: a bit k that is 1 weighs 2 ^ k
+unfoldable pub number_of : Status → ℕ
+number_of s =
+    bit s.fc + 2 * bit s.rlo + 4 * bit s.sta + 8 * bit s.or + 16 * bit s.os + 32 * bit s.ov + 64 * bit s.cc0 + 128 * bit s.cc1
+    + 256 * bit s.br
+
+-- the status word whose nine bits are the lowest nine of a number, as T STW takes them
+unfoldable pub status_of : ℕ → Status
+status_of n = record {
+  fc = has_bit n 0;
+  rlo = has_bit n 1;
+  sta = has_bit n 2;
+  or = has_bit n 3;
+  os = has_bit n 4;
+  ov = has_bit n 5;
+  cc0 = has_bit n 6;
+  cc1 = has_bit n 7;
+  br = has_bit n 8;
+}
+
+-- what L STW shows of a status word: /FC, STA and OR read as 0
+abbrev pub shown : Status → Status
+shown s = record s { fc = false; sta = false; or = false }

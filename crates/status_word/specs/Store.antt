@@ -1,0 +1,8 @@
+-- Bit logic instructions = (Assign), S (Set) and R (Reset): what they do to the status word.
+use Rattle.std.specs.Prelude.{Bool, false}
+use Rattle.status_word.specs.declared.statuses.Status.{Status}
+use Rattle.status_word.specs.declared.registers.Regs.{Regs}
+
+-- the logic string ends: STA is the value of the bit afterwards, OR 0, /FC 0, and the RLO stays
+unfoldable pub stored : (after : Bool) → Regs → Regs
+stored after r = record r { status = record r.status { sta = after; or = false; fc = false } }

@@ -1,0 +1,13 @@
+//! The registers and the status word of an activation, the bit logic instructions that work on
+//! them, and the nesting stack.
+#![tactic(auto)]
+
+mod checks;
+mod nesting;
+mod registers;
+mod statuses;
+
+pub use checks::Check;
+pub use nesting::{Bracket, Brackets, NESTING_DEPTH};
+pub use registers::Regs;
+pub use statuses::Status;

@@ -1,0 +1,144 @@
+ghost use Rattle.std.specs.Prelude.{◌≡◌};
+ghost use Rattle.status_word.specs.Registers.{regs_at_rest};
+ghost use Rattle.status_word.specs.Check.{checked};
+ghost use Rattle.status_word.specs.BareOr.{or_bare};
+ghost use Rattle.status_word.specs.Store.{stored};
+ghost use Rattle.status_word.specs.SetClear.{set, clr, negated, saved};
+ghost use Rattle.status_word.specs.Edge.{edged};
+ghost use Rattle.status_word.specs.Flags.{flag_value};
+
+use crate::checks::Check;
+use crate::statuses::Status;
+use plc_base::Flag;
+
+/// The registers of an activation: accumulators 1 and 2, address registers 1 and 2, and the
+/// status word.
+#[derive(Clone, Copy, Debug, PartialEq, Eq)]
+pub struct Regs {
+    pub a1: u32,
+    pub a2: u32,
+    pub ar1: u32,
+    pub ar2: u32,
+    pub status: Status,
+}
+
+impl Regs {
+    /// The registers with which an activation begins: all 0, and the status word 0.
+    pub fn new() -> Regs
+        ensures { result ≡ regs_at_rest }
+    {
+        Regs {
+            a1: 0,
+            a2: 0,
+            ar1: 0,
+            ar2: 0,
+            status: Status::new(),
+        }
+    }
+
+    /// A, AN, O, ON, X and XN, where `read` is the bit read, not inverted.
+    #[tactic(auto, unfolding(crate::specs::Check::checked))]
+    pub fn check(&mut self, code: Check, read: bool)
+        ensures { self.new ≡ checked code read self.old }
+    {
+        let before = self.status;
+        let value = code.value(read);
+        let base = if before.fc {
+            code.join(before.rlo, value)
+        } else {
+            value
+        };
+        let alone = before.fc && code.is_exclusive();
+        self.status = Status {
+            fc: true,
+            rlo: base || !alone && before.or,
+            sta: read,
+            or: code.is_and() && before.or,
+            ..before
+        };
+    }
+
+    /// O without an operand: AND before OR.
+    #[tactic(auto, unfolding(crate::specs::BareOr::or_bare))]
+    pub fn or_bare(&mut self)
+        ensures { self.new ≡ or_bare self.old }
+    {
+        if self.status.fc {
+            self.status.or = self.status.rlo;
+        }
+        self.status.sta = true;
+        self.status.fc = false;
+    }
+
+    /// The value of a condition as bit logic instructions read it.
+    pub fn flag(&self, flag: Flag) -> bool
+        ensures { result ≡ flag_value flag self.now.status }
+    {
+        self.status.flag(flag)
+    }
+
+    /// What =, S and R do to the status word, for a bit whose value afterwards is `after`.
+    #[tactic(auto, unfolding(crate::specs::Store::stored))]
+    pub fn store(&mut self, after: bool)
+        ensures { self.new ≡ stored after self.old }
+    {
+        self.status.sta = after;
+        self.status.or = false;
+        self.status.fc = false;
+    }
+
+    /// SET: sets the RLO.
+    #[tactic(auto, unfolding(crate::specs::SetClear::set))]
+    pub fn set(&mut self)
+        ensures { self.new ≡ set self.old }
+    {
+        self.status.rlo = true;
+        self.status.sta = true;
+        self.status.or = false;
+        self.status.fc = false;
+    }
+
+    /// CLR: clears the RLO.
+    #[tactic(auto, unfolding(crate::specs::SetClear::clr))]
+    pub fn clr(&mut self)
+        ensures { self.new ≡ clr self.old }
+    {
+        self.status.rlo = false;
+        self.status.sta = false;
+        self.status.or = false;
+        self.status.fc = false;
+    }
+
+    /// NOT: negates the RLO.
+    #[tactic(auto, unfolding(crate::specs::SetClear::negated))]
+    pub fn not(&mut self)
+        ensures { self.new ≡ negated self.old }
+    {
+        self.status.rlo = !self.status.rlo;
+        self.status.sta = true;
+    }
+
+    /// SAVE: saves the RLO in BR.
+    #[tactic(auto, unfolding(crate::specs::SetClear::saved))]
+    pub fn save(&mut self)
+        ensures { self.new ≡ saved self.old }
+    {
+        self.status.br = self.status.rlo;
+    }
+
+    /// FP where `rising` is true, else FN. `bit` is the edge bit, which holds the RLO of the last
+    /// time; the answer is its new value.
+    #[tactic(auto, unfolding(crate::specs::Edge::edged))]
+    pub fn edge(&mut self, rising: bool, bit: bool) -> bool
+        ensures registers { self.new ≡ edged rising bit self.old }
+        ensures edge_bit { result ≡ self.old.status.rlo }
+    {
+        let rlo = self.status.rlo;
+        let edge = if rising { rlo && !bit } else { !rlo && bit };
+        self.status.rlo = edge;
+        self.status.sta = edge;
+        self.status.or = false;
+        self.status.fc = true;
+        rlo
+    }
+}
