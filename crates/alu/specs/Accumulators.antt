@@ -1,0 +1,41 @@
+-- Accumulator instructions TAK, PUSH, POP, CAW, CAD, INC, DEC and + (Add Integer Constant).
+use Rattle.std.specs.Prelude.{ℕ, ◌+◌, ◌*◌, ◌/◌, ◌%◌, ◌^◌, ℤ, pos, ◌-ℤ◌}
+use Rattle.status_word.specs.declared.registers.Regs.{Regs}
+use Rattle.alu.specs.Signed.{modulo}
+
+-- an accumulator whose lowest w bits are now those of `low`, and whose other bits stay
+unfoldable pub with_low : (w accumulator low : ℕ) → ℕ
+with_low w accumulator low = accumulator / 2 ^ w * 2 ^ w + low
+
+-- byte k of an accumulator, byte 0 the lowest
+abbrev pub byte_of : (accumulator k : ℕ) → ℕ
+byte_of accumulator k = accumulator / 2 ^ (8 * k) % 2 ^ 8
+
+-- TAK: accumulators 1 and 2 exchanged
+abbrev pub toggled : Regs → Regs
+toggled r = record r { a1 = r.a2; a2 = r.a1 }
+
+-- PUSH: accumulator 1 copied to accumulator 2
+abbrev pub pushed : Regs → Regs
+pushed r = record r { a2 = r.a1 }
+
+-- POP: accumulator 2 copied to accumulator 1
+abbrev pub popped : Regs → Regs
+popped r = record r { a1 = r.a2 }
+
+-- CAW: the bytes of ACCU 1-L in the opposite order
+unfoldable pub with_word_reversed : Regs → Regs
+with_word_reversed r = record r { a1 = with_low 16 r.a1 (byte_of r.a1 0 * 2 ^ 8 + byte_of r.a1 1) }
+
+-- CAD: the bytes of accumulator 1 in the opposite order
+unfoldable pub with_bytes_reversed : Regs → Regs
+with_bytes_reversed r =
+    record r { a1 = byte_of r.a1 0 * 2 ^ 24 + byte_of r.a1 1 * 2 ^ 16 + byte_of r.a1 2 * 2 ^ 8 + byte_of r.a1 3 }
+
+-- INC and +: n added to the lowest w bits of accumulator 1, modulo 2 ^ w
+unfoldable pub increased : (w n : ℕ) → Regs → Regs
+increased w n r = record r { a1 = with_low w r.a1 ((r.a1 + n) % 2 ^ w) }
+
+-- DEC: n taken from the lowest w bits of accumulator 1, modulo 2 ^ w
+unfoldable pub decreased : (w n : ℕ) → Regs → Regs
+decreased w n r = record r { a1 = with_low w r.a1 (modulo w (pos r.a1 -ℤ pos n)) }

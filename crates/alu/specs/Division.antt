@@ -1,0 +1,61 @@
+-- /I, /D and MOD: accumulator 2 divided by accumulator 1, cut toward zero.
+use Rattle.std.specs.Prelude.{ℕ, ◌+◌, ◌-◌, ◌*◌, ◌/◌, ◌^◌, Bool, true, false, not, ◌&&◌, ◌==◌, if◌then◌else◌, ℤ, pos, ◌-ℤ◌, ◌*ℤ◌, neg_ℤ, unsigned_abs, int_lt}
+use Rattle.status_word.specs.declared.registers.Regs.{Regs}
+use Rattle.status_word.specs.declared.statuses.Status.{Status}
+use Rattle.status_word.specs.Check.{exclusive_or}
+use Rattle.alu.specs.declared.codes.Codes.{Codes}
+use Rattle.alu.specs.Signed.{signed, modulo}
+use Rattle.alu.specs.Codes.{of_sign, unordered, shown}
+
+-- the quotient cut toward zero: that of the sizes, negative where just one of the two numbers is
+abbrev pub quotient : (dividend divisor : ℤ) → ℤ
+quotient dividend divisor =
+    let size = unsigned_abs dividend / unsigned_abs divisor
+    in if exclusive_or (int_lt dividend (pos 0)) (int_lt divisor (pos 0)) then neg_ℤ (pos size) else pos size
+
+-- the remainder: what the quotient leaves of the dividend
+abbrev pub remainder : (dividend divisor : ℤ) → ℤ
+remainder dividend divisor = dividend -ℤ quotient dividend divisor *ℤ divisor
+
+abbrev pub is_zero : ℤ → Bool
+is_zero z = unsigned_abs z == 0
+
+-- the one pair of integers of w bits whose quotient has more: the least of them by -1
+abbrev pub is_least_by_minus_one : (w : ℕ) → (dividend divisor : ℤ) → Bool
+is_least_by_minus_one w dividend divisor =
+    int_lt dividend (pos 0) && unsigned_abs dividend == 2 ^ (w - 1) && int_lt divisor (pos 0) && unsigned_abs divisor == 1
+
+-- accumulator 1 and the codes of a division
+abbrev pub with_result : (accumulator : ℕ) → Codes → Regs → Regs
+with_result accumulator codes r = record r { a1 = accumulator; status = shown codes r.status }
+
+-- a division by zero: accumulator 1 stays, CC 1/1, OV 1, OS 1
+abbrev pub divided_by_zero : Regs → Regs
+divided_by_zero r = with_result r.a1 unordered r
+
+-- an overflow of the quotient: CC 1/0, OV 1, OS 1
+abbrev pub quotient_overflow : Codes
+quotient_overflow = record { cc1 = true; cc0 = false; ov = true }
+
+-- /I: the quotient in ACCU 1-L and the remainder in ACCU 1-H, CC by the quotient; -32768 by -1 gives 16#8000 and 0
+unfoldable pub divided_i : (dividend divisor : ℤ) → Regs → Regs
+divided_i dividend divisor r =
+    if is_zero divisor then divided_by_zero r
+    else if is_least_by_minus_one 16 dividend divisor then with_result (2 ^ 15) quotient_overflow r
+    else with_result
+    (modulo 16 (remainder dividend divisor) * 2 ^ 16 + modulo 16 (quotient dividend divisor))
+    (of_sign (quotient dividend divisor) false)
+    r
+
+-- /D: the quotient in accumulator 1, CC by it; -2147483648 by -1 gives 16#80000000
+unfoldable pub divided_d : (dividend divisor : ℤ) → Regs → Regs
+divided_d dividend divisor r =
+    if is_zero divisor then divided_by_zero r
+    else if is_least_by_minus_one 32 dividend divisor then with_result (2 ^ 31) quotient_overflow r
+    else with_result (modulo 32 (quotient dividend divisor)) (of_sign (quotient dividend divisor) false) r
+
+-- MOD: the remainder in accumulator 1, CC by it; it is 0 also at -2147483648 by -1, with no overflow
+unfoldable pub divided_mod : (dividend divisor : ℤ) → Regs → Regs
+divided_mod dividend divisor r =
+    if is_zero divisor then divided_by_zero r
+    else with_result (modulo 32 (remainder dividend divisor)) (of_sign (remainder dividend divisor) false) r

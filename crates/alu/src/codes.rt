@@ -1,0 +1,72 @@
+ghost use Rattle.std.specs.Prelude.{◌≡◌, ◌≤ℤ◌, ◌<ℤ◌, ◌^◌, ◌-◌, pos, negsuc};
+ghost use Rattle.alu.specs.Signed.{width_of};
+ghost use Rattle.alu.specs.Codes.{of_sign, unordered, shown};
+ghost use Rattle.alu.specs.Sums.{sum_codes};
+
+use crate::formats::Format;
+use status_word::Status;
+
+/// What a number instruction shows of its result: the condition codes and the overflow.
+#[derive(Clone, Copy)]
+pub(crate) struct Codes {
+    pub(crate) cc1: bool,
+    pub(crate) cc0: bool,
+    pub(crate) ov: bool,
+}
+
+impl Codes {
+    /// The sign of a result.
+    pub(crate) fn of_sign(number: i64, ov: bool) -> Codes
+        ensures { result ≡ of_sign number ov }
+    {
+        Codes {
+            cc1: number > 0,
+            cc0: number < 0,
+            ov,
+        }
+    }
+
+    /// The range in which a true sum lies.
+    #[tactic(auto, unfolding(crate::specs::Sums::sum_codes))]
+    pub(crate) fn of_sum(format: Format, sum: i64) -> Codes
+        ensures { result ≡ sum_codes (width_of format) sum }
+    {
+        if format.holds(sum) {
+            Codes::of_sign(sum, false)
+        } else if sum > 0 {
+            Codes {
+                cc1: false,
+                cc0: true,
+                ov: true,
+            }
+        } else {
+            Codes {
+                cc1: sum.unsigned_abs() != format.modulus(),
+                cc0: false,
+                ov: true,
+            }
+        }
+    }
+
+    /// A division by zero.
+    pub(crate) fn unordered() -> Codes
+        ensures { result ≡ unordered }
+    {
+        Codes {
+            cc1: true,
+            cc0: true,
+            ov: true,
+        }
+    }
+
+    /// Sets CC 1, CC 0 and OV, and OS where OV is 1.
+    #[tactic(auto, unfolding(crate::specs::Codes::shown))]
+    pub(crate) fn show(self, status: &mut Status)
+        ensures { status.new ≡ shown self status.old }
+    {
+        status.cc1 = self.cc1;
+        status.cc0 = self.cc0;
+        status.ov = self.ov;
+        status.os = status.os || self.ov;
+    }
+}

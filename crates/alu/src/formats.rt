@@ -1,0 +1,74 @@
+ghost use Rattle.std.specs.Prelude.{◌≡◌, ◌-◌, ◌^◌, negsuc, pos, ◌≤ℤ◌, ◌<ℤ◌};
+ghost use Rattle.alu.specs.Signed.{width_of, signed, modulo, in_range};
+ghost use Rattle.alu.specs.Accumulators.{with_low};
+
+/// The format of the integers that an instruction works on: INT, 16 bits in the low word of an
+/// accumulator, or DINT, 32 bits.
+#[derive(Clone, Copy)]
+pub(crate) enum Format {
+    Int,
+    Dint,
+}
+
+impl Format {
+    /// The integer in an accumulator.
+    #[tactic(auto, unfolding(crate::specs::Signed::signed))]
+    pub(crate) fn read(self, accumulator: u32) -> i64
+        ensures value { result ≡ signed (width_of self) accumulator }
+        ensures low { negsuc (2 ^ 31 - 1) ≤ℤ result }
+        ensures high { result <ℤ pos (2 ^ 31) }
+    {
+        match self {
+            Format::Int => i64::from(((accumulator % 0x1_0000) as u16).cast_signed()),
+            Format::Dint => i64::from(accumulator.cast_signed()),
+        }
+    }
+
+    /// The accumulator with the lowest bits of `number` at its lowest bits.
+    #[tactic(auto, unfolding(crate::specs::Signed::modulo, crate::specs::Accumulators::with_low))]
+    pub(crate) fn put(self, accumulator: u32, number: i64) -> u32
+        ensures { result ≡ with_low (width_of self) accumulator (modulo (width_of self) number) }
+    {
+        match self {
+            Format::Int => accumulator - accumulator % 0x1_0000 + u32::from(low_word(number)),
+            Format::Dint => low_dword(number),
+        }
+    }
+
+    /// How many integers there are of this format.
+    pub(crate) fn modulus(self) -> u64
+        ensures { result ≡ 2 ^ width_of self }
+    {
+        match self {
+            Format::Int => 0x1_0000,
+            Format::Dint => 0x1_0000_0000,
+        }
+    }
+
+    /// Whether an integer of this format can be `number`.
+    #[tactic(auto, unfolding(crate::specs::Signed::in_range))]
+    pub(crate) fn holds(self, number: i64) -> bool
+        ensures { result ≡ in_range (width_of self) number }
+    {
+        match self {
+            Format::Int => -0x8000 <= number && number < 0x8000,
+            Format::Dint => -0x8000_0000 <= number && number < 0x8000_0000,
+        }
+    }
+}
+
+/// The lowest 16 bits of a number in two's complement.
+#[tactic(auto, unfolding(crate::specs::Signed::modulo))]
+pub(crate) fn low_word(number: i64) -> u16
+    ensures { result ≡ modulo 16 number }
+{
+    number.rem_euclid(0x1_0000) as u16
+}
+
+/// The lowest 32 bits of a number in two's complement.
+#[tactic(auto, unfolding(crate::specs::Signed::modulo))]
+pub(crate) fn low_dword(number: i64) -> u32
+    ensures { result ≡ modulo 32 number }
+{
+    number.rem_euclid(0x1_0000_0000) as u32
+}

@@ -1,0 +1,14 @@
+//! The number instructions: one function for each instruction that works on the accumulators
+//! alone.
+//!
+//! INT is a 16-bit integer in the low word of an accumulator (ACCU 1-L), DINT a 32-bit integer in
+//! the whole accumulator. Accumulator 2 is the left operand and stays as it is.
+#![tactic(auto)]
+
+mod accumulators;
+mod codes;
+mod formats;
+mod integers;
+
+pub use accumulators::{add_const, add_const_wide, cad, caw, dec, inc, pop, push, tak};
+pub use integers::{add_d, add_i, neg_d, neg_i, sub_d, sub_i};
