@@ -1,5 +1,5 @@
 -- BCD words, digit by digit.
-use Rattle.std.proofs.Common.{◌≡◌, ℕ, zero, suc, ◌+◌, ◌-◌, ◌*◌, ◌/◌, ◌%◌, ◌^◌, ◌<◌, ◌≤◌, Bool, true, false, ◌&&◌, nat_le, refl, sym, ◌∙◌, ap, arith, cond, lit<}
+use Rattle.std.proofs.Common.{◌≡◌, ℕ, zero, suc, ◌+◌, ◌-◌, ◌*◌, ◌/◌, ◌%◌, ◌^◌, ◌<◌, ◌≤◌, Bool, true, false, ◌&&◌, nat_le, refl, sym, ◌∙◌, ap, arith, lit<}
 use Rattle.std.proofs.Math.Nat.{div-div-eq-div-mul, pow-succ', pow-le-pow_right}
 use Rattle.std.proofs.lemmas.Nat.{pow-add}
 use Rattle.plc_base.specs.Bcd.{are_decimal, spelled, bcd_digits}
@@ -97,3 +97,41 @@ digit_step count (suc i) n word some fits =
 
 pub hex_bound : (count i : ℕ) → count ≤ 7 → 0 < i → 16 ^ (count - i) ≤ 16 ^ 6
 hex_bound count i few some = pow-le-pow_right (lit< tt) {i = count - i} {j = 6} (omega arith)
+
+-- the digits of a number below a part of the word that they don't reach
+digit_then : (high low n : ℕ) → 2 ^ (4 * suc n) * high + (low % 10 + 16 * bcd_digits n (low / 10))
+    ≡ low % 10 + 16 * (2 ^ (4 * n) * high + bcd_digits n (low / 10))
+digit_then high low n =
+    let e : 2 ^ (4 * suc n) ≡ 16 * 2 ^ (4 * n) = ap (λ k. 2 ^ k) (omega arith) ∙ pow-add 2 4 (4 * n) in
+    omega (arith, ap (λ p. p * high) e)
+
+lowest : (digit rest : ℕ) → digit < 16 → (digit + 16 * rest) % 16 ≡ digit
+lowest digit rest small = omega arith
+
+above : (digit rest : ℕ) → digit < 16 → (digit + 16 * rest) / 16 ≡ rest
+above digit rest small = omega arith
+
+-- digits spell the number that they were made of, whatever stands above them
+pub spelled-bcd_digits : (n high number : ℕ) → number < 10 ^ n → spelled n (2 ^ (4 * n) * high + bcd_digits n number) ≡ number
+spelled-bcd_digits zero high number small = omega arith
+spelled-bcd_digits (suc n) high number small =
+    let rest : ℕ = 2 ^ (4 * n) * high + bcd_digits n (number / 10) in
+    let less : number / 10 < 10 ^ n = omega (arith, small, pow-succ' 10 n) in
+    rw (digit_then high number n, lowest (number % 10) rest (omega arith), above (number % 10) rest (omega arith), spelled-bcd_digits n high (number / 10) less)
+    (omega arith)
+
+-- they are decimal digits
+pub are_decimal-bcd_digits : (n high number : ℕ) → are_decimal n (2 ^ (4 * n) * high + bcd_digits n number) ≡ true
+are_decimal-bcd_digits zero high number = refl
+are_decimal-bcd_digits (suc n) high number =
+    let rest : ℕ = 2 ^ (4 * n) * high + bcd_digits n (number / 10) in
+    let small : nat_le (number % 10) 9 ≡ true = grind arith in
+    rw (digit_then high number n, lowest (number % 10) rest (omega arith), above (number % 10) rest (omega arith), small)
+    (are_decimal-bcd_digits n high (number / 10))
+
+-- what stands above them stands there
+pub bcd_digits-bound : (n number : ℕ) → bcd_digits n number < 2 ^ (4 * n)
+bcd_digits-bound zero number = omega arith
+bcd_digits-bound (suc n) number =
+    let e : 2 ^ (4 * suc n) ≡ 16 * 2 ^ (4 * n) = ap (λ k. 2 ^ k) (omega arith) ∙ pow-add 2 4 (4 * n) in
+    omega (arith, e, bcd_digits-bound n (number / 10))

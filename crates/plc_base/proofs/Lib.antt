@@ -1,1 +1,2 @@
 pub mod BcdLemmas
+pub mod RoundTrips

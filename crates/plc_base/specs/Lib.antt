@@ -1,1 +1,3 @@
 pub mod Bcd
+pub mod Pointer
+pub mod S5Time

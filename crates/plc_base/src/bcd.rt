@@ -1,9 +1,15 @@
-ghost use Rattle.std.specs.Prelude.{◌≡◌, ◌≤◌, ◌<◌, ◌^◌, MatchResult, IfSome, nat_abs};
+ghost use Rattle.std.specs.Prelude.{◌≡◌, ◌≤◌, ◌<◌, ◌^◌, ◌↔◌, IsNone, MatchResult, IfSome, nat_abs};
 ghost use Rattle.plc_base.specs.Bcd.{unsigned_of_bcd, signed_of_bcd, bcd_of_signed, bcd_digits};
 
 /// A digit of a BCD number is above 9, or its sign digit is neither 0 nor 15.
 #[derive(Clone, Copy, Debug, PartialEq, Eq)]
 pub struct BadBcd;
+
+/// The greatest number of three decimal digits.
+pub const MOST_OF_3_DIGITS: u16 = 999;
+
+/// The greatest number of seven decimal digits.
+pub const MOST_OF_7_DIGITS: u32 = 9_999_999;
 
 /// The number of the lowest `count` digits of `word`, with no sign, as a counter value or the
 /// digits of an S5TIME. `None` exactly where a digit is above 9.
@@ -82,10 +88,11 @@ pub fn bcd7_to_dint(word: u32) -> Result<i32, BadBcd>
 /// The signed BCD word of `number`, as `ITB` makes it. `None` exactly beyond -999 to 999.
 #[tactic(auto, unfolding(crate::specs::Bcd::bcd_of_signed))]
 pub fn int_to_bcd(number: i16) -> Option<u16>
-    ensures { result ≡ bcd_of_signed 3 number }
+    ensures value { result ≡ bcd_of_signed 3 number }
+    ensures none { IsNone result ↔ (MOST_OF_3_DIGITS < nat_abs number) }
 {
     let size = number.unsigned_abs();
-    if size > 999 {
+    if size > MOST_OF_3_DIGITS {
         return None;
     }
     let digits = unsigned_to_bcd(u32::from(size), 3) as u16;
@@ -100,10 +107,11 @@ pub fn int_to_bcd(number: i16) -> Option<u16>
 /// 9,999,999.
 #[tactic(auto, unfolding(crate::specs::Bcd::bcd_of_signed))]
 pub fn dint_to_bcd7(number: i32) -> Option<u32>
-    ensures { result ≡ bcd_of_signed 7 number }
+    ensures value { result ≡ bcd_of_signed 7 number }
+    ensures none { IsNone result ↔ (MOST_OF_7_DIGITS < nat_abs number) }
 {
     let size = number.unsigned_abs();
-    if size > 9_999_999 {
+    if size > MOST_OF_7_DIGITS {
         return None;
     }
     let digits = unsigned_to_bcd(size, 7);

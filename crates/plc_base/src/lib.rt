@@ -4,15 +4,21 @@
 mod bcd;
 mod blocks;
 mod flags;
+pub mod laws;
 mod modes;
 mod places;
+mod pointers;
 mod refusals;
+mod s5times;
 
 pub use bcd::{
-    BadBcd, bcd_to_int, bcd_to_unsigned, bcd7_to_dint, dint_to_bcd7, int_to_bcd, unsigned_to_bcd,
+    BadBcd, MOST_OF_3_DIGITS, MOST_OF_7_DIGITS, bcd_to_int, bcd_to_unsigned, bcd7_to_dint,
+    dint_to_bcd7, int_to_bcd, unsigned_to_bcd,
 };
 pub use blocks::{BlockId, BlockKind};
 pub use flags::Flag;
 pub use modes::{Mode, Spot};
 pub use places::{Area, Place, Width};
+pub use pointers::{BadArea, place_of_pointer, pointer_of_place};
 pub use refusals::{Refusal, SourceFault};
+pub use s5times::{LONGEST_MS, MOST_UNITS, TimeBase, TooLong, ms_of_s5time, s5time_of_ms};

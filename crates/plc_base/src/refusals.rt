@@ -1,4 +1,7 @@
-use std::alloc::AllocError;
+ghost use Rattle.std.specs.Prelude.{◌≡◌};
+ghost use Rattle.plc_base.specs.declared.refusals.SourceFault.TheVariants.{NoMemory};
+
+use std::alloc::{AllocError, AllocFailed};
 
 /// Why a source or a symbols file is refused: the line, counted from 1, and the number of the rule
 /// that it breaks.
@@ -13,4 +16,20 @@ pub struct Refusal {
 pub enum SourceFault {
     Refused { refusal: Refusal },
     NoMemory,
+}
+
+impl From<AllocError> for SourceFault {
+    ghost from_gives = { λ _ fault. fault ≡ NoMemory };
+
+    fn from(_error: AllocError) -> SourceFault {
+        SourceFault::NoMemory
+    }
+}
+
+impl<T: Drop> From<AllocFailed<T>> for SourceFault {
+    ghost from_gives = { λ _ fault. fault ≡ NoMemory };
+
+    fn from(_error: AllocFailed<T>) -> SourceFault {
+        SourceFault::NoMemory
+    }
 }

@@ -1,7 +1,5 @@
-use Rattle.std.proofs.Common.{rules, ◌≡◌, ◌≤◌, ◌<◌, ◌^◌, ℕ, ◌+◌, ◌-◌, ◌*◌, ◌/◌, ◌%◌, Bool, true, false, nat_eq, nat_lt, nat_le, Fits, w32, arith, ◌∙◌}
-use Rattle.std.proofs.lemmas.Grind.{common_steps}
-use Rattle.std.proofs.Math.Nat.{pow-succ', pow-le-pow_right}
-use Rattle.plc_base.specs.Bcd.{unsigned_of_bcd, are_decimal, spelled}
+use Rattle.std.proofs.Common.{arith, ◌∙◌}
+use Rattle.plc_base.specs.Bcd.{unsigned_of_bcd}
 use Rattle.plc_base.proofs.BcdLemmas.{step, bad_digit, pow_bound}
 use Rattle.plc_base.proofs.bcd.bcd_to_unsigned.Goals as goal
 

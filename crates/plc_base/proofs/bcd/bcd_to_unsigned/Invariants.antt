@@ -1,4 +1,4 @@
-use Rattle.std.proofs.Common.{◌≡◌, ◌≤◌, ◌<◌, ◌^◌, ℕ, ◌+◌, ◌-◌, ◌*◌}
+use Rattle.std.proofs.Common.{◌≡◌, ◌<◌, ◌^◌, ◌+◌, ◌-◌, ◌*◌}
 use Rattle.plc_base.specs.Bcd.{are_decimal, spelled}
 use Rattle.plc_base.proofs.bcd.bcd_to_unsigned.Given as goal
 

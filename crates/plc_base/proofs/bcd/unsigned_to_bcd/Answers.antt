@@ -1,4 +1,4 @@
-use Rattle.std.proofs.Common.{rules, ◌≡◌, ◌≤◌, ◌<◌, ◌^◌, ℕ, ◌+◌, ◌-◌, ◌*◌, ◌/◌, ◌%◌, Fits, w32, arith, ◌∙◌, lit<}
+use Rattle.std.proofs.Common.{◌-◌, arith, ◌∙◌, lit<}
 use Rattle.std.proofs.Math.Nat.{one-le-pow}
 use Rattle.plc_base.proofs.BcdLemmas.{digit_step, hex_bound}
 use Rattle.plc_base.proofs.bcd.unsigned_to_bcd.Goals as goal
