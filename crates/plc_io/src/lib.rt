@@ -4,8 +4,10 @@
 
 mod calls;
 mod faults;
+mod lists;
 mod traits;
 
 pub use calls::Calls;
 pub use faults::{IoFault, NoMemory};
+pub use lists::{Bytes, NamedFile, NamedFiles};
 pub use traits::{Files, Gate, Sink};
