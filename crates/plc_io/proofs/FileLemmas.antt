@@ -1,10 +1,11 @@
 -- What stands under which name in a list of named files, and after a file was put there.
 use Rattle.std.proofs.Common.{◌≡◌, ◌≢◌, ℕ, suc, ◌+◌, List, [], ◌∷◌, ◌++◌, Bool, true, false, Option, None, Some, cond, get_or, set, refl, sym, ◌∙◌, ap, arith, subst, bytes_eq}
 use Rattle.std.specs.List.{position_from}
-use Rattle.std.specs.Prelude.{if◌then◌else◌, position}
+use Rattle.std.specs.Prelude.{if◌then◌else◌, position, unwrap_or}
 use Rattle.std.proofs.lemmas.Iterator.Adapters.{position_from-zero}
 use Rattle.std.proofs.lemmas.Slice.Eq.{bytes_eq-Decides}
-use Rattle.plc_io.specs.NamedFiles.{bytes_of, with_file, EachNameOnce}
+use Rattle.plc_io.specs.NamedFiles.{bytes_of, bytes_or_none, contents_of, sure_contents_of, with_file, EachNameOnce}
+use Rattle.plc_io.specs.Contents.{Agrees, SameElsewhere}
 
 -- names that the test calls equal are equal, and a name equals itself
 same_name : (a b : List ℕ) → bytes_eq a b ≡ true → a ≡ b
@@ -87,3 +88,29 @@ pub with_file-absent : (files : List (List ℕ × List ℕ)) (name bytes : List 
     → position (λ f. bytes_eq f.0 name) files ≡ None → files ++ (name, bytes) ∷ [] ≡ with_file files name bytes
 with_file-absent files name bytes absent =
     with_file-end files name bytes 0 (sym (position_from-zero (λ (f : List ℕ × List ℕ). bytes_eq f.0 name) files) ∙ absent)
+
+-- files after a put, as the contents that they tell
+pub contents_of-with_file : (old new : List (List ℕ × List ℕ)) (name bytes : List ℕ) → new ≡ with_file old name bytes
+    → SameElsewhere (contents_of old) (contents_of new) name
+contents_of-with_file old new name bytes put = record {
+  told = refl;
+  at = λ other ne. ap (λ (files : List (List ℕ × List ℕ)). bytes_of files other) put ∙ bytes_of-with_file-other old name bytes other ne;
+}
+
+pub sure_contents_of-with_file : (old new : List (List ℕ × List ℕ)) (name bytes : List ℕ) → new ≡ with_file old name bytes
+    → SameElsewhere (sure_contents_of old) (sure_contents_of new) name
+sure_contents_of-with_file old new name bytes put = record {
+  told = refl;
+  at = λ other ne. ap (λ (o : Option (List ℕ)). Some (unwrap_or o [])) ((contents_of-with_file old new name bytes put).at other ne);
+}
+
+-- the file that was put, in those contents
+pub Agrees-with_file : (old new : List (List ℕ × List ℕ)) (name bytes : List ℕ) → new ≡ with_file old name bytes
+    → Agrees (contents_of new) name bytes
+Agrees-with_file old new name bytes put told =
+    ap (λ (files : List (List ℕ × List ℕ)). bytes_of files name) put ∙ bytes_of-with_file old name bytes
+
+pub sure_Agrees-with_file : (old new : List (List ℕ × List ℕ)) (name bytes : List ℕ) → new ≡ with_file old name bytes
+    → Agrees (sure_contents_of new) name bytes
+sure_Agrees-with_file old new name bytes put told =
+    ap (λ (o : Option (List ℕ)). Some (unwrap_or o [])) (Agrees-with_file old new name bytes put told)

@@ -30,3 +30,7 @@ abbrev pub Counts : {X : Type 0} → ℕ → ℕ → Result X IoFault → Type 0
 Counts before now (Ok x) = now ≡ before
 Counts before now (Err Failed) = (before ≤ now) × Rose before now
 Counts before now (Err NoMemory) = now ≡ before
+
+-- one count for all names
+abbrev pub for_every_name : ℕ → List ℕ → ℕ
+for_every_name count name = count

@@ -1,5 +1,6 @@
 -- Files in memory: a list of names with their bytes.
-use Rattle.std.specs.Prelude.{◌≡◌, ℕ, List, [], ◌∷◌, Option, None, option_map, find, if◌then◌else◌, bytes_eq}
+use Rattle.std.specs.Prelude.{◌≡◌, ℕ, List, [], ◌∷◌, true, Option, None, Some, unwrap_or, option_map, find, if◌then◌else◌, bytes_eq}
+use Rattle.plc_io.specs.Contents.{Contents}
 
 -- the bytes under a name
 abbrev pub bytes_of : List (List ℕ × List ℕ) → List ℕ → Option (List ℕ)
@@ -9,6 +10,18 @@ bytes_of files name = option_map (λ f. f.1) (find (λ f. bytes_eq f.0 name) fil
 abbrev pub with_file : List (List ℕ × List ℕ) → List ℕ → List ℕ → List (List ℕ × List ℕ)
 with_file [] name bytes = (name, bytes) ∷ []
 with_file (f ∷ fs) name bytes = if bytes_eq f.0 name then (f.0, bytes) ∷ fs else f ∷ with_file fs name bytes
+
+-- what such files hold is told, name by name
+abbrev pub contents_of : List (List ℕ × List ℕ) → Contents
+contents_of files = record { told = true; at = bytes_of files }
+
+-- the bytes under a name, none where the name is absent
+abbrev pub bytes_or_none : List (List ℕ × List ℕ) → List ℕ → List ℕ
+bytes_or_none files name = unwrap_or (bytes_of files name) []
+
+-- the same files, where an absent name is an empty file
+abbrev pub sure_contents_of : List (List ℕ × List ℕ) → Contents
+sure_contents_of files = record { told = true; at = λ name. Some (bytes_or_none files name) }
 
 -- no name stands twice
 abbrev pub EachNameOnce : List (List ℕ × List ℕ) → Type 0

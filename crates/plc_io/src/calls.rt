@@ -1,6 +1,8 @@
-ghost use Rattle.std.specs.Prelude.{◌≡◌, []};
+ghost use Rattle.std.specs.Prelude.{◌≡◌, ◌≤◌, [], true, false};
 ghost use Rattle.plc_io.specs.Calls.{after_call, is_next_to_fail};
+ghost use Rattle.plc_io.specs.Counts.{Rose};
 
+use crate::faults::IoFault;
 use arrayvec::ArrayVec;
 
 /// The calls of one kind on an outside in memory.
@@ -34,13 +36,22 @@ impl Calls {
         self.failing.contains(&self.made.saturating_add(1))
     }
 
-    /// Counts one more call, which failed or didn't.
-    pub fn count(&mut self, failed: bool)
-        ensures { self.new ≡ after_call self.old failed }
+    /// Counts one more call, which doesn't fail.
+    pub fn pass(&mut self)
+        ensures { self.new ≡ after_call self.old false }
     {
         self.made = self.made.saturating_add(1);
-        if failed {
-            self.failed = self.failed.saturating_add(1);
-        }
+    }
+
+    /// Counts one more call, which fails.
+    pub fn fail(&mut self) -> IoFault
+        ensures fault { result ≡ IoFault.Failed }
+        ensures after { self.new ≡ after_call self.old true }
+        ensures never_falls { self.old.failed ≤ self.new.failed }
+        ensures rose { Rose self.old.failed self.new.failed }
+    {
+        self.made = self.made.saturating_add(1);
+        self.failed = self.failed.saturating_add(1);
+        IoFault::Failed
     }
 }

@@ -1,0 +1,184 @@
+ghost use Rattle.std.specs.Prelude.{◌≡◌, ◌≤◌, ◌-◌, ◌↔◌, ◌++◌, List, ℕ, [], true, Some, length, take, drop, min, is_err, option_map, IfOk, IfErr, IsTrue, OnOk, OnErr};
+ghost use Rattle.plc_io.specs.Calls.{after_call, is_next_to_fail, read_answer};
+ghost use Rattle.plc_io.specs.Contents.{Agrees, IsCutShort, ReadsFrom, SameElsewhere, SameFiles, IsPiece};
+ghost use Rattle.plc_io.specs.Counts.{Counts, CountsAt, SameCounts, for_every_name};
+ghost use Rattle.plc_io.specs.NamedFiles.{bytes_of, contents_of, with_file};
+ghost use Rattle.plc_io.specs.Taken.{Offered};
+
+use crate::calls::Calls;
+use crate::faults::{IoFault, NoMemory};
+use crate::lists::{Bytes, NamedFiles};
+use crate::traits::{Files, Sink};
+use arrayvec::ArrayVec;
+use std::alloc::Global;
+
+/// Files in memory, of which chosen reads and writes fail.
+#[derive(Drop)]
+pub struct MemFiles {
+    pub files: NamedFiles,
+    pub reads: Calls,
+    pub writes: Calls,
+}
+
+impl MemFiles {
+    /// No files, and no call that is to fail. This takes no memory.
+    pub fn new(alloc: Global) -> Self
+        ensures empty { result.files ≡ [] }
+        ensures reads { (result.reads.made ≡ 0) × (result.reads.failed ≡ 0) × (result.reads.failing.items ≡ []) }
+        ensures writes { (result.writes.made ≡ 0) × (result.writes.failed ≡ 0) × (result.writes.failing.items ≡ []) }
+    {
+        MemFiles {
+            files: NamedFiles::new(alloc),
+            reads: Calls::new(),
+            writes: Calls::new(),
+        }
+    }
+
+    /// Puts a file, in place of one of this name. Without memory nothing changes.
+    pub fn put(&mut self, name: &str, bytes: &[u8]) -> Result<(), NoMemory>
+        ensures ok { OnOk result (self.new ≡ record self.old { files = with_file self.old.files name.now bytes.now }) }
+        ensures err { OnErr result (self.new ≡ self.old) }
+    {
+        self.files.put(name, bytes)
+    }
+
+    /// Makes the reads of these numbers fail, in place of those that were chosen before. The first
+    /// read of these files has number 1. This takes no memory.
+    pub fn fail_reads(&mut self, calls: ArrayVec<u64, 16>)
+        ensures { self.new ≡ record self.old { reads = record self.old.reads { failing = calls } } }
+    {
+        self.reads.failing = calls;
+    }
+
+    /// Makes the writes of these numbers fail, in place of those that were chosen before. The first
+    /// write to these files has number 1. This takes no memory.
+    pub fn fail_writes(&mut self, calls: ArrayVec<u64, 16>)
+        ensures { self.new ≡ record self.old { writes = record self.old.writes { failing = calls } } }
+    {
+        self.writes.failing = calls;
+    }
+}
+
+impl Files for MemFiles {
+    ghost contents = { λ m. contents_of m.files };
+
+    ghost failed_reads = { λ m. for_every_name m.reads.failed };
+
+    ghost failed_writes = { λ m. for_every_name m.writes.failed };
+
+    /// Fails at the chosen reads, and where there is no such file. This takes no memory.
+    fn read_some(&mut self, name: &str, at: u64, into: &mut [u8]) -> Result<usize, IoFault>
+        ensures reads { IfOk result (ReadsFrom (contents_of self.old.files) name.now at into.new) }
+        ensures same { SameFiles (contents_of self.old.files) (contents_of self.new.files) }
+        ensures reads_count { CountsAt (for_every_name self.old.reads.failed) (for_every_name self.new.reads.failed) name.now result }
+        ensures writes_count { SameCounts (for_every_name self.old.writes.failed) (for_every_name self.new.writes.failed) }
+        // Exactly when and what.
+        ensures answer { result ≡ read_answer (is_next_to_fail self.old.reads) (bytes_of self.old.files name.now) at (length into.new) }
+        ensures after { self.new ≡ record self.old { reads = after_call self.old.reads (is_err result) } }
+    {
+        if self.reads.is_next_to_fail() {
+            return Err(self.reads.fail());
+        }
+        let Some(all) = self.files.get(name) else {
+            return Err(self.reads.fail());
+        };
+        self.reads.pass();
+        Ok(copy_from(all, at, into))
+    }
+
+    /// Fails at the chosen writes, and then changes no file.
+    fn write_whole(&mut self, name: &str, bytes: &[u8]) -> Result<(), IoFault>
+        ensures written { OnOk result (Agrees (contents_of self.new.files) name.now bytes.now) }
+        ensures cut { OnErr result (IsCutShort (contents_of self.old.files) (contents_of self.new.files) name.now bytes.now) }
+        ensures elsewhere { SameElsewhere (contents_of self.old.files) (contents_of self.new.files) name.now }
+        ensures writes_count { CountsAt (for_every_name self.old.writes.failed) (for_every_name self.new.writes.failed) name.now result }
+        ensures reads_count { SameCounts (for_every_name self.old.reads.failed) (for_every_name self.new.reads.failed) }
+        // Exactly when and what.
+        ensures fails { (result ≡ Err IoFault.Failed) ↔ IsTrue (is_next_to_fail self.old.writes) }
+        ensures ok { OnOk result (self.new.files ≡ with_file self.old.files name.now bytes.now) }
+        ensures err { OnErr result (self.new.files ≡ self.old.files) }
+        ensures after { self.new ≡ record self.old { files = self.new.files; writes = after_call self.old.writes (is_next_to_fail self.old.writes) } }
+    {
+        if self.writes.is_next_to_fail() {
+            return Err(self.writes.fail());
+        }
+        self.writes.pass();
+        self.files.put(name, bytes)?;
+        Ok(())
+    }
+}
+
+/// Copies bytes from place `at` of a file on, as many as there are and `into` has room for, and
+/// answers how many.
+pub(crate) fn copy_from(all: &[u8], at: u64, into: &mut [u8]) -> usize
+    ensures count { result ≡ min (length into.new) (length all.now - at) }
+    ensures piece { IsPiece all.now at into.new result }
+{
+    let start = (at as usize).min(all.len());
+    let rest = &all[start..];
+    let count = rest.len().min(into.len());
+    into[..count].copy_from_slice(&rest[..count]);
+    count
+}
+
+/// A sink in memory that takes at most so many bytes of a piece, and of which chosen pushes fail.
+#[derive(Drop)]
+pub struct MemSink {
+    pub taken: Bytes,
+    pub most: usize,
+    pub pushes: Calls,
+    ghost some: { 1 ≤ most },
+}
+
+impl MemSink {
+    /// Nothing taken, and no push that is to fail; `most` is the greatest number of bytes per push.
+    /// This takes no memory.
+    pub fn new(alloc: Global, most: usize) -> Self
+        requires { 1 ≤ most }
+        ensures empty { result.taken ≡ [] }
+        ensures most { result.most ≡ most }
+        ensures pushes { (result.pushes.made ≡ 0) × (result.pushes.failed ≡ 0) × (result.pushes.failing.items ≡ []) }
+    {
+        MemSink {
+            taken: Bytes::new(alloc),
+            most,
+            pushes: Calls::new(),
+        }
+    }
+
+    /// Makes the pushes of these numbers fail, in place of those that were chosen before. The first
+    /// push to this sink has number 1. This takes no memory.
+    pub fn fail_pushes(&mut self, calls: ArrayVec<u64, 16>)
+        ensures taken { self.new.taken ≡ self.old.taken }
+        ensures most { self.new.most ≡ self.old.most }
+        ensures pushes { self.new.pushes ≡ record self.old.pushes { failing = calls } }
+    {
+        self.pushes.failing = calls;
+    }
+}
+
+impl Sink for MemSink {
+    ghost taken = { λ k. Some k.taken };
+
+    ghost faults = { λ k. k.pushes.failed };
+
+    /// Fails at the chosen pushes.
+    fn push(&mut self, bytes: &[u8]) -> Result<usize, IoFault>
+        ensures offered { Offered (Some self.old.taken) (Some self.new.taken) bytes.now result }
+        ensures count { Counts self.old.pushes.failed self.new.pushes.failed result }
+        // Exactly when and what.
+        ensures fails { (result ≡ Err IoFault.Failed) ↔ IsTrue (is_next_to_fail self.old.pushes) }
+        ensures ok { IfOk result (λ n. (n ≡ min self.old.most (length bytes.now)) × (self.new.taken ≡ self.old.taken ++ take n bytes.now)) }
+        ensures err { OnErr result (self.new.taken ≡ self.old.taken) }
+        ensures most { self.new.most ≡ self.old.most }
+        ensures after { self.new.pushes ≡ after_call self.old.pushes (is_next_to_fail self.old.pushes) }
+    {
+        if self.pushes.is_next_to_fail() {
+            return Err(self.pushes.fail());
+        }
+        self.pushes.pass();
+        let count = bytes.len().min(self.most);
+        self.taken.append(&bytes[..count])?;
+        Ok(count)
+    }
+}
