@@ -1,17 +1,17 @@
 -- /I, /D and MOD: accumulator 2 divided by accumulator 1, cut toward zero.
-use Rattle.std.specs.Prelude.{ℕ, ◌+◌, ◌-◌, ◌*◌, ◌/◌, ◌^◌, Bool, true, false, not, ◌&&◌, ◌==◌, if◌then◌else◌, ℤ, pos, ◌-ℤ◌, ◌*ℤ◌, neg_ℤ, unsigned_abs, int_lt}
+use Rattle.std.specs.Prelude.{ℕ, ◌+◌, ◌-◌, ◌*◌, ◌/◌, ◌^◌, Bool, true, false, not, ◌&&◌, ◌==◌, if◌then◌else◌, ℤ, pos, ◌-ℤ◌, ◌*ℤ◌, neg_ℤ, unsigned_abs}
 use Rattle.status_word.specs.declared.registers.Regs.{Regs}
 use Rattle.status_word.specs.declared.statuses.Status.{Status}
 use Rattle.status_word.specs.Check.{exclusive_or}
 use Rattle.alu.specs.declared.codes.Codes.{Codes}
-use Rattle.alu.specs.Signed.{signed, modulo}
+use Rattle.alu.specs.Signed.{signed, modulo, is_negative}
 use Rattle.alu.specs.Codes.{of_sign, unordered, shown}
 
 -- the quotient cut toward zero: that of the sizes, negative where just one of the two numbers is
 abbrev pub quotient : (dividend divisor : ℤ) → ℤ
 quotient dividend divisor =
     let size = unsigned_abs dividend / unsigned_abs divisor
-    in if exclusive_or (int_lt dividend (pos 0)) (int_lt divisor (pos 0)) then neg_ℤ (pos size) else pos size
+    in if exclusive_or (is_negative dividend) (is_negative divisor) then neg_ℤ (pos size) else pos size
 
 -- the remainder: what the quotient leaves of the dividend
 abbrev pub remainder : (dividend divisor : ℤ) → ℤ
@@ -23,7 +23,7 @@ is_zero z = unsigned_abs z == 0
 -- the one pair of integers of w bits whose quotient has more: the least of them by -1
 abbrev pub is_least_by_minus_one : (w : ℕ) → (dividend divisor : ℤ) → Bool
 is_least_by_minus_one w dividend divisor =
-    int_lt dividend (pos 0) && unsigned_abs dividend == 2 ^ (w - 1) && int_lt divisor (pos 0) && unsigned_abs divisor == 1
+    is_negative dividend && unsigned_abs dividend == 2 ^ (w - 1) && is_negative divisor && unsigned_abs divisor == 1
 
 -- accumulator 1 and the codes of a division
 abbrev pub with_result : (accumulator : ℕ) → Codes → Regs → Regs

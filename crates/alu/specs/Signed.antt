@@ -1,5 +1,5 @@
 -- Integers in two's complement, over their width w in bits: INT has 16 bits, DINT 32.
-use Rattle.std.specs.Prelude.{ℕ, ◌-◌, ◌*◌, ◌+◌, ◌/◌, ◌%◌, ◌^◌, Bool, ◌&&◌, nat_lt, if◌then◌else◌, ℤ, pos, ◌-ℤ◌, neg_ℤ, unsigned_abs, int_lt, int_le}
+use Rattle.std.specs.Prelude.{ℕ, ◌-◌, ◌*◌, ◌+◌, ◌/◌, ◌%◌, ◌^◌, Bool, true, false, ◌&&◌, nat_lt, if◌then◌else◌, ℤ, pos, negsuc, ◌-ℤ◌, neg_ℤ, unsigned_abs, int_lt, int_le}
 use Rattle.std.specs.Int.{int_rem_euclid}
 use Rattle.alu.specs.declared.formats.Format.{Format}
 use Rattle.alu.specs.declared.formats.Format.TheVariants.{Int, Dint}
@@ -12,6 +12,11 @@ width_of Dint = 32
 -- the integer that w bits stand for: the highest bit weighs - 2 ^ (w - 1)
 abbrev pub from_bits : (w bits : ℕ) → ℤ
 from_bits w bits = if nat_lt bits (2 ^ (w - 1)) then pos bits else pos bits -ℤ pos (2 ^ w)
+
+-- whether an integer is below 0
+abbrev pub is_negative : ℤ → Bool
+is_negative (pos n) = false
+is_negative (negsuc n) = true
 
 -- the integer in the lowest w bits of an accumulator
 unfoldable pub signed : (w accumulator : ℕ) → ℤ

@@ -1,7 +1,8 @@
-ghost use Rattle.std.specs.Prelude.{◌≡◌, ◌≤ℤ◌, ◌<ℤ◌, ◌^◌, ◌-◌, pos, negsuc};
+ghost use Rattle.std.specs.Prelude.{◌≡◌};
 ghost use Rattle.alu.specs.Signed.{width_of};
 ghost use Rattle.alu.specs.Codes.{of_sign, unordered, shown};
 ghost use Rattle.alu.specs.Sums.{sum_codes};
+ghost use Rattle.alu.specs.Division.{quotient_overflow};
 
 use crate::formats::Format;
 use status_word::Status;
@@ -55,6 +56,17 @@ impl Codes {
         Codes {
             cc1: true,
             cc0: true,
+            ov: true,
+        }
+    }
+
+    /// An overflow of the quotient.
+    pub(crate) fn quotient_overflow() -> Codes
+        ensures { result ≡ quotient_overflow }
+    {
+        Codes {
+            cc1: true,
+            cc0: false,
             ov: true,
         }
     }

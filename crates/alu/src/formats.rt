@@ -1,4 +1,4 @@
-ghost use Rattle.std.specs.Prelude.{◌≡◌, ◌-◌, ◌^◌, negsuc, pos, ◌≤ℤ◌, ◌<ℤ◌};
+ghost use Rattle.std.specs.Prelude.{◌≡◌, ◌≤◌, ◌-◌, ◌^◌, negsuc, pos, ◌≤ℤ◌, ◌<ℤ◌, unsigned_abs};
 ghost use Rattle.alu.specs.Signed.{width_of, signed, modulo, in_range};
 ghost use Rattle.alu.specs.Accumulators.{with_low};
 
@@ -15,6 +15,7 @@ impl Format {
     #[tactic(auto, unfolding(crate::specs::Signed::signed))]
     pub(crate) fn read(self, accumulator: u32) -> i64
         ensures value { result ≡ signed (width_of self) accumulator }
+        ensures size { unsigned_abs result ≤ 2 ^ 31 }
         ensures low { negsuc (2 ^ 31 - 1) ≤ℤ result }
         ensures high { result <ℤ pos (2 ^ 31) }
     {

@@ -1,8 +1,8 @@
-ghost use Rattle.std.specs.Prelude.{◌≡◌, ◌<◌, ◌≤◌, ◌^◌, pos, unsigned_abs};
+ghost use Rattle.std.specs.Prelude.{◌≡◌, ◌<◌, ◌≤◌, ◌+◌, ◌*◌, ◌^◌, ◌*ℤ◌, unsigned_abs, is_none, IfSome};
 ghost use Rattle.alu.specs.Signed.{width_of, signed};
 ghost use Rattle.alu.specs.Sums.{with_sum, added, subtracted, negated};
 ghost use Rattle.alu.specs.Products.{with_product, multiplied};
-ghost use Rattle.alu.specs.Division.{quotient, remainder, divided_i, divided_d, divided_mod};
+ghost use Rattle.alu.specs.Division.{quotient, remainder, is_zero, is_least_by_minus_one, with_result, divided_by_zero, divided_i, divided_d, divided_mod};
 
 use crate::codes::Codes;
 use crate::formats::{Format, low_dword, low_word};
@@ -63,4 +63,152 @@ pub fn neg_d(r: &mut Regs)
 {
     let negative = -Format::Dint.read(r.a1);
     put_sum(r, Format::Dint, negative);
+}
+
+/// The product of two integers of at most 32 bits.
+#[tactic(auto, using(crate::proofs::Products::product_code))]
+fn product(left: i64, right: i64) -> i64
+    requires left_size { unsigned_abs left ≤ 2 ^ 31 }
+    requires right_size { unsigned_abs right ≤ 2 ^ 31 }
+    ensures { result ≡ left *ℤ right }
+{
+    left * right
+}
+
+/// Puts a product into accumulator 1 and shows its codes.
+#[tactic(auto, unfolding(crate::specs::Products::with_product))]
+fn put_product(r: &mut Regs, format: Format, product: i64)
+    ensures { r.new ≡ with_product (width_of format) product r.old }
+{
+    r.a1 = low_dword(product);
+    Codes::of_sign(product, !format.holds(product)).show(&mut r.status);
+}
+
+/// *I: multiplies ACCU 2-L by ACCU 1-L as integers of 16 bits; the product has 32.
+pub fn mul_i(r: &mut Regs)
+    ensures { r.new ≡ multiplied 16 r.old }
+{
+    let product = product(Format::Int.read(r.a2), Format::Int.read(r.a1));
+    put_product(r, Format::Int, product);
+}
+
+/// *D: multiplies accumulator 2 by accumulator 1 as integers of 32 bits.
+pub fn mul_d(r: &mut Regs)
+    ensures { r.new ≡ multiplied 32 r.old }
+{
+    let product = product(Format::Dint.read(r.a2), Format::Dint.read(r.a1));
+    put_product(r, Format::Dint, product);
+}
+
+/// A quotient cut toward zero, and the remainder, which has the sign of the dividend.
+#[derive(Clone, Copy)]
+struct Ratio {
+    quotient: i64,
+    remainder: i64,
+}
+
+impl Ratio {
+    /// Divides integers of at most 32 bits; `None` for a division by zero.
+    #[tactic(auto, using(crate::proofs::Division::is_zero_lem, crate::proofs::Division::quotient_code, crate::proofs::Division::remainder_code))]
+    fn of(dividend: i64, divisor: i64) -> Option<Ratio>
+        requires { unsigned_abs dividend ≤ 2 ^ 31 }
+        ensures zero { is_none result ≡ is_zero divisor }
+        ensures quotient { IfSome result (λ r. r.quotient ≡ quotient dividend divisor) }
+        ensures remainder { IfSome result (λ r. r.remainder ≡ remainder dividend divisor) }
+    {
+        if divisor == 0 {
+            return None;
+        }
+        Some(Ratio {
+            quotient: dividend / divisor,
+            remainder: dividend % divisor,
+        })
+    }
+}
+
+/// Whether this is the one pair of integers whose quotient is no such integer.
+fn is_least_by_minus_one(format: Format, dividend: i64, divisor: i64) -> bool
+    ensures { result ≡ is_least_by_minus_one (width_of format) dividend divisor }
+{
+    dividend < 0
+        && dividend.unsigned_abs() == format.modulus() / 2
+        && divisor < 0
+        && divisor.unsigned_abs() == 1
+}
+
+/// Puts the result of a division into accumulator 1 and shows its codes.
+fn put_result(r: &mut Regs, accumulator: u32, codes: Codes)
+    ensures { r.new ≡ with_result accumulator codes r.old }
+{
+    r.a1 = accumulator;
+    codes.show(&mut r.status);
+}
+
+/// Shows a division by zero, which leaves accumulator 1.
+fn divide_by_zero(r: &mut Regs)
+    ensures { r.new ≡ divided_by_zero r.old }
+{
+    Codes::unordered().show(&mut r.status);
+}
+
+/// /I: divides ACCU 2-L by ACCU 1-L as integers of 16 bits: the quotient goes to ACCU 1-L, the
+/// remainder to ACCU 1-H.
+#[tactic(auto, unfolding(crate::specs::Division::divided_i))]
+pub fn div_i(r: &mut Regs)
+    ensures { r.new ≡ divided_i (signed 16 r.old.a2) (signed 16 r.old.a1) r.old }
+{
+    let dividend = Format::Int.read(r.a2);
+    let divisor = Format::Int.read(r.a1);
+    let Some(ratio) = Ratio::of(dividend, divisor) else {
+        divide_by_zero(r);
+        return;
+    };
+    if is_least_by_minus_one(Format::Int, dividend, divisor) {
+        put_result(r, 0x8000, Codes::quotient_overflow());
+        return;
+    }
+    let accumulator = two_words(low_word(ratio.remainder), low_word(ratio.quotient));
+    put_result(r, accumulator, Codes::of_sign(ratio.quotient, false));
+}
+
+fn two_words(high: u16, low: u16) -> u32
+    ensures { result ≡ high * 2 ^ 16 + low }
+{
+    u32::from(high) * 0x1_0000 + u32::from(low)
+}
+
+/// /D: divides accumulator 2 by accumulator 1 as integers of 32 bits: the quotient goes to
+/// accumulator 1.
+#[tactic(auto, unfolding(crate::specs::Division::divided_d))]
+pub fn div_d(r: &mut Regs)
+    ensures { r.new ≡ divided_d (signed 32 r.old.a2) (signed 32 r.old.a1) r.old }
+{
+    let dividend = Format::Dint.read(r.a2);
+    let divisor = Format::Dint.read(r.a1);
+    let Some(ratio) = Ratio::of(dividend, divisor) else {
+        divide_by_zero(r);
+        return;
+    };
+    if is_least_by_minus_one(Format::Dint, dividend, divisor) {
+        put_result(r, 0x8000_0000, Codes::quotient_overflow());
+        return;
+    }
+    let codes = Codes::of_sign(ratio.quotient, false);
+    put_result(r, low_dword(ratio.quotient), codes);
+}
+
+/// MOD: divides accumulator 2 by accumulator 1 as integers of 32 bits: the remainder goes to
+/// accumulator 1.
+#[tactic(auto, unfolding(crate::specs::Division::divided_mod))]
+pub fn mod_d(r: &mut Regs)
+    ensures { r.new ≡ divided_mod (signed 32 r.old.a2) (signed 32 r.old.a1) r.old }
+{
+    let dividend = Format::Dint.read(r.a2);
+    let divisor = Format::Dint.read(r.a1);
+    let Some(ratio) = Ratio::of(dividend, divisor) else {
+        divide_by_zero(r);
+        return;
+    };
+    let codes = Codes::of_sign(ratio.remainder, false);
+    put_result(r, low_dword(ratio.remainder), codes);
 }

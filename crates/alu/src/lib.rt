@@ -11,4 +11,4 @@ mod formats;
 mod integers;
 
 pub use accumulators::{add_const, add_const_wide, cad, caw, dec, inc, pop, push, tak};
-pub use integers::{add_d, add_i, neg_d, neg_i, sub_d, sub_i};
+pub use integers::{add_d, add_i, div_d, div_i, mod_d, mul_d, mul_i, neg_d, neg_i, sub_d, sub_i};
