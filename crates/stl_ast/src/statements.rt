@@ -1,0 +1,22 @@
+use crate::mnemonics::Mnemonic;
+use crate::names::Name;
+use crate::operands::Operand;
+use crate::sequences::Sequence;
+
+/// An actual parameter of a CALL, `name := value`. The value is never `Called`.
+#[derive(Drop)]
+pub struct Actual {
+    pub line: u32,
+    pub name: Name,
+    pub value: Operand,
+}
+
+/// A statement. `actuals` are those of a CALL, and empty for every other statement.
+#[derive(Drop)]
+pub struct Statement {
+    pub line: u32,
+    pub label: Option<Name>,
+    pub code: Mnemonic,
+    pub operand: Operand,
+    pub actuals: Sequence<Actual>,
+}
