@@ -1,10 +1,9 @@
 -- /I, /D and MOD: accumulator 2 divided by accumulator 1, cut toward zero.
-use Rattle.std.specs.Prelude.{ℕ, ◌+◌, ◌-◌, ◌*◌, ◌/◌, ◌^◌, Bool, true, false, not, ◌&&◌, ◌==◌, if◌then◌else◌, ℤ, pos, ◌-ℤ◌, ◌*ℤ◌, neg_ℤ, unsigned_abs}
+use Rattle.std.specs.Prelude.{ℕ, ◌+◌, ◌-◌, ◌*◌, ◌/◌, ◌^◌, Bool, true, false, ◌&&◌, ◌==◌, if◌then◌else◌, ℤ, pos, ◌-ℤ◌, ◌*ℤ◌, neg_ℤ, unsigned_abs}
 use Rattle.status_word.specs.declared.registers.Regs.{Regs}
-use Rattle.status_word.specs.declared.statuses.Status.{Status}
 use Rattle.status_word.specs.Check.{exclusive_or}
 use Rattle.alu.specs.declared.codes.Codes.{Codes}
-use Rattle.alu.specs.Signed.{signed, modulo, is_negative}
+use Rattle.alu.specs.Signed.{modulo, is_negative}
 use Rattle.alu.specs.Codes.{of_sign, unordered, shown}
 
 -- the quotient cut toward zero: that of the sizes, negative where just one of the two numbers is

@@ -4,3 +4,8 @@ pub mod Codes
 pub mod Sums
 pub mod Products
 pub mod Division
+pub mod Comparison
+pub mod WordLogic
+pub mod Shifts
+pub mod Rotations
+pub mod Conversions

@@ -1,7 +1,6 @@
 -- *I and *D: the product of accumulators 2 and 1.
-use Rattle.std.specs.Prelude.{ℕ, Bool, not, ℤ, ◌*ℤ◌}
+use Rattle.std.specs.Prelude.{ℕ, not, ℤ, ◌*ℤ◌}
 use Rattle.status_word.specs.declared.registers.Regs.{Regs}
-use Rattle.status_word.specs.declared.statuses.Status.{Status}
 use Rattle.alu.specs.Signed.{signed, modulo, in_range}
 use Rattle.alu.specs.Codes.{of_sign, shown}
 

@@ -1,5 +1,5 @@
 -- Integers in two's complement, over their width w in bits: INT has 16 bits, DINT 32.
-use Rattle.std.specs.Prelude.{ℕ, ◌-◌, ◌*◌, ◌+◌, ◌/◌, ◌%◌, ◌^◌, Bool, true, false, ◌&&◌, nat_lt, if◌then◌else◌, ℤ, pos, negsuc, ◌-ℤ◌, neg_ℤ, unsigned_abs, int_lt, int_le}
+use Rattle.std.specs.Prelude.{ℕ, ◌-◌, ◌%◌, ◌^◌, Bool, true, false, ◌&&◌, nat_lt, if◌then◌else◌, ℤ, pos, negsuc, ◌-ℤ◌, neg_ℤ, unsigned_abs, int_lt, int_le}
 use Rattle.std.specs.Int.{int_rem_euclid}
 use Rattle.alu.specs.declared.formats.Format.{Format}
 use Rattle.alu.specs.declared.formats.Format.TheVariants.{Int, Dint}

@@ -1,7 +1,6 @@
 -- +I, +D, -I, -D, NEGI and NEGD: a true sum, and the range in which it lies.
-use Rattle.std.specs.Prelude.{ℕ, ◌^◌, Bool, true, false, not, ◌==◌, if◌then◌else◌, ℤ, pos, ◌+ℤ◌, ◌-ℤ◌, neg_ℤ, unsigned_abs, int_lt}
+use Rattle.std.specs.Prelude.{ℕ, ◌^◌, true, false, not, ◌==◌, if◌then◌else◌, ℤ, pos, ◌+ℤ◌, ◌-ℤ◌, neg_ℤ, unsigned_abs, int_lt}
 use Rattle.status_word.specs.declared.registers.Regs.{Regs}
-use Rattle.status_word.specs.declared.statuses.Status.{Status}
 use Rattle.alu.specs.declared.codes.Codes.{Codes}
 use Rattle.alu.specs.Signed.{signed, modulo, in_range}
 use Rattle.alu.specs.Codes.{of_sign, shown}

@@ -1,4 +1,4 @@
-ghost use Rattle.std.specs.Prelude.{◌≡◌, ◌≤◌, ◌-◌, ◌^◌, negsuc, pos, ◌≤ℤ◌, ◌<ℤ◌, unsigned_abs};
+ghost use Rattle.std.specs.Prelude.{◌≡◌, ◌<◌, ◌≤◌, ◌-◌, ◌%◌, ◌^◌, negsuc, pos, ◌≤ℤ◌, ◌<ℤ◌, unsigned_abs};
 ghost use Rattle.alu.specs.Signed.{width_of, signed, modulo, in_range};
 ghost use Rattle.alu.specs.Accumulators.{with_low};
 
@@ -12,7 +12,6 @@ pub(crate) enum Format {
 
 impl Format {
     /// The integer in an accumulator.
-    #[tactic(auto, unfolding(crate::specs::Signed::signed))]
     pub(crate) fn read(self, accumulator: u32) -> i64
         ensures value { result ≡ signed (width_of self) accumulator }
         ensures size { unsigned_abs result ≤ 2 ^ 31 }
@@ -20,18 +19,58 @@ impl Format {
         ensures high { result <ℤ pos (2 ^ 31) }
     {
         match self {
-            Format::Int => i64::from(((accumulator % 0x1_0000) as u16).cast_signed()),
-            Format::Dint => i64::from(accumulator.cast_signed()),
+            Format::Int => i64::from(int_of(accumulator)),
+            Format::Dint => i64::from(dint_of(accumulator)),
         }
     }
 
     /// The accumulator with the lowest bits of `number` at its lowest bits.
-    #[tactic(auto, unfolding(crate::specs::Signed::modulo, crate::specs::Accumulators::with_low))]
     pub(crate) fn put(self, accumulator: u32, number: i64) -> u32
         ensures { result ≡ with_low (width_of self) accumulator (modulo (width_of self) number) }
     {
+        self.replace(accumulator, self.bits(number))
+    }
+
+    /// The number of bits.
+    pub(crate) fn width(self) -> u32
+        ensures { result ≡ width_of self }
+    {
         match self {
-            Format::Int => accumulator - accumulator % 0x1_0000 + u32::from(low_word(number)),
+            Format::Int => 16,
+            Format::Dint => 32,
+        }
+    }
+
+    /// The bits of this format in an accumulator.
+    pub(crate) fn low_bits(self, accumulator: u32) -> u32
+        ensures { result ≡ accumulator % 2 ^ width_of self }
+    {
+        match self {
+            Format::Int => accumulator % 0x1_0000,
+            Format::Dint => accumulator,
+        }
+    }
+
+    /// The accumulator with these bits at its lowest bits.
+    #[tactic(auto, unfolding(crate::specs::Accumulators::with_low))]
+    pub(crate) fn replace(self, accumulator: u32, bits: u32) -> u32
+        requires { bits < 2 ^ width_of self }
+        ensures { result ≡ with_low (width_of self) accumulator bits }
+    {
+        match self {
+            Format::Int => accumulator - accumulator % 0x1_0000 + bits,
+            Format::Dint => bits,
+        }
+    }
+
+    /// The lowest bits of a number in two's complement.
+    #[tactic(auto, unfolding(crate::specs::Signed::modulo))]
+    pub(crate) fn bits(self, number: i64) -> u32
+        ensures value { result ≡ modulo (width_of self) number }
+        ensures bound { result < 2 ^ width_of self }
+    {
+        match self {
+            Format::Int => u32::from(low_word(number)),
             Format::Dint => low_dword(number),
         }
     }
@@ -72,4 +111,27 @@ pub(crate) fn low_dword(number: i64) -> u32
     ensures { result ≡ modulo 32 number }
 {
     number.rem_euclid(0x1_0000_0000) as u32
+}
+
+/// The low word of an accumulator.
+pub(crate) fn word_of(accumulator: u32) -> u16
+    ensures { result ≡ accumulator % 2 ^ 16 }
+{
+    (accumulator % 0x1_0000) as u16
+}
+
+/// The integer of 16 bits in the low word of an accumulator.
+#[tactic(auto, unfolding(crate::specs::Signed::signed))]
+pub(crate) fn int_of(accumulator: u32) -> i16
+    ensures { result ≡ signed 16 accumulator }
+{
+    word_of(accumulator).cast_signed()
+}
+
+/// The integer of 32 bits in an accumulator.
+#[tactic(auto, unfolding(crate::specs::Signed::signed))]
+pub(crate) fn dint_of(accumulator: u32) -> i32
+    ensures { result ≡ signed 32 accumulator }
+{
+    accumulator.cast_signed()
 }

@@ -1,0 +1,45 @@
+-- Conversion instructions BTI, BTD, ITB, DTB, ITD, INVI and INVD.
+use Rattle.std.specs.Prelude.{◌≡◌, ℕ, ◌-◌, ◌%◌, ◌^◌, Bool, true, false, ◌||◌, Option, Some, None, Result, MatchResult, option_map}
+use Rattle.plc_base.specs.Bcd.{signed_of_bcd, bcd_of_signed}
+use Rattle.status_word.specs.declared.registers.Regs.{Regs}
+use Rattle.status_word.specs.declared.statuses.Status.{Status}
+use Rattle.alu.specs.Signed.{signed, modulo}
+use Rattle.alu.specs.Accumulators.{with_low}
+
+-- INVI (w = 16) and INVD (w = 32): each of the lowest w bits of accumulator 1 inverted
+unfoldable pub inverted : (w : ℕ) → Regs → Regs
+inverted w r = record r { a1 = with_low w r.a1 (2 ^ w - 1 - r.a1 % 2 ^ w) }
+
+-- ITD: the integer of 16 bits as one of 32
+unfoldable pub widened : Regs → Regs
+widened r = record r { a1 = modulo 32 (signed 16 r.a1) }
+
+-- BTI: the number of the signed BCD word of three digits in ACCU 1-L; none where it is no such word
+unfoldable pub from_bcd_word : Regs → Option Regs
+from_bcd_word r =
+    option_map (λ n. record r { a1 = with_low 16 r.a1 (modulo 16 n) }) (signed_of_bcd 3 (r.a1 % 2 ^ 16))
+
+-- BTD: the number of the signed BCD double word of seven digits in accumulator 1; none where it is no such double word
+unfoldable pub from_bcd_dword : Regs → Option Regs
+from_bcd_dword r = option_map (λ n. record r { a1 = modulo 32 n }) (signed_of_bcd 7 r.a1)
+
+-- BTI and BTD give the registers where there are some, and else answer an error and change nothing
+abbrev pub Converts : {E : Type 0} → (given : Option Regs) (old new : Regs) → Result (Unit {0}) E → Type 0
+Converts given old new result = MatchResult result (λ _. given ≡ Some new) (λ _. (given ≡ None) × (new ≡ old))
+
+-- OV as given; OS becomes 1 with it, and else is kept
+abbrev pub with_overflow : Bool → Status → Status
+with_overflow ov s = record s { ov = ov; os = s.os || ov }
+
+-- the BCD form in the lowest w bits of accumulator 1, with OV 0; where there is none accumulator 1 stays, and OV and OS are 1
+abbrev pub with_bcd : (w : ℕ) → Option ℕ → Regs → Regs
+with_bcd w None r = record r { status = with_overflow true r.status }
+with_bcd w (Some bcd) r = record r { a1 = with_low w r.a1 bcd; status = with_overflow false r.status }
+
+-- ITB: the integer in ACCU 1-L as a signed BCD word of three digits
+unfoldable pub to_bcd_word : Regs → Regs
+to_bcd_word r = with_bcd 16 (bcd_of_signed 3 (signed 16 r.a1)) r
+
+-- DTB: the integer in accumulator 1 as a signed BCD double word of seven digits
+unfoldable pub to_bcd_dword : Regs → Regs
+to_bcd_dword r = with_bcd 32 (bcd_of_signed 7 (signed 32 r.a1)) r

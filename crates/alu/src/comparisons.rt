@@ -1,0 +1,70 @@
+ghost use Rattle.std.specs.Prelude.{◌≡◌};
+ghost use Rattle.alu.specs.Signed.{width_of, signed};
+ghost use Rattle.alu.specs.Codes.{shown};
+ghost use Rattle.alu.specs.Comparison.{holds_between, order_codes, compared};
+
+use crate::codes::Codes;
+use crate::formats::Format;
+use status_word::Regs;
+
+/// What a comparison instruction asks of accumulator 2 and accumulator 1: ==, <>, >, <, >=, <=.
+#[derive(Clone, Copy, Debug, PartialEq, Eq)]
+pub enum Compare {
+    Eq,
+    Ne,
+    Gt,
+    Lt,
+    Ge,
+    Le,
+}
+
+impl Compare {
+    fn holds(self, left: i64, right: i64) -> bool
+        ensures { result ≡ holds_between self left right }
+    {
+        match self {
+            Compare::Eq => left <= right && right <= left,
+            Compare::Ne => left < right || right < left,
+            Compare::Gt => left > right,
+            Compare::Lt => left < right,
+            Compare::Ge => left >= right,
+            Compare::Le => left <= right,
+        }
+    }
+}
+
+#[tactic(auto, unfolding(crate::specs::Comparison::compared))]
+fn answer(r: &mut Regs, how: Compare, left: i64, right: i64)
+    ensures { r.new ≡ compared how left right r.old }
+{
+    let holds = how.holds(left, right);
+    let codes = Codes {
+        cc1: left > right,
+        cc0: left < right,
+        ov: false,
+    };
+    codes.show(&mut r.status);
+    r.status.rlo = holds;
+    r.status.sta = holds;
+    r.status.or = false;
+    r.status.fc = true;
+}
+
+/// ==I, <>I, >I, <I, >=I and <=I: compares ACCU 2-L with ACCU 1-L as integers of 16 bits.
+pub fn compare_i(r: &mut Regs, how: Compare)
+    ensures { r.new ≡ compared how (signed 16 r.old.a2) (signed 16 r.old.a1) r.old }
+{
+    let left = Format::Int.read(r.a2);
+    let right = Format::Int.read(r.a1);
+    answer(r, how, left, right);
+}
+
+/// ==D, <>D, >D, <D, >=D and <=D: compares accumulator 2 with accumulator 1 as integers of 32
+/// bits.
+pub fn compare_d(r: &mut Regs, how: Compare)
+    ensures { r.new ≡ compared how (signed 32 r.old.a2) (signed 32 r.old.a1) r.old }
+{
+    let left = Format::Dint.read(r.a2);
+    let right = Format::Dint.read(r.a1);
+    answer(r, how, left, right);
+}

@@ -1,0 +1,87 @@
+ghost use Rattle.std.specs.Prelude.{◌≡◌, ◌<◌, ◌%◌, ◌^◌};
+ghost use Rattle.alu.specs.Signed.{width_of};
+ghost use Rattle.alu.specs.WordLogic.{operand_of, with_combined, anded, ored, xored};
+
+use crate::codes::Codes;
+use crate::formats::{Format, word_of};
+use status_word::Regs;
+
+/// The lowest bits of accumulator 1 and the second operand.
+fn operands(r: &Regs, constant: Option<u16>) -> (u16, u16)
+    ensures first { result.0 ≡ r.now.a1 % 2 ^ 16 }
+    ensures second { result.1 ≡ operand_of 16 constant r.now }
+{
+    (word_of(r.a1), constant.unwrap_or(word_of(r.a2)))
+}
+
+/// The bits of accumulator 1 and the second operand.
+fn wide_operands(r: &Regs, constant: Option<u32>) -> (u32, u32)
+    ensures first { result.0 ≡ r.now.a1 % 2 ^ 32 }
+    ensures second { result.1 ≡ operand_of 32 constant r.now }
+{
+    let own = Format::Dint.low_bits(r.a2);
+    (Format::Dint.low_bits(r.a1), constant.unwrap_or(own))
+}
+
+/// Puts combined bits into accumulator 1 and shows whether they are 0.
+#[tactic(auto, unfolding(crate::specs::WordLogic::with_combined))]
+fn put_combined(r: &mut Regs, format: Format, bits: u32)
+    requires { bits < 2 ^ width_of format }
+    ensures { r.new ≡ with_combined (width_of format) bits r.old }
+{
+    r.a1 = format.replace(r.a1, bits);
+    let codes = Codes {
+        cc1: bits != 0,
+        cc0: false,
+        ov: false,
+    };
+    codes.show(&mut r.status);
+}
+
+/// AW: combines ACCU 1-L with the constant, or else with ACCU 2-L, by AND.
+pub fn and_w(r: &mut Regs, k: Option<u16>)
+    ensures { r.new ≡ anded 16 k r.old }
+{
+    let (first, second) = operands(r, k);
+    put_combined(r, Format::Int, u32::from(first & second));
+}
+
+/// OW: combines ACCU 1-L with the constant, or else with ACCU 2-L, by OR.
+pub fn or_w(r: &mut Regs, k: Option<u16>)
+    ensures { r.new ≡ ored 16 k r.old }
+{
+    let (first, second) = operands(r, k);
+    put_combined(r, Format::Int, u32::from(first | second));
+}
+
+/// XOW: combines ACCU 1-L with the constant, or else with ACCU 2-L, by exclusive OR.
+pub fn xor_w(r: &mut Regs, k: Option<u16>)
+    ensures { r.new ≡ xored 16 k r.old }
+{
+    let (first, second) = operands(r, k);
+    put_combined(r, Format::Int, u32::from(first ^ second));
+}
+
+/// AD: combines accumulator 1 with the constant, or else with accumulator 2, by AND.
+pub fn and_d(r: &mut Regs, k: Option<u32>)
+    ensures { r.new ≡ anded 32 k r.old }
+{
+    let (first, second) = wide_operands(r, k);
+    put_combined(r, Format::Dint, first & second);
+}
+
+/// OD: combines accumulator 1 with the constant, or else with accumulator 2, by OR.
+pub fn or_d(r: &mut Regs, k: Option<u32>)
+    ensures { r.new ≡ ored 32 k r.old }
+{
+    let (first, second) = wide_operands(r, k);
+    put_combined(r, Format::Dint, first | second);
+}
+
+/// XOD: combines accumulator 1 with the constant, or else with accumulator 2, by exclusive OR.
+pub fn xor_d(r: &mut Regs, k: Option<u32>)
+    ensures { r.new ≡ xored 32 k r.old }
+{
+    let (first, second) = wide_operands(r, k);
+    put_combined(r, Format::Dint, first ^ second);
+}
