@@ -1,0 +1,3 @@
+pub mod OneBit
+pub mod BlockLemmas
+pub mod Numbers

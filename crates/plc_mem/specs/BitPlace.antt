@@ -1,0 +1,18 @@
+-- Where a bit lies.
+use Rattle.std.specs.Prelude.{ℕ}
+
+-- A memory area as bits are told apart: peripheral inputs and peripheral outputs are two, and each
+-- data block is one.
+pub data Region : Type 0 where
+  Inputs : Region
+  Outputs : Region
+  BitMemory : Region
+  PeripheralInputs : Region
+  PeripheralOutputs : Region
+  DataBlock : (number : ℕ) → Region
+
+-- A bit place: region, byte, and bit from 0, the least significant, to 7.
+pub record BitPlace : Type 0 where
+  pub region : Region
+  pub byte : ℕ
+  pub bit : ℕ

@@ -1,0 +1,37 @@
+-- Memory as the finite map from bit places to truth values.
+use Rattle.std.specs.Prelude.{ℕ, ◌-◌, List, Option, None, Bool, nat_lt, nat_eq, slice_get, option_and_then, if◌then◌else◌}
+use Rattle.std.specs.Option.{option_map}
+use Rattle.std.specs.Int as int
+use Rattle.std.specs.FinMap as map
+use Rattle.std.specs.Ordering.{nat_cmp}
+use Rattle.plc_mem.specs.Areas.{Areas, PeripheralBytes}
+use Rattle.plc_mem.specs.BitPlace.{BitPlace, Region, Inputs, Outputs, BitMemory, PeripheralInputs, PeripheralOutputs, DataBlock}
+
+-- A peripheral byte by its number. No byte stands between the two parts of the area.
+abbrev pub peripheral_byte : PeripheralBytes → ℕ → Option ℕ
+peripheral_byte p n = if nat_lt n 256 then slice_get p.low n else slice_get p.high (n - 256)
+
+-- A byte of a data block by its number.
+abbrev pub block_byte : map.FinMap nat_cmp (List ℕ) → (number : ℕ) → ℕ → Option ℕ
+block_byte blocks number n = option_and_then (λ bytes. slice_get bytes n) (map.get blocks number)
+
+-- The byte of a region by its number, if there is one.
+abbrev pub byte_at : Areas → Region → ℕ → Option ℕ
+byte_at m Inputs n = slice_get m.inputs n
+byte_at m Outputs n = slice_get m.outputs n
+byte_at m BitMemory n = slice_get m.bit_memory n
+byte_at m PeripheralInputs n = peripheral_byte m.peripheral_inputs n
+byte_at m PeripheralOutputs n = peripheral_byte m.peripheral_outputs n
+byte_at m (DataBlock number) n = block_byte m.data_blocks number n
+
+-- Whether bit k of a number is 1.
+abbrev pub bit_of : ℕ → ℕ → Bool
+bit_of n k = nat_eq (int.bit_at n k) 1
+
+-- Bit k of a byte, if there are such a byte and such a bit.
+abbrev pub bit_in : Option ℕ → ℕ → Option Bool
+bit_in byte k = if nat_lt k 8 then option_map (λ n. bit_of n k) byte else None
+
+-- The truth value at a bit place, if the place exists.
+unfoldable pub bit_at : Areas → BitPlace → Option Bool
+bit_at m place = bit_in (byte_at m place.region place.byte) place.bit

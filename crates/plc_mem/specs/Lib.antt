@@ -1,0 +1,11 @@
+pub mod Areas
+pub mod BitPlace
+pub mod Bits
+pub mod Number
+pub mod Writing
+pub mod Run
+pub mod Seen
+pub mod Blocks
+pub mod Fresh
+pub mod Peripherals
+pub mod Refresh

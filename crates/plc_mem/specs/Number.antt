@@ -1,0 +1,62 @@
+-- The number at a place.
+use Rattle.std.specs.Prelude.{ℕ, zero, suc, ◌+◌, ◌-◌, ◌/◌, ◌%◌, ◌^◌, Option, Some, None, Bool, option_and_then, nat_eq, if◌then◌else◌}
+use Rattle.plc_base.specs.declared.Width.{Width}
+use Rattle.plc_base.specs.declared.Width.TheVariants.{Bit, Byte, Word, Dword}
+use Rattle.plc_base.specs.declared.Area.{Area}
+use Rattle.plc_base.specs.declared.Area.TheVariants.{P, I, Q, M, Db, Di, L}
+use Rattle.plc_base.specs.declared.Place.{Place}
+use Rattle.plc_mem.specs.Areas.{Areas}
+use Rattle.plc_mem.specs.BitPlace.{BitPlace, Region, Inputs, Outputs, BitMemory, PeripheralInputs, PeripheralOutputs, DataBlock}
+use Rattle.plc_mem.specs.Bits.{bit_at}
+
+-- How many bytes, and how many bits, an operand has.
+abbrev pub byte_count : Width → ℕ
+byte_count Bit = 1
+byte_count Byte = 1
+byte_count Word = 2
+byte_count Dword = 4
+
+abbrev pub bit_count : Width → ℕ
+bit_count Bit = 1
+bit_count Byte = 8
+bit_count Word = 16
+bit_count Dword = 32
+
+-- The region in which an operand lies, given the region of the peripheral area. DI and L lie in no
+-- memory, and a number stands with data blocks alone.
+abbrev pub region_of : Region → Area → ℕ → Option Region
+region_of peripheral Db number = Some (DataBlock number)
+region_of peripheral P number = if nat_eq number 0 then Some peripheral else None
+region_of peripheral I number = if nat_eq number 0 then Some Inputs else None
+region_of peripheral Q number = if nat_eq number 0 then Some Outputs else None
+region_of peripheral M number = if nat_eq number 0 then Some BitMemory else None
+region_of peripheral Di number = None
+region_of peripheral L number = None
+
+-- Reading area P reads inputs, writing it writes outputs.
+abbrev pub region_read : Place → Option Region
+region_read place = region_of PeripheralInputs place.area place.number
+
+abbrev pub region_written : Place → Option Region
+region_written place = region_of PeripheralOutputs place.area place.number
+
+-- The bit of an operand that weighs 2 ^ j. Memory is big-endian: in k bytes from byte n, bit b of
+-- byte n + i weighs 2 ^ (8 * (k - 1 - i) + b).
+abbrev pub operand_bit : Region → Place → Width → ℕ → BitPlace
+operand_bit region place Bit j = record { region = region; byte = place.byte; bit = place.bit }
+operand_bit region place width j = record { region = region; byte = place.byte + (byte_count width - 1 - j / 8); bit = j % 8 }
+
+-- A sum of weights, and the weight 2 ^ j if the bit is 1.
+abbrev pub plus_weight : ℕ → Option ℕ → Option Bool → Option ℕ
+plus_weight j (Some n) (Some one) = Some (n + (if one then 2 ^ j else 0))
+plus_weight j None bit = None
+plus_weight j n None = None
+
+-- The sum of the weights 2 ^ j, for j below a count, of the bits that are 1, if all these bits exist.
+unfoldable pub weights_of : (ℕ → Option Bool) → ℕ → Option ℕ
+weights_of bits zero = Some 0
+weights_of bits (suc j) = plus_weight j (weights_of bits j) (bits j)
+
+-- The number at a place and width, if each bit of the operand exists.
+unfoldable pub number_at : Areas → Place → Width → Option ℕ
+number_at m place width = option_and_then (λ region. weights_of (λ j. bit_at m (operand_bit region place width j)) (bit_count width)) (region_read place)

@@ -1,0 +1,88 @@
+// The loaded data blocks, each by its number.
+ghost use Rattle.std.specs.Prelude.{◌≡◌, ◌^◌, ◌<◌, nat_eq, Option, Some, None, IfOk, MatchResult};
+ghost use Rattle.std.specs.Option.{option_copied, option_map};
+ghost use Rattle.std.specs.FinMap as map;
+ghost use Rattle.std.specs.List.{IsDistinct};
+ghost use Rattle.plc_mem.specs.Blocks.{bytes_of, numbers_of};
+ghost use Rattle.plc_mem.specs.Bits.{block_byte};
+ghost use Rattle.plc_mem.specs.Number.{bit_count};
+ghost use Rattle.plc_mem.specs.Run.{number_over};
+ghost use Rattle.plc_mem.specs.Writing.{put_in_block};
+
+use crate::faults::Missing;
+use crate::operands;
+use plc_base::Width;
+use std::alloc::{AllocError, Global};
+use std::collections::BTreeMap;
+use std::marker::Model;
+
+#[derive(Drop)]
+pub(crate) struct DataBlocks {
+    by_number: BTreeMap<u16, Vec<u8>>,
+}
+
+impl Model for DataBlocks {
+    ghost use Rattle.std.specs.Prelude.{ℕ, List};
+    ghost use Rattle.std.specs.Ordering.{nat_cmp};
+    ghost use Rattle.std.specs.FinMap as map;
+    ghost use Rattle.plc_mem.specs.Areas.{data_blocks_code};
+    ghost use Rattle.plc_mem.specs.Blocks.{blocks_of};
+
+    ghost Value = { map.FinMap nat_cmp (List ℕ) };
+
+    ghost coded = { data_blocks_code };
+
+    ghost view = { λ a. blocks_of a.by_number.entries };
+}
+
+impl DataBlocks {
+    /// Copies of these data blocks.
+    pub(crate) fn new(alloc: Global, blocks: &[(u16, Vec<u8>)]) -> Result<Self, AllocError>
+        requires { IsDistinct nat_eq (numbers_of blocks.now) }
+        ensures { IfOk result (λ r. r ≡ map.from_entries (bytes_of blocks.now)) }
+    {
+        let mut by_number = BTreeMap::new(alloc);
+        for (number, bytes) in blocks {
+            by_number.insert(*number, Vec::from_slice(alloc, bytes)?)?;
+        }
+        Ok(DataBlocks { by_number })
+    }
+
+    /// The bytes of a data block, if it is loaded.
+    pub(crate) fn bytes(&self, number: u16) -> Option<&[u8]>
+        ensures { option_copied result ≡ map.get self.now number }
+    {
+        match self.by_number.get(&number) {
+            Some(bytes) => Some(bytes.as_slice()),
+            None => None,
+        }
+    }
+
+    /// The number in an operand of a data block, if the operand lies within it.
+    pub(crate) fn number(&self, number: u16, at: usize, bit: u8, width: Width) -> Option<u32>
+        requires { at < 2 ^ 16 }
+        ensures { result ≡ number_over (block_byte self.now number) at bit width }
+    {
+        let bytes = self.bytes(number)?;
+        operands::number(bytes, at, bit, width)
+    }
+
+    /// Writes a number to an operand of a data block, if the operand lies within it.
+    pub(crate) fn put(
+        &mut self,
+        number: u16,
+        at: usize,
+        bit: u8,
+        width: Width,
+        value: u32,
+    ) -> Result<(), Missing>
+        requires near { at < 2 ^ 16 }
+        requires fits { value < 2 ^ bit_count width }
+        ensures { MatchResult result (λ _. put_in_block self.old number at bit width value ≡ Some self.new) (λ _. (put_in_block self.old number at bit width value ≡ None) × (self.new ≡ self.old)) }
+    {
+        match self.by_number.get_mut(&number) {
+            Some(bytes) => operands::put(bytes.as_mut_slice(), at, bit, width, value),
+            None => Err(Missing),
+        }
+    }
+}

@@ -1,0 +1,12 @@
+//! The memory areas of the controller but local data: process images, bit memory, peripheral inputs
+//! and outputs, and data blocks.
+#![tactic(auto)]
+
+mod data_blocks;
+mod faults;
+mod memories;
+mod operands;
+mod peripherals;
+
+pub use faults::{Missing, NoMemory};
+pub use memories::Memory;

@@ -1,0 +1,170 @@
+// The memory areas of the controller but local data.
+ghost use Rattle.std.specs.Prelude.{◌≡◌, ◌^◌, ◌<◌, nat_eq, Some, None, IfOk, MatchResult};
+ghost use Rattle.std.specs.Option.{option_copied};
+ghost use Rattle.std.specs.FinMap as map;
+ghost use Rattle.std.specs.List.{IsDistinct};
+ghost use Rattle.plc_mem.specs.Blocks.{bytes_of, numbers_of};
+ghost use Rattle.plc_mem.specs.Fresh.{fresh};
+ghost use Rattle.plc_mem.specs.Number.{bit_count, number_at};
+ghost use Rattle.plc_mem.specs.Peripherals.{with_input, output_of, outputs_cleared};
+ghost use Rattle.plc_mem.specs.Refresh.{refreshed};
+ghost use Rattle.plc_mem.specs.Writing.{written, written_in};
+ghost use Rattle.plc_mem.specs.BitPlace.{PeripheralOutputs};
+
+use crate::data_blocks::DataBlocks;
+use crate::faults::{Missing, NoMemory};
+use crate::operands;
+use crate::peripherals::{LOW_BYTES, Peripheral};
+use plc_base::{Area, Place, Width};
+use std::alloc::Global;
+use std::marker::Model;
+
+/// How many bytes bit memory has.
+const BIT_MEMORY_BYTES: usize = 256;
+
+/// The memory areas but local data: the process images of the inputs and of the outputs (I, Q), bit
+/// memory (M), peripheral inputs and outputs (PI, PQ) and the data blocks (DB).
+#[derive(Drop)]
+pub struct Memory {
+    inputs: [u8; LOW_BYTES],
+    outputs: [u8; LOW_BYTES],
+    bit_memory: [u8; BIT_MEMORY_BYTES],
+    peripheral_inputs: Peripheral,
+    peripheral_outputs: Peripheral,
+    data_blocks: DataBlocks,
+}
+
+impl Model for Memory {
+    ghost use Rattle.plc_mem.specs.Areas.{Areas, areas_code};
+    ghost use Rattle.plc_mem.specs.Seen.{seen};
+
+    ghost Value = { Areas };
+
+    ghost coded = { areas_code };
+
+    ghost view = { λ a. record { inputs = a.inputs; outputs = a.outputs; bit_memory = a.bit_memory; peripheral_inputs = seen a.peripheral_inputs; peripheral_outputs = seen a.peripheral_outputs; data_blocks = a.data_blocks } };
+}
+
+impl Memory {
+    /// Memory with copies of these data blocks, each given by its number, in which all else is 0.
+    #[tactic(auto, unfolding(crate::specs::Fresh::fresh))]
+    pub fn new(alloc: Global, blocks: &[(u16, Vec<u8>)]) -> Result<Self, NoMemory>
+        requires { IsDistinct nat_eq (numbers_of blocks.now) }
+        ensures { IfOk result (λ m. m ≡ fresh (bytes_of blocks.now)) }
+    {
+        Ok(Memory {
+            inputs: [0; LOW_BYTES],
+            outputs: [0; LOW_BYTES],
+            bit_memory: [0; BIT_MEMORY_BYTES],
+            peripheral_inputs: Peripheral::clear(),
+            peripheral_outputs: Peripheral::clear(),
+            data_blocks: DataBlocks::new(alloc, blocks)?,
+        })
+    }
+
+    /// The number at a place, right-justified with zeros above. Reading area P reads peripheral
+    /// inputs.
+
+    pub fn read(&self, place: Place, width: Width) -> Result<u32, Missing>
+        ensures { MatchResult result (λ n. number_at self.now place width ≡ Some n) (λ _. number_at self.now place width ≡ None) }
+    {
+        self.number(place, width).ok_or(Missing)
+    }
+
+    /// Writes a number at a place. Writing area P writes peripheral outputs, and the same bytes of
+    /// the process image of the outputs where these exist.
+    #[tactic(auto, unfolding(crate::specs::Writing::written))]
+    pub fn write(&mut self, place: Place, width: Width, value: u32) -> Result<(), Missing>
+        requires { value < 2 ^ bit_count width }
+        ensures { MatchResult result (λ _. written self.old place width value ≡ Some self.new) (λ _. (written self.old place width value ≡ None) × (self.new ≡ self.old)) }
+    {
+        if place.area != Area::Db && place.number != 0 {
+            return Err(Missing);
+        }
+        let at = usize::from(place.byte);
+        match place.area {
+            Area::P => self.put_outputs(at, place.bit, width, value),
+            Area::I => operands::put(&mut self.inputs, at, place.bit, width, value),
+            Area::Q => operands::put(&mut self.outputs, at, place.bit, width, value),
+            Area::M => operands::put(&mut self.bit_memory, at, place.bit, width, value),
+            Area::Db => self
+                .data_blocks
+                .put(place.number, at, place.bit, width, value),
+            Area::Di | Area::L => Err(Missing),
+        }
+    }
+
+    /// Sets one byte of the peripheral inputs.
+    #[tactic(auto, unfolding(crate::specs::Peripherals::with_input))]
+    pub fn set_input(&mut self, byte: u16, value: u8) -> Result<(), Missing>
+        ensures { MatchResult result (λ _. with_input self.old byte value ≡ Some self.new) (λ _. (with_input self.old byte value ≡ None) × (self.new ≡ self.old)) }
+    {
+        self.peripheral_inputs
+            .put(usize::from(byte), 0, Width::Byte, u32::from(value))
+    }
+
+    /// One byte of the peripheral outputs, if it exists.
+    #[tactic(auto, unfolding(crate::specs::Peripherals::output_of))]
+    pub fn output(&self, byte: u16) -> Option<u8>
+        ensures { result ≡ output_of self.now byte }
+    {
+        self.peripheral_outputs.byte(usize::from(byte))
+    }
+
+    /// Makes each peripheral output 0, as in STOP.
+    #[tactic(auto, unfolding(crate::specs::Peripherals::outputs_cleared))]
+    pub fn clear_outputs(&mut self)
+        ensures { self.new ≡ outputs_cleared self.old }
+    {
+        self.peripheral_outputs = Peripheral::clear();
+    }
+
+    /// The bytes of a data block, if it is loaded.
+    pub fn data_block(&self, number: u16) -> Option<&[u8]>
+        ensures { option_copied result ≡ map.get self.now.data_blocks number }
+    {
+        self.data_blocks.bytes(number)
+    }
+
+    /// Updates the process images, as at a cycle point: the process image of the outputs is written
+    /// to peripheral outputs 0 to 127, and peripheral inputs 0 to 127 are read to the process image
+    /// of the inputs.
+    #[tactic(auto, unfolding(crate::specs::Refresh::refreshed))]
+    pub fn refresh(&mut self)
+        ensures { self.new ≡ refreshed self.old }
+    {
+        self.peripheral_outputs.low = self.outputs;
+        self.inputs = self.peripheral_inputs.low;
+    }
+
+    // The number at a place, if each bit of the operand exists.
+    #[tactic(auto, using(crate::proofs::Numbers::number_at_bytes))]
+    fn number(&self, place: Place, width: Width) -> Option<u32>
+        ensures { result ≡ number_at self.now place width }
+    {
+        if place.area != Area::Db && place.number != 0 {
+            return None;
+        }
+        let at = usize::from(place.byte);
+        match place.area {
+            Area::P => self.peripheral_inputs.number(at, place.bit, width),
+            Area::I => operands::number(&self.inputs, at, place.bit, width),
+            Area::Q => operands::number(&self.outputs, at, place.bit, width),
+            Area::M => operands::number(&self.bit_memory, at, place.bit, width),
+            Area::Db => self.data_blocks.number(place.number, at, place.bit, width),
+            Area::Di | Area::L => None,
+        }
+    }
+
+    // Writes an operand of the peripheral outputs, and the same bytes of the process image.
+    fn put_outputs(&mut self, at: usize, bit: u8, width: Width, value: u32) -> Result<(), Missing>
+        requires near { at < 2 ^ 16 }
+        requires fits { value < 2 ^ bit_count width }
+        ensures { MatchResult result (λ _. written_in self.old PeripheralOutputs at bit width value ≡ Some self.new) (λ _. (written_in self.old PeripheralOutputs at bit width value ≡ None) × (self.new ≡ self.old)) }
+    {
+        self.peripheral_outputs.put(at, bit, width, value)?;
+        // Only bytes 0 to 127 have a place in the process image.
+        let _ = operands::put(&mut self.outputs, at, bit, width, value);
+        Ok(())
+    }
+}

@@ -1,0 +1,82 @@
+// A peripheral area: bytes 0 to 127, and bytes 256 to 767.
+ghost use Rattle.std.specs.Prelude.{◌≡◌, ◌^◌, ◌<◌, Some, None, MatchResult};
+ghost use Rattle.plc_mem.specs.Bits.{peripheral_byte};
+ghost use Rattle.plc_mem.specs.Seen.{seen};
+ghost use Rattle.plc_mem.specs.Fresh.{clear_peripheral};
+ghost use Rattle.plc_mem.specs.Number.{bit_count};
+ghost use Rattle.plc_mem.specs.Run.{number_over};
+ghost use Rattle.plc_mem.specs.Writing.{put_peripheral};
+
+use crate::faults::Missing;
+use crate::operands;
+use plc_base::Width;
+
+/// How many bytes the lower part has, and the process images with it.
+pub(crate) const LOW_BYTES: usize = 128;
+
+/// How many bytes the upper part has.
+pub(crate) const HIGH_BYTES: usize = 512;
+
+/// The number of the upper part's first byte.
+pub(crate) const HIGH_START: usize = 256;
+
+#[derive(Clone, Copy)]
+pub(crate) struct Peripheral {
+    pub(crate) low: [u8; LOW_BYTES],
+    pub(crate) high: [u8; HIGH_BYTES],
+}
+
+impl Peripheral {
+    /// The area with each bit 0.
+    pub(crate) fn clear() -> Self
+        ensures { seen result ≡ clear_peripheral }
+    {
+        Peripheral {
+            low: [0; LOW_BYTES],
+            high: [0; HIGH_BYTES],
+        }
+    }
+
+    /// The byte of this number, if it exists.
+    pub(crate) fn byte(&self, number: usize) -> Option<u8>
+        ensures { result ≡ peripheral_byte (seen self.now) number }
+    {
+        if number < HIGH_START {
+            self.low.get(number).copied()
+        } else {
+            self.high.get(number - HIGH_START).copied()
+        }
+    }
+
+    /// The number in an operand, if the operand lies within one of the parts.
+    pub(crate) fn number(&self, at: usize, bit: u8, width: Width) -> Option<u32>
+        requires { at < 2 ^ 16 }
+        ensures { result ≡ number_over (peripheral_byte (seen self.now)) at bit width }
+    {
+        if at < HIGH_START {
+            operands::number(&self.low, at, bit, width)
+        } else {
+            operands::number(&self.high, at - HIGH_START, bit, width)
+        }
+    }
+
+    /// Writes a number to an operand, if the operand lies within one of the parts.
+    #[tactic(auto, unfolding(crate::specs::Writing::put_peripheral))]
+    pub(crate) fn put(
+        &mut self,
+        at: usize,
+        bit: u8,
+        width: Width,
+        value: u32,
+    ) -> Result<(), Missing>
+        requires near { at < 2 ^ 16 }
+        requires fits { value < 2 ^ bit_count width }
+        ensures { MatchResult result (λ _. put_peripheral (seen self.old) at bit width value ≡ Some (seen self.new)) (λ _. (put_peripheral (seen self.old) at bit width value ≡ None) × (self.new ≡ self.old)) }
+    {
+        if at < HIGH_START {
+            operands::put(&mut self.low, at, bit, width, value)
+        } else {
+            operands::put(&mut self.high, at - HIGH_START, bit, width, value)
+        }
+    }
+}
