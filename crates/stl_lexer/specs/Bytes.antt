@@ -1,0 +1,57 @@
+-- The bytes of a source.
+use Rattle.std.specs.Prelude.{ℕ, Bool, false, ◌&&◌, ◌||◌, not, ◌==◌, nat_le, List, ◌∷◌}
+use Rattle.std.specs.Char.{is_ascii_digit, is_ascii_alphabetic}
+
+abbrev pub tab : ℕ
+tab = 9
+
+abbrev pub newline : ℕ
+newline = 10
+
+abbrev pub carriage_return : ℕ
+carriage_return = 13
+
+abbrev pub blank : ℕ
+blank = 32
+
+abbrev pub double_quote : ℕ
+double_quote = 34
+
+abbrev pub single_quote : ℕ
+single_quote = 39
+
+abbrev pub slash : ℕ
+slash = 47
+
+abbrev pub zero_digit : ℕ
+zero_digit = 48
+
+abbrev pub underscore : ℕ
+underscore = 95
+
+abbrev pub open_brace : ℕ
+open_brace = 123
+
+abbrev pub delete : ℕ
+delete = 127
+
+-- a word begins with a letter or `_`
+unfoldable pub is_word_start : ℕ → Bool
+is_word_start b = is_ascii_alphabetic b || b == underscore
+
+-- and goes on with letters, digits and `_`
+unfoldable pub is_word_byte : ℕ → Bool
+is_word_byte b = is_word_start b || is_ascii_digit b
+
+-- blank, tab, 13 and 10 separate tokens
+unfoldable pub is_separator : ℕ → Bool
+is_separator b = b == blank || b == tab || b == carriage_return || b == newline
+
+-- a source holds the separators, the printable bytes of ASCII, and the bytes from 128 on
+unfoldable pub in_source : ℕ → Bool
+in_source b = is_separator b || (nat_le blank b && not (b == delete))
+
+-- a comment begins with `//`
+unfoldable pub opens_comment : List ℕ → Bool
+opens_comment (b ∷ c ∷ s) = b == slash && c == slash
+opens_comment _ = false

@@ -1,0 +1,66 @@
+-- The longest token at a place.
+use Rattle.std.specs.Prelude.{◌≡◌, ℕ, ◌<◌, ◌≤◌, ◌⊎◌, Bool, true, List, length, take, drop, Option, None, Some, MatchOption, max, nat_lt, if◌then◌else◌}
+use Rattle.stl_lexer.specs.declared.kinds.TokenKind.{TokenKind}
+use Rattle.stl_lexer.specs.declared.kinds.TokenKind.TheVariants.{Word, Number, Quoted, Local, Characters, Based, NumberLiteral, TimeLiteral, Mark, SignWord, Attribute, Title}
+use Rattle.stl_lexer.specs.declared.places.Found.{Found}
+use Rattle.stl_lexer.specs.Forms.{has_form}
+
+-- a form says of some bytes, and of what follows them, whether they are such a token
+abbrev pub Form : Type 0
+Form = List ℕ → List ℕ → Bool
+
+-- the first n bytes of the text, one at least, have this form
+pub record IsFormAt (form : Form) (text : List ℕ) (n : ℕ) : Type 0 where
+  pub some : 0 < n
+  pub within : n ≤ length text
+  pub fits : form (take n text) (drop n text) ≡ true
+
+-- no bytes at the front of the text have this form
+abbrev pub HasNone : Form → List ℕ → Type 0
+HasNone form text = (n : ℕ) → ¬ IsFormAt form text n
+
+-- the first n bytes have this form, and no more of them
+pub record IsLongestOf (form : Form) (text : List ℕ) (n : ℕ) : Type 0 where
+  pub fits : IsFormAt form text n
+  pub longest : (m : ℕ) → IsFormAt form text m → m ≤ n
+
+-- the longest of this form, or None
+abbrev pub FindsLongest : Form → List ℕ → Option ℕ → Type 0
+FindsLongest form text found = MatchOption found (HasNone form text) (IsLongestOf form text)
+
+-- the greater of two lengths, where there are any
+abbrev pub longer_of : Option ℕ → Option ℕ → Option ℕ
+longer_of None b = b
+longer_of (Some a) None = Some a
+longer_of (Some a) (Some b) = Some (max a b)
+
+-- the place of a kind in the table of tokens
+abbrev pub rank_of : TokenKind → ℕ
+rank_of Word = 0
+rank_of Number = 1
+rank_of Quoted = 2
+rank_of Local = 3
+rank_of Characters = 4
+rank_of Based = 5
+rank_of NumberLiteral = 6
+rank_of TimeLiteral = 7
+rank_of Mark = 8
+rank_of SignWord = 9
+rank_of Attribute = 10
+rank_of Title = 11
+
+-- the longest token at the front of the text: it has the form of its kind, and any other token there is shorter, or as
+-- long and of a kind that stands before it in the table (the word TITLE at a line's end is a title)
+pub record IsLongest (text : List ℕ) (kind : TokenKind) (n : ℕ) : Type 0 where
+  pub fits : IsFormAt (has_form kind) text n
+  pub longest : (other : TokenKind) (m : ℕ) → IsFormAt (has_form other) text m → (m < n) ⊎ ((m ≡ n) × (rank_of other ≤ rank_of kind))
+
+-- no token begins at the front of the text
+abbrev pub HasNoForm : List ℕ → Type 0
+HasNoForm text = (kind : TokenKind) → HasNone (has_form kind) text
+
+-- the better of the token found so far and one of a further kind: the longer, or the later of two that are as long
+abbrev pub better_of : Option Found → TokenKind → Option ℕ → Option Found
+better_of best kind None = best
+better_of None kind (Some n) = Some (record { kind = kind; length = n })
+better_of (Some best) kind (Some n) = if nat_lt n best.length then Some best else Some (record { kind = kind; length = n })

@@ -1,0 +1,93 @@
+-- The tokens of a source, and its first violation.
+use Rattle.std.specs.Prelude.{◌≡◌, ℕ, ◌+◌, ◌-◌, ◌<◌, ◌≤◌, ◌⊎◌, Bool, false, List, [], ◌∷◌, length, take, drop, None, Some, codes, slice_range}
+use Rattle.std.specs.Str.{bytes_eq}
+use Rattle.plc_base.specs.declared.refusals.SourceFault.{SourceFault}
+use Rattle.plc_base.specs.declared.refusals.SourceFault.TheVariants.{Refused, NoMemory}
+use Rattle.stl_lexer.specs.declared.kinds.TokenKind.{TokenKind}
+use Rattle.stl_lexer.specs.declared.kinds.TokenKind.TheVariants.{Mark}
+use Rattle.stl_lexer.specs.declared.kinds.Token.{Token}
+use Rattle.stl_lexer.specs.declared.rules.Fault.{Fault}
+use Rattle.stl_lexer.specs.Gap.{after_gap, line_at}
+use Rattle.stl_lexer.specs.Longest.{IsLongest, HasNoForm}
+use Rattle.stl_lexer.specs.Rules.{fault_of, rule_without_form}
+
+-- the bytes of a token
+abbrev pub text_of : List ℕ → Token → List ℕ
+text_of source t = slice_range source t.start t.end
+
+-- bytes of this kind are the mark `-`
+unfoldable pub is_minus : TokenKind → List ℕ → Bool
+is_minus Mark s = bytes_eq s (codes "-")
+is_minus _ s = false
+
+-- behind `from` stand separators and comments, and then, at `at`, something else
+pub record IsBehindGap (source : List ℕ) (from at : ℕ) : Type 0 where
+  pub forward : from ≤ at
+  pub within : at < length source
+  pub gap : drop at source ≡ after_gap false (drop from source)
+
+-- t is the next token behind `from`, where `minus` says that the mark `-` stands before it: only separators and comments
+-- lie before it, it is the longest token at its place, it breaks no rule, and its line is that of its place
+pub record IsNext (source : List ℕ) (from : ℕ) (minus : Bool) (t : Token) : Type 0 where
+  pub start : IsBehindGap source from t.start
+  pub forward : t.start < t.end
+  pub within : t.end ≤ length source
+  pub longest : IsLongest (drop t.start source) t.kind (t.end - t.start)
+  pub right : fault_of t.kind (text_of source t) minus ≡ None
+  pub line : t.line ≡ line_at source t.start
+
+-- only separators and comments stand behind `from`
+abbrev pub IsEnd : List ℕ → ℕ → Type 0
+IsEnd source from = after_gap false (drop from source) ≡ []
+
+-- no token begins at `at`
+pub record NoneBegins (source : List ℕ) (at line rule : ℕ) : Type 0 where
+  pub none : HasNoForm (drop at source)
+  pub line_is : line ≡ line_at source at
+  pub rule_is : rule ≡ rule_without_form (drop at source)
+
+-- the longest token at `at` breaks a rule
+pub record OneBreaks (source : List ℕ) (at : ℕ) (minus : Bool) (line rule : ℕ) : Type 0 where
+  pub kind : TokenKind
+  pub size : ℕ
+  pub longest : IsLongest (drop at source) kind size
+  pub fault : Fault
+  pub breaks : fault_of kind (take size (drop at source)) minus ≡ Some fault
+  pub line_is : line ≡ line_at source (at + fault.offset)
+  pub rule_is : rule ≡ fault.rule
+
+-- a rule of tokens is broken at the next token behind `from`
+pub record Breaks (source : List ℕ) (from : ℕ) (minus : Bool) (line rule : ℕ) : Type 0 where
+  pub at : ℕ
+  pub start : IsBehindGap source from at
+  pub broken : NoneBegins source at line rule ⊎ OneBreaks source at minus line rule
+
+-- these tokens follow one another behind `from`, and then `rest` holds at the end of the last
+abbrev pub Follow : List ℕ → (ℕ → Bool → Type 0) → ℕ → Bool → List Token → Type 0
+Follow source rest from minus [] = rest from minus
+Follow source rest from minus (t ∷ ts) = IsNext source from minus t × Follow source rest t.end (is_minus t.kind (text_of source t)) ts
+
+-- the tokens of a source: they follow one another from its front on, and nothing else stands behind the last
+unfoldable pub AreTokens : List ℕ → List Token → Type 0
+AreTokens source ts = Follow source (λ from minus. IsEnd source from) 0 false ts
+
+-- the first violation of rules 1 to 4: what stands before it are tokens
+unfoldable pub IsViolation : List ℕ → ℕ → ℕ → Type 0
+IsViolation source line rule = (ts : List Token) × Follow source (λ from minus. Breaks source from minus line rule) 0 false ts
+
+-- a refusal names the first violation; nothing is said of want of memory
+abbrev pub IsRefused : List ℕ → SourceFault → Type 0
+IsRefused source (Refused refusal) = IsViolation source refusal.line refusal.rule
+IsRefused source NoMemory = Unit {0}
+
+-- a source has one list of tokens at most
+abbrev pub AreTokensUnique : Type 0
+AreTokensUnique = (source : List ℕ) (ts us : List Token) → AreTokens source ts → AreTokens source us → ts ≡ us
+
+-- and none where there is a violation
+abbrev pub ExcludesViolation : Type 0
+ExcludesViolation = (source : List ℕ) (ts : List Token) (line rule : ℕ) → AreTokens source ts → IsViolation source line rule → ⊥
+
+-- one line and one rule are the first violation
+abbrev pub IsViolationUnique : Type 0
+IsViolationUnique = (source : List ℕ) (line rule line' rule' : ℕ) → IsViolation source line rule → IsViolation source line' rule' → (line ≡ line') × (rule ≡ rule')

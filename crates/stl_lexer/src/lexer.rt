@@ -1,0 +1,50 @@
+ghost use Rattle.std.specs.Prelude.{◌≡◌, ◌≤◌, length, IfOk, IfErr};
+ghost use Rattle.stl_lexer.specs.Tokens.{AreTokens, AreTokensUnique, ExcludesViolation, IsRefused, IsViolationUnique};
+
+use crate::SOURCE_LIMIT;
+use crate::gaps::{Spot, newlines};
+use crate::lists::Tokens;
+use crate::places::{is_minus, next_token};
+use plc_base::SourceFault;
+use std::alloc::Global;
+
+/// Cuts a source of at most `SOURCE_LIMIT` bytes into its tokens.
+///
+/// # Errors
+///
+/// The line and the rule, 1 to 4, of the first place that breaks one, exactly where there is such a
+/// place; or want of memory.
+pub fn lex(alloc: Global, bytes: &[u8]) -> Result<Tokens, SourceFault>
+    requires { length bytes.now ≤ SOURCE_LIMIT }
+    ensures source { IfOk result (λ tokens. tokens.source.items ≡ bytes.now) }
+    ensures tokens { IfOk result (λ tokens. AreTokens bytes.now tokens.list.items) }
+    ensures refused { IfErr result (IsRefused bytes.now) }
+{
+    let source = Vec::from_slice(alloc, bytes).map_err(|_| SourceFault::NoMemory)?;
+    let mut list = Vec::new(alloc);
+    let mut from = Spot { at: 0, line: 1 };
+    let mut minus = false;
+    loop {
+        match next_token(bytes, from, minus) {
+            Ok(Some(token)) => {
+                let text = &bytes[token.start as usize..token.end as usize];
+                from = Spot {
+                    at: token.end as usize,
+                    line: token.line + newlines(text),
+                };
+                minus = is_minus(token.kind, text);
+                list.push(token).map_err(|_| SourceFault::NoMemory)?;
+            }
+            Ok(None) => return Ok(Tokens { source, list }),
+            Err(refusal) => return Err(SourceFault::Refused { refusal }),
+        }
+    }
+}
+
+/// There is at most one list of tokens for a source, none where there is a violation, and one first
+/// violation: so `lex` refuses exactly the sources without tokens, with exactly that line and rule.
+pub fn law_of_tokens()
+    ensures one_list { AreTokensUnique }
+    ensures list_or_violation { ExcludesViolation }
+    ensures one_violation { IsViolationUnique }
+{}

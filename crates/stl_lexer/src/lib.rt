@@ -1,0 +1,20 @@
+//! The tokens of an STL source: `lex` cuts the bytes into tokens, or names the first place that
+//! breaks a rule of tokens.
+#![tactic(auto)]
+
+mod bytes;
+mod gaps;
+mod kinds;
+mod lexer;
+mod lists;
+mod places;
+mod rules;
+mod tables;
+mod words;
+
+pub use kinds::{Token, TokenKind};
+pub use lexer::{law_of_tokens, lex};
+pub use lists::Tokens;
+
+/// The most bytes that a source may have.
+pub const SOURCE_LIMIT: usize = 1_048_576;

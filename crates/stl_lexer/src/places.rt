@@ -1,0 +1,93 @@
+ghost use Rattle.std.specs.Prelude.{◌≡◌, ◌<◌, ◌≤◌, length, MatchOption, MatchResult, sum_by};
+ghost use Rattle.stl_lexer.specs.Gap.{line_at, newlines_of};
+ghost use Rattle.stl_lexer.specs.Longest.{HasNoForm, IsLongest, better_of};
+ghost use Rattle.stl_lexer.specs.Tokens.{Breaks, IsEnd, IsNext, is_minus};
+
+use crate::SOURCE_LIMIT;
+use crate::bytes::behind;
+use crate::gaps::{Spot, newlines, skip_gap};
+use crate::kinds::{Token, TokenKind};
+use crate::rules::{fault_of, rule_without_form};
+use crate::words::{longest_mark, longest_number, longest_sign_word, longest_word};
+use plc_base::Refusal;
+
+/// The kind and the length of a token.
+#[derive(Clone, Copy, Debug, PartialEq, Eq)]
+pub(crate) struct Found {
+    pub(crate) kind: TokenKind,
+    pub(crate) length: usize,
+}
+
+/// The better of the token found so far and one of a further kind.
+fn better(best: Option<Found>, kind: TokenKind, length: Option<usize>) -> Option<Found>
+    ensures { result ≡ better_of best kind length }
+{
+    let Some(length) = length else {
+        return best;
+    };
+    match best {
+        Some(found) if length < found.length => Some(found),
+        _ => Some(Found { kind, length }),
+    }
+}
+
+/// The longest token at the front of the text.
+fn longest_token(text: &[u8]) -> Option<Found>
+    ensures { MatchOption result (HasNoForm text.now) (λ found. IsLongest text.now found.kind found.length) }
+{
+    let word = better(None, TokenKind::Word, longest_word(text));
+    let number = better(word, TokenKind::Number, longest_number(text));
+    let mark = better(number, TokenKind::Mark, longest_mark(text));
+    better(mark, TokenKind::SignWord, longest_sign_word(text))
+}
+
+/// Whether bytes of this kind are the mark `-`.
+#[tactic(auto, unfolding(crate::specs::Tokens::is_minus))]
+pub(crate) fn is_minus(kind: TokenKind, token: &[u8]) -> bool
+    ensures { result ≡ is_minus kind token.now }
+{
+    match kind {
+        TokenKind::Mark => matches!(token, [b'-']),
+        _ => false,
+    }
+}
+
+/// The next token behind a spot, or None at the end of the source.
+///
+/// # Errors
+///
+/// The rule that is broken there, with its line.
+pub(crate) fn next_token(source: &[u8], from: Spot, minus: bool) -> Result<Option<Token>, Refusal>
+    requires limit { length source.now ≤ SOURCE_LIMIT }
+    requires within { from.at ≤ length source.now }
+    requires line { from.line ≡ line_at source.now from.at }
+    ensures { MatchResult result (λ next. MatchOption next (IsEnd source.now from.at) (IsNext source.now from.at minus)) (λ refusal. Breaks source.now from.at minus refusal.line refusal.rule) }
+{
+    let start = skip_gap(source, from);
+    let text = behind(source, start.at);
+    if text.is_empty() {
+        return Ok(None);
+    }
+    let Some(found) = longest_token(text) else {
+        return Err(Refusal {
+            line: start.line,
+            rule: rule_without_form(text),
+        });
+    };
+    let token = &text[..found.length];
+    match fault_of(found.kind, token, minus) {
+        Some(fault) => {
+            let line = start.line + newlines(&token[..fault.offset]);
+            Err(Refusal {
+                line,
+                rule: fault.rule,
+            })
+        }
+        None => Ok(Some(Token {
+            kind: found.kind,
+            start: start.at as u32,
+            end: (start.at + found.length) as u32,
+            line: start.line,
+        })),
+    }
+}
