@@ -1,10 +1,10 @@
 -- What stands under which name in a list of named files, and after a file was put there.
-use Rattle.std.proofs.Common.{◌≡◌, ◌≢◌, ℕ, suc, ◌+◌, List, [], ◌∷◌, ◌++◌, Bool, true, false, Option, None, Some, cond, get_or, set, refl, sym, ◌∙◌, ap, arith, subst, bytes_eq}
+use Rattle.std.proofs.Common.{◌≡◌, ◌≢◌, ℕ, suc, ◌+◌, List, [], ◌∷◌, ◌++◌, true, false, Option, None, Some, cond, get_or, set, refl, sym, ◌∙◌, ap, arith, subst, bytes_eq}
 use Rattle.std.specs.List.{position_from}
 use Rattle.std.specs.Prelude.{if◌then◌else◌, position, unwrap_or}
 use Rattle.std.proofs.lemmas.Iterator.Adapters.{position_from-zero}
 use Rattle.std.proofs.lemmas.Slice.Eq.{bytes_eq-Decides}
-use Rattle.plc_io.specs.NamedFiles.{bytes_of, bytes_or_none, contents_of, sure_contents_of, with_file, EachNameOnce}
+use Rattle.plc_io.specs.NamedFiles.{bytes_of, contents_of, sure_contents_of, with_file, EachNameOnce}
 use Rattle.plc_io.specs.Contents.{Agrees, SameElsewhere}
 
 -- names that the test calls equal are equal, and a name equals itself

@@ -1,4 +1,4 @@
-use Rattle.std.proofs.Common.{◌≡◌, Ok, Err, OnOk, OnErr, sym}
+use Rattle.std.proofs.Common.{◌≡◌, Ok, Err, OnOk, OnErr}
 use Rattle.plc_io.specs.NamedFiles.{EachNameOnce, with_file}
 use Rattle.plc_io.proofs.FileLemmas.{EachNameOnce-with_file}
 use Rattle.plc_io.proofs.lists.NamedFiles.put.Goals as goal

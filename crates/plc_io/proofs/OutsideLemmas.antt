@@ -1,0 +1,103 @@
+-- What two calls on the same files or the same sink do together, and what a loop of reads or pushes has done so far.
+use Rattle.std.proofs.Common.{◌≡◌, ℕ, ◌+◌, ◌-◌, ◌<◌, ◌≤◌, List, [], ◌++◌, true, length, take, drop, refl, sym, ◌∙◌, ap, arith, subst, append_assoc, length-append, length-drop}
+use Rattle.std.specs.Prelude.{Option, None, Some, Ok, Err, Result, option_map, unwrap_or}
+use Rattle.std.proofs.Math.Seq.{take-add, take-nil}
+use Rattle.std.proofs.lemmas.List.{append-nil, length-take-le, take_all, take_rest}
+use Rattle.plc_io.specs.Contents.{Contents, IsFront, ReadsFrom, SameFiles}
+use Rattle.plc_io.specs.Counts.{CountsAt, SameCounts}
+use Rattle.plc_io.specs.Taken.{Took, TookFront}
+use Rattle.plc_io.specs.declared.faults.IoFault.{IoFault}
+use Rattle.plc_io.specs.declared.faults.IoFault.TheVariants.{Failed, NoMemory}
+
+pub SameFiles-refl : (c : Contents) → SameFiles c c
+SameFiles-refl c = record { told = refl; at = λ name. refl }
+
+pub SameFiles-trans : {a b c : Contents} → SameFiles a b → SameFiles b c → SameFiles a c
+SameFiles-trans p q = record { told = q.told ∙ p.told; at = λ name. q.at name ∙ p.at name }
+
+pub SameCounts-trans : (a b c : List ℕ → ℕ) → SameCounts a b → SameCounts b c → SameCounts a c
+SameCounts-trans a b c p q name = q name ∙ p name
+
+-- calls that changed no count, and then one more
+pub CountsAt-after : {X : Type 0} (a b c : List ℕ → ℕ) (name : List ℕ) (r : Result X IoFault) → SameCounts a b → CountsAt b c name r → CountsAt a c name r
+CountsAt-after a b c name (Ok x) same counts = SameCounts-trans a b c same counts
+CountsAt-after a b c name (Err Failed) same counts = (λ m. omega (arith, same m, counts.0 m), omega (arith, same name, counts.1))
+CountsAt-after a b c name (Err NoMemory) same counts = SameCounts-trans a b c same counts
+
+-- the same of a failure that is handed on with another type of value
+CountsAt-failed : (X Y : Type 0) (a b c : List ℕ → ℕ) (name : List ℕ) (e : IoFault) → SameCounts a b
+    → CountsAt {X = X} b c name (Err e) → CountsAt {X = Y} a c name (Err e)
+CountsAt-failed X Y a b c name Failed same counts = (λ m. omega (arith, same m, counts.0 m), omega (arith, same name, counts.1))
+CountsAt-failed X Y a b c name NoMemory same counts = SameCounts-trans a b c same counts
+
+pub CountsAt-handed : (X Y : Type 0) (a b c : List ℕ → ℕ) (name : List ℕ) (e : IoFault) (r : Result Y IoFault) → SameCounts a b
+    → CountsAt {X = X} b c name (Err e) → r ≡ Err e → CountsAt a c name r
+CountsAt-handed X Y a b c name e r same counts handed =
+    subst (λ (s : Result Y IoFault). CountsAt a c name s) (sym handed) (CountsAt-failed X Y a b c name e same counts)
+
+-- two pieces were taken one after the other
+pub Took-append : (a b c : Option (List ℕ)) (xs ys : List ℕ) → Took a b xs → Took b c ys → Took a c (xs ++ ys)
+Took-append None b c xs ys p q = q ∙ ap (option_map (λ had. had ++ ys)) p
+Took-append (Some had) b c xs ys p q = q ∙ ap (option_map (λ had. had ++ ys)) p ∙ ap Some (append_assoc had xs ys)
+
+-- nothing was taken
+pub Took-nothing : (a : Option (List ℕ)) → Took a a []
+Took-nothing None = refl
+Took-nothing (Some had) = ap Some (sym (simp append-nil))
+
+-- the rest of a text was offered, and some of it was taken
+pub Took-more : (a b c : Option (List ℕ)) (bytes : List ℕ) (done n : ℕ) → done ≤ length bytes → Took a b (take done bytes)
+    → TookFront b c (take (length bytes - done) (drop done bytes)) n → (done + n ≤ length bytes) × Took a c (take (done + n) bytes)
+Took-more a b c bytes done n within had took =
+    let rest : take (length bytes - done) (drop done bytes) ≡ drop done bytes = take_rest bytes done in
+    let more : TookFront b c (drop done bytes) n = subst (λ (xs : List ℕ). TookFront b c xs n) rest took in
+    let size : length (drop done bytes) ≡ length bytes - done = length-drop done bytes in (
+      omega (arith, more.within),
+      rw (take-add done n bytes) (Took-append a b c (take done bytes) (take n (drop done bytes)) had more.took),
+    )
+
+-- these bytes are the front of the file, if there is one
+pub record HasRead (c : Contents) (name bytes : List ℕ) : Type 0 where
+  pub front : c.told ≡ true → bytes ≡ take (length bytes) (unwrap_or (c.at name) [])
+
+pub HasRead-nothing : (c : Contents) (name : List ℕ) → HasRead c name []
+HasRead-nothing c name = record { front = λ told. refl }
+
+-- one more piece was read
+pub HasRead-more : (c d : Contents) (name bytes into more : List ℕ) (at n : ℕ) → at ≡ length bytes → SameFiles c d → HasRead c name bytes
+    → ReadsFrom d name at into n → more ≡ bytes ++ take n into → HasRead c name more
+HasRead-more c d name bytes into more at n place same had reads added = record {
+  front = λ told.
+      let all = reads.bytes (same.told ∙ told) in
+      let file : unwrap_or (c.at name) [] ≡ all.0 = ap (λ (o : Option (List ℕ)). unwrap_or o []) (sym (same.at name) ∙ all.1) in
+      let start : bytes ≡ take (length bytes) all.0 = had.front told ∙ ap (take (length bytes)) file in
+      let size : length more ≡ length bytes + n = ap length added ∙ simp length-append (ap (λ k. length bytes + k) (length-take-le n into reads.fits)) in
+      added ∙ ap (λ xs. xs ++ take n into) start ∙ ap (λ xs. take (length bytes) all.0 ++ xs) (all.2.same ∙ ap (λ k. take n (drop k all.0)) place)
+      ∙ sym (take-add (length bytes) n all.0) ∙ ap (λ k. take k all.0) (sym size) ∙ ap (take (length more)) (sym file);
+}
+
+-- the file ended: all of it was read
+pub IsFront-at_end : (c d : Contents) (name bytes into more : List ℕ) (most : ℕ) → SameFiles c d → HasRead c name bytes → length bytes ≤ most
+    → 0 < length into → ReadsFrom d name (length bytes) into 0 → more ≡ bytes ++ take 0 into → IsFront c name most more
+IsFront-at_end c d name bytes into more most same had within room reads added told =
+    let all = reads.bytes (same.told ∙ told) in
+    let file : unwrap_or (c.at name) [] ≡ all.0 = ap (λ (o : Option (List ℕ)). unwrap_or o []) (sym (same.at name) ∙ all.1) in
+    let start : bytes ≡ take (length bytes) all.0 = had.front told ∙ ap (take (length bytes)) file in
+    let past : length all.0 ≤ length bytes = all.2.none refl room in
+    let past_most : length all.0 ≤ most = omega arith in
+    (all.0, sym (same.at name) ∙ all.1, added ∙ simp append-nil (start ∙ take_all _ _ past ∙ sym (take_all _ _ past_most)))
+
+-- the file is longer than the limit
+pub IsFront-at_limit : (c : Contents) (name bytes : List ℕ) (limit : ℕ) → HasRead c name bytes → length bytes ≡ limit + 1 → IsFront c name (limit + 1) bytes
+IsFront-at_limit c name bytes limit had full told =
+    elim (c.at name) as (λ o. c.at name ≡ o → (all : List ℕ) × (c.at name ≡ Some all) × (bytes ≡ take (limit + 1) all)) [
+      | None ↦ λ absent. let gone : bytes ≡ [] = had.front told ∙ ap (λ (o : Option (List ℕ)). take (length bytes) (unwrap_or o [])) absent ∙ simp take-nil in
+          absurd (let none : length bytes ≡ 0 = ap length gone in omega arith)
+      | Some all ↦ λ there. (all, there, had.front told ∙ ap (λ (o : Option (List ℕ)). take (length bytes) (unwrap_or o [])) there ∙ ap (λ k. take k all) full)
+    ] refl
+
+-- how many bytes there are after one more piece
+pub length-more : (c : Contents) (name bytes into more : List ℕ) (at n : ℕ) → ReadsFrom c name at into n → more ≡ bytes ++ take n into
+    → length more ≡ length bytes + n
+length-more c name bytes into more at n reads added =
+    ap length added ∙ simp length-append (ap (λ k. length bytes + k) (length-take-le n into reads.fits))
