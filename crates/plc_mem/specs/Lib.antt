@@ -4,7 +4,6 @@ pub mod Bits
 pub mod Number
 pub mod Writing
 pub mod Run
-pub mod Seen
 pub mod Blocks
 pub mod Fresh
 pub mod Peripherals

@@ -10,3 +10,4 @@ mod peripherals;
 
 pub use faults::{Missing, NoMemory};
 pub use memories::Memory;
+pub use peripherals::PeripheralArea;

@@ -14,7 +14,7 @@ ghost use Rattle.plc_mem.specs.BitPlace.{PeripheralOutputs};
 use crate::data_blocks::DataBlocks;
 use crate::faults::{Missing, NoMemory};
 use crate::operands;
-use crate::peripherals::{LOW_BYTES, Peripheral};
+use crate::peripherals::{LOW_BYTES, PeripheralArea};
 use plc_base::{Area, Place, Width};
 use std::alloc::Global;
 use std::marker::Model;
@@ -29,20 +29,19 @@ pub struct Memory {
     inputs: [u8; LOW_BYTES],
     outputs: [u8; LOW_BYTES],
     bit_memory: [u8; BIT_MEMORY_BYTES],
-    peripheral_inputs: Peripheral,
-    peripheral_outputs: Peripheral,
+    peripheral_inputs: PeripheralArea,
+    peripheral_outputs: PeripheralArea,
     data_blocks: DataBlocks,
 }
 
 impl Model for Memory {
     ghost use Rattle.plc_mem.specs.Areas.{Areas, areas_code};
-    ghost use Rattle.plc_mem.specs.Seen.{seen};
 
     ghost Value = { Areas };
 
     ghost coded = { areas_code };
 
-    ghost view = { λ a. record { inputs = a.inputs; outputs = a.outputs; bit_memory = a.bit_memory; peripheral_inputs = seen a.peripheral_inputs; peripheral_outputs = seen a.peripheral_outputs; data_blocks = a.data_blocks } };
+    ghost view = { λ a. record { inputs = a.inputs; outputs = a.outputs; bit_memory = a.bit_memory; peripheral_inputs = a.peripheral_inputs; peripheral_outputs = a.peripheral_outputs; data_blocks = a.data_blocks } };
 }
 
 impl Memory {
@@ -56,8 +55,8 @@ impl Memory {
             inputs: [0; LOW_BYTES],
             outputs: [0; LOW_BYTES],
             bit_memory: [0; BIT_MEMORY_BYTES],
-            peripheral_inputs: Peripheral::clear(),
-            peripheral_outputs: Peripheral::clear(),
+            peripheral_inputs: PeripheralArea::clear(),
+            peripheral_outputs: PeripheralArea::clear(),
             data_blocks: DataBlocks::new(alloc, blocks)?,
         })
     }
@@ -108,7 +107,14 @@ impl Memory {
     pub fn output(&self, byte: u16) -> Option<u8>
         ensures { result ≡ output_of self.now byte }
     {
-        self.peripheral_outputs.byte(usize::from(byte))
+        self.peripheral_outputs.byte(byte)
+    }
+
+    /// All peripheral outputs.
+    pub fn outputs(&self) -> &PeripheralArea
+        ensures { result.now ≡ self.now.peripheral_outputs }
+    {
+        &self.peripheral_outputs
     }
 
     /// Makes each peripheral output 0, as in STOP.
@@ -116,7 +122,7 @@ impl Memory {
     pub fn clear_outputs(&mut self)
         ensures { self.new ≡ outputs_cleared self.old }
     {
-        self.peripheral_outputs = Peripheral::clear();
+        self.peripheral_outputs = PeripheralArea::clear();
     }
 
     /// The bytes of a data block, if it is loaded.

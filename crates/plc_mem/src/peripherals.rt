@@ -1,7 +1,6 @@
-// A peripheral area: bytes 0 to 127, and bytes 256 to 767.
+// Peripheral inputs, or peripheral outputs: bytes 0 to 127, and bytes 256 to 767.
 ghost use Rattle.std.specs.Prelude.{◌≡◌, ◌^◌, ◌<◌, Some, None, MatchResult};
 ghost use Rattle.plc_mem.specs.Bits.{peripheral_byte};
-ghost use Rattle.plc_mem.specs.Seen.{seen};
 ghost use Rattle.plc_mem.specs.Fresh.{clear_peripheral};
 ghost use Rattle.plc_mem.specs.Number.{bit_count};
 ghost use Rattle.plc_mem.specs.Run.{number_over};
@@ -10,37 +9,52 @@ ghost use Rattle.plc_mem.specs.Writing.{put_peripheral};
 use crate::faults::Missing;
 use crate::operands;
 use plc_base::Width;
+use std::marker::Model;
 
 /// How many bytes the lower part has, and the process images with it.
 pub(crate) const LOW_BYTES: usize = 128;
 
 /// How many bytes the upper part has.
-pub(crate) const HIGH_BYTES: usize = 512;
+const HIGH_BYTES: usize = 512;
 
 /// The number of the upper part's first byte.
-pub(crate) const HIGH_START: usize = 256;
+const HIGH_START: usize = 256;
 
+/// Peripheral inputs, or peripheral outputs: bytes 0 to 127, and bytes 256 to 767.
 #[derive(Clone, Copy)]
-pub(crate) struct Peripheral {
+pub struct PeripheralArea {
     pub(crate) low: [u8; LOW_BYTES],
     pub(crate) high: [u8; HIGH_BYTES],
 }
 
-impl Peripheral {
+impl Model for PeripheralArea {
+    ghost use Rattle.plc_mem.specs.Areas.{PeripheralBytes, peripheral_code};
+
+    ghost Value = { PeripheralBytes };
+
+    ghost coded = { peripheral_code };
+
+    ghost view = { λ a. record { low = a.low; high = a.high } };
+
+    ghost inverse = { λ p. record { low = p.low; high = p.high } };
+}
+
+impl PeripheralArea {
     /// The area with each bit 0.
     pub(crate) fn clear() -> Self
-        ensures { seen result ≡ clear_peripheral }
+        ensures { result ≡ clear_peripheral }
     {
-        Peripheral {
+        PeripheralArea {
             low: [0; LOW_BYTES],
             high: [0; HIGH_BYTES],
         }
     }
 
     /// The byte of this number, if it exists.
-    pub(crate) fn byte(&self, number: usize) -> Option<u8>
-        ensures { result ≡ peripheral_byte (seen self.now) number }
+    pub fn byte(&self, number: u16) -> Option<u8>
+        ensures { result ≡ peripheral_byte self.now number }
     {
+        let number = usize::from(number);
         if number < HIGH_START {
             self.low.get(number).copied()
         } else {
@@ -48,10 +62,10 @@ impl Peripheral {
         }
     }
 
-    /// The number in an operand, if the operand lies within one of the parts.
+    /// The number in an operand, if each bit of it exists.
     pub(crate) fn number(&self, at: usize, bit: u8, width: Width) -> Option<u32>
         requires { at < 2 ^ 16 }
-        ensures { result ≡ number_over (peripheral_byte (seen self.now)) at bit width }
+        ensures { result ≡ number_over (peripheral_byte self.now) at bit width }
     {
         if at < HIGH_START {
             operands::number(&self.low, at, bit, width)
@@ -60,7 +74,7 @@ impl Peripheral {
         }
     }
 
-    /// Writes a number to an operand, if the operand lies within one of the parts.
+    /// Writes a number to an operand, if each bit of it exists.
     #[tactic(auto, unfolding(crate::specs::Writing::put_peripheral))]
     pub(crate) fn put(
         &mut self,
@@ -71,7 +85,7 @@ impl Peripheral {
     ) -> Result<(), Missing>
         requires near { at < 2 ^ 16 }
         requires fits { value < 2 ^ bit_count width }
-        ensures { MatchResult result (λ _. put_peripheral (seen self.old) at bit width value ≡ Some (seen self.new)) (λ _. (put_peripheral (seen self.old) at bit width value ≡ None) × (self.new ≡ self.old)) }
+        ensures { MatchResult result (λ _. put_peripheral self.old at bit width value ≡ Some self.new) (λ _. (put_peripheral self.old at bit width value ≡ None) × (self.new ≡ self.old)) }
     {
         if at < HIGH_START {
             operands::put(&mut self.low, at, bit, width, value)
