@@ -1,0 +1,10 @@
+use Rattle.std.proofs.Common.{◌≡◌, ◌++◌, map, take, drop}
+use Rattle.std.specs.Fn.{iterate}
+use Rattle.timers_counters.specs.Timer.{one_ms}
+use Rattle.timers_counters.proofs.timer_table.Timers.pass_ms.Given as goal
+
+-- the timers below the index have passed the milliseconds
+abbrev pub invariant-loop-timer : goal.invariant-loop-timer
+invariant-loop-timer l =
+    l.timer-items
+    ≡ map (iterate one_ms l.n) (take l.timer-index l.initial.timer-items) ++ drop l.timer-index l.initial.timer-items

@@ -1,0 +1,4 @@
+pub mod Counter
+pub mod Numbered
+pub mod Timer
+pub mod Views

@@ -1,0 +1,130 @@
+ghost use Rattle.std.specs.Prelude.{◌≡◌, ◌≤◌, MatchResult, Some, None};
+ghost use Rattle.timers_counters.specs.Counter.{counter_at_rest, counted_up, counted_down, set_to, reset_counter, freed_counter, is_counting, count_bcd};
+
+use plc_base::{BadBcd, bcd_to_unsigned, unsigned_to_bcd};
+use std::marker::Model;
+
+/// The greatest value of a counter.
+pub const MOST_COUNT: u16 = 999;
+
+/// One counter.
+#[derive(Clone, Copy, Debug)]
+pub struct Counter {
+    value: u16,
+    up_edge: bool,
+    down_edge: bool,
+    set_edge: bool,
+    free_edge: bool,
+}
+
+impl Model for Counter {
+    ghost use Rattle.timers_counters.specs.Counter.{Counter as CounterValue};
+
+    ghost Value = { CounterValue };
+
+    ghost use Rattle.timers_counters.specs.Views.{counter_of, inside_of_counter, KeepsCounter};
+
+    ghost view = { counter_of };
+
+    ghost invariant = { KeepsCounter };
+
+    ghost inverse = { inside_of_counter };
+}
+
+impl Counter {
+    /// A counter at rest.
+    pub fn new() -> Counter
+        ensures { result ≡ counter_at_rest }
+    {
+        Counter {
+            value: 0,
+            up_edge: false,
+            down_edge: false,
+            set_edge: false,
+            free_edge: false,
+        }
+    }
+
+    /// `CU`.
+    #[tactic(auto, unfolding(crate::specs::Counter::counted_up))]
+    pub fn up(&mut self, rlo: bool)
+        ensures { self.new ≡ counted_up rlo self.old }
+    {
+        if rlo && !self.up_edge && self.value < MOST_COUNT {
+            self.value += 1;
+        }
+        self.up_edge = rlo;
+    }
+
+    /// `CD`.
+    #[tactic(auto, unfolding(crate::specs::Counter::counted_down))]
+    pub fn down(&mut self, rlo: bool)
+        ensures { self.new ≡ counted_down rlo self.old }
+    {
+        if rlo && !self.down_edge && self.value > 0 {
+            self.value -= 1;
+        }
+        self.down_edge = rlo;
+    }
+
+    /// `S`: loads three BCD digits.
+    #[tactic(auto, unfolding(crate::specs::Counter::set_to))]
+    pub fn set(&mut self, rlo: bool, word: u16) -> Result<(), BadBcd>
+        ensures { MatchResult result
+            (λ _. set_to rlo word self.old ≡ Some self.new)
+            (λ _. (set_to rlo word self.old ≡ None) × (self.new ≡ self.old)) }
+    {
+        if rlo && !self.set_edge {
+            match bcd_to_unsigned(u32::from(word), 3) {
+                Some(value) => self.value = value as u16,
+                None => return Err(BadBcd),
+            }
+        }
+        self.set_edge = rlo;
+        Ok(())
+    }
+
+    /// `R`.
+    #[tactic(auto, unfolding(crate::specs::Counter::reset_counter))]
+    pub fn reset(&mut self, rlo: bool)
+        ensures { self.new ≡ reset_counter rlo self.old }
+    {
+        if rlo {
+            self.value = 0;
+        }
+    }
+
+    /// `FR`.
+    #[tactic(auto, unfolding(crate::specs::Counter::freed_counter))]
+    pub fn free(&mut self, rlo: bool)
+        ensures { self.new ≡ freed_counter rlo self.old }
+    {
+        if rlo && !self.free_edge {
+            self.up_edge = false;
+            self.down_edge = false;
+            self.set_edge = false;
+        }
+        self.free_edge = rlo;
+    }
+
+    /// Whether the value is above 0.
+    pub fn output(&self) -> bool
+        ensures { result ≡ is_counting self.now }
+    {
+        self.value > 0
+    }
+
+    /// The value, as `L` loads it.
+    pub fn value(&self) -> u16
+        ensures { result ≡ self.now.value }
+    {
+        self.value
+    }
+
+    /// The three BCD digits of the value, as `LC` loads them.
+    pub fn bcd(&self) -> u16
+        ensures { result ≡ count_bcd self.now }
+    {
+        unsigned_to_bcd(u32::from(self.value), 3) as u16
+    }
+}

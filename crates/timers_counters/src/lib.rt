@@ -1,0 +1,15 @@
+//! The timers and counters of the controller.
+#![tactic(auto)]
+
+mod counter_table;
+mod counting;
+mod faults;
+mod kinds;
+mod timer_table;
+mod timing;
+
+pub use counter_table::{COUNTERS, Counters};
+pub use counting::MOST_COUNT;
+pub use faults::TimerFault;
+pub use kinds::TimerKind;
+pub use timer_table::{TIMERS, Timers};

@@ -1,0 +1,193 @@
+ghost use Rattle.std.specs.Prelude.{◌≡◌, ◌≤◌, IsTrue, MatchResult, Some, None};
+ghost use Rattle.std.specs.Fn.{iterate};
+ghost use Rattle.timers_counters.specs.Timer.{timer_at_rest, output_at_end, run, ended, stopped, acted, started, reset_timer, freed_timer, one_ms, units_left, time_left};
+
+use crate::kinds::TimerKind;
+use plc_base::{BadBcd, MOST_UNITS, TimeBase, ms_of_s5time};
+use std::marker::Model;
+
+/// One timer.
+#[derive(Clone, Copy, Debug)]
+pub struct Timer {
+    kind: TimerKind,
+    base: TimeBase,
+    left: u32,
+    running: bool,
+    output: bool,
+    start_edge: bool,
+    free_edge: bool,
+}
+
+impl Model for Timer {
+    ghost use Rattle.timers_counters.specs.Timer.{Timer as TimerValue};
+
+    ghost Value = { TimerValue };
+
+    ghost use Rattle.timers_counters.specs.Views.{timer_of, inside_of, KeepsTimer};
+
+    ghost view = { timer_of };
+
+    ghost invariant = { KeepsTimer };
+
+    ghost inverse = { inside_of };
+}
+
+/// The output of a timer of the kind when its time has ended.
+fn output_at_end(kind: TimerKind) -> bool
+    ensures { result ≡ output_at_end kind }
+{
+    match kind {
+        TimerKind::Sp | TimerKind::Se | TimerKind::Sf => false,
+        TimerKind::Sd | TimerKind::Ss => true,
+    }
+}
+
+impl Timer {
+    /// A timer at rest.
+    pub fn new() -> Timer
+        ensures { result ≡ timer_at_rest }
+    {
+        Timer {
+            kind: TimerKind::Sp,
+            base: TimeBase::TenMs,
+            left: 0,
+            running: false,
+            output: false,
+            start_edge: false,
+            free_edge: false,
+        }
+    }
+
+    /// Starts the timer with an S5TIME and the output. With a time of 0 it ends at once.
+    fn run(&mut self, kind: TimerKind, value: u16, output: bool) -> Result<(), BadBcd>
+        ensures { MatchResult result
+            (λ _. run kind value output self.old ≡ Some self.new)
+            (λ _. (run kind value output self.old ≡ None) × (self.new ≡ self.old)) }
+    {
+        let left = ms_of_s5time(value)?;
+        self.kind = kind;
+        self.base = TimeBase::of_s5time(value);
+        self.left = left;
+        self.running = left > 0;
+        self.output = if left > 0 {
+            output
+        } else {
+            output_at_end(kind)
+        };
+        Ok(())
+    }
+
+    /// Ends the time of the timer.
+    fn end(&mut self)
+        ensures { self.new ≡ ended self.old }
+    {
+        self.left = 0;
+        self.running = false;
+        self.output = output_at_end(self.kind);
+    }
+
+    /// Stops the timer. The milliseconds left stay.
+    fn stop(&mut self, output: bool)
+        ensures { self.new ≡ stopped output self.old }
+    {
+        self.running = false;
+        self.output = output;
+    }
+
+    /// A start instruction but for its edge.
+    fn act(&mut self, kind: TimerKind, rlo: bool, value: u16) -> Result<(), BadBcd>
+        ensures { MatchResult result
+            (λ _. acted kind rlo value self.old ≡ Some self.new)
+            (λ _. (acted kind rlo value self.old ≡ None) × (self.new ≡ self.old)) }
+    {
+        let rising = rlo && !self.start_edge;
+        let falling = !rlo && self.start_edge;
+        match kind {
+            TimerKind::Sp if rising => self.run(kind, value, true),
+            TimerKind::Se if rising => self.run(kind, value, true),
+            TimerKind::Sd if rising => self.run(kind, value, false),
+            TimerKind::Ss if rising => self.run(kind, value, self.output),
+            TimerKind::Sf if falling => self.run(kind, value, self.output),
+            TimerKind::Sf if rising => {
+                self.stop(true);
+                Ok(())
+            }
+            TimerKind::Sp | TimerKind::Sd if !rlo => {
+                self.stop(false);
+                Ok(())
+            }
+            _ => Ok(()),
+        }
+    }
+
+    /// A start instruction.
+    #[tactic(auto, unfolding(crate::specs::Timer::started))]
+    pub fn start(&mut self, kind: TimerKind, rlo: bool, value: u16) -> Result<(), BadBcd>
+        ensures { MatchResult result
+            (λ _. started kind rlo value self.old ≡ Some self.new)
+            (λ _. (started kind rlo value self.old ≡ None) × (self.new ≡ self.old)) }
+    {
+        self.act(kind, rlo, value)?;
+        self.start_edge = rlo;
+        Ok(())
+    }
+
+    /// `R`.
+    #[tactic(auto, unfolding(crate::specs::Timer::reset_timer))]
+    pub fn reset(&mut self, rlo: bool)
+        ensures { self.new ≡ reset_timer rlo self.old }
+    {
+        if rlo {
+            self.base = TimeBase::TenMs;
+            self.left = 0;
+            self.running = false;
+            self.output = false;
+        }
+    }
+
+    /// `FR`.
+    #[tactic(auto, unfolding(crate::specs::Timer::freed_timer))]
+    pub fn free(&mut self, rlo: bool)
+        ensures { self.new ≡ freed_timer rlo self.old }
+    {
+        if rlo && !self.free_edge {
+            self.start_edge = false;
+        }
+        self.free_edge = rlo;
+    }
+
+    pub fn output(&self) -> bool
+        ensures { result ≡ self.now.output }
+    {
+        self.output
+    }
+
+    /// The units of the base that are left, rounded up, as `L` loads them.
+    pub fn value(&self) -> u16
+        ensures units { result ≡ units_left self.now }
+        ensures bound { result ≤ MOST_UNITS }
+    {
+        self.left.div_ceil(self.base.unit_ms()) as u16
+    }
+
+    /// The S5TIME of the units left, as `LC` loads it.
+    pub fn bcd(&self) -> u16
+        ensures { result ≡ time_left self.now }
+    {
+        self.base.s5time(u32::from(self.value()))
+    }
+
+    /// Passes `n` milliseconds.
+    pub fn pass_ms(&mut self, n: u32)
+        ensures { self.new ≡ iterate one_ms n self.old }
+    {
+        if !self.running {
+            return;
+        }
+        if n < self.left {
+            self.left -= n;
+        } else {
+            self.end();
+        }
+    }
+}
