@@ -8,3 +8,4 @@ pub mod Blocks
 pub mod Fresh
 pub mod Peripherals
 pub mod Refresh
+pub mod Changes

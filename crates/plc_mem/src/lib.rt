@@ -3,6 +3,7 @@
 #![tactic(auto)]
 
 mod data_blocks;
+mod differences;
 mod faults;
 mod memories;
 mod operands;

@@ -1,11 +1,13 @@
 // Peripheral inputs, or peripheral outputs: bytes 0 to 127, and bytes 256 to 767.
 ghost use Rattle.std.specs.Prelude.{◌≡◌, ◌^◌, ◌<◌, Some, None, MatchResult};
 ghost use Rattle.plc_mem.specs.Bits.{peripheral_byte};
+ghost use Rattle.plc_mem.specs.Changes.{IsFirstChange, IsFirstHighChange};
 ghost use Rattle.plc_mem.specs.Fresh.{clear_peripheral};
 ghost use Rattle.plc_mem.specs.Number.{bit_count};
 ghost use Rattle.plc_mem.specs.Run.{number_over};
 ghost use Rattle.plc_mem.specs.Writing.{put_peripheral};
 
+use crate::differences::first_difference;
 use crate::faults::Missing;
 use crate::operands;
 use plc_base::Width;
@@ -60,6 +62,26 @@ impl PeripheralArea {
         } else {
             self.high.get(number - HIGH_START).copied()
         }
+    }
+
+    /// The number of the first byte, from `from` on, that differs from that of `before`, if there is
+    /// one. What changed is found by asking again from the number after it.
+    pub fn next_change(&self, before: &PeripheralArea, from: u16) -> Option<u16>
+        ensures { IsFirstChange before.now self.now from result }
+    {
+        let from = usize::from(from);
+        match first_difference(&before.low, &self.low, from) {
+            Some(index) => Some(index as u16),
+            None => self.next_high_change(before, from.saturating_sub(HIGH_START)),
+        }
+    }
+
+    // The same for the upper part, of which the first `skip` bytes are passed over.
+    fn next_high_change(&self, before: &PeripheralArea, skip: usize) -> Option<u16>
+        ensures { IsFirstHighChange before.now self.now skip result }
+    {
+        let index = first_difference(&before.high, &self.high, skip)?;
+        Some((HIGH_START + index) as u16)
     }
 
     /// The number in an operand, if each bit of it exists.
