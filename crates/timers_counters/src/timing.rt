@@ -103,8 +103,7 @@ impl Timer {
         let rising = rlo && !self.start_edge;
         let falling = !rlo && self.start_edge;
         match kind {
-            TimerKind::Sp if rising => self.run(kind, value, true),
-            TimerKind::Se if rising => self.run(kind, value, true),
+            TimerKind::Sp | TimerKind::Se if rising => self.run(kind, value, true),
             TimerKind::Sd if rising => self.run(kind, value, false),
             TimerKind::Ss if rising => self.run(kind, value, self.output),
             TimerKind::Sf if falling => self.run(kind, value, self.output),
@@ -156,6 +155,7 @@ impl Timer {
         self.free_edge = rlo;
     }
 
+    /// The output.
     pub fn output(&self) -> bool
         ensures { result ≡ self.now.output }
     {
