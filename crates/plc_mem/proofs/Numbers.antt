@@ -14,7 +14,7 @@ use Rattle.plc_mem.specs.Areas.{Areas, PeripheralBytes}
 use Rattle.plc_mem.specs.Run.{number_over, operand_bit_of, number_of_bytes}
 use Rattle.plc_mem.specs.Writing.{is_within}
 use Rattle.plc_mem.specs.Bits.{bit_of, bit_in, bit_at as place_bit, byte_at, peripheral_byte}
-use Rattle.plc_mem.specs.Number.{weights_of, plus_weight, number_at, region_read}
+use Rattle.plc_mem.specs.Number.{weights_of, plus_weight, number_at, number_of, region_read}
 
 -- sums of the same bits are the same
 pub weights_same : (f g : ℕ → Option Bool) (n : ℕ) → ((j : ℕ) → j < n → f j ≡ g j) → weights_of f n ≡ weights_of g n
@@ -73,7 +73,7 @@ bytes_value g at (suc k) = bytes_value g at k * 2 ^ 8 + g (at + k)
 abbrev pub byte_bit : (ℕ → Option ℕ) → (at k j : ℕ) → Option Bool
 byte_bit f at k j = bit_in (f (at + (k - 1 - j / 8))) (j % 8)
 
-bit_in_some : (byte k : ℕ) → k < 8 → bit_in (Some byte) k ≡ Some (bit_of byte k)
+pub bit_in_some : (byte k : ℕ) → k < 8 → bit_in (Some byte) k ≡ Some (bit_of byte k)
 bit_in_some byte k h = rw (lt-ltb k 8 h) refl
 
 low_bit : (f : ℕ → Option ℕ) (above low at k : ℕ) → f (at + k) ≡ Some low → (j : ℕ) → j < 8 → byte_bit f at (suc k) j ≡ Some (bit_of (above * 2 ^ 8 + low) j)
@@ -98,39 +98,39 @@ high_bit f above low at k small j h before =
 low_or_high : (j : ℕ) → (j < 8) ⊎ (8 ≤ j)
 low_or_high j = grind arith
 
-pub byte_bits : (f : ℕ → Option ℕ) (g : ℕ → ℕ) (at k : ℕ) → ((i : ℕ) → g i < 256) → ((i : ℕ) → i < k → f (at + i) ≡ Some (g (at + i))) → (j : ℕ) → j < 8 * k → byte_bit f at k j ≡ Some (bit_of (bytes_value g at k) j)
+pub byte_bits : (f : ℕ → Option ℕ) (g : ℕ → ℕ) (at k : ℕ) → ((i : ℕ) → i < k → g (at + i) < 256) → ((i : ℕ) → i < k → f (at + i) ≡ Some (g (at + i))) → (j : ℕ) → j < 8 * k → byte_bit f at k j ≡ Some (bit_of (bytes_value g at k) j)
 byte_bits f g at zero small there j h = absurd (omega arith)
 byte_bits f g at (suc k) small there j h =
     elim (low_or_high j) [
       | inl low ↦ low_bit f (bytes_value g at k) (g (at + k)) at k (there k (omega arith)) j low
       | inr high ↦
-          high_bit f (bytes_value g at k) (g (at + k)) at k (small (at + k)) j high
-          (byte_bits f g at k small (λ i below. there i (omega arith)) (j - 8) (omega arith))
+          high_bit f (bytes_value g at k) (g (at + k)) at k (small k (omega arith)) j high
+          (byte_bits f g at k (λ i below. small i (omega arith)) (λ i below. there i (omega arith)) (j - 8) (omega arith))
     ]
 
 -- ---- operands
 
 -- the number of a place is that of its region's bytes
 pub number_at_bytes : (m : Areas) (place : Place) (width : Width) → number_at m place width ≡ option_and_then (λ region. number_over (byte_at m region) place.byte place.bit width) (region_read place)
-unfolding number_at number_over place_bit
+unfolding number_at number_of number_over place_bit
 number_at_bytes m place Bit = refl
 number_at_bytes m place Byte = refl
 number_at_bytes m place Word = refl
 number_at_bytes m place Dword = refl
 
-both_true : (a b : Bool) → (a && b) ≡ true → (a ≡ true) × (b ≡ true)
+pub both_true : (a b : Bool) → (a && b) ≡ true → (a ≡ true) × (b ≡ true)
 both_true true b e = (refl, e)
 both_true false b e = absurd (cc)
 
-one_false : (a b : Bool) → (a && b) ≡ false → (a ≡ false) ⊎ (b ≡ false)
+pub one_false : (a b : Bool) → (a && b) ≡ false → (a ≡ false) ⊎ (b ≡ false)
 one_false true b e = inr e
 one_false false b e = inl refl
 
-no_byte : (b : Bool) (k : ℕ) → if◌then◌else◌ b (option_map (λ (n : ℕ). bit_of n k) None) None ≡ None
+pub no_byte : (b : Bool) (k : ℕ) → if◌then◌else◌ b (option_map (λ (n : ℕ). bit_of n k) None) None ≡ None
 no_byte true k = refl
 no_byte false k = refl
 
-stands : (bytes : List ℕ) (at k : ℕ) → at + k ≤ length bytes → (i : ℕ) → i < k → slice_get bytes (at + i) ≡ Some (slice_index bytes (at + i))
+pub stands : (bytes : List ℕ) (at k : ℕ) → at + k ≤ length bytes → (i : ℕ) → i < k → slice_get bytes (at + i) ≡ Some (slice_index bytes (at + i))
 stands bytes at k within i h = slice_get-get_or bytes (at + i) 0 (omega arith)
 
 -- a bit alone weighs 1
@@ -151,15 +151,15 @@ run_number bytes at bit Bit small within =
     ap (plus_weight 0 (Some 0)) found ∙ lone_bit (bit_at (slice_index bytes at) bit) (bit_at-lt (slice_index bytes at) bit)
 run_number bytes at bit Byte small within =
     let room : at + 1 ≤ length bytes = grind (arith, nat_tests) in
-    weights_value (operand_bit_of (slice_get bytes) at bit Byte) (bytes_value (slice_index bytes) at 1) 8 (byte_bits (slice_get bytes) (slice_index bytes) at 1 small (stands bytes at 1 room))
+    weights_value (operand_bit_of (slice_get bytes) at bit Byte) (bytes_value (slice_index bytes) at 1) 8 (byte_bits (slice_get bytes) (slice_index bytes) at 1 (λ i h. small (at + i)) (stands bytes at 1 room))
     ∙ ap Some (omega (arith, small at, ap (slice_index bytes) (add-zero at)))
 run_number bytes at bit Word small within =
     let room : at + 2 ≤ length bytes = grind (arith, nat_tests) in
-    weights_value (operand_bit_of (slice_get bytes) at bit Word) (bytes_value (slice_index bytes) at 2) 16 (byte_bits (slice_get bytes) (slice_index bytes) at 2 small (stands bytes at 2 room))
+    weights_value (operand_bit_of (slice_get bytes) at bit Word) (bytes_value (slice_index bytes) at 2) 16 (byte_bits (slice_get bytes) (slice_index bytes) at 2 (λ i h. small (at + i)) (stands bytes at 2 room))
     ∙ ap Some (omega (arith, small at, small (at + 1), ap (slice_index bytes) (add-zero at)))
 run_number bytes at bit Dword small within =
     let room : at + 4 ≤ length bytes = grind (arith, nat_tests) in
-    weights_value (operand_bit_of (slice_get bytes) at bit Dword) (bytes_value (slice_index bytes) at 4) 32 (byte_bits (slice_get bytes) (slice_index bytes) at 4 small (stands bytes at 4 room))
+    weights_value (operand_bit_of (slice_get bytes) at bit Dword) (bytes_value (slice_index bytes) at 4) 32 (byte_bits (slice_get bytes) (slice_index bytes) at 4 (λ i h. small (at + i)) (stands bytes at 4 room))
     ∙ ap Some (omega (arith, small at, small (at + 1), small (at + 2), small (at + 3), ap (slice_index bytes) (add-zero at)))
 
 -- where an operand's first byte doesn't exist, or its last, it has no number

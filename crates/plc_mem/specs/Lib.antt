@@ -9,3 +9,5 @@ pub mod Fresh
 pub mod Peripherals
 pub mod Refresh
 pub mod Changes
+pub mod Places
+pub mod Written

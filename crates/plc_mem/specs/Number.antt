@@ -1,5 +1,5 @@
 -- The number at a place.
-use Rattle.std.specs.Prelude.{ℕ, zero, suc, ◌+◌, ◌-◌, ◌/◌, ◌%◌, ◌^◌, Option, Some, None, Bool, option_and_then, nat_eq, if◌then◌else◌}
+use Rattle.std.specs.Prelude.{ℕ, zero, suc, ◌<◌, IsSome, ◌+◌, ◌-◌, ◌/◌, ◌%◌, ◌^◌, Option, Some, None, Bool, option_and_then, nat_eq, if◌then◌else◌}
 use Rattle.plc_base.specs.declared.Width.{Width}
 use Rattle.plc_base.specs.declared.Width.TheVariants.{Bit, Byte, Word, Dword}
 use Rattle.plc_base.specs.declared.Area.{Area}
@@ -57,6 +57,15 @@ unfoldable pub weights_of : (ℕ → Option Bool) → ℕ → Option ℕ
 weights_of bits zero = Some 0
 weights_of bits (suc j) = plus_weight j (weights_of bits j) (bits j)
 
+-- The number in an operand of a region, if each bit of the operand exists.
+unfoldable pub number_of : Areas → Region → Place → Width → Option ℕ
+number_of m region place width = weights_of (λ j. bit_at m (operand_bit region place width j)) (bit_count width)
+
 -- The number at a place and width, if each bit of the operand exists.
 unfoldable pub number_at : Areas → Place → Width → Option ℕ
-number_at m place width = option_and_then (λ region. weights_of (λ j. bit_at m (operand_bit region place width j)) (bit_count width)) (region_read place)
+number_at m place width = option_and_then (λ region. number_of m region place width) (region_read place)
+
+-- Each bit of an operand exists.
+abbrev pub EachBitExists : Areas → Option Region → Place → Width → Type 0
+EachBitExists m None place width = ⊥
+EachBitExists m (Some region) place width = (j : ℕ) → j < bit_count width → IsSome (bit_at m (operand_bit region place width j))

@@ -1,0 +1,186 @@
+-- A write to memory gives the one memory with the number there and every other bit as before.
+use Rattle.std.proofs.Common.{◌≡◌, ℕ, ◌+◌, ◌^◌, ◌<◌, ◌≤◌, List, length, refl, sym, ap, ◌∙◌, subst, arith, Option, Some, None, Bool, true, false, slice_get, ◌⊎◌, inl, inr, is_some, unwrap_or, nat_lt, nat_le, ◌&&◌}
+use Rattle.std.specs.Option.{option_map}
+use Rattle.std.specs.FinMap as map
+use Rattle.plc_base.specs.declared.Width.{Width}
+use Rattle.plc_base.specs.declared.Width.TheVariants.{Bit, Byte, Word, Dword}
+use Rattle.plc_base.specs.declared.Place.{Place}
+use Rattle.plc_mem.specs.Areas.{Areas, PeripheralBytes}
+use Rattle.plc_mem.specs.BitPlace.{BitPlace, Region, Inputs, Outputs, BitMemory, PeripheralInputs, PeripheralOutputs, DataBlock}
+use Rattle.plc_mem.specs.Bits.{bit_at, bit_in, byte_at}
+use Rattle.plc_mem.specs.Number.{bit_count, byte_count, number_of, region_written}
+use Rattle.plc_mem.specs.Run.{number_over}
+use Rattle.plc_mem.specs.Writing.{is_within, stored, put, put_peripheral, put_in_block, written_in, written}
+use Rattle.plc_mem.specs.Written.{IsWrittenIn, IsWritten, bit_after, value_of_bit, weight_in}
+use Rattle.std.specs.Ordering.{nat_cmp}
+use Rattle.std.proofs.lemmas.Option.{slice_get_past}
+use Rattle.plc_mem.proofs.Numbers.{no_byte}
+use Rattle.plc_mem.proofs.Runs.{mapped, chained, part_put, put_done, unchanged, none_some, run_after, run_holds, put_within, length-put, peripheral_after, peripheral_holds, block_after, block_holds, block_loaded}
+use Rattle.plc_mem.proofs.Stored.{kept_bit}
+
+-- the number in an operand of a region is that of its bytes
+pub number_of_region : (m : Areas) (region : Region) (place : Place) (width : Width) → number_of m region place width ≡ number_over (byte_at m region) place.byte place.bit width
+unfolding number_of number_over bit_at
+number_of_region m region place Bit = refl
+number_of_region m region place Byte = refl
+number_of_region m region place Word = refl
+number_of_region m region place Dword = refl
+
+-- the sizes on which a write to peripheral outputs rests
+pub record HasImage (m : Areas) : Type 0 where
+  pub image : length m.outputs ≡ 128
+  pub inputs_low : length m.peripheral_inputs.low ≡ 128
+  pub outputs_low : length m.peripheral_outputs.low ≡ 128
+
+inputs_bits : (m : Areas) (new : List ℕ) (at bit : ℕ) (width : Width) (value : ℕ) → value < 2 ^ bit_count width → put m.inputs at bit width value ≡ Some new → (region : Region) (n b : ℕ)
+    → bit_at (record m { inputs = new }) (record { region = region; byte = n; bit = b }) ≡ option_map (bit_after Inputs at bit width value (record { region = region; byte = n; bit = b })) (bit_at m (record { region = region; byte = n; bit = b }))
+unfolding bit_at
+inputs_bits m new at bit width value fits done Inputs n b = run_after m.inputs new at bit width value fits done n b
+inputs_bits m new at bit width value fits done region n b = kept_bit (bit_at m (record { region = region; byte = n; bit = b }))
+
+inputs_written : (m n : Areas) (place : Place) (width : Width) (value : ℕ) → value < 2 ^ bit_count width → written_in m Inputs place.byte place.bit width value ≡ Some n → IsWrittenIn m n Inputs place width value
+inputs_written m n place width value fits done =
+    let was = mapped (λ (s : List ℕ). let r : Areas = record m { inputs = s } in r) (put m.inputs place.byte place.bit width value) n done in
+    let now : Areas = record m { inputs = was.0 } in
+    subst (λ (r : Areas). IsWrittenIn m r Inputs place width value) was.2 (record {
+      number = number_of_region now Inputs place width ∙ run_holds m.inputs was.0 place.byte place.bit width value fits was.1;
+      bits = λ q. inputs_bits m was.0 place.byte place.bit width value fits was.1 q.region q.byte q.bit;
+      blocks = λ k. refl;
+    })
+
+outputs_bits : (m : Areas) (new : List ℕ) (at bit : ℕ) (width : Width) (value : ℕ) → value < 2 ^ bit_count width → put m.outputs at bit width value ≡ Some new → (region : Region) (n b : ℕ)
+    → bit_at (record m { outputs = new }) (record { region = region; byte = n; bit = b }) ≡ option_map (bit_after Outputs at bit width value (record { region = region; byte = n; bit = b })) (bit_at m (record { region = region; byte = n; bit = b }))
+unfolding bit_at
+outputs_bits m new at bit width value fits done Outputs n b = run_after m.outputs new at bit width value fits done n b
+outputs_bits m new at bit width value fits done region n b = kept_bit (bit_at m (record { region = region; byte = n; bit = b }))
+
+outputs_written : (m n : Areas) (place : Place) (width : Width) (value : ℕ) → value < 2 ^ bit_count width → written_in m Outputs place.byte place.bit width value ≡ Some n → IsWrittenIn m n Outputs place width value
+outputs_written m n place width value fits done =
+    let was = mapped (λ (s : List ℕ). let r : Areas = record m { outputs = s } in r) (put m.outputs place.byte place.bit width value) n done in
+    let now : Areas = record m { outputs = was.0 } in
+    subst (λ (r : Areas). IsWrittenIn m r Outputs place width value) was.2 (record {
+      number = number_of_region now Outputs place width ∙ run_holds m.outputs was.0 place.byte place.bit width value fits was.1;
+      bits = λ q. outputs_bits m was.0 place.byte place.bit width value fits was.1 q.region q.byte q.bit;
+      blocks = λ k. refl;
+    })
+
+memory_bits : (m : Areas) (new : List ℕ) (at bit : ℕ) (width : Width) (value : ℕ) → value < 2 ^ bit_count width → put m.bit_memory at bit width value ≡ Some new → (region : Region) (n b : ℕ)
+    → bit_at (record m { bit_memory = new }) (record { region = region; byte = n; bit = b }) ≡ option_map (bit_after BitMemory at bit width value (record { region = region; byte = n; bit = b })) (bit_at m (record { region = region; byte = n; bit = b }))
+unfolding bit_at
+memory_bits m new at bit width value fits done BitMemory n b = run_after m.bit_memory new at bit width value fits done n b
+memory_bits m new at bit width value fits done region n b = kept_bit (bit_at m (record { region = region; byte = n; bit = b }))
+
+memory_written : (m n : Areas) (place : Place) (width : Width) (value : ℕ) → value < 2 ^ bit_count width → written_in m BitMemory place.byte place.bit width value ≡ Some n → IsWrittenIn m n BitMemory place width value
+memory_written m n place width value fits done =
+    let was = mapped (λ (s : List ℕ). let r : Areas = record m { bit_memory = s } in r) (put m.bit_memory place.byte place.bit width value) n done in
+    let now : Areas = record m { bit_memory = was.0 } in
+    subst (λ (r : Areas). IsWrittenIn m r BitMemory place width value) was.2 (record {
+      number = number_of_region now BitMemory place width ∙ run_holds m.bit_memory was.0 place.byte place.bit width value fits was.1;
+      bits = λ q. memory_bits m was.0 place.byte place.bit width value fits was.1 q.region q.byte q.bit;
+      blocks = λ k. refl;
+    })
+
+peripheral_inputs_bits : (m : Areas) (new : PeripheralBytes) (at bit : ℕ) (width : Width) (value : ℕ) → HasImage m → value < 2 ^ bit_count width → put_peripheral m.peripheral_inputs at bit width value ≡ Some new → (region : Region) (n b : ℕ)
+    → bit_at (record m { peripheral_inputs = new }) (record { region = region; byte = n; bit = b }) ≡ option_map (bit_after PeripheralInputs at bit width value (record { region = region; byte = n; bit = b })) (bit_at m (record { region = region; byte = n; bit = b }))
+unfolding bit_at
+peripheral_inputs_bits m new at bit width value sizes fits done PeripheralInputs n b = peripheral_after m.peripheral_inputs new at bit width value (omega (arith, sizes.inputs_low)) fits done n b
+peripheral_inputs_bits m new at bit width value sizes fits done region n b = kept_bit (bit_at m (record { region = region; byte = n; bit = b }))
+
+peripheral_inputs_written : (m n : Areas) (place : Place) (width : Width) (value : ℕ) → HasImage m → value < 2 ^ bit_count width → written_in m PeripheralInputs place.byte place.bit width value ≡ Some n → IsWrittenIn m n PeripheralInputs place width value
+peripheral_inputs_written m n place width value sizes fits done =
+    let was = mapped (λ (p : PeripheralBytes). let r : Areas = record m { peripheral_inputs = p } in r) (put_peripheral m.peripheral_inputs place.byte place.bit width value) n done in
+    let now : Areas = record m { peripheral_inputs = was.0 } in
+    subst (λ (r : Areas). IsWrittenIn m r PeripheralInputs place width value) was.2 (record {
+      number = number_of_region now PeripheralInputs place width ∙ peripheral_holds m.peripheral_inputs was.0 place.byte place.bit width value (omega (arith, sizes.inputs_low)) fits was.1;
+      bits = λ q. peripheral_inputs_bits m was.0 place.byte place.bit width value sizes fits was.1 q.region q.byte q.bit;
+      blocks = λ k. refl;
+    })
+
+within_same : (xs ys : List ℕ) (at bit : ℕ) (width : Width) → length xs ≡ length ys → is_within xs at bit width ≡ is_within ys at bit width
+within_same xs ys at bit Bit same = ap (λ (n : ℕ). nat_lt at n && nat_lt bit 8) same
+within_same xs ys at bit Byte same = ap (nat_le (at + 1)) same
+within_same xs ys at bit Word same = ap (nat_le (at + 2)) same
+within_same xs ys at bit Dword same = ap (nat_le (at + 4)) same
+
+put_fits : (xs : List ℕ) (at bit : ℕ) (width : Width) (value : ℕ) → is_within xs at bit width ≡ true → put xs at bit width value ≡ Some (stored xs at bit width value)
+unfolding put
+put_fits xs at bit width value within = rw within refl
+
+below_or_past : (n : ℕ) → (n < 128) ⊎ (128 ≤ n)
+below_or_past n = grind arith
+
+-- the process image after a write to peripheral outputs, whether the operand lies in it or not
+image_after :
+    (m : Areas) (q : PeripheralBytes) (at bit : ℕ) (width : Width) (value : ℕ)
+    → HasImage m
+    → value < 2 ^ bit_count width
+    → put_peripheral m.peripheral_outputs at bit width value ≡ Some q
+    → (n b : ℕ)
+    → (o : Option (List ℕ))
+    → put m.outputs at bit width value ≡ o
+    → bit_in (slice_get (unwrap_or o m.outputs) n) b ≡ option_map (value_of_bit value (weight_in at bit width n b)) (bit_in (slice_get m.outputs n) b)
+image_after m q at bit width value sizes fits done n b (Some new) e = run_after m.outputs new at bit width value fits e n b
+image_after m q at bit width value sizes fits done n b None e =
+    elim (part_put m.peripheral_outputs q at bit width value done) [
+      | inl w ↦
+          let was = put_done m.peripheral_outputs.low w.0 at bit width value w.2 in
+          let within = within_same m.outputs m.peripheral_outputs.low at bit width (sizes.image ∙ sym sizes.outputs_low) ∙ was.0 in
+          absurd (none_some (stored m.outputs at bit width value) (sym e ∙ put_fits m.outputs at bit width value within))
+      | inr w ↦
+          elim (below_or_past n) [
+            | inl below ↦ unchanged (slice_get m.outputs n) (slice_get m.outputs n) at bit width value n b (inl (omega (arith, w.1))) refl
+            | inr past ↦
+                let none : slice_get m.outputs n ≡ None = slice_get_past m.outputs n (omega (arith, sizes.image)) in
+                ap (λ (o : Option ℕ). bit_in o b) none ∙ no_byte (nat_lt b 8) b
+                ∙ sym (ap (λ (o : Option ℕ). option_map (value_of_bit value (weight_in at bit width n b)) (bit_in o b)) none ∙ ap (option_map (value_of_bit value (weight_in at bit width n b))) (no_byte (nat_lt b 8) b))
+          ]
+    ]
+
+peripheral_outputs_bits : (m : Areas) (new : PeripheralBytes) (at bit : ℕ) (width : Width) (value : ℕ) → HasImage m → value < 2 ^ bit_count width → put_peripheral m.peripheral_outputs at bit width value ≡ Some new → (region : Region) (n b : ℕ)
+    → bit_at (record m { outputs = unwrap_or (put m.outputs at bit width value) m.outputs; peripheral_outputs = new }) (record { region = region; byte = n; bit = b }) ≡ option_map (bit_after PeripheralOutputs at bit width value (record { region = region; byte = n; bit = b })) (bit_at m (record { region = region; byte = n; bit = b }))
+unfolding bit_at
+peripheral_outputs_bits m new at bit width value sizes fits done PeripheralOutputs n b = peripheral_after m.peripheral_outputs new at bit width value (omega (arith, sizes.outputs_low)) fits done n b
+peripheral_outputs_bits m new at bit width value sizes fits done Outputs n b = image_after m new at bit width value sizes fits done n b (put m.outputs at bit width value) refl
+peripheral_outputs_bits m new at bit width value sizes fits done region n b = kept_bit (bit_at m (record { region = region; byte = n; bit = b }))
+
+peripheral_outputs_written : (m n : Areas) (place : Place) (width : Width) (value : ℕ) → HasImage m → value < 2 ^ bit_count width → written_in m PeripheralOutputs place.byte place.bit width value ≡ Some n → IsWrittenIn m n PeripheralOutputs place width value
+peripheral_outputs_written m n place width value sizes fits done =
+    let was = mapped (λ (p : PeripheralBytes). let r : Areas = record m { outputs = unwrap_or (put m.outputs place.byte place.bit width value) m.outputs; peripheral_outputs = p } in r) (put_peripheral m.peripheral_outputs place.byte place.bit width value) n done in
+    let now : Areas = record m { outputs = unwrap_or (put m.outputs place.byte place.bit width value) m.outputs; peripheral_outputs = was.0 } in
+    subst (λ (r : Areas). IsWrittenIn m r PeripheralOutputs place width value) was.2 (record {
+      number = number_of_region now PeripheralOutputs place width ∙ peripheral_holds m.peripheral_outputs was.0 place.byte place.bit width value (omega (arith, sizes.outputs_low)) fits was.1;
+      bits = λ q. peripheral_outputs_bits m was.0 place.byte place.bit width value sizes fits was.1 q.region q.byte q.bit;
+      blocks = λ k. refl;
+    })
+
+block_bits : (m : Areas) (new : map.FinMap nat_cmp (List ℕ)) (k at bit : ℕ) (width : Width) (value : ℕ) → value < 2 ^ bit_count width → put_in_block m.data_blocks k at bit width value ≡ Some new → (region : Region) (n b : ℕ)
+    → bit_at (record m { data_blocks = new }) (record { region = region; byte = n; bit = b }) ≡ option_map (bit_after (DataBlock k) at bit width value (record { region = region; byte = n; bit = b })) (bit_at m (record { region = region; byte = n; bit = b }))
+unfolding bit_at
+block_bits m new k at bit width value fits done (DataBlock r) n b = block_after m.data_blocks new k at bit width value fits done r n b
+block_bits m new k at bit width value fits done region n b = kept_bit (bit_at m (record { region = region; byte = n; bit = b }))
+
+block_written : (m n : Areas) (k : ℕ) (place : Place) (width : Width) (value : ℕ) → value < 2 ^ bit_count width → written_in m (DataBlock k) place.byte place.bit width value ≡ Some n → IsWrittenIn m n (DataBlock k) place width value
+block_written m n k place width value fits done =
+    let was = mapped (λ (blocks : map.FinMap nat_cmp (List ℕ)). let r : Areas = record m { data_blocks = blocks } in r) (put_in_block m.data_blocks k place.byte place.bit width value) n done in
+    let now : Areas = record m { data_blocks = was.0 } in
+    subst (λ (r : Areas). IsWrittenIn m r (DataBlock k) place width value) was.2 (record {
+      number = number_of_region now (DataBlock k) place width ∙ block_holds m.data_blocks was.0 k place.byte place.bit width value fits was.1;
+      bits = λ q. block_bits m was.0 k place.byte place.bit width value fits was.1 q.region q.byte q.bit;
+      blocks = block_loaded m.data_blocks was.0 k place.byte place.bit width value was.1;
+    })
+
+-- a write to any region
+pub written_in_is : (m n : Areas) (region : Region) (place : Place) (width : Width) (value : ℕ) → HasImage m → value < 2 ^ bit_count width → written_in m region place.byte place.bit width value ≡ Some n → IsWrittenIn m n region place width value
+written_in_is m n Inputs place width value sizes fits done = inputs_written m n place width value fits done
+written_in_is m n Outputs place width value sizes fits done = outputs_written m n place width value fits done
+written_in_is m n BitMemory place width value sizes fits done = memory_written m n place width value fits done
+written_in_is m n PeripheralInputs place width value sizes fits done = peripheral_inputs_written m n place width value sizes fits done
+written_in_is m n PeripheralOutputs place width value sizes fits done = peripheral_outputs_written m n place width value sizes fits done
+written_in_is m n (DataBlock k) place width value sizes fits done = block_written m n k place width value fits done
+
+-- a write at a place
+pub written_is : (m n : Areas) (place : Place) (width : Width) (value : ℕ) → HasImage m → value < 2 ^ bit_count width → written m place width value ≡ Some n → IsWritten m n place width value
+unfolding written
+written_is m n place width value sizes fits done =
+    let found = chained (λ (region : Region). written_in m region place.byte place.bit width value) (region_written place) n done in
+    (found.0, found.1, written_in_is m n found.0 place width value sizes fits found.2)

@@ -1,0 +1,37 @@
+-- Which places exist, and which memories there can be.
+use Rattle.std.specs.Prelude.{◌≡◌, ℕ, ◌<◌, List, length, Some, is_some, slice_index}
+use Rattle.std.specs.FinMap as map
+use Rattle.plc_mem.specs.Areas.{Areas, PeripheralBytes}
+use Rattle.plc_mem.specs.BitPlace.{BitPlace}
+use Rattle.plc_mem.specs.Bits.{bit_at}
+
+-- The same data blocks are loaded.
+abbrev pub SameBlocks : (old new : Areas) → Type 0
+SameBlocks old new = (number : ℕ) → is_some (map.get new.data_blocks number) ≡ is_some (map.get old.data_blocks number)
+
+-- No place is added or removed.
+pub record SamePlaces (old new : Areas) : Type 0 where
+  pub bits : (place : BitPlace) → is_some (bit_at new place) ≡ is_some (bit_at old place)
+  pub blocks : SameBlocks old new
+
+-- Each number of the list is a byte.
+abbrev pub AreBytes : List ℕ → Type 0
+AreBytes bytes = (i : ℕ) → slice_index bytes i < 256
+
+-- As many bytes.
+pub record IsRun (count : ℕ) (bytes : List ℕ) : Type 0 where
+  pub count_is : length bytes ≡ count
+  pub bytes_are : AreBytes bytes
+
+pub record IsPeripheral (p : PeripheralBytes) : Type 0 where
+  pub low : IsRun 128 p.low
+  pub high : IsRun 512 p.high
+
+-- A memory that can be: each area has its size, and memory is made of bytes.
+pub record IsMemory (m : Areas) : Type 0 where
+  pub inputs : IsRun 128 m.inputs
+  pub outputs : IsRun 128 m.outputs
+  pub bit_memory : IsRun 256 m.bit_memory
+  pub peripheral_inputs : IsPeripheral m.peripheral_inputs
+  pub peripheral_outputs : IsPeripheral m.peripheral_outputs
+  pub data_blocks : (number : ℕ) (bytes : List ℕ) → map.get m.data_blocks number ≡ Some bytes → AreBytes bytes
