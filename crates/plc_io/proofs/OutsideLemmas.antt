@@ -1,13 +1,28 @@
 -- What two calls on the same files or the same sink do together, and what a loop of reads or pushes has done so far.
-use Rattle.std.proofs.Common.{◌≡◌, ℕ, ◌+◌, ◌-◌, ◌<◌, ◌≤◌, List, [], ◌++◌, true, length, take, drop, refl, sym, ◌∙◌, ap, arith, subst, append_assoc, length-append, length-drop}
+use Rattle.std.proofs.Common.{◌≡◌, ◌⊎◌, inl, inr, false, nat_lt, ℕ, ◌+◌, ◌-◌, ◌<◌, ◌≤◌, List, [], ◌++◌, true, length, take, drop, refl, sym, ◌∙◌, ap, arith, subst, append_assoc, length-append, length-drop}
 use Rattle.std.specs.Prelude.{Option, None, Some, Ok, Err, Result, option_map, unwrap_or}
+use Rattle.std.proofs.lemmas.Bool.Decides.{nat_tests}
 use Rattle.std.proofs.Math.Seq.{take-add, take-nil}
 use Rattle.std.proofs.lemmas.List.{append-nil, length-take-le, take_all, take_rest}
 use Rattle.plc_io.specs.Contents.{Contents, IsFront, ReadsFrom, SameFiles}
-use Rattle.plc_io.specs.Counts.{CountsAt, SameCounts}
+use Rattle.plc_io.specs.Counts.{CountsAt, Rose, SameCounts, last_count}
 use Rattle.plc_io.specs.Taken.{Took, TookFront}
 use Rattle.plc_io.specs.declared.faults.IoFault.{IoFault}
 use Rattle.plc_io.specs.declared.faults.IoFault.TheVariants.{Failed, NoMemory}
+
+-- what it means that a count rose
+pub Rose-greater : (before now : ℕ) → before < now → Rose before now
+Rose-greater before now greater = omega arith
+
+pub Rose-last : (before now : ℕ) → now ≡ last_count → Rose before now
+Rose-last before now last = omega arith
+
+pub Rose-cases : (before now : ℕ) → Rose before now → (before < now) ⊎ (last_count ≤ now)
+Rose-cases before now rose =
+    elim (nat_lt before now) as (λ t. nat_lt before now ≡ t → (before < now) ⊎ (last_count ≤ now)) [
+      | true ↦ λ less. inl (grind (arith, nat_tests))
+      | false ↦ λ most. inr (grind (arith, nat_tests))
+    ] refl
 
 pub SameFiles-refl : (c : Contents) → SameFiles c c
 SameFiles-refl c = record { told = refl; at = λ name. refl }

@@ -16,12 +16,12 @@ abbrev pub contents_of : List (List ℕ × List ℕ) → Contents
 contents_of files = record { told = true; at = bytes_of files }
 
 -- the bytes under a name, none where the name is absent
-abbrev pub bytes_or_none : List (List ℕ × List ℕ) → List ℕ → List ℕ
-bytes_or_none files name = unwrap_or (bytes_of files name) []
+abbrev pub bytes_or_empty : List (List ℕ × List ℕ) → List ℕ → List ℕ
+bytes_or_empty files name = unwrap_or (bytes_of files name) []
 
 -- the same files, where an absent name is an empty file
 abbrev pub sure_contents_of : List (List ℕ × List ℕ) → Contents
-sure_contents_of files = record { told = true; at = λ name. Some (bytes_or_none files name) }
+sure_contents_of files = record { told = true; at = λ name. Some (bytes_or_empty files name) }
 
 -- no name stands twice
 abbrev pub EachNameOnce : List (List ℕ × List ℕ) → Type 0

@@ -19,3 +19,6 @@ pub use memory::{MemFiles, MemSink};
 pub use real::{OpenGate, RealFiles, RealSink};
 pub use sure::{SureFiles, SureSink};
 pub use traits::{Files, Gate, Sink};
+
+#[cfg(test)]
+mod tests;

@@ -76,6 +76,22 @@ impl NamedFiles {
         }
     }
 
+    /// The files of a list in which no name stands twice.
+    pub fn from_vec(files: Vec<NamedFile>) -> Self
+        requires { EachNameOnce files.items }
+        ensures { result ≡ files.items }
+    {
+        NamedFiles { files }
+    }
+
+    pub fn into_vec(self) -> Vec<NamedFile>
+        ensures files { result.items ≡ self }
+        ensures once { EachNameOnce self }
+    {
+        let NamedFiles { files } = self;
+        files
+    }
+
     /// The bytes of the file of this name.
     pub fn get(&self, name: &str) -> Option<&[u8]>
         ensures bytes { option_map (λ r. r.now) result ≡ bytes_of self.now name.now }

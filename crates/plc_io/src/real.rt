@@ -1,4 +1,4 @@
-ghost use Rattle.std.specs.Prelude.{◌≤◌, length, None, false, IfOk};
+ghost use Rattle.std.specs.Prelude.{◌≡◌, ◌≤◌, ℕ, List, length, None, false, IfOk};
 ghost use Rattle.plc_io.specs.Counts.{for_every_name};
 
 use crate::faults::IoFault;
@@ -16,7 +16,11 @@ pub struct RealFiles<R> {
 }
 
 impl<R: rt::Files + Drop> RealFiles<R> {
-    pub fn new(rt: R) -> Self {
+    /// Nothing has failed yet.
+    pub fn new(rt: R) -> Self
+        ensures reads { (name : List ℕ) → ⟦<RealFiles<R> as Files>⟧.failed_reads result name ≡ 0 }
+        ensures writes { (name : List ℕ) → ⟦<RealFiles<R> as Files>⟧.failed_writes result name ≡ 0 }
+    {
         RealFiles {
             rt,
             failed_reads: 0,
@@ -72,7 +76,10 @@ pub struct RealSink<R> {
 }
 
 impl<R: Print + Drop> RealSink<R> {
-    pub fn new(rt: R) -> Self {
+    /// Nothing has failed yet.
+    pub fn new(rt: R) -> Self
+        ensures { ⟦<RealSink<R> as Sink>⟧.faults result ≡ 0 }
+    {
         RealSink { rt, faults: 0 }
     }
 }

@@ -1,7 +1,7 @@
 ghost use Rattle.std.specs.Prelude.{◌≡◌, ◌-◌, ◌++◌, [], ◌≢◌, Some, length, min, IfOk, IfErr, OnOk, OnErr};
 ghost use Rattle.plc_io.specs.Contents.{Agrees, IsCutShort, ReadsFrom, SameElsewhere, SameFiles};
 ghost use Rattle.plc_io.specs.Counts.{Counts, CountsAt, SameCounts, for_every_name};
-ghost use Rattle.plc_io.specs.NamedFiles.{bytes_or_none, sure_contents_of, with_file};
+ghost use Rattle.plc_io.specs.NamedFiles.{bytes_or_empty, sure_contents_of, with_file};
 ghost use Rattle.plc_io.specs.Taken.{Offered};
 
 use crate::faults::{IoFault, NoMemory};
@@ -49,7 +49,7 @@ impl Files for SureFiles {
         ensures reads_count { CountsAt (for_every_name 0) (for_every_name 0) name.now result }
         ensures writes_count { SameCounts (for_every_name 0) (for_every_name 0) }
         // Exactly what.
-        ensures answer { result ≡ Ok (min (length into.new) (length (bytes_or_none self.old.files name.now) - at)) }
+        ensures answer { result ≡ Ok (min (length into.new) (length (bytes_or_empty self.old.files name.now) - at)) }
         ensures after { self.new.files ≡ self.old.files }
     {
         let all = self.files.get(name).unwrap_or(&[]);
