@@ -1,60 +1,92 @@
 -- A table's entry at the front of a text.
-use Rattle.std.proofs.Common.{◌≡◌, ℕ, ◌<◌, ◌≤◌, Bool, true, false, ◌&&◌, not, List, length, take, drop, sym, ◌∙◌, ap, subst, arith}
-use Rattle.std.specs.Prelude.{Option, ◌+◌, ◌||◌, nat_lt, get_or, []}
+use Rattle.std.proofs.Common.{◌≡◌, ℕ, ◌+◌, ◌-◌, ◌<◌, ◌≤◌, true, false, ◌||◌, List, [], length, take, drop, get_or, Option, sym, ◌∙◌, ap, subst, arith}
+use Rattle.std.specs.Prelude.{nat_lt}
 use Rattle.std.specs.List.{list_all}
 use Rattle.std.specs.Str.{str_eq_ignore_ascii_case, str_to_ascii_lowercase}
 use Rattle.std.specs.Char.{to_ascii_lowercase}
 use Rattle.std.proofs.lemmas.Slice.Eq.{bytes_eq-Decides}
-use Rattle.std.proofs.lemmas.Bool.{and_parts, ltb-true, false≢true}
-use Rattle.std.proofs.lemmas.List.{length-map, length-take-le, take_all}
+use Rattle.std.proofs.lemmas.Bool.{and_parts, and_from, ltb-true, false≢true, false_from_ne_true}
+use Rattle.std.proofs.lemmas.List.{length-map, length-take, length-drop, take-take, drop-take, drop-drop, take_all}
 use Rattle.std.proofs.lemmas.List.Folds.{list_any_more}
 use Rattle.std.proofs.lemmas.List.Sums.{AllPass-from_list_all}
+use Rattle.stl_lexer.specs.declared.tables.Tail.{Tail}
+use Rattle.stl_lexer.specs.Forms.{begins_with, is_tail, is_entry, is_listed}
+use Rattle.stl_lexer.specs.Longest.{IsFormAt, IsLongestOf, HasNone, FindsLongest, IsTailAt, IsLongestTail, longer_of}
 use Rattle.stl_lexer.proofs.LongestLemmas.{same_form, either_longest}
-use Rattle.stl_lexer.specs.Forms.{is_entry, is_listed, goes_on}
-use Rattle.stl_lexer.specs.Longest.{IsFormAt, IsLongestOf, HasNone, FindsLongest, longer_of}
 
 same_length : (a b : List ℕ) → str_eq_ignore_ascii_case a b ≡ true → length a ≡ length b
 same_length a b e =
     let low = (bytes_eq-Decides (str_to_ascii_lowercase a) (str_to_ascii_lowercase b)).0 e in
     sym (length-map a to_ascii_lowercase) ∙ ap length low ∙ length-map b to_ascii_lowercase
 
--- an entry stands there whole
-entry_is_whole : (alone : Bool) (entry text : List ℕ) (m : ℕ) → IsFormAt (is_entry alone entry) text m → length entry ≡ m
+-- a text is as long as an entry that it begins with
+pub entry_within : (entry text : List ℕ) → begins_with entry text ≡ true → length entry ≤ length text
+unfolding begins_with
+entry_within entry text e = omega (arith, same_length entry (take (length entry) text) e, length-take (length entry) text)
+
+pub too_short : (entry text : List ℕ) → length text < length entry → begins_with entry text ≡ false
+too_short entry text h = false_from_ne_true (begins_with entry text) (λ e. absurd (omega (arith, entry_within entry text e)))
+
+-- the front of a text begins with an entry where the text does
+begins_front : (entry text : List ℕ) (m : ℕ) → length entry ≤ m → begins_with entry (take m text) ≡ begins_with entry text
+unfolding begins_with
+begins_front entry text m h = ap (str_eq_ignore_ascii_case entry) (take-take (length entry) m text h)
+
+-- an entry with its tail: the text begins with the entry, and the tail stands behind it
+tail_at : (tail : Tail) (entry text : List ℕ) (n : ℕ) → length entry + n ≤ length text → is_tail tail (drop (length entry) (take (length entry + n) text)) (drop (length entry + n) text) ≡ is_tail tail (take n (drop (length entry) text)) (drop n (drop (length entry) text))
+tail_at tail entry text n h = λ i. is_tail tail (drop-take (length entry) n text i) (sym (drop-drop n (length entry) text) i)
+
+entry_at : (tail : Tail) (entry text : List ℕ) (m : ℕ) → IsFormAt (is_entry tail entry) text m → (length entry ≤ m) × (begins_with entry text ≡ true) × IsTailAt tail (drop (length entry) text) (m - length entry)
 unfolding is_entry
-entry_is_whole alone entry text m at =
-    same_length entry (take m text) (and_parts (str_eq_ignore_ascii_case entry (take m text)) (not (alone && goes_on (drop m text))) at.fits).0
-    ∙ length-take-le m text at.within
+entry_at tail entry text m at =
+    let parts = and_parts (begins_with entry (take m text)) (is_tail tail (drop (length entry) (take m text)) (drop m text)) at.fits in
+    let short : length entry ≤ m = omega (arith, entry_within entry (take m text) parts.0, length-take m text) in
+    let whole : m ≡ length entry + (m - length entry) = omega arith in
+    let there = subst (λ k. is_tail tail (drop (length entry) (take k text)) (drop k text) ≡ true) whole parts.1 in (
+      short,
+      sym (begins_front entry text m short) ∙ parts.0,
+      record {
+        within = omega (arith, at.within, length-drop (length entry) text);
+        fits = sym (tail_at tail entry text (m - length entry) (omega (arith, at.within))) ∙ there;
+      },
+    )
 
-pub entry_found : (alone : Bool) (entry text : List ℕ) → 0 < length entry → length entry ≤ length text → is_entry alone entry (take (length entry) text) (drop (length entry) text) ≡ true → IsLongestOf (is_entry alone entry) text (length entry)
-entry_found alone entry text some within fits = record {
-  fits = record { some = some; within = within; fits = fits };
-  longest = λ m at. omega (arith, entry_is_whole alone entry text m at);
-}
+pub entry_found : (tail : Tail) (entry text : List ℕ) (n : ℕ) → 0 < length entry → begins_with entry text ≡ true → IsLongestTail tail (drop (length entry) text) n → IsLongestOf (is_entry tail entry) text (length entry + n)
+unfolding is_entry
+entry_found tail entry text n some begins h =
+    let within : length entry + n ≤ length text = omega (arith, entry_within entry text begins, h.fits.within, length-drop (length entry) text) in
+    record {
+      fits = record {
+        some = omega arith;
+        within = within;
+        fits = and_from (begins_with entry (take (length entry + n) text)) (is_tail tail (drop (length entry) (take (length entry + n) text)) (drop (length entry + n) text))
+            (begins_front entry text (length entry + n) (omega arith) ∙ begins) (tail_at tail entry text n within ∙ h.fits.fits);
+      };
+      longest = λ m at. let there = entry_at tail entry text m at in omega (arith, there.0, h.longest (m - length entry) there.2);
+    }
 
-pub entry_none : (alone : Bool) (entry text : List ℕ) → is_entry alone entry (take (length entry) text) (drop (length entry) text) ≡ false → HasNone (is_entry alone entry) text
-entry_none alone entry text fails m at =
-    let P : ℕ → Type 0 = λ n. is_entry alone entry (take n text) (drop n text) ≡ true in
-    false≢true (sym fails ∙ subst P (sym (entry_is_whole alone entry text m at)) at.fits)
+pub no_entry : (tail : Tail) (entry text : List ℕ) → begins_with entry text ≡ false → HasNone (is_entry tail entry) text
+no_entry tail entry text e n at = false≢true (sym e ∙ (entry_at tail entry text n at).1)
 
-pub entry_too_long : (alone : Bool) (entry text : List ℕ) → length text < length entry → HasNone (is_entry alone entry) text
-entry_too_long alone entry text long m at = omega (arith, entry_is_whole alone entry text m at, at.within)
+pub no_tail : (tail : Tail) (entry text : List ℕ) → ((n : ℕ) → IsTailAt tail (drop (length entry) text) n → ⊥) → HasNone (is_entry tail entry) text
+no_tail tail entry text none n at = none (n - length entry) (entry_at tail entry text n at).2
 
 -- an empty table lists nothing
-pub listed_none : (alone : Bool) (text : List ℕ) → HasNone (is_listed alone []) text
+pub listed_none : (tail : Tail) (text : List ℕ) → HasNone (is_listed tail []) text
 unfolding is_listed
-listed_none alone text n at = false≢true at.fits
+listed_none tail text n at = false≢true at.fits
 
 -- one entry more
-pub listed_more : (alone : Bool) (table : List (List ℕ)) (i : ℕ) (text : List ℕ) (found next : Option ℕ) → i < length table → FindsLongest (is_listed alone (take i table)) text found → FindsLongest (is_entry alone (get_or table i [])) text next → FindsLongest (is_listed alone (take (i + 1) table)) text (longer_of found next)
+pub listed_more : (tail : Tail) (table : List (List ℕ)) (i : ℕ) (text : List ℕ) (found next : Option ℕ) → i < length table → FindsLongest (is_listed tail (take i table)) text found → FindsLongest (is_entry tail (get_or table i [])) text next → FindsLongest (is_listed tail (take (i + 1) table)) text (longer_of found next)
 unfolding is_listed
-listed_more alone table i text found next h f g =
-    same_form (λ s after. is_listed alone (take i table) s after || is_entry alone (get_or table i []) s after) (is_listed alone (take (i + 1) table)) text (longer_of found next)
-    (λ s after. sym (list_any_more (λ entry. is_entry alone entry s after) table i [] h))
-    (either_longest (is_listed alone (take i table)) (is_entry alone (get_or table i [])) text found next f g)
+listed_more tail table i text found next h f g =
+    same_form (λ s after. is_listed tail (take i table) s after || is_entry tail (get_or table i []) s after) (is_listed tail (take (i + 1) table)) text (longer_of found next)
+    (λ s after. sym (list_any_more (λ entry. is_entry tail entry s after) table i [] h))
+    (either_longest (is_listed tail (take i table)) (is_entry tail (get_or table i [])) text found next f g)
 
 -- the whole table
-pub listed_all : (alone : Bool) (table : List (List ℕ)) (i : ℕ) (text : List ℕ) (found : Option ℕ) → length table ≤ i → FindsLongest (is_listed alone (take i table)) text found → FindsLongest (is_listed alone table) text found
-listed_all alone table i text found h f = subst (λ t. FindsLongest (is_listed alone t) text found) (take_all i table h) f
+pub listed_all : (tail : Tail) (table : List (List ℕ)) (i : ℕ) (text : List ℕ) (found : Option ℕ) → length table ≤ i → FindsLongest (is_listed tail (take i table)) text found → FindsLongest (is_listed tail table) text found
+listed_all tail table i text found h f = subst (λ t. FindsLongest (is_listed tail t) text found) (take_all i table h) f
 
 -- no entry is empty
 pub entry_some : (table : List (List ℕ)) (i : ℕ) → list_all (λ entry. nat_lt 0 (length entry)) table ≡ true → i < length table → 0 < length (get_or table i [])

@@ -1,7 +1,9 @@
 pub mod EntryLemmas
 pub mod LineLemmas
 pub mod LongestLemmas
+pub mod QuoteLemmas
 pub mod RankLemmas
 pub mod RuleLemmas
 pub mod RunLemmas
+pub mod TailLemmas
 pub mod TokenLemmas

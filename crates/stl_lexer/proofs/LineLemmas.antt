@@ -43,3 +43,8 @@ pub line_at_end : (s : List ℕ) (i j : ℕ) → i ≤ j → line_at s i + sum_b
 line_at_end s i j h =
     let there : i + (j - i) ≡ j = omega arith in
     sym (line_at_add s i (j - i)) ∙ ap (line_at s) there
+
+-- the line of a place in a token, where the token is the front of a text that begins at i
+pub line_of_fault : (s : List ℕ) (i size n : ℕ) (text : List ℕ) (line lines : ℕ) → text ≡ drop i s → n ≤ length (take size text) → line ≡ line_at s i → lines ≡ sum_by newlines_of (take n (take size text)) → line + lines ≡ line_at s (i + n)
+line_of_fault s i size n text line lines text_is h line_is lines_is =
+    omega (arith, line_in_token s i size n (rw text_is at h), rw text_is at lines_is, line_is)

@@ -151,3 +151,7 @@ to_end_within source from minus (t ∷ ts) (x, xs) (suc i) d h = to_end_within s
 pub tokens_within : (source : List ℕ) (ts : List Token) → AreTokens source ts → (i : ℕ) (d : Token) → i < length ts → IsWithin source (get_or ts i d)
 unfolding AreTokens
 tokens_within source ts x i d h = to_end_within source 0 false ts x i d h
+
+-- the token that is read at a place lies in its source
+pub token_within : (source : List ℕ) (ts : List Token) → AreTokens source ts → (i : ℕ) (t : Token) → i < length ts → t ≡ get_or ts i t → IsWithin source t
+token_within source ts are i t h e = subst (λ (u : Token). IsWithin source u) (sym e) (tokens_within source ts are i t h)

@@ -17,8 +17,17 @@ blank = 32
 abbrev pub double_quote : ℕ
 double_quote = 34
 
+abbrev pub hash : ℕ
+hash = 35
+
 abbrev pub single_quote : ℕ
 single_quote = 39
+
+abbrev pub plus : ℕ
+plus = 43
+
+abbrev pub minus_sign : ℕ
+minus_sign = 45
 
 abbrev pub slash : ℕ
 slash = 47
@@ -26,11 +35,29 @@ slash = 47
 abbrev pub zero_digit : ℕ
 zero_digit = 48
 
+abbrev pub two_digit : ℕ
+two_digit = 50
+
 abbrev pub underscore : ℕ
 underscore = 95
 
+abbrev pub letter_b : ℕ
+letter_b = 98
+
+abbrev pub letter_c : ℕ
+letter_c = 99
+
+abbrev pub letter_s : ℕ
+letter_s = 115
+
+abbrev pub letter_w : ℕ
+letter_w = 119
+
 abbrev pub open_brace : ℕ
 open_brace = 123
+
+abbrev pub close_brace : ℕ
+close_brace = 125
 
 abbrev pub delete : ℕ
 delete = 127
@@ -55,3 +82,11 @@ in_source b = is_separator b || (nat_le blank b && not (b == delete))
 unfoldable pub opens_comment : List ℕ → Bool
 opens_comment (b ∷ c ∷ s) = b == slash && c == slash
 opens_comment _ = false
+
+-- `+` or `-`
+unfoldable pub is_sign : ℕ → Bool
+is_sign b = b == plus || b == minus_sign
+
+-- a byte that doesn't end a line
+abbrev pub is_line_byte : ℕ → Bool
+is_line_byte b = not (b == newline)

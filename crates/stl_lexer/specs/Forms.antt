@@ -1,12 +1,14 @@
 -- The forms of the tokens.
-use Rattle.std.specs.Prelude.{ℕ, Bool, true, false, ◌&&◌, not, List, [], ◌∷◌, map}
+use Rattle.std.specs.Prelude.{ℕ, Bool, true, false, ◌&&◌, ◌||◌, not, ◌==◌, nat_lt, if◌then◌else◌, List, [], ◌∷◌, ◌++◌, length, map, take, drop}
 use Rattle.std.specs.List.{list_all, list_any}
 use Rattle.std.specs.Char.{is_ascii_digit}
 use Rattle.std.specs.Str.{str_eq_ignore_ascii_case}
 use Rattle.stl_lexer.specs.declared.kinds.TokenKind.{TokenKind}
-use Rattle.stl_lexer.specs.declared.kinds.TokenKind.TheVariants.{Word, Number, Mark, SignWord}
-use Rattle.stl_lexer.specs.declared.tables.TheConstants.{MARKS, SIGN_WORDS}
-use Rattle.stl_lexer.specs.Bytes.{is_word_start, is_word_byte}
+use Rattle.stl_lexer.specs.declared.kinds.TokenKind.TheVariants.{Word, Number, Quoted, Local, Characters, Based, NumberLiteral, TimeLiteral, Mark, SignWord, Attribute, Title}
+use Rattle.stl_lexer.specs.declared.tables.Tail.{Tail}
+use Rattle.stl_lexer.specs.declared.tables.Tail.TheVariants.{Nothing, Apart, Run, SignedRun, Line}
+use Rattle.stl_lexer.specs.declared.tables.TheConstants.{MARKS, SIGN_WORDS, BASED_PREFIXES, LONG_PREFIXES, COUNT_PREFIXES, TIME_PREFIXES, S5TIME_PREFIXES, TITLE_WORDS}
+use Rattle.stl_lexer.specs.Bytes.{hash, double_quote, single_quote, open_brace, close_brace, newline, is_line_byte, is_sign, is_word_start, is_word_byte}
 
 -- a byte that passes the one test, then bytes that pass the other
 abbrev pub is_run : (ℕ → Bool) → (ℕ → Bool) → List ℕ → Bool
@@ -21,30 +23,97 @@ is_word s = is_run is_word_start is_word_byte s
 abbrev pub is_number : List ℕ → Bool
 is_number s = is_run is_ascii_digit is_ascii_digit s
 
--- the marks and the sign words of the language
-unfoldable pub marks : List (List ℕ)
-marks = map (λ entry. entry.now) MARKS
+-- a local name: `#` and a word
+abbrev pub is_local : List ℕ → Bool
+is_local [] = false
+is_local (b ∷ s) = b == hash && is_word s
 
-unfoldable pub sign_words : List (List ℕ)
-sign_words = map (λ entry. entry.now) SIGN_WORDS
+-- a byte that may stand before the closing one: not that byte, and no line's end where the token is to stand on one line
+unfoldable pub is_inner : ℕ → Bool → ℕ → Bool
+is_inner close one_line b = not (b == close) && not (one_line && b == newline)
+
+-- bytes that pass the test, then the closing byte
+abbrev pub is_closed : (ℕ → Bool) → ℕ → List ℕ → Bool
+is_closed inner close [] = false
+is_closed inner close (b ∷ []) = b == close
+is_closed inner close (b ∷ c ∷ s) = inner b && is_closed inner close (c ∷ s)
+
+-- an opening byte, others in between, and the closing byte
+abbrev pub is_enclosed : ℕ → ℕ → Bool → List ℕ → Bool
+is_enclosed opening close one_line [] = false
+is_enclosed opening close one_line (b ∷ s) = b == opening && is_closed (is_inner close one_line) close s
+
+-- a quoted name: one byte or more in double quotes, on one line
+abbrev pub is_quoted : List ℕ → Bool
+is_quoted s = is_enclosed double_quote double_quote true s && nat_lt 2 (length s)
 
 -- a letter, a digit or `_` stands here
 unfoldable pub goes_on : List ℕ → Bool
 goes_on [] = false
 goes_on (b ∷ s) = is_word_byte b
 
--- the text of an entry, without case of ASCII letters; no letter, digit or `_` may follow one that is to stand alone
-unfoldable pub is_entry : Bool → List ℕ → List ℕ → List ℕ → Bool
-is_entry alone entry s after = str_eq_ignore_ascii_case entry s && not (alone && goes_on after)
+-- a text without the sign in front of it
+unfoldable pub behind_sign : List ℕ → List ℕ
+behind_sign [] = []
+behind_sign (b ∷ s) = if is_sign b then s else b ∷ s
 
--- an entry of a table
-unfoldable pub is_listed : Bool → List (List ℕ) → List ℕ → List ℕ → Bool
-is_listed alone table s after = list_any (λ entry. is_entry alone entry s after) table
+-- what belongs to a token behind the entry of a table: nothing, where for a word that stands apart no letter, digit or `_`
+-- may follow; letters, digits and `_`; the same behind an optional sign; or, behind a word, all up to the line's end
+unfoldable pub is_tail : Tail → List ℕ → List ℕ → Bool
+is_tail Nothing s after = length s == 0
+is_tail Apart s after = length s == 0 && not (goes_on after)
+is_tail Run s after = list_all is_word_byte s
+is_tail SignedRun s after = list_all is_word_byte (behind_sign s)
+is_tail Line s after = list_all is_line_byte s && not (goes_on (s ++ after))
 
--- the bytes s have the form of this kind, where `after` follows
+-- a text begins with this entry, without case of ASCII letters
+unfoldable pub begins_with : List ℕ → List ℕ → Bool
+begins_with entry s = str_eq_ignore_ascii_case entry (take (length entry) s)
+
+-- an entry with its tail
+unfoldable pub is_entry : Tail → List ℕ → List ℕ → List ℕ → Bool
+is_entry tail entry s after = begins_with entry s && is_tail tail (drop (length entry) s) after
+
+-- one of the entries of a table, with its tail
+unfoldable pub is_listed : Tail → List (List ℕ) → List ℕ → List ℕ → Bool
+is_listed tail table s after = list_any (λ entry. is_entry tail entry s after) table
+
+-- the tables: marks, sign words, prefixes of literals, and the word that begins a title
+unfoldable pub marks : List (List ℕ)
+marks = map (λ entry. entry.now) MARKS
+
+unfoldable pub sign_words : List (List ℕ)
+sign_words = map (λ entry. entry.now) SIGN_WORDS
+
+unfoldable pub based_prefixes : List (List ℕ)
+based_prefixes = map (λ entry. entry.now) BASED_PREFIXES
+
+unfoldable pub long_prefixes : List (List ℕ)
+long_prefixes = map (λ entry. entry.now) LONG_PREFIXES
+
+unfoldable pub count_prefixes : List (List ℕ)
+count_prefixes = map (λ entry. entry.now) COUNT_PREFIXES
+
+unfoldable pub time_prefixes : List (List ℕ)
+time_prefixes = map (λ entry. entry.now) TIME_PREFIXES
+
+unfoldable pub s5time_prefixes : List (List ℕ)
+s5time_prefixes = map (λ entry. entry.now) S5TIME_PREFIXES
+
+unfoldable pub title_words : List (List ℕ)
+title_words = map (λ entry. entry.now) TITLE_WORDS
+
+-- the bytes s have the form of this kind, where `after` follows; that a literal's digits and parts are right is no matter of its form
 unfoldable pub has_form : TokenKind → List ℕ → List ℕ → Bool
 has_form Word s after = is_word s
 has_form Number s after = is_number s
-has_form Mark s after = is_listed false marks s after
-has_form SignWord s after = is_listed true sign_words s after
-has_form _ s after = false
+has_form Quoted s after = is_quoted s
+has_form Local s after = is_local s
+has_form Characters s after = is_enclosed single_quote single_quote true s
+has_form Based s after = is_listed Run based_prefixes s after
+has_form NumberLiteral s after = is_listed SignedRun long_prefixes s after || is_listed Run count_prefixes s after
+has_form TimeLiteral s after = is_listed SignedRun time_prefixes s after || is_listed Run s5time_prefixes s after
+has_form Mark s after = is_listed Nothing marks s after
+has_form SignWord s after = is_listed Apart sign_words s after
+has_form Attribute s after = is_enclosed open_brace close_brace false s
+has_form Title s after = is_listed Line title_words s after

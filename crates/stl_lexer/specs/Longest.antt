@@ -3,7 +3,8 @@ use Rattle.std.specs.Prelude.{◌≡◌, ℕ, ◌<◌, ◌≤◌, ◌⊎◌, Boo
 use Rattle.stl_lexer.specs.declared.kinds.TokenKind.{TokenKind}
 use Rattle.stl_lexer.specs.declared.kinds.TokenKind.TheVariants.{Word, Number, Quoted, Local, Characters, Based, NumberLiteral, TimeLiteral, Mark, SignWord, Attribute, Title}
 use Rattle.stl_lexer.specs.declared.places.Found.{Found}
-use Rattle.stl_lexer.specs.Forms.{has_form}
+use Rattle.stl_lexer.specs.declared.tables.Tail.{Tail}
+use Rattle.stl_lexer.specs.Forms.{is_tail, has_form}
 
 -- a form says of some bytes, and of what follows them, whether they are such a token
 abbrev pub Form : Type 0
@@ -27,6 +28,19 @@ pub record IsLongestOf (form : Form) (text : List ℕ) (n : ℕ) : Type 0 where
 -- the longest of this form, or None
 abbrev pub FindsLongest : Form → List ℕ → Option ℕ → Type 0
 FindsLongest form text found = MatchOption found (HasNone form text) (IsLongestOf form text)
+
+-- the first n bytes of a text, or none where n is 0, are such a tail
+pub record IsTailAt (tail : Tail) (text : List ℕ) (n : ℕ) : Type 0 where
+  pub within : n ≤ length text
+  pub fits : is_tail tail (take n text) (drop n text) ≡ true
+
+pub record IsLongestTail (tail : Tail) (text : List ℕ) (n : ℕ) : Type 0 where
+  pub fits : IsTailAt tail text n
+  pub longest : (m : ℕ) → IsTailAt tail text m → m ≤ n
+
+-- the longest tail at the front of a text, or None
+abbrev pub FindsTail : Tail → List ℕ → Option ℕ → Type 0
+FindsTail tail text found = MatchOption found ((n : ℕ) → ¬ IsTailAt tail text n) (IsLongestTail tail text)
 
 -- the greater of two lengths, where there are any
 abbrev pub longer_of : Option ℕ → Option ℕ → Option ℕ

@@ -1,18 +1,100 @@
 -- Rules 1 to 4 of a source.
-use Rattle.std.specs.Prelude.{ℕ, ◌+◌, ◌*◌, ◌-◌, Bool, ◌&&◌, ◌||◌, not, ◌==◌, nat_lt, if◌then◌else◌, List, [], ◌∷◌, fold, position, Option, None, Some}
+use Rattle.std.specs.Prelude.{ℕ, ◌+◌, Bool, true, false, ◌&&◌, ◌||◌, not, ◌==◌, nat_lt, nat_le, if◌then◌else◌, List, [], ◌∷◌, length, position, count_by, Option, None, Some}
+use Rattle.std.specs.List.{list_all, slice_split, after_last}
+use Rattle.std.specs.Char.{is_digit, to_ascii_lowercase}
 use Rattle.stl_lexer.specs.declared.kinds.TokenKind.{TokenKind}
-use Rattle.stl_lexer.specs.declared.kinds.TokenKind.TheVariants.{Number}
+use Rattle.stl_lexer.specs.declared.kinds.TokenKind.TheVariants.{Number, Characters, Based, NumberLiteral, TimeLiteral}
 use Rattle.stl_lexer.specs.declared.rules.Fault.{Fault}
-use Rattle.stl_lexer.specs.declared.rules.TheConstants.{NO_TOKEN, NO_END, OUT_OF_RANGE, GREATEST_NUMBER, GREATEST_NEGATED}
-use Rattle.stl_lexer.specs.Bytes.{zero_digit, double_quote, single_quote, open_brace, in_source}
+use Rattle.stl_lexer.specs.declared.rules.TheConstants.{NO_TOKEN, NO_END, WRONG_LITERAL, OUT_OF_RANGE, GREATEST_NUMBER, GREATEST_NEGATED, GREATEST_LONG, GREATEST_NEGATED_LONG, GREATEST_COUNT, GREATEST_S5TIME, MOST_CHARACTERS}
+use Rattle.stl_lexer.specs.declared.times.TheConstants.{UNITS}
+use Rattle.stl_lexer.specs.Bytes.{double_quote, hash, single_quote, minus_sign, two_digit, underscore, letter_b, letter_c, letter_s, letter_w, open_brace, in_source}
+use Rattle.stl_lexer.specs.Decimal.{decimal_value}
+use Rattle.stl_lexer.specs.Forms.{is_number, behind_sign}
+use Rattle.stl_lexer.specs.TimeLiteral.{milliseconds}
 
--- the number that decimal digits write
-unfoldable pub decimal_value : List ℕ → ℕ
-decimal_value digits = fold (λ n digit. 10 * n + (digit - zero_digit)) 0 digits
+-- the first byte of a token, in lower case
+unfoldable pub first_letter : List ℕ → ℕ
+first_letter [] = 0
+first_letter (b ∷ s) = to_ascii_lowercase b
 
--- the rule that a token of this kind breaks by its digits, parts, length or range; `minus` says that the mark `-` stands before it
+-- what stands behind the prefix of a literal, which ends with `#`
+unfoldable pub behind_prefix : List ℕ → List ℕ
+behind_prefix s = after_last (λ b. b == hash) s
+
+-- a text begins with `-`
+unfoldable pub is_negative : List ℕ → Bool
+is_negative [] = false
+is_negative (b ∷ s) = b == minus_sign
+
+-- rule 4 is broken above the greatest value, and rule 3 where there is no value
+unfoldable pub value_rule : ℕ → Option ℕ → Option ℕ
+value_rule greatest None = Some WRONG_LITERAL
+value_rule greatest (Some n) = if nat_lt greatest n then Some OUT_OF_RANGE else None
+
+-- the value of decimal digits, or None
+unfoldable pub decimal : List ℕ → Option ℕ
+decimal s = if is_number s then Some (decimal_value s) else None
+
+-- digits of a base, one at least, and single `_` between them
+unfoldable pub are_digits : ℕ → List ℕ → Bool
+are_digits base s = nat_lt 0 (length s) && list_all (λ b. is_digit b base) s
+
+unfoldable pub are_grouped : ℕ → List ℕ → Bool
+are_grouped base s = list_all (are_digits base) (slice_split (λ b. b == underscore) s)
+
+-- how many digits there are; `_` is none
+unfoldable pub digit_count : List ℕ → ℕ
+digit_count s = count_by (λ b. not (b == underscore)) s
+
+-- `2#`, and else a hexadecimal literal
+unfoldable pub base_of : List ℕ → ℕ
+base_of s = if first_letter s == two_digit then 2 else 16
+
+-- the most digits: 32 binary ones, and two, four or eight hexadecimal ones behind `B#16#` or `BYTE#16#`, `W#16#` or
+-- `WORD#16#`, `DW#16#` or `DWORD#16#`
+unfoldable pub most_digits : List ℕ → ℕ
+most_digits s =
+    if first_letter s == two_digit then 32 else (if first_letter s == letter_b then 2 else (if first_letter s == letter_w then 4 else 8))
+
+-- a binary or hexadecimal literal: too many digits are rule 4, leading zeros among them
+unfoldable pub based_rule : List ℕ → Option ℕ
+based_rule s =
+    if are_grouped (base_of s) (behind_prefix s)
+    then (if nat_lt (most_digits s) (digit_count (behind_prefix s)) then Some OUT_OF_RANGE else None)
+    else Some WRONG_LITERAL
+
+-- the greatest value of 32 bits with a sign, without the sign
+unfoldable pub greatest_long : Bool → ℕ
+greatest_long negative = if negative then GREATEST_NEGATED_LONG else GREATEST_LONG
+
+-- `L#` with a sign or none, and `C#` without
+unfoldable pub number_rule : List ℕ → Option ℕ
+number_rule s =
+    if first_letter s == letter_c then value_rule GREATEST_COUNT (decimal (behind_prefix s))
+    else value_rule (greatest_long (is_negative (behind_prefix s))) (decimal (behind_sign (behind_prefix s)))
+
+-- `T#` and `TIME#` with `-` or none, `S5T#` and `S5TIME#` without
+unfoldable pub time_rule : List ℕ → Option ℕ
+time_rule s =
+    if first_letter s == letter_s then value_rule GREATEST_S5TIME (milliseconds UNITS (behind_prefix s))
+    else (if is_negative (behind_prefix s) then value_rule (greatest_long true) (milliseconds UNITS (behind_sign (behind_prefix s)))
+    else value_rule (greatest_long false) (milliseconds UNITS (behind_prefix s)))
+
+-- one to four characters between the quotes
+unfoldable pub characters_rule : List ℕ → Option ℕ
+characters_rule s = if nat_lt 2 (length s) && nat_le (length s) (MOST_CHARACTERS + 2) then None else Some WRONG_LITERAL
+
+-- a number of its own, where `minus` says that the mark `-` stands before it
+unfoldable pub decimal_rule : List ℕ → Bool → Option ℕ
+decimal_rule s minus = value_rule (if minus then GREATEST_NEGATED else GREATEST_NUMBER) (Some (decimal_value s))
+
+-- the rule that a token breaks by its digits, parts, length or range
 unfoldable pub rule_of : TokenKind → List ℕ → Bool → Option ℕ
-rule_of Number s minus = if nat_lt (if minus then GREATEST_NEGATED else GREATEST_NUMBER) (decimal_value s) then Some OUT_OF_RANGE else None
+rule_of Number s minus = decimal_rule s minus
+rule_of Characters s minus = characters_rule s
+rule_of Based s minus = based_rule s
+rule_of NumberLiteral s minus = number_rule s
+rule_of TimeLiteral s minus = time_rule s
 rule_of _ s minus = None
 
 -- what is wrong first: the rule, at the token's first byte, else rule 1 at the first byte that no source holds
@@ -24,10 +106,11 @@ earlier None None = None
 unfoldable pub fault_of : TokenKind → List ℕ → Bool → Option Fault
 fault_of kind s minus = earlier (rule_of kind s minus) (position (λ b. not (in_source b)) s)
 
+-- rule 2 is broken by a quoted name, characters or an attribute without end, and else rule 1; `""` has an end
 abbrev pub opening_rule : ℕ → ℕ
 opening_rule b = if b == double_quote || b == single_quote || b == open_brace then NO_END else NO_TOKEN
 
--- where no token begins, rule 2 is broken at a quoted name, characters or an attribute, and else rule 1; `""` has an end
+-- the rule that is broken where no token begins
 unfoldable pub rule_without_form : List ℕ → ℕ
 rule_without_form (b ∷ c ∷ s) = if b == double_quote && c == double_quote then NO_TOKEN else opening_rule b
 rule_without_form (b ∷ []) = opening_rule b

@@ -1,11 +1,14 @@
 ghost use Rattle.std.specs.Prelude.{◌≡◌, ◌≤◌, length, drop};
 ghost use Rattle.std.specs.List.{prefix_len};
-ghost use Rattle.std.specs.Char.{is_ascii_digit};
+ghost use Rattle.std.specs.Char.{is_ascii_alphabetic, is_ascii_digit};
+ghost use Rattle.std.specs.Str.{str_eq_ignore_ascii_case};
 ghost use Rattle.stl_lexer.specs.Bytes.{
-  is_word_start,
-  is_word_byte,
-  is_separator,
   in_source,
+  is_line_byte,
+  is_separator,
+  is_sign,
+  is_word_byte,
+  is_word_start,
   opens_comment,
 };
 
@@ -31,6 +34,14 @@ pub(crate) fn is_separator(b: u8) -> bool
     ensures { result ≡ is_separator b }
 {
     matches!(b, b' ' | b'\t' | b'\r' | b'\n')
+}
+
+/// Whether this byte is `+` or `-`.
+#[tactic(auto, unfolding(crate::specs::Bytes::is_sign))]
+pub(crate) fn is_sign(b: u8) -> bool
+    ensures { result ≡ is_sign b }
+{
+    b == b'+' || b == b'-'
 }
 
 /// Whether a source may hold this byte.
@@ -65,10 +76,33 @@ pub(crate) fn digit_run(text: &[u8]) -> usize
     text.iter().take_while(|b| b.is_ascii_digit()).count()
 }
 
+/// How many bytes at the front are letters.
+pub(crate) fn letter_run(text: &[u8]) -> usize
+    ensures value { result ≡ prefix_len is_ascii_alphabetic text.now }
+    ensures within { result ≤ length text.now }
+{
+    text.iter().take_while(|b| b.is_ascii_alphabetic()).count()
+}
+
+/// How many bytes at the front stand on the first line.
+pub(crate) fn line_run(text: &[u8]) -> usize
+    ensures value { result ≡ prefix_len is_line_byte text.now }
+    ensures within { result ≤ length text.now }
+{
+    text.iter().take_while(|b| **b != b'\n').count()
+}
+
 /// The text from a place on.
 pub(crate) fn behind(text: &[u8], at: usize) -> &[u8]
     requires { at ≤ length text.now }
     ensures { result.now ≡ drop at text.now }
 {
     &text[at..]
+}
+
+/// Whether two texts are the same without case of ASCII letters.
+pub(crate) fn same_text(a: &[u8], b: &[u8]) -> bool
+    ensures { result ≡ str_eq_ignore_ascii_case a.now b.now }
+{
+    a.eq_ignore_ascii_case(b)
 }

@@ -20,7 +20,7 @@ pub fn lex(alloc: Global, bytes: &[u8]) -> Result<Tokens, SourceFault>
     ensures tokens { IfOk result (λ tokens. AreTokens bytes.now tokens.list.items) }
     ensures refused { IfErr result (IsRefused bytes.now) }
 {
-    let source = Vec::from_slice(alloc, bytes).map_err(|_| SourceFault::NoMemory)?;
+    let source = Vec::from_slice(alloc, bytes)?;
     let mut list = Vec::new(alloc);
     let mut from = Spot { at: 0, line: 1 };
     let mut minus = false;
@@ -33,7 +33,7 @@ pub fn lex(alloc: Global, bytes: &[u8]) -> Result<Tokens, SourceFault>
                     line: token.line + newlines(text),
                 };
                 minus = is_minus(token.kind, text);
-                list.push(token).map_err(|_| SourceFault::NoMemory)?;
+                list.push(token)?;
             }
             Ok(None) => return Ok(Tokens { source, list }),
             Err(refusal) => return Err(SourceFault::Refused { refusal }),

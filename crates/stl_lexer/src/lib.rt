@@ -3,13 +3,18 @@
 #![tactic(auto)]
 
 mod bytes;
+mod decimals;
+mod entries;
 mod gaps;
 mod kinds;
 mod lexer;
 mod lists;
+mod literals;
 mod places;
+mod quotes;
 mod rules;
 mod tables;
+mod times;
 mod words;
 
 pub use kinds::{Token, TokenKind};

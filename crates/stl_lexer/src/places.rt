@@ -5,10 +5,15 @@ ghost use Rattle.stl_lexer.specs.Tokens.{Breaks, IsEnd, IsNext, is_minus};
 
 use crate::SOURCE_LIMIT;
 use crate::bytes::behind;
+use crate::entries::{
+    longest_based, longest_mark, longest_number_literal, longest_sign_word, longest_time_literal,
+    longest_title,
+};
 use crate::gaps::{Spot, newlines, skip_gap};
 use crate::kinds::{Token, TokenKind};
+use crate::quotes::{longest_attribute, longest_characters, longest_quoted};
 use crate::rules::{fault_of, rule_without_form};
-use crate::words::{longest_mark, longest_number, longest_sign_word, longest_word};
+use crate::words::{longest_local, longest_number, longest_word};
 use plc_base::Refusal;
 
 /// The kind and the length of a token.
@@ -37,8 +42,20 @@ fn longest_token(text: &[u8]) -> Option<Found>
 {
     let word = better(None, TokenKind::Word, longest_word(text));
     let number = better(word, TokenKind::Number, longest_number(text));
-    let mark = better(number, TokenKind::Mark, longest_mark(text));
-    better(mark, TokenKind::SignWord, longest_sign_word(text))
+    let quoted = better(number, TokenKind::Quoted, longest_quoted(text));
+    let local = better(quoted, TokenKind::Local, longest_local(text));
+    let characters = better(local, TokenKind::Characters, longest_characters(text));
+    let based = better(characters, TokenKind::Based, longest_based(text));
+    let literal = better(
+        based,
+        TokenKind::NumberLiteral,
+        longest_number_literal(text),
+    );
+    let time = better(literal, TokenKind::TimeLiteral, longest_time_literal(text));
+    let mark = better(time, TokenKind::Mark, longest_mark(text));
+    let sign_word = better(mark, TokenKind::SignWord, longest_sign_word(text));
+    let attribute = better(sign_word, TokenKind::Attribute, longest_attribute(text));
+    better(attribute, TokenKind::Title, longest_title(text))
 }
 
 /// Whether bytes of this kind are the mark `-`.

@@ -1,16 +1,20 @@
-ghost use Rattle.std.specs.Prelude.{◌≡◌, ◌<◌, ◌≤◌, length, min, not, position, IfSome};
-ghost use Rattle.stl_lexer.specs.Bytes.{in_source};
+ghost use Rattle.std.specs.Prelude.{◌≡◌, ◌<◌, ◌≤◌, length, not, position, IfSome};
 ghost use Rattle.stl_lexer.specs.declared.kinds.TokenKind.{TokenKind};
-ghost use Rattle.stl_lexer.specs.Rules.{decimal_value, rule_of, fault_of, rule_without_form};
+ghost use Rattle.stl_lexer.specs.Bytes.{in_source};
+ghost use Rattle.stl_lexer.specs.Rules.{characters_rule, fault_of, rule_of, rule_without_form};
 
 use crate::bytes::in_source;
 use crate::kinds::TokenKind;
+use crate::literals::{based_rule, decimal_rule, number_rule, time_rule};
 
 /// Rule 1: a byte begins no token.
 pub(crate) const NO_TOKEN: u16 = 1;
 
 /// Rule 2: a quoted name, characters or an attribute without end.
 pub(crate) const NO_END: u16 = 2;
+
+/// Rule 3: a literal with wrong digits, parts or length.
+pub(crate) const WRONG_LITERAL: u16 = 3;
 
 /// Rule 4: a literal beyond its range.
 pub(crate) const OUT_OF_RANGE: u16 = 4;
@@ -21,8 +25,20 @@ pub(crate) const GREATEST_NUMBER: u64 = 65_535;
 /// The greatest decimal number behind the mark `-`.
 pub(crate) const GREATEST_NEGATED: u64 = 32_768;
 
-/// Where numbers are cut off: no literal reaches it.
-pub(crate) const VALUE_CAP: u64 = 4_294_967_296;
+/// The greatest number of 32 bits with a sign.
+pub(crate) const GREATEST_LONG: u64 = 2_147_483_647;
+
+/// The greatest number of 32 bits behind a `-`.
+pub(crate) const GREATEST_NEGATED_LONG: u64 = 2_147_483_648;
+
+/// The greatest count value.
+pub(crate) const GREATEST_COUNT: u64 = 999;
+
+/// The greatest time in the format S5TIME, in milliseconds.
+pub(crate) const GREATEST_S5TIME: u64 = 9_990_000;
+
+/// The most bytes between the quotes of characters.
+pub(crate) const MOST_CHARACTERS: usize = 4;
 
 /// A broken rule of tokens, and the place in the token where it is broken.
 #[derive(Clone, Copy, Debug, PartialEq, Eq)]
@@ -31,37 +47,30 @@ pub(crate) struct Fault {
     pub(crate) rule: u16,
 }
 
-#[tactic(auto, using(crate::proofs::RuleLemmas::decimal_value_more), unfolding(crate::specs::Rules::decimal_value))]
-/// The number that decimal digits write, or `VALUE_CAP` where it is greater.
-pub(crate) fn decimal_value(digits: &[u8]) -> u64
-    ensures { result ≡ min (decimal_value digits.now) VALUE_CAP }
+/// The rule that characters break by their length.
+#[tactic(auto, unfolding(crate::specs::Rules::characters_rule))]
+fn characters_rule(token: &[u8]) -> Option<u16>
+    ensures { result ≡ characters_rule token.now }
 {
-    let mut value = 0;
-    for digit in digits {
-        value = (10 * value + u64::from(digit.saturating_sub(b'0'))).min(VALUE_CAP);
+    if token.len() > 2 && token.len() <= MOST_CHARACTERS + 2 {
+        None
+    } else {
+        Some(WRONG_LITERAL)
     }
-    value
 }
 
 /// The rule that a token of this kind breaks by its digits, parts, length or range; `minus` says
 /// that the mark `-` stands before it.
 #[tactic(auto, unfolding(crate::specs::Rules::rule_of))]
-pub(crate) fn rule_of(kind: TokenKind, token: &[u8], minus: bool) -> Option<u16>
+fn rule_of(kind: TokenKind, token: &[u8], minus: bool) -> Option<u16>
     ensures { result ≡ rule_of kind token.now minus }
 {
     match kind {
-        TokenKind::Number => {
-            let greatest = if minus {
-                GREATEST_NEGATED
-            } else {
-                GREATEST_NUMBER
-            };
-            if decimal_value(token) > greatest {
-                Some(OUT_OF_RANGE)
-            } else {
-                None
-            }
-        }
+        TokenKind::Number => decimal_rule(token, minus),
+        TokenKind::Characters => characters_rule(token),
+        TokenKind::Based => based_rule(token),
+        TokenKind::NumberLiteral => number_rule(token),
+        TokenKind::TimeLiteral => time_rule(token),
         _ => None,
     }
 }

@@ -1,4 +1,4 @@
-use Rattle.std.proofs.Common.{false, is_ok, refl, sym, ◌∙◌, ap, subst, arith, rules}
+use Rattle.std.proofs.Common.{false, is_ok, refl, sym, ap, subst, arith, rules}
 use Rattle.std.proofs.ResultArms.{chosen}
 use Rattle.stl_lexer.specs.Gap.{line_at}
 use Rattle.stl_lexer.specs.Tokens.{AreTokens, IsViolation, IsNext, IsEnd, Breaks}
@@ -27,7 +27,7 @@ loop-token-preserved c =
     let s = c.args.bytes.now in
     let t = c.in-Ok-Some.token in
     let next : IsNext s c.loop-token.from.at c.loop-token.minus t = rw c.in-Ok-Some.field-0-is at c.in-Ok-Some.ensures in
-    let pushed = chosen _ _ _ _ c.push.ensures.items (sym c.map_err-in-Ok-Some.ensures.variant ∙ ap is_ok c.in_ok-map_err-in-Ok-Some.was) in
+    let pushed = chosen _ _ _ _ c.push.ensures.items (ap is_ok c.in_ok-push-in-Ok-Some.was) in
     record {
       source = c.loop-token.invariant.source;
       tokens = rw (pushed, c.is_minus-minus.ensures) (leads_more s c.loop-token.from.at c.loop-token.minus 0 false c.loop-token.list.items t c.loop-token.invariant.tokens next);

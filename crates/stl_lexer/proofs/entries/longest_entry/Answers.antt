@@ -3,7 +3,7 @@ use Rattle.std.proofs.lemmas.List.{get_or-map, length-map}
 use Rattle.stl_lexer.specs.Forms.{is_entry}
 use Rattle.stl_lexer.specs.Longest.{FindsLongest}
 use Rattle.stl_lexer.proofs.EntryLemmas.{listed_none, listed_more, listed_all, entry_some}
-use Rattle.stl_lexer.proofs.words.longest_entry.Goals as goal
+use Rattle.stl_lexer.proofs.entries.longest_entry.Goals as goal
 
 abbrev texts : List (Bor (List ℕ)) → List (List ℕ)
 texts table = map (λ entry. entry.now) table
@@ -25,11 +25,11 @@ loop-entry-preserved c =
     let table : List (Bor (List ℕ)) = c.args.table.now in
     let i = c.loop-entry.entry-index in
     let h = c.loop-entry-test.true in
-    let next = subst (λ (entry : List ℕ). FindsLongest (is_entry c.args.alone entry) c.args.text.now c.entry_length.result) (sym (text_at table i h)) c.entry_length.ensures in
-    rw c.longer-longest.ensures (listed_more c.args.alone (texts table) i c.args.text.now c.loop-entry.longest c.entry_length.result (below table i h) c.loop-entry.invariant next)
+    let next = subst (λ (entry : List ℕ). FindsLongest (is_entry c.args.tail entry) c.args.text.now c.entry_length.result) (sym (text_at table i h)) c.entry_length.ensures in
+    rw c.longer-longest.ensures (listed_more c.args.tail (texts table) i c.args.text.now c.loop-entry.longest c.entry_length.result (below table i h) c.loop-entry.invariant next)
 
 pub loop-entry-init : goal.loop-entry-init
-loop-entry-init c = listed_none c.args.alone c.args.text.now
+loop-entry-init c = listed_none c.args.tail c.args.text.now
 
 pub returns : goal.returns
-returns c = listed_all c.args.alone (texts c.args.table.now) c.loop-entry.entry-index c.args.text.now c.loop-entry.longest (omega (arith, length-map c.args.table.now (λ (entry : Bor (List ℕ)). entry.now))) c.loop-entry.invariant
+returns c = listed_all c.args.tail (texts c.args.table.now) c.loop-entry.entry-index c.args.text.now c.loop-entry.longest (omega (arith, length-map c.args.table.now (λ (entry : Bor (List ℕ)). entry.now))) c.loop-entry.invariant

@@ -1,0 +1,171 @@
+ghost use Rattle.std.specs.Prelude.{◌≡◌, ◌+◌, ◌<◌, ◌≤◌, ◌||◌, IsTrue, drop, length, map, nat_lt};
+ghost use Rattle.std.specs.Bool.{OnTrue};
+ghost use Rattle.std.specs.List.{list_all, prefix_len};
+ghost use Rattle.stl_lexer.specs.declared.tables.Tail.{Tail};
+ghost use Rattle.stl_lexer.specs.declared.tables.Tail.TheVariants.{Nothing, Apart, Run, SignedRun, Line};
+ghost use Rattle.stl_lexer.specs.Bytes.{is_line_byte};
+ghost use Rattle.stl_lexer.specs.Forms.{
+  based_prefixes,
+  begins_with,
+  behind_sign,
+  count_prefixes,
+  goes_on,
+  is_entry,
+  is_listed,
+  long_prefixes,
+  marks,
+  s5time_prefixes,
+  sign_words,
+  time_prefixes,
+  title_words,
+};
+ghost use Rattle.stl_lexer.specs.Longest.{FindsLongest, FindsTail, longer_of};
+
+use crate::bytes::{behind, is_sign, is_word_byte, line_run, word_run};
+use crate::tables::{
+    BASED_PREFIXES, COUNT_PREFIXES, LONG_PREFIXES, MARKS, S5TIME_PREFIXES, SIGN_WORDS,
+    TIME_PREFIXES, TITLE_WORDS, Tail,
+};
+
+/// Whether a letter, a digit or `_` stands here.
+#[tactic(auto, unfolding(crate::specs::Forms::goes_on))]
+fn goes_on(text: &[u8]) -> bool
+    ensures { result ≡ goes_on text.now }
+{
+    match text {
+        [first, ..] => is_word_byte(*first),
+        [] => false,
+    }
+}
+
+/// The length of the sign at the front of the text, 0 or 1.
+#[tactic(auto, unfolding(crate::specs::Forms::behind_sign))]
+pub(crate) fn sign_length(text: &[u8]) -> usize
+    ensures rest { drop result text.now ≡ behind_sign text.now }
+    ensures within { result ≤ length text.now }
+{
+    match text {
+        [first, ..] if is_sign(*first) => 1,
+        _ => 0,
+    }
+}
+
+/// The length of the longest tail at the front of the text.
+fn tail_length(tail: Tail, text: &[u8]) -> Option<usize>
+    ensures { FindsTail tail text.now result }
+{
+    match tail {
+        Tail::Nothing => Some(0),
+        Tail::Apart => { if goes_on(text) { None } else { Some(0) } }
+        Tail::Run => Some(word_run(text)),
+        Tail::SignedRun => {
+            let sign = sign_length(text);
+            Some(sign + word_run(behind(text, sign)))
+        }
+        Tail::Line => {
+            if goes_on(text) {
+                None
+            } else {
+                Some(line_run(text))
+            }
+        }
+    }
+}
+
+/// Whether a text begins with an entry, without case of ASCII letters.
+#[tactic(auto, unfolding(crate::specs::Forms::begins_with), using(crate::proofs::EntryLemmas::entry_within, crate::proofs::EntryLemmas::too_short))]
+pub(crate) fn begins_with(entry: &[u8], text: &[u8]) -> bool
+    ensures value { result ≡ begins_with entry.now text.now }
+    ensures within { OnTrue result (length entry.now ≤ length text.now) }
+{
+    entry.len() <= text.len() && entry.eq_ignore_ascii_case(&text[..entry.len()])
+}
+
+/// The length of an entry of a table with its tail at the front of the text.
+fn entry_length(tail: Tail, entry: &[u8], text: &[u8]) -> Option<usize>
+    requires { 0 < length entry.now }
+    ensures { FindsLongest (is_entry tail entry.now) text.now result }
+{
+    if !begins_with(entry, text) {
+        return None;
+    }
+    match tail_length(tail, behind(text, entry.len())) {
+        Some(length) => Some(entry.len() + length),
+        None => None,
+    }
+}
+
+/// The greater of two lengths, where there are any.
+fn longer(a: Option<usize>, b: Option<usize>) -> Option<usize>
+    ensures { result ≡ longer_of a b }
+{
+    match (a, b) {
+        (Some(m), Some(n)) => Some(m.max(n)),
+        (None, found) => found,
+        (found, None) => found,
+    }
+}
+
+/// The length of the longest entry of a table, with its tail, at the front of the text.
+fn longest_entry(tail: Tail, table: &[&[u8]], text: &[u8]) -> Option<usize>
+    requires { IsTrue (list_all (λ entry. nat_lt 0 (length entry)) (map (λ entry. entry.now) table.now)) }
+    ensures { FindsLongest (is_listed tail (map (λ entry. entry.now) table.now)) text.now result }
+{
+    let mut longest = None;
+    for entry in table {
+        longest = longer(longest, entry_length(tail, entry, text));
+    }
+    longest
+}
+
+/// The length of the longest mark at the front of the text.
+#[tactic(auto, unfolding(crate::specs::Forms::marks))]
+pub(crate) fn longest_mark(text: &[u8]) -> Option<usize>
+    ensures { FindsLongest (is_listed Nothing marks) text.now result }
+{
+    longest_entry(Tail::Nothing, &MARKS, text)
+}
+
+/// The length of the longest sign word at the front of the text.
+#[tactic(auto, unfolding(crate::specs::Forms::sign_words))]
+pub(crate) fn longest_sign_word(text: &[u8]) -> Option<usize>
+    ensures { FindsLongest (is_listed Apart sign_words) text.now result }
+{
+    longest_entry(Tail::Apart, &SIGN_WORDS, text)
+}
+
+/// The length of the longest binary or hexadecimal literal at the front of the text, right or wrong.
+#[tactic(auto, unfolding(crate::specs::Forms::based_prefixes))]
+pub(crate) fn longest_based(text: &[u8]) -> Option<usize>
+    ensures { FindsLongest (is_listed Run based_prefixes) text.now result }
+{
+    longest_entry(Tail::Run, &BASED_PREFIXES, text)
+}
+
+/// The length of the longest literal `L#` or `C#` at the front of the text, right or wrong.
+#[tactic(auto, unfolding(crate::specs::Forms::long_prefixes, crate::specs::Forms::count_prefixes), using(crate::proofs::LongestLemmas::either_longest))]
+pub(crate) fn longest_number_literal(text: &[u8]) -> Option<usize>
+    ensures { FindsLongest (λ s after. is_listed SignedRun long_prefixes s after || is_listed Run count_prefixes s after) text.now result }
+{
+    let long = longest_entry(Tail::SignedRun, &LONG_PREFIXES, text);
+    let count = longest_entry(Tail::Run, &COUNT_PREFIXES, text);
+    longer(long, count)
+}
+
+/// The length of the longest time literal at the front of the text, right or wrong.
+#[tactic(auto, unfolding(crate::specs::Forms::time_prefixes, crate::specs::Forms::s5time_prefixes), using(crate::proofs::LongestLemmas::either_longest))]
+pub(crate) fn longest_time_literal(text: &[u8]) -> Option<usize>
+    ensures { FindsLongest (λ s after. is_listed SignedRun time_prefixes s after || is_listed Run s5time_prefixes s after) text.now result }
+{
+    let time = longest_entry(Tail::SignedRun, &TIME_PREFIXES, text);
+    let s5time = longest_entry(Tail::Run, &S5TIME_PREFIXES, text);
+    longer(time, s5time)
+}
+
+/// The length of the title at the front of the text.
+#[tactic(auto, unfolding(crate::specs::Forms::title_words))]
+pub(crate) fn longest_title(text: &[u8]) -> Option<usize>
+    ensures { FindsLongest (is_listed Line title_words) text.now result }
+{
+    longest_entry(Tail::Line, &TITLE_WORDS, text)
+}
