@@ -11,3 +11,6 @@ pub use checks::Check;
 pub use nesting::{Bracket, Brackets, NESTING_DEPTH};
 pub use registers::Regs;
 pub use statuses::Status;
+
+#[cfg(test)]
+mod tests;

@@ -63,11 +63,12 @@ impl Regs {
     pub fn or_bare(&mut self)
         ensures { self.new ≡ or_bare self.old }
     {
-        if self.status.fc {
-            self.status.or = self.status.rlo;
+        let word = &mut self.status;
+        if word.fc {
+            word.or = word.rlo;
         }
-        self.status.sta = true;
-        self.status.fc = false;
+        word.sta = true;
+        word.fc = false;
     }
 
     /// The value of a condition as bit logic instructions read it.
@@ -88,25 +89,21 @@ impl Regs {
     }
 
     /// SET: sets the RLO.
-    #[tactic(auto, unfolding(crate::specs::SetClear::set))]
+    #[tactic(auto, unfolding(crate::specs::SetClear::set, crate::specs::Store::stored))]
     pub fn set(&mut self)
         ensures { self.new ≡ set self.old }
     {
         self.status.rlo = true;
-        self.status.sta = true;
-        self.status.or = false;
-        self.status.fc = false;
+        self.store(true);
     }
 
     /// CLR: clears the RLO.
-    #[tactic(auto, unfolding(crate::specs::SetClear::clr))]
+    #[tactic(auto, unfolding(crate::specs::SetClear::clr, crate::specs::Store::stored))]
     pub fn clr(&mut self)
         ensures { self.new ≡ clr self.old }
     {
         self.status.rlo = false;
-        self.status.sta = false;
-        self.status.or = false;
-        self.status.fc = false;
+        self.store(false);
     }
 
     /// NOT: negates the RLO.
