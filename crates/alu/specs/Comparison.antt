@@ -1,10 +1,11 @@
 -- Comparison instructions ==, <>, >, <, >= and <= on integers: accumulator 2 with accumulator 1.
-use Rattle.std.specs.Prelude.{Bool, true, false, ◌&&◌, ◌||◌, ℤ, int_lt, int_le}
+use Rattle.std.specs.Prelude.{ℕ, Bool, true, false, ◌&&◌, ◌||◌, ℤ, int_lt, int_le}
 use Rattle.status_word.specs.declared.statuses.Status.{Status}
 use Rattle.status_word.specs.declared.registers.Regs.{Regs}
 use Rattle.alu.specs.declared.codes.Codes.{Codes}
 use Rattle.alu.specs.declared.comparisons.Compare.{Compare}
 use Rattle.alu.specs.declared.comparisons.Compare.TheVariants.{Eq, Ne, Gt, Lt, Ge, Le}
+use Rattle.alu.specs.Signed.{signed}
 use Rattle.alu.specs.Codes.{shown}
 
 -- whether the comparison holds between the left and the right integer
@@ -24,7 +25,11 @@ order_codes left right = record { cc1 = int_lt right left; cc0 = int_lt left rig
 abbrev pub with_answer : Bool → Status → Status
 with_answer answer s = record s { rlo = answer; sta = answer; or = false; fc = true }
 
--- the status word after a comparison
-unfoldable pub compared : Compare → (left right : ℤ) → Regs → Regs
-compared how left right r =
+-- the status word after a comparison of two integers
+unfoldable pub with_comparison : Compare → (left right : ℤ) → Regs → Regs
+with_comparison how left right r =
     record r { status = with_answer (holds_between how left right) (shown (order_codes left right) r.status) }
+
+-- the comparison of accumulator 2 with accumulator 1 as integers of w bits, 16 or 32
+abbrev pub compared : (w : ℕ) → Compare → Regs → Regs
+compared w how r = with_comparison how (signed w r.a2) (signed w r.a1) r

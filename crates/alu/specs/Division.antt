@@ -3,7 +3,7 @@ use Rattle.std.specs.Prelude.{ℕ, ◌+◌, ◌-◌, ◌*◌, ◌/◌, ◌^◌, 
 use Rattle.status_word.specs.declared.registers.Regs.{Regs}
 use Rattle.status_word.specs.Check.{exclusive_or}
 use Rattle.alu.specs.declared.codes.Codes.{Codes}
-use Rattle.alu.specs.Signed.{modulo, is_negative}
+use Rattle.alu.specs.Signed.{signed, modulo, is_negative}
 use Rattle.alu.specs.Codes.{of_sign, unordered, shown}
 
 -- the quotient cut toward zero: that of the sizes, negative where just one of the two numbers is
@@ -32,13 +32,14 @@ with_result accumulator codes r = record r { a1 = accumulator; status = shown co
 abbrev pub divided_by_zero : Regs → Regs
 divided_by_zero r = with_result r.a1 unordered r
 
--- an overflow of the quotient: CC 1/0, OV 1, OS 1
+-- an overflow of the quotient: CC 1/0 and OV 1
 abbrev pub quotient_overflow : Codes
 quotient_overflow = record { cc1 = true; cc0 = false; ov = true }
 
--- /I: the quotient in ACCU 1-L and the remainder in ACCU 1-H, CC by the quotient; -32768 by -1 gives 16#8000 and 0
-unfoldable pub divided_i : (dividend divisor : ℤ) → Regs → Regs
-divided_i dividend divisor r =
+-- the result of /I: the quotient in the low word and the remainder in the high word of accumulator 1, CC by the quotient;
+-- -32768 by -1 gives 16#8000 and 0
+unfoldable pub with_words : (dividend divisor : ℤ) → Regs → Regs
+with_words dividend divisor r =
     if is_zero divisor then divided_by_zero r
     else if is_least_by_minus_one 16 dividend divisor then with_result (2 ^ 15) quotient_overflow r
     else with_result
@@ -46,15 +47,27 @@ divided_i dividend divisor r =
     (of_sign (quotient dividend divisor) false)
     r
 
--- /D: the quotient in accumulator 1, CC by it; -2147483648 by -1 gives 16#80000000
-unfoldable pub divided_d : (dividend divisor : ℤ) → Regs → Regs
-divided_d dividend divisor r =
+-- the result of /D: the quotient in accumulator 1, CC by it; -2147483648 by -1 gives 16#80000000
+unfoldable pub with_quotient : (dividend divisor : ℤ) → Regs → Regs
+with_quotient dividend divisor r =
     if is_zero divisor then divided_by_zero r
     else if is_least_by_minus_one 32 dividend divisor then with_result (2 ^ 31) quotient_overflow r
     else with_result (modulo 32 (quotient dividend divisor)) (of_sign (quotient dividend divisor) false) r
 
--- MOD: the remainder in accumulator 1, CC by it; it is 0 also at -2147483648 by -1, with no overflow
-unfoldable pub divided_mod : (dividend divisor : ℤ) → Regs → Regs
-divided_mod dividend divisor r =
+-- the result of MOD: the remainder in accumulator 1, CC by it; it is 0 also at -2147483648 by -1, with no overflow
+unfoldable pub with_remainder : (dividend divisor : ℤ) → Regs → Regs
+with_remainder dividend divisor r =
     if is_zero divisor then divided_by_zero r
     else with_result (modulo 32 (remainder dividend divisor)) (of_sign (remainder dividend divisor) false) r
+
+-- /I
+abbrev pub divided_i : Regs → Regs
+divided_i r = with_words (signed 16 r.a2) (signed 16 r.a1) r
+
+-- /D
+abbrev pub divided_d : Regs → Regs
+divided_d r = with_quotient (signed 32 r.a2) (signed 32 r.a1) r
+
+-- MOD
+abbrev pub remainder_d : Regs → Regs
+remainder_d r = with_remainder (signed 32 r.a2) (signed 32 r.a1) r

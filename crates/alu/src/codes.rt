@@ -16,15 +16,17 @@ pub(crate) struct Codes {
 }
 
 impl Codes {
+    pub(crate) fn new(cc1: bool, cc0: bool, ov: bool) -> Codes
+        ensures { result ≡ record { cc1 = cc1; cc0 = cc0; ov = ov } }
+    {
+        Codes { cc1, cc0, ov }
+    }
+
     /// The sign of a result.
     pub(crate) fn of_sign(number: i64, ov: bool) -> Codes
         ensures { result ≡ of_sign number ov }
     {
-        Codes {
-            cc1: number > 0,
-            cc0: number < 0,
-            ov,
-        }
+        Codes::new(number > 0, number < 0, ov)
     }
 
     /// The range in which a true sum lies.
@@ -35,17 +37,9 @@ impl Codes {
         if format.holds(sum) {
             Codes::of_sign(sum, false)
         } else if sum > 0 {
-            Codes {
-                cc1: false,
-                cc0: true,
-                ov: true,
-            }
+            Codes::new(false, true, true)
         } else {
-            Codes {
-                cc1: sum.unsigned_abs() != format.modulus(),
-                cc0: false,
-                ov: true,
-            }
+            Codes::new(sum.unsigned_abs() != format.modulus(), false, true)
         }
     }
 
@@ -53,22 +47,14 @@ impl Codes {
     pub(crate) fn unordered() -> Codes
         ensures { result ≡ unordered }
     {
-        Codes {
-            cc1: true,
-            cc0: true,
-            ov: true,
-        }
+        Codes::new(true, true, true)
     }
 
     /// An overflow of the quotient.
     pub(crate) fn quotient_overflow() -> Codes
         ensures { result ≡ quotient_overflow }
     {
-        Codes {
-            cc1: true,
-            cc0: false,
-            ov: true,
-        }
+        Codes::new(true, false, true)
     }
 
     /// Sets CC 1, CC 0 and OV, and OS where OV is 1.

@@ -1,7 +1,7 @@
 ghost use Rattle.std.specs.Prelude.{◌≡◌};
 ghost use Rattle.alu.specs.Signed.{width_of, signed};
 ghost use Rattle.alu.specs.Codes.{shown};
-ghost use Rattle.alu.specs.Comparison.{holds_between, order_codes, compared};
+ghost use Rattle.alu.specs.Comparison.{holds_between, order_codes, with_comparison, compared};
 
 use crate::codes::Codes;
 use crate::formats::Format;
@@ -33,16 +33,12 @@ impl Compare {
     }
 }
 
-#[tactic(auto, unfolding(crate::specs::Comparison::compared))]
+#[tactic(auto, unfolding(crate::specs::Comparison::with_comparison))]
 fn answer(r: &mut Regs, how: Compare, left: i64, right: i64)
-    ensures { r.new ≡ compared how left right r.old }
+    ensures { r.new ≡ with_comparison how left right r.old }
 {
     let holds = how.holds(left, right);
-    let codes = Codes {
-        cc1: left > right,
-        cc0: left < right,
-        ov: false,
-    };
+    let codes = Codes::new(left > right, left < right, false);
     codes.show(&mut r.status);
     r.status.rlo = holds;
     r.status.sta = holds;
@@ -52,7 +48,7 @@ fn answer(r: &mut Regs, how: Compare, left: i64, right: i64)
 
 /// ==I, <>I, >I, <I, >=I and <=I: compares ACCU 2-L with ACCU 1-L as integers of 16 bits.
 pub fn compare_i(r: &mut Regs, how: Compare)
-    ensures { r.new ≡ compared how (signed 16 r.old.a2) (signed 16 r.old.a1) r.old }
+    ensures { r.new ≡ compared 16 how r.old }
 {
     let left = Format::Int.read(r.a2);
     let right = Format::Int.read(r.a1);
@@ -62,7 +58,7 @@ pub fn compare_i(r: &mut Regs, how: Compare)
 /// ==D, <>D, >D, <D, >=D and <=D: compares accumulator 2 with accumulator 1 as integers of 32
 /// bits.
 pub fn compare_d(r: &mut Regs, how: Compare)
-    ensures { r.new ≡ compared how (signed 32 r.old.a2) (signed 32 r.old.a1) r.old }
+    ensures { r.new ≡ compared 32 how r.old }
 {
     let left = Format::Dint.read(r.a2);
     let right = Format::Dint.read(r.a1);

@@ -2,7 +2,7 @@ ghost use Rattle.std.specs.Prelude.{◌≡◌, ◌<◌, ◌≤◌, ◌+◌, ◌*
 ghost use Rattle.alu.specs.Signed.{width_of, signed};
 ghost use Rattle.alu.specs.Sums.{with_sum, added, subtracted, negated};
 ghost use Rattle.alu.specs.Products.{with_product, multiplied};
-ghost use Rattle.alu.specs.Division.{quotient, remainder, is_zero, is_least_by_minus_one, with_result, divided_by_zero, divided_i, divided_d, divided_mod};
+ghost use Rattle.alu.specs.Division.{quotient, remainder, is_zero, is_least_by_minus_one, with_result, divided_by_zero, divided_i, divided_d, remainder_d};
 
 use crate::codes::Codes;
 use crate::formats::{Format, low_dword, low_word};
@@ -153,9 +153,9 @@ fn divide_by_zero(r: &mut Regs)
 
 /// /I: divides ACCU 2-L by ACCU 1-L as integers of 16 bits: the quotient goes to ACCU 1-L, the
 /// remainder to ACCU 1-H.
-#[tactic(auto, unfolding(crate::specs::Division::divided_i))]
+#[tactic(auto, unfolding(crate::specs::Division::with_words))]
 pub fn div_i(r: &mut Regs)
-    ensures { r.new ≡ divided_i (signed 16 r.old.a2) (signed 16 r.old.a1) r.old }
+    ensures { r.new ≡ divided_i r.old }
 {
     let dividend = Format::Int.read(r.a2);
     let divisor = Format::Int.read(r.a1);
@@ -179,9 +179,9 @@ fn two_words(high: u16, low: u16) -> u32
 
 /// /D: divides accumulator 2 by accumulator 1 as integers of 32 bits: the quotient goes to
 /// accumulator 1.
-#[tactic(auto, unfolding(crate::specs::Division::divided_d))]
+#[tactic(auto, unfolding(crate::specs::Division::with_quotient))]
 pub fn div_d(r: &mut Regs)
-    ensures { r.new ≡ divided_d (signed 32 r.old.a2) (signed 32 r.old.a1) r.old }
+    ensures { r.new ≡ divided_d r.old }
 {
     let dividend = Format::Dint.read(r.a2);
     let divisor = Format::Dint.read(r.a1);
@@ -199,9 +199,9 @@ pub fn div_d(r: &mut Regs)
 
 /// MOD: divides accumulator 2 by accumulator 1 as integers of 32 bits: the remainder goes to
 /// accumulator 1.
-#[tactic(auto, unfolding(crate::specs::Division::divided_mod))]
+#[tactic(auto, unfolding(crate::specs::Division::with_remainder))]
 pub fn mod_d(r: &mut Regs)
-    ensures { r.new ≡ divided_mod (signed 32 r.old.a2) (signed 32 r.old.a1) r.old }
+    ensures { r.new ≡ remainder_d r.old }
 {
     let dividend = Format::Dint.read(r.a2);
     let divisor = Format::Dint.read(r.a1);

@@ -31,11 +31,7 @@ fn put_shifted(r: &mut Regs, format: Format, bits: u32, last: bool)
     ensures { r.new ≡ with_shifted (width_of format) bits last r.old }
 {
     r.a1 = format.replace(r.a1, bits);
-    let codes = Codes {
-        cc1: last,
-        cc0: false,
-        ov: false,
-    };
+    let codes = Codes::new(last, false, false);
     codes.show(&mut r.status);
 }
 

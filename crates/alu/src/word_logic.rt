@@ -30,11 +30,7 @@ fn put_combined(r: &mut Regs, format: Format, bits: u32)
     ensures { r.new ≡ with_combined (width_of format) bits r.old }
 {
     r.a1 = format.replace(r.a1, bits);
-    let codes = Codes {
-        cc1: bits != 0,
-        cc0: false,
-        ov: false,
-    };
+    let codes = Codes::new(bits != 0, false, false);
     codes.show(&mut r.status);
 }
 
