@@ -4,8 +4,9 @@ ghost use Rattle.status_word.specs.Check.{value_of, joined, is_exclusive, is_and
 /// The bit logic instructions that check a bit: A (And), AN (And Not), O (Or), ON (Or Not),
 /// X (Exclusive Or) and XN (Exclusive Or Not). The nesting instructions `A(` to `XN(` keep one of
 /// them as their function code.
-#[derive(Clone, Copy, Debug, PartialEq, Eq)]
+#[derive(Clone, Copy, Debug, Default, PartialEq, Eq)]
 pub enum Check {
+    #[default]
     A,
     An,
     O,

@@ -13,23 +13,12 @@ pub const NESTING_DEPTH: usize = 7;
 
 /// An entry of the nesting stack: what the status word held when the bracket began, and the
 /// function code, which says how the result of the bracket is combined.
-#[derive(Clone, Copy, Debug, PartialEq, Eq)]
+#[derive(Clone, Copy, Debug, Default, PartialEq, Eq)]
 pub struct Bracket {
     pub rlo: bool,
     pub or: bool,
     pub fc: bool,
     pub code: Check,
-}
-
-impl Default for Bracket {
-    fn default() -> Bracket {
-        Bracket {
-            rlo: false,
-            or: false,
-            fc: false,
-            code: Check::A,
-        }
-    }
 }
 
 /// The nesting stack of a frame. A contract sees the list of the open brackets, the innermost one
