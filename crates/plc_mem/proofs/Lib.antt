@@ -4,3 +4,6 @@ pub mod Numbers
 pub mod Stored
 pub mod Runs
 pub mod Writes
+pub mod Extensional
+pub mod OneMemory
+pub mod Lawful

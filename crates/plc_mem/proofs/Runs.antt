@@ -1,5 +1,5 @@
 -- Writes to runs, peripheral areas and data blocks, bit by bit.
-use Rattle.std.proofs.Common.{◌≡◌, ◌≢◌, ℕ, ◌+◌, ◌-◌, ◌*◌, ◌^◌, ◌<◌, ◌≤◌, List, length, refl, sym, ap, ◌∙◌, subst, arith, Option, Some, None, Bool, true, false, nat_eq, nat_lt, nat_le, slice_get, slice_index, ◌⊎◌, inl, inr, if◌then◌else◌, ◌&&◌, is_some, cond}
+use Rattle.std.proofs.Common.{◌≡◌, ℕ, ◌+◌, ◌-◌, ◌*◌, ◌^◌, ◌<◌, ◌≤◌, List, length, refl, sym, ap, ◌∙◌, subst, arith, Option, Some, None, Bool, true, false, nat_eq, nat_lt, nat_le, slice_get, ◌⊎◌, inl, inr, if◌then◌else◌, ◌&&◌, is_some, cond}
 use Rattle.std.specs.Option.{option_map, option_and_then}
 use Rattle.std.specs.FinMap as map
 use Rattle.std.specs.FinMap.{get-insert, nat_cmp-IsAntisymmetric}
@@ -9,25 +9,24 @@ use Rattle.std.specs.declared.cmp.Ordering.TheVariants.{Less, Equal, Greater}
 use Rattle.std.specs.Cmp.{nat_cmp_total, tied_itself}
 use Rattle.std.proofs.lemmas.Bool.{lt-ltb, ltb-true, leb-true}
 use Rattle.std.proofs.lemmas.Bool.Decides.{nat_tests}
-use Rattle.std.proofs.lemmas.Option.{slice_get_past}
 use Rattle.plc_base.specs.declared.Width.{Width}
 use Rattle.plc_base.specs.declared.Width.TheVariants.{Bit, Byte, Word, Dword}
 use Rattle.plc_mem.specs.Areas.{PeripheralBytes}
-use Rattle.plc_mem.specs.Bits.{bit_of, bit_in, peripheral_byte, block_byte}
+use Rattle.plc_mem.specs.Bits.{bit_in, peripheral_byte, block_byte}
 use Rattle.plc_mem.specs.Number.{bit_count, byte_count}
 use Rattle.plc_mem.specs.Run.{number_over}
 use Rattle.plc_mem.specs.Writing.{is_within, stored, put, put_peripheral, put_in_block}
 use Rattle.plc_mem.specs.Written.{weight_in, value_of_bit}
-use Rattle.plc_mem.proofs.Numbers.{low_number, high_number, no_byte, both_true}
+use Rattle.plc_mem.proofs.Numbers.{low_number, high_number, both_true}
 use Rattle.plc_mem.proofs.Stored.{stored_after, stored_number, length-stored, kept_bit}
 
-true_not_false : true ≡ false → ⊥
+pub true_not_false : true ≡ false → ⊥
 true_not_false e = cc
 
 pub none_some : {A : Type 0} (x : A) → None ≡ Some x → ⊥
 none_some x e = cc
 
-same_some : {A : Type 0} (x y : A) → Some x ≡ Some y → x ≡ y
+pub same_some : {A : Type 0} (x y : A) → Some x ≡ Some y → x ≡ y
 same_some x y e = cc
 
 -- what stands in a mapped option
@@ -143,10 +142,10 @@ shifted_weight at bit Dword n b from there = wide_shifted at n 4 b from there
 below_or_from : (n : ℕ) → (n < 256) ⊎ (256 ≤ n)
 below_or_from n = grind arith
 
-in_low : (p : PeripheralBytes) (n : ℕ) → n < 256 → peripheral_byte p n ≡ slice_get p.low n
+pub in_low : (p : PeripheralBytes) (n : ℕ) → n < 256 → peripheral_byte p n ≡ slice_get p.low n
 in_low p n low = rw (lt-ltb n 256 low) refl
 
-in_high : (p : PeripheralBytes) (n : ℕ) → 256 ≤ n → peripheral_byte p n ≡ slice_get p.high (n - 256)
+pub in_high : (p : PeripheralBytes) (n : ℕ) → 256 ≤ n → peripheral_byte p n ≡ slice_get p.high (n - 256)
 in_high p n high = let test : nat_lt n 256 ≡ false = grind (arith, nat_tests) in rw test refl
 
 pub unchanged : (old new : Option ℕ) (at bit : ℕ) (width : Width) (value n b : ℕ) → (n < at) ⊎ (at + byte_count width ≤ n) → new ≡ old → bit_in new b ≡ option_map (value_of_bit value (weight_in at bit width n b)) (bit_in old b)

@@ -1,22 +1,22 @@
 -- A number in an operand of a run: its bits, and the other bits of the run.
-use Rattle.std.proofs.Common.{◌≡◌, ◌≢◌, ℕ, zero, suc, ◌+◌, ◌-◌, ◌*◌, ◌/◌, ◌%◌, ◌^◌, ◌<◌, ◌≤◌, List, length, refl, sym, ap, ◌∙◌, subst, arith, Option, Some, None, Bool, true, false, nat_eq, nat_lt, nat_le, slice_get, slice_index, slice_set, get_or, ◌⊎◌, inl, inr, if◌then◌else◌, ◌&&◌, add-zero, lit<, cond, IsSome}
+use Rattle.std.proofs.Common.{◌≡◌, ◌≢◌, ℕ, zero, suc, ◌+◌, ◌-◌, ◌*◌, ◌/◌, ◌%◌, ◌^◌, ◌<◌, ◌≤◌, List, length, refl, sym, ap, ◌∙◌, subst, arith, Option, Some, None, Bool, true, false, nat_eq, nat_lt, nat_le, slice_get, slice_index, slice_set, ◌⊎◌, inl, inr, if◌then◌else◌, ◌&&◌, add-zero}
 use Rattle.std.specs.Int.{bit_at}
 use Rattle.std.specs.Option.{option_map}
 use Rattle.std.proofs.lemmas.List.{length-set, get_or-set_same, get_or-set_other}
 use Rattle.std.proofs.lemmas.Option.{slice_get-get_or, slice_get_past}
-use Rattle.std.proofs.lemmas.Bool.{lt-ltb, ltb-true, leb-true}
+use Rattle.std.proofs.lemmas.Bool.{ltb-true, leb-true}
 use Rattle.std.proofs.lemmas.Bool.Decides.{nat_tests}
-use Rattle.std.proofs.lemmas.Nat.Bits.{bit_at-lt, bit_at_cat_low, bit_at_cat_high, bit_at_lowest}
+use Rattle.std.proofs.lemmas.Nat.Bits.{bit_at_cat_low, bit_at_cat_high, bit_at_lowest}
 use Rattle.std.proofs.Math.Nat.{div-add-mod, mod-lt, mod-eq_of_lt}
 use Rattle.std.proofs.lemmas.Nat.{pow_pos}
 use Rattle.plc_base.specs.declared.Width.{Width}
 use Rattle.plc_base.specs.declared.Width.TheVariants.{Bit, Byte, Word, Dword}
 use Rattle.plc_mem.specs.Bits.{bit_of, bit_in}
-use Rattle.plc_mem.specs.Number.{bit_count, byte_count, weights_of}
+use Rattle.plc_mem.specs.Number.{bit_count, byte_count}
 use Rattle.plc_mem.specs.Run.{number_over, operand_bit_of}
 use Rattle.plc_mem.specs.Writing.{is_within, stored, with_bit}
 use Rattle.plc_mem.specs.Written.{weight_in, value_of_bit}
-use Rattle.plc_mem.proofs.Numbers.{byte_bits, bytes_value, byte_bit, weights_value, stands, both_true, bit_in_some}
+use Rattle.plc_mem.proofs.Numbers.{byte_bits, byte_bit, weights_value, stands, both_true, bit_in_some}
 
 -- ---- one bit of a byte
 

@@ -1,21 +1,21 @@
 -- A write to memory gives the one memory with the number there and every other bit as before.
-use Rattle.std.proofs.Common.{◌≡◌, ℕ, ◌+◌, ◌^◌, ◌<◌, ◌≤◌, List, length, refl, sym, ap, ◌∙◌, subst, arith, Option, Some, None, Bool, true, false, slice_get, ◌⊎◌, inl, inr, is_some, unwrap_or, nat_lt, nat_le, ◌&&◌}
+use Rattle.std.proofs.Common.{◌≡◌, ℕ, ◌+◌, ◌^◌, ◌<◌, ◌≤◌, List, length, refl, sym, ap, ◌∙◌, subst, arith, Option, Some, None, true, slice_get, ◌⊎◌, inl, inr, unwrap_or, nat_lt, nat_le, ◌&&◌}
 use Rattle.std.specs.Option.{option_map}
 use Rattle.std.specs.FinMap as map
 use Rattle.plc_base.specs.declared.Width.{Width}
 use Rattle.plc_base.specs.declared.Width.TheVariants.{Bit, Byte, Word, Dword}
 use Rattle.plc_base.specs.declared.Place.{Place}
 use Rattle.plc_mem.specs.Areas.{Areas, PeripheralBytes}
-use Rattle.plc_mem.specs.BitPlace.{BitPlace, Region, Inputs, Outputs, BitMemory, PeripheralInputs, PeripheralOutputs, DataBlock}
+use Rattle.plc_mem.specs.BitPlace.{Region, Inputs, Outputs, BitMemory, PeripheralInputs, PeripheralOutputs, DataBlock}
 use Rattle.plc_mem.specs.Bits.{bit_at, bit_in, byte_at}
-use Rattle.plc_mem.specs.Number.{bit_count, byte_count, number_of, region_written}
+use Rattle.plc_mem.specs.Number.{bit_count, number_of, region_written}
 use Rattle.plc_mem.specs.Run.{number_over}
 use Rattle.plc_mem.specs.Writing.{is_within, stored, put, put_peripheral, put_in_block, written_in, written}
 use Rattle.plc_mem.specs.Written.{IsWrittenIn, IsWritten, bit_after, value_of_bit, weight_in}
 use Rattle.std.specs.Ordering.{nat_cmp}
 use Rattle.std.proofs.lemmas.Option.{slice_get_past}
 use Rattle.plc_mem.proofs.Numbers.{no_byte}
-use Rattle.plc_mem.proofs.Runs.{mapped, chained, part_put, put_done, unchanged, none_some, run_after, run_holds, put_within, length-put, peripheral_after, peripheral_holds, block_after, block_holds, block_loaded}
+use Rattle.plc_mem.proofs.Runs.{mapped, chained, part_put, put_done, unchanged, none_some, run_after, run_holds, peripheral_after, peripheral_holds, block_after, block_holds, block_loaded}
 use Rattle.plc_mem.proofs.Stored.{kept_bit}
 
 -- the number in an operand of a region is that of its bytes

@@ -16,3 +16,7 @@ pub record BitPlace : Type 0 where
   pub region : Region
   pub byte : ℕ
   pub bit : ℕ
+
+-- The bit place with these parts.
+abbrev pub bit_place : Region → (byte bit : ℕ) → BitPlace
+bit_place region byte bit = record { region = region; byte = byte; bit = bit }

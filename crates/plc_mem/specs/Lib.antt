@@ -11,3 +11,4 @@ pub mod Refresh
 pub mod Changes
 pub mod Places
 pub mod Written
+pub mod Laws

@@ -5,6 +5,7 @@
 mod data_blocks;
 mod differences;
 mod faults;
+pub mod laws;
 mod memories;
 mod operands;
 mod peripherals;
