@@ -26,7 +26,7 @@ use Rattle.plc_mem.specs.Refresh.{refreshed, IsRefreshed}
 use Rattle.plc_mem.specs.Fresh.{clear_peripheral}
 use Rattle.plc_mem.specs.Laws.{ReadsWhereEachBitExists, WritesWhereEachBitExists, NumbersAreReadBack, RefreshesBits, ClearsBits, SetsInputBits, PlacesStay}
 use Rattle.plc_mem.proofs.Numbers.{weights_none, no_byte as nothing, run_number, run_none, low_number, high_number, over_none}
-use Rattle.plc_mem.proofs.Writes.{written_is, written_in_is, number_of_region}
+use Rattle.plc_mem.proofs.Writes.{written_is, input_written, number_of_region}
 use Rattle.plc_mem.proofs.OneMemory.{has_image, written_in_memory}
 use Rattle.plc_mem.proofs.Runs.{true_not_false, in_low, in_high, no_weight}
 use Rattle.plc_mem.proofs.Stored.{kept_bit}
@@ -74,7 +74,7 @@ same_regions L number other = refl
 pub numbers_are_read_back : NumbersAreReadBack
 unfolding number_at
 numbers_are_read_back m n place width value is fits other done =
-    let words = written_is m n place width value (has_image m is) fits done in
+    let words = written_is m n place width value (λ _. has_image m is) fits done in
     ap (option_and_then (λ (r : Region). number_of n r place width)) (same_regions place.area place.number other ∙ words.1) ∙ words.2.number
 
 -- ---- places
@@ -85,7 +85,7 @@ kept_place f None = refl
 
 pub written_places : (m n : Areas) (place : Place) (width : Width) (value : ℕ) → IsMemory m → value < 2 ^ bit_count width → written m place width value ≡ Some n → SamePlaces m n
 written_places m n place width value is fits done =
-    let words = written_is m n place width value (has_image m is) fits done in
+    let words = written_is m n place width value (λ _. has_image m is) fits done in
     record {
       bits = λ q. ap is_some (words.2.bits q) ∙ kept_place (bit_after words.0 place.byte place.bit width value q) (bit_at m q);
       blocks = words.2.blocks;
@@ -290,7 +290,7 @@ input_others byte value (DataBlock k) n b o other = sym (kept_bit o)
 pub sets_input_bits : SetsInputBits
 unfolding with_input byte_place
 sets_input_bits m n byte value is fits done =
-    let words = written_in_is m n PeripheralInputs (byte_place byte) Byte value (has_image m is) fits done in (
+    let words = input_written m n (byte_place byte) Byte value is.peripheral_inputs.low.count_is fits done in (
       written_in_memory m n PeripheralInputs byte 0 Byte value is fits done,
       record {
         input = λ bit low.
@@ -309,7 +309,7 @@ sets_input_bits m n byte value is fits done =
 input_places : (m n : Areas) (byte value : ℕ) → IsMemory m → value < 2 ^ 8 → with_input m byte value ≡ Some n → SamePlaces m n
 unfolding with_input byte_place
 input_places m n byte value is fits done =
-    let words = written_in_is m n PeripheralInputs (byte_place byte) Byte value (has_image m is) fits done in
+    let words = input_written m n (byte_place byte) Byte value is.peripheral_inputs.low.count_is fits done in
     record {
       bits = λ q. ap is_some (words.bits q) ∙ kept_place (bit_after PeripheralInputs byte 0 Byte value q) (bit_at m q);
       blocks = words.blocks;

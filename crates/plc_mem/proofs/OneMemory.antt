@@ -10,12 +10,12 @@ use Rattle.plc_mem.specs.Areas.{Areas, PeripheralBytes}
 use Rattle.plc_mem.specs.BitPlace.{Region, Inputs, Outputs, BitMemory, PeripheralInputs, PeripheralOutputs, DataBlock}
 use Rattle.plc_mem.specs.Bits.{bit_at}
 use Rattle.plc_mem.specs.Number.{bit_count, region_written}
-use Rattle.plc_mem.specs.Places.{AreBytes, IsRun, IsPeripheral, IsMemory}
+use Rattle.plc_mem.specs.Places.{AreBytes, IsRun, IsPeripheral, IsMemory, HasImage}
 use Rattle.plc_mem.specs.Writing.{is_within, stored, with_bit, put, put_peripheral, put_in_block, written_in, written}
 use Rattle.std.specs.Option.{option_map}
 use Rattle.plc_mem.specs.Written.{IsWritten, bit_after}
 use Rattle.plc_mem.specs.Laws.{BitsDetermineMemory, WritingGivesTheOneMemory}
-use Rattle.plc_mem.proofs.Writes.{HasImage, written_is}
+use Rattle.plc_mem.proofs.Writes.{written_is}
 use Rattle.plc_mem.proofs.Extensional.{same_memory}
 use Rattle.plc_mem.proofs.OneBit.{bit_set}
 use Rattle.plc_mem.proofs.Numbers.{both_true}
@@ -136,7 +136,7 @@ written_in_memory m n (DataBlock k) at bit width value is fits done =
     subst IsMemory was.2 (record { inputs = is.inputs; outputs = is.outputs; bit_memory = is.bit_memory; peripheral_inputs = is.peripheral_inputs; peripheral_outputs = is.peripheral_outputs; data_blocks = put_blocks_bytes m.data_blocks was.0 k at bit width value is.data_blocks fits was.1 })
 
 pub has_image : (m : Areas) → IsMemory m → HasImage m
-has_image m is = record { image = is.outputs.count_is; inputs_low = is.peripheral_inputs.low.count_is; outputs_low = is.peripheral_outputs.low.count_is }
+has_image m is = record { image = is.outputs.count_is; outputs_low = is.peripheral_outputs.low.count_is }
 
 pub written_memory : (m n : Areas) (place : Place) (width : Width) (value : ℕ) → IsMemory m → value < 2 ^ bit_count width → written m place width value ≡ Some n → IsMemory n
 unfolding written
@@ -156,7 +156,7 @@ same_written m n other place width value hn ho wn wo =
 pub writing_gives_the_one_memory : WritingGivesTheOneMemory
 writing_gives_the_one_memory m n place width value is fits done =
     let new = written_memory m n place width value is fits done in
-    let words = written_is m n place width value (has_image m is) fits done in
+    let words = written_is m n place width value (λ _. has_image m is) fits done in
     (new, words, λ other ho wo. same_written m n other place width value new ho words wo)
 
 pub bits_determine_memory : BitsDetermineMemory

@@ -1,14 +1,17 @@
 -- A write to memory gives the one memory with the number there and every other bit as before.
-use Rattle.std.proofs.Common.{◌≡◌, ℕ, ◌+◌, ◌^◌, ◌<◌, ◌≤◌, List, length, refl, sym, ap, ◌∙◌, subst, arith, Option, Some, None, true, slice_get, ◌⊎◌, inl, inr, unwrap_or, nat_lt, nat_le, ◌&&◌}
-use Rattle.std.specs.Option.{option_map}
+use Rattle.std.proofs.Common.{◌≡◌, Bool, true, false, ℕ, ◌+◌, ◌^◌, ◌<◌, ◌≤◌, List, length, refl, sym, ap, ◌∙◌, subst, arith, Option, Some, None, true, slice_get, ◌⊎◌, inl, inr, unwrap_or, cond, nat_eq, nat_lt, nat_le, ◌&&◌}
+use Rattle.std.specs.Option.{option_map, option_and_then}
 use Rattle.std.specs.FinMap as map
 use Rattle.plc_base.specs.declared.Width.{Width}
 use Rattle.plc_base.specs.declared.Width.TheVariants.{Bit, Byte, Word, Dword}
 use Rattle.plc_base.specs.declared.Place.{Place}
+use Rattle.plc_base.specs.declared.Area.{Area}
+use Rattle.plc_base.specs.declared.Area.TheVariants.{P, I, Q, M, Db, Di, L}
 use Rattle.plc_mem.specs.Areas.{Areas, PeripheralBytes}
 use Rattle.plc_mem.specs.BitPlace.{Region, Inputs, Outputs, BitMemory, PeripheralInputs, PeripheralOutputs, DataBlock}
 use Rattle.plc_mem.specs.Bits.{bit_at, bit_in, byte_at}
-use Rattle.plc_mem.specs.Number.{bit_count, number_of, region_written}
+use Rattle.plc_mem.specs.Number.{bit_count, number_of, region_of, region_written}
+use Rattle.plc_mem.specs.Places.{HasImage}
 use Rattle.plc_mem.specs.Run.{number_over}
 use Rattle.plc_mem.specs.Writing.{is_within, stored, put, put_peripheral, put_in_block, written_in, written}
 use Rattle.plc_mem.specs.Written.{IsWrittenIn, IsWritten, bit_after, value_of_bit, weight_in}
@@ -25,12 +28,6 @@ number_of_region m region place Bit = refl
 number_of_region m region place Byte = refl
 number_of_region m region place Word = refl
 number_of_region m region place Dword = refl
-
--- the sizes on which a write to peripheral outputs rests
-pub record HasImage (m : Areas) : Type 0 where
-  pub image : length m.outputs ≡ 128
-  pub inputs_low : length m.peripheral_inputs.low ≡ 128
-  pub outputs_low : length m.peripheral_outputs.low ≡ 128
 
 inputs_bits : (m : Areas) (new : List ℕ) (at bit : ℕ) (width : Width) (value : ℕ) → value < 2 ^ bit_count width → put m.inputs at bit width value ≡ Some new → (region : Region) (n b : ℕ)
     → bit_at (record m { inputs = new }) (record { region = region; byte = n; bit = b }) ≡ option_map (bit_after Inputs at bit width value (record { region = region; byte = n; bit = b })) (bit_at m (record { region = region; byte = n; bit = b }))
@@ -80,18 +77,18 @@ memory_written m n place width value fits done =
       blocks = λ k. refl;
     })
 
-peripheral_inputs_bits : (m : Areas) (new : PeripheralBytes) (at bit : ℕ) (width : Width) (value : ℕ) → HasImage m → value < 2 ^ bit_count width → put_peripheral m.peripheral_inputs at bit width value ≡ Some new → (region : Region) (n b : ℕ)
+peripheral_inputs_bits : (m : Areas) (new : PeripheralBytes) (at bit : ℕ) (width : Width) (value : ℕ) → length m.peripheral_inputs.low ≡ 128 → value < 2 ^ bit_count width → put_peripheral m.peripheral_inputs at bit width value ≡ Some new → (region : Region) (n b : ℕ)
     → bit_at (record m { peripheral_inputs = new }) (record { region = region; byte = n; bit = b }) ≡ option_map (bit_after PeripheralInputs at bit width value (record { region = region; byte = n; bit = b })) (bit_at m (record { region = region; byte = n; bit = b }))
 unfolding bit_at
-peripheral_inputs_bits m new at bit width value sizes fits done PeripheralInputs n b = peripheral_after m.peripheral_inputs new at bit width value (omega (arith, sizes.inputs_low)) fits done n b
+peripheral_inputs_bits m new at bit width value sizes fits done PeripheralInputs n b = peripheral_after m.peripheral_inputs new at bit width value (omega (arith, sizes)) fits done n b
 peripheral_inputs_bits m new at bit width value sizes fits done region n b = kept_bit (bit_at m (record { region = region; byte = n; bit = b }))
 
-peripheral_inputs_written : (m n : Areas) (place : Place) (width : Width) (value : ℕ) → HasImage m → value < 2 ^ bit_count width → written_in m PeripheralInputs place.byte place.bit width value ≡ Some n → IsWrittenIn m n PeripheralInputs place width value
+peripheral_inputs_written : (m n : Areas) (place : Place) (width : Width) (value : ℕ) → length m.peripheral_inputs.low ≡ 128 → value < 2 ^ bit_count width → written_in m PeripheralInputs place.byte place.bit width value ≡ Some n → IsWrittenIn m n PeripheralInputs place width value
 peripheral_inputs_written m n place width value sizes fits done =
     let was = mapped (λ (p : PeripheralBytes). let r : Areas = record m { peripheral_inputs = p } in r) (put_peripheral m.peripheral_inputs place.byte place.bit width value) n done in
     let now : Areas = record m { peripheral_inputs = was.0 } in
     subst (λ (r : Areas). IsWrittenIn m r PeripheralInputs place width value) was.2 (record {
-      number = number_of_region now PeripheralInputs place width ∙ peripheral_holds m.peripheral_inputs was.0 place.byte place.bit width value (omega (arith, sizes.inputs_low)) fits was.1;
+      number = number_of_region now PeripheralInputs place width ∙ peripheral_holds m.peripheral_inputs was.0 place.byte place.bit width value (omega (arith, sizes)) fits was.1;
       bits = λ q. peripheral_inputs_bits m was.0 place.byte place.bit width value sizes fits was.1 q.region q.byte q.bit;
       blocks = λ k. refl;
     })
@@ -169,18 +166,35 @@ block_written m n k place width value fits done =
       blocks = block_loaded m.data_blocks was.0 k place.byte place.bit width value was.1;
     })
 
--- a write to any region
-pub written_in_is : (m n : Areas) (region : Region) (place : Place) (width : Width) (value : ℕ) → HasImage m → value < 2 ^ bit_count width → written_in m region place.byte place.bit width value ≡ Some n → IsWrittenIn m n region place width value
-written_in_is m n Inputs place width value sizes fits done = inputs_written m n place width value fits done
-written_in_is m n Outputs place width value sizes fits done = outputs_written m n place width value fits done
-written_in_is m n BitMemory place width value sizes fits done = memory_written m n place width value fits done
-written_in_is m n PeripheralInputs place width value sizes fits done = peripheral_inputs_written m n place width value sizes fits done
-written_in_is m n PeripheralOutputs place width value sizes fits done = peripheral_outputs_written m n place width value sizes fits done
-written_in_is m n (DataBlock k) place width value sizes fits done = block_written m n k place width value fits done
+-- what was written to peripheral inputs
+pub input_written : (m n : Areas) (place : Place) (width : Width) (value : ℕ) → length m.peripheral_inputs.low ≡ 128 → value < 2 ^ bit_count width → written_in m PeripheralInputs place.byte place.bit width value ≡ Some n → IsWrittenIn m n PeripheralInputs place width value
+input_written m n place width value size fits done = peripheral_inputs_written m n place width value size fits done
+
+-- an area that stands with number 0 alone
+lone_region :
+    (m n : Areas) (region : Region) (place : Place) (width : Width) (value : ℕ)
+    → (written_in m region place.byte place.bit width value ≡ Some n → IsWrittenIn m n region place width value)
+    → (is_zero : Bool)
+    → option_and_then (λ (r : Region). written_in m r place.byte place.bit width value) (cond is_zero (Some region) None) ≡ Some n
+    → (r : Region) × (cond is_zero (Some region) None ≡ Some r) × IsWrittenIn m n r place width value
+lone_region m n region place width value is true done = (region, refl, is done)
+lone_region m n region place width value is false done = absurd (none_some n done)
+
+written_by_area :
+    (m n : Areas) (area : Area) (place : Place) (width : Width) (value : ℕ)
+    → (area ≡ P → HasImage m)
+    → value < 2 ^ bit_count width
+    → option_and_then (λ (r : Region). written_in m r place.byte place.bit width value) (region_of PeripheralOutputs area place.number) ≡ Some n
+    → (r : Region) × (region_of PeripheralOutputs area place.number ≡ Some r) × IsWrittenIn m n r place width value
+written_by_area m n P place width value sizes fits done = lone_region m n PeripheralOutputs place width value (peripheral_outputs_written m n place width value (sizes refl) fits) (nat_eq place.number 0) done
+written_by_area m n I place width value sizes fits done = lone_region m n Inputs place width value (inputs_written m n place width value fits) (nat_eq place.number 0) done
+written_by_area m n Q place width value sizes fits done = lone_region m n Outputs place width value (outputs_written m n place width value fits) (nat_eq place.number 0) done
+written_by_area m n M place width value sizes fits done = lone_region m n BitMemory place width value (memory_written m n place width value fits) (nat_eq place.number 0) done
+written_by_area m n Db place width value sizes fits done = (DataBlock place.number, refl, block_written m n place.number place width value fits done)
+written_by_area m n Di place width value sizes fits done = absurd (none_some n done)
+written_by_area m n L place width value sizes fits done = absurd (none_some n done)
 
 -- a write at a place
-pub written_is : (m n : Areas) (place : Place) (width : Width) (value : ℕ) → HasImage m → value < 2 ^ bit_count width → written m place width value ≡ Some n → IsWritten m n place width value
+pub written_is : (m n : Areas) (place : Place) (width : Width) (value : ℕ) → (place.area ≡ P → HasImage m) → value < 2 ^ bit_count width → written m place width value ≡ Some n → IsWritten m n place width value
 unfolding written
-written_is m n place width value sizes fits done =
-    let found = chained (λ (region : Region). written_in m region place.byte place.bit width value) (region_written place) n done in
-    (found.0, found.1, written_in_is m n found.0 place width value sizes fits found.2)
+written_is m n place width value sizes fits done = written_by_area m n place.area place width value sizes fits done

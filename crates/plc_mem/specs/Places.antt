@@ -35,3 +35,8 @@ pub record IsMemory (m : Areas) : Type 0 where
   pub peripheral_inputs : IsPeripheral m.peripheral_inputs
   pub peripheral_outputs : IsPeripheral m.peripheral_outputs
   pub data_blocks : (number : ℕ) (bytes : List ℕ) → map.get m.data_blocks number ≡ Some bytes → AreBytes bytes
+
+-- The process image of the outputs has the bytes of the lower part of the peripheral outputs.
+pub record HasImage (m : Areas) : Type 0 where
+  pub image : length m.outputs ≡ 128
+  pub outputs_low : length m.peripheral_outputs.low ≡ 128

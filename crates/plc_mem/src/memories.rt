@@ -1,5 +1,5 @@
 // The memory areas of the controller but local data.
-ghost use Rattle.std.specs.Prelude.{◌≡◌, ◌^◌, ◌<◌, nat_eq, Some, None, IfOk, MatchResult};
+ghost use Rattle.std.specs.Prelude.{◌≡◌, ◌^◌, ◌<◌, nat_eq, Some, None, IfOk, OnOk, MatchResult};
 ghost use Rattle.std.specs.Option.{option_copied};
 ghost use Rattle.std.specs.FinMap as map;
 ghost use Rattle.std.specs.List.{IsDistinct};
@@ -9,6 +9,8 @@ ghost use Rattle.plc_mem.specs.Number.{bit_count, number_at};
 ghost use Rattle.plc_mem.specs.Peripherals.{with_input, output_of, outputs_cleared};
 ghost use Rattle.plc_mem.specs.Refresh.{refreshed};
 ghost use Rattle.plc_mem.specs.Writing.{written, written_in};
+ghost use Rattle.plc_mem.specs.Written.{IsWritten};
+ghost use Rattle.plc_mem.specs.Places.{HasImage};
 ghost use Rattle.plc_mem.specs.BitPlace.{PeripheralOutputs};
 
 use crate::data_blocks::DataBlocks;
@@ -72,25 +74,13 @@ impl Memory {
 
     /// Writes a number at a place. Writing area P writes peripheral outputs, and the same bytes of
     /// the process image of the outputs where these exist.
-    #[tactic(auto, unfolding(crate::specs::Writing::written))]
     pub fn write(&mut self, place: Place, width: Width, value: u32) -> Result<(), Missing>
         requires { value < 2 ^ bit_count width }
-        ensures { MatchResult result (λ _. written self.old place width value ≡ Some self.new) (λ _. (written self.old place width value ≡ None) × (self.new ≡ self.old)) }
+        ensures cases { MatchResult result (λ _. written self.old place width value ≡ Some self.new) (λ _. (written self.old place width value ≡ None) × (self.new ≡ self.old)) }
+        ensures bits { OnOk result (IsWritten self.old self.new place width value) }
     {
-        if place.area != Area::Db && place.number != 0 {
-            return Err(Missing);
-        }
-        let at = usize::from(place.byte);
-        match place.area {
-            Area::P => self.put_outputs(at, place.bit, width, value),
-            Area::I => operands::put(&mut self.inputs, at, place.bit, width, value),
-            Area::Q => operands::put(&mut self.outputs, at, place.bit, width, value),
-            Area::M => operands::put(&mut self.bit_memory, at, place.bit, width, value),
-            Area::Db => self
-                .data_blocks
-                .put(place.number, at, place.bit, width, value),
-            Area::Di | Area::L => Err(Missing),
-        }
+        self.store(place, width, value)?;
+        Ok(())
     }
 
     /// Sets one byte of the peripheral inputs.
@@ -162,11 +152,35 @@ impl Memory {
         }
     }
 
+    // Writes a number at a place, as `write`.
+    #[tactic(auto, unfolding(crate::specs::Writing::written))]
+    fn store(&mut self, place: Place, width: Width, value: u32) -> Result<(), Missing>
+        requires { value < 2 ^ bit_count width }
+        ensures sizes { OnOk result (place.area ≡ Area.P → HasImage self.old) }
+        ensures cases { MatchResult result (λ _. written self.old place width value ≡ Some self.new) (λ _. (written self.old place width value ≡ None) × (self.new ≡ self.old)) }
+    {
+        if place.area != Area::Db && place.number != 0 {
+            return Err(Missing);
+        }
+        let at = usize::from(place.byte);
+        match place.area {
+            Area::P => self.put_outputs(at, place.bit, width, value),
+            Area::I => operands::put(&mut self.inputs, at, place.bit, width, value),
+            Area::Q => operands::put(&mut self.outputs, at, place.bit, width, value),
+            Area::M => operands::put(&mut self.bit_memory, at, place.bit, width, value),
+            Area::Db => self
+                .data_blocks
+                .put(place.number, at, place.bit, width, value),
+            Area::Di | Area::L => Err(Missing),
+        }
+    }
+
     // Writes an operand of the peripheral outputs, and the same bytes of the process image.
     fn put_outputs(&mut self, at: usize, bit: u8, width: Width, value: u32) -> Result<(), Missing>
         requires near { at < 2 ^ 16 }
         requires fits { value < 2 ^ bit_count width }
-        ensures { MatchResult result (λ _. written_in self.old PeripheralOutputs at bit width value ≡ Some self.new) (λ _. (written_in self.old PeripheralOutputs at bit width value ≡ None) × (self.new ≡ self.old)) }
+        ensures sizes { HasImage self.old }
+        ensures cases { MatchResult result (λ _. written_in self.old PeripheralOutputs at bit width value ≡ Some self.new) (λ _. (written_in self.old PeripheralOutputs at bit width value ≡ None) × (self.new ≡ self.old)) }
     {
         self.peripheral_outputs.put(at, bit, width, value)?;
         // Only bytes 0 to 127 have a place in the process image.

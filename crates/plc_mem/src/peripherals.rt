@@ -1,5 +1,5 @@
 // Peripheral inputs, or peripheral outputs: bytes 0 to 127, and bytes 256 to 767.
-ghost use Rattle.std.specs.Prelude.{◌≡◌, ◌^◌, ◌<◌, Some, None, MatchResult};
+ghost use Rattle.std.specs.Prelude.{◌≡◌, ◌^◌, ◌<◌, length, Some, None, MatchResult};
 ghost use Rattle.plc_mem.specs.Bits.{peripheral_byte};
 ghost use Rattle.plc_mem.specs.Changes.{IsFirstChange, IsFirstHighChange};
 ghost use Rattle.plc_mem.specs.Fresh.{clear_peripheral};
@@ -107,7 +107,8 @@ impl PeripheralArea {
     ) -> Result<(), Missing>
         requires near { at < 2 ^ 16 }
         requires fits { value < 2 ^ bit_count width }
-        ensures { MatchResult result (λ _. put_peripheral self.old at bit width value ≡ Some self.new) (λ _. (put_peripheral self.old at bit width value ≡ None) × (self.new ≡ self.old)) }
+        ensures size { length self.old.low ≡ LOW_BYTES }
+        ensures cases { MatchResult result (λ _. put_peripheral self.old at bit width value ≡ Some self.new) (λ _. (put_peripheral self.old at bit width value ≡ None) × (self.new ≡ self.old)) }
     {
         if at < HIGH_START {
             operands::put(&mut self.low, at, bit, width, value)
