@@ -1,5 +1,6 @@
 -- Further laws of memory, proved.
-use Rattle.std.proofs.Common.{◌≡◌, ◌≢◌, ℕ, zero, suc, ◌+◌, ◌-◌, ◌*◌, ◌/◌, ◌%◌, ◌^◌, ◌<◌, ◌≤◌, List, length, refl, sym, ap, ◌∙◌, subst, arith, Option, Some, None, IsSome, Bool, true, false, nat_eq, nat_lt, nat_le, get_or, replicate, slice_get, ◌⊎◌, inl, inr, is_some, cond, ◌↔◌, unwrap_or}
+use Rattle.std.proofs.Common.{◌≡◌, ◌≢◌, ℕ, zero, suc, ◌+◌, ◌-◌, ◌*◌, ◌/◌, ◌%◌, ◌^◌, ◌<◌, ◌≤◌, List, length, refl, sym, ap, ◌∙◌, subst, arith, Option, Some, None, IsSome, Bool, true, false, nat_eq, nat_lt, nat_le, get_or, replicate, slice_get, ◌⊎◌, inl, inr, is_some, cond, ◌↔◌, unwrap_or, Result, Ok, Err, IsOk, OnOk, MatchResult, slice_index}
+use Rattle.plc_mem.specs.declared.faults.Missing.{Missing}
 use Rattle.std.specs.Option.{option_map, option_and_then}
 use Rattle.std.specs.FinMap as map
 use Rattle.std.specs.Ordering.{nat_cmp}
@@ -11,21 +12,21 @@ use Rattle.std.proofs.lemmas.List.{get_or-replicate, length-replicate, get_or_pa
 use Rattle.plc_base.specs.declared.Area.{Area}
 use Rattle.plc_base.specs.declared.Area.TheVariants.{P, I, Q, M, Db, Di, L}
 use Rattle.plc_base.specs.declared.Width.{Width}
-use Rattle.plc_base.specs.declared.Width.TheVariants.{Byte}
+use Rattle.plc_base.specs.declared.Width.TheVariants.{Bit, Byte, Word, Dword}
 use Rattle.plc_base.specs.declared.Place.{Place}
 use Rattle.plc_mem.specs.Areas.{Areas, PeripheralBytes}
 use Rattle.plc_mem.specs.BitPlace.{Region, bit_place, Inputs, Outputs, BitMemory, PeripheralInputs, PeripheralOutputs, DataBlock}
 use Rattle.plc_mem.specs.Bits.{bit_at, bit_in, bit_of, byte_at, peripheral_byte, block_byte}
 use Rattle.plc_mem.specs.Number.{bit_count, weights_of, plus_weight, number_of, number_at, region_of, region_read, region_written, operand_bit, EachBitExists}
-use Rattle.plc_mem.specs.Places.{SamePlaces, IsMemory, IsPeripheral, AreBytes}
+use Rattle.plc_mem.specs.Places.{SamePlaces, IsMemory, IsPeripheral, AreBytes, HasImage}
 use Rattle.plc_mem.specs.Writing.{written, written_in, put, put_peripheral, put_in_block, is_within}
-use Rattle.plc_mem.specs.Written.{bit_after, value_of_bit}
-use Rattle.plc_mem.specs.Run.{number_over}
+use Rattle.plc_mem.specs.Written.{IsWritten, bit_after, value_of_bit}
+use Rattle.plc_mem.specs.Run.{number_over, operand_bit_of}
 use Rattle.plc_mem.specs.Peripherals.{with_input, outputs_cleared}
 use Rattle.plc_mem.specs.Refresh.{refreshed, IsRefreshed}
 use Rattle.plc_mem.specs.Fresh.{clear_peripheral}
 use Rattle.plc_mem.specs.Laws.{ReadsWhereEachBitExists, WritesWhereEachBitExists, NumbersAreReadBack, RefreshesBits, ClearsBits, SetsInputBits, PlacesStay}
-use Rattle.plc_mem.proofs.Numbers.{weights_none, no_byte as nothing, run_number, run_none, low_number, high_number, over_none}
+use Rattle.plc_mem.proofs.Numbers.{weights_none, no_byte as nothing, run_none, both_true, bit_in_some, low_number, high_number, over_none}
 use Rattle.plc_mem.proofs.Writes.{written_is, input_written, number_of_region}
 use Rattle.plc_mem.proofs.OneMemory.{has_image, written_in_memory}
 use Rattle.plc_mem.proofs.Runs.{true_not_false, in_low, in_high, no_weight}
@@ -333,60 +334,132 @@ places_stay m n is = (
 same_some_of : {A B C : Type 0} (f : B → C) (o : Option A) (p : Option B) → is_some p ≡ is_some o → is_some (option_map f p) ≡ is_some o
 same_some_of f o p same = kept_place f p ∙ same
 
-pub run_exists : (bytes : List ℕ) (at bit : ℕ) (width : Width) (value : ℕ) → AreBytes bytes → (within : Bool) → is_within bytes at bit width ≡ within → is_some (put bytes at bit width value) ≡ is_some (number_over (slice_get bytes) at bit width)
-unfolding put
-run_exists bytes at bit width value all true e = rw e (sym (ap is_some (run_number bytes at bit width all e)))
-run_exists bytes at bit width value all false e = rw e (sym (ap is_some (run_none bytes at bit width e)))
+bit_stands : (bytes : List ℕ) (n b : ℕ) → n < length bytes → b < 8 → IsSome (bit_in (slice_get bytes n) b)
+bit_stands bytes n b within low = ap is_some (ap (λ (o : Option ℕ). bit_in o b) (slice_get-get_or bytes n 0 within) ∙ bit_in_some (slice_index bytes n) b low)
 
-part_exists : (p : PeripheralBytes) (at bit : ℕ) (width : Width) (value : ℕ) → IsPeripheral p → (first : Bool) → nat_lt at 256 ≡ first → is_some (put_peripheral p at bit width value) ≡ is_some (number_over (peripheral_byte p) at bit width)
+run_some : (bytes : List ℕ) (at bit : ℕ) (width : Width) → is_within bytes at bit width ≡ true → IsSome (number_over (slice_get bytes) at bit width)
+unfolding number_over
+run_some bytes at bit Bit within =
+    let tests = both_true (nat_lt at (length bytes)) (nat_lt bit 8) within in
+    weights_there (operand_bit_of (slice_get bytes) at bit Bit) 1 (λ j h. bit_stands bytes at bit (ltb-true at (length bytes) tests.0) (ltb-true bit 8 tests.1))
+run_some bytes at bit Byte within =
+    let room : at + 1 ≤ length bytes = grind (arith, nat_tests) in
+    weights_there (operand_bit_of (slice_get bytes) at bit Byte) 8 (λ j h. bit_stands bytes (at + (1 - 1 - j / 8)) (j % 8) (omega arith) (omega arith))
+run_some bytes at bit Word within =
+    let room : at + 2 ≤ length bytes = grind (arith, nat_tests) in
+    weights_there (operand_bit_of (slice_get bytes) at bit Word) 16 (λ j h. bit_stands bytes (at + (2 - 1 - j / 8)) (j % 8) (omega arith) (omega arith))
+run_some bytes at bit Dword within =
+    let room : at + 4 ≤ length bytes = grind (arith, nat_tests) in
+    weights_there (operand_bit_of (slice_get bytes) at bit Dword) 32 (λ j h. bit_stands bytes (at + (4 - 1 - j / 8)) (j % 8) (omega arith) (omega arith))
+
+pub run_exists : (bytes : List ℕ) (at bit : ℕ) (width : Width) (value : ℕ) (within : Bool) → is_within bytes at bit width ≡ within → is_some (put bytes at bit width value) ≡ is_some (number_over (slice_get bytes) at bit width)
+unfolding put
+run_exists bytes at bit width value true e = rw e (sym (run_some bytes at bit width e))
+run_exists bytes at bit width value false e = rw e (sym (ap is_some (run_none bytes at bit width e)))
+
+part_exists : (p : PeripheralBytes) (at bit : ℕ) (width : Width) (value : ℕ) → length p.low ≡ 128 → (first : Bool) → nat_lt at 256 ≡ first → is_some (put_peripheral p at bit width value) ≡ is_some (number_over (peripheral_byte p) at bit width)
 unfolding put_peripheral
-part_exists p at bit width value is true e =
+part_exists p at bit width value size true e =
     let low : at < 256 = ltb-true at 256 e in
     rw e (kept_place (λ (bytes : List ℕ). let r : PeripheralBytes = record p { low = bytes } in r) (put p.low at bit width value)
-    ∙ run_exists p.low at bit width value is.low.bytes_are (is_within p.low at bit width) refl
-    ∙ sym (ap is_some (low_number p at bit width (omega (arith, is.low.count_is)) low)))
-part_exists p at bit width value is false e =
+    ∙ run_exists p.low at bit width value (is_within p.low at bit width) refl
+    ∙ sym (ap is_some (low_number p at bit width (omega (arith, size)) low)))
+part_exists p at bit width value size false e =
     let high : 256 ≤ at = grind (arith, nat_tests) in
     rw e (kept_place (λ (bytes : List ℕ). let r : PeripheralBytes = record p { high = bytes } in r) (put p.high (at - 256) bit width value)
-    ∙ run_exists p.high (at - 256) bit width value is.high.bytes_are (is_within p.high (at - 256) bit width) refl
+    ∙ run_exists p.high (at - 256) bit width value (is_within p.high (at - 256) bit width) refl
     ∙ sym (ap is_some (high_number p at bit width high)))
 
-block_exists : (blocks : map.FinMap nat_cmp (List ℕ)) (k at bit : ℕ) (width : Width) (value : ℕ) → (o : Option (List ℕ)) → map.get blocks k ≡ o → ((bytes : List ℕ) → map.get blocks k ≡ Some bytes → AreBytes bytes) → is_some (put_in_block blocks k at bit width value) ≡ is_some (number_over (block_byte blocks k) at bit width)
+block_exists : (blocks : map.FinMap nat_cmp (List ℕ)) (k at bit : ℕ) (width : Width) (value : ℕ) → (o : Option (List ℕ)) → map.get blocks k ≡ o → is_some (put_in_block blocks k at bit width value) ≡ is_some (number_over (block_byte blocks k) at bit width)
 unfolding put_in_block
-block_exists blocks k at bit width value (Some bytes) e all =
-    rw e (kept_place (λ (new : List ℕ). map.insert blocks k new) (put bytes at bit width value) ∙ run_exists bytes at bit width value (all bytes e) (is_within bytes at bit width) refl
+block_exists blocks k at bit width value (Some bytes) e =
+    rw e (kept_place (λ (new : List ℕ). map.insert blocks k new) (put bytes at bit width value) ∙ run_exists bytes at bit width value (is_within bytes at bit width) refl
     ∙ sym (ap (λ (o : Option (List ℕ)). is_some (number_over (λ (n : ℕ). option_and_then (λ (s : List ℕ). slice_get s n) o) at bit width)) e))
-block_exists blocks k at bit width value None e all =
+block_exists blocks k at bit width value None e =
     let none : block_byte blocks k at ≡ None = ap (option_and_then (λ (s : List ℕ). slice_get s at)) e in
     rw e (sym (ap is_some (over_none (block_byte blocks k) at bit width none)))
 
-written_exists : (m : Areas) (region : Region) (place : Place) (width : Width) (value : ℕ) → IsMemory m → is_some (written_in m region place.byte place.bit width value) ≡ is_some (number_over (byte_at m region) place.byte place.bit width)
-written_exists m Inputs place width value is =
+abbrev SameExistence : Areas → Region → Place → Width → ℕ → Type 0
+SameExistence m region place width value = is_some (written_in m region place.byte place.bit width value) ≡ is_some (number_over (byte_at m region) place.byte place.bit width)
+
+inputs_exist : (m : Areas) (place : Place) (width : Width) (value : ℕ) → SameExistence m Inputs place width value
+inputs_exist m place width value =
     kept_place (λ (s : List ℕ). let r : Areas = record m { inputs = s } in r) (put m.inputs place.byte place.bit width value)
-    ∙ run_exists m.inputs place.byte place.bit width value is.inputs.bytes_are (is_within m.inputs place.byte place.bit width) refl
-written_exists m Outputs place width value is =
+    ∙ run_exists m.inputs place.byte place.bit width value (is_within m.inputs place.byte place.bit width) refl
+
+outputs_exist : (m : Areas) (place : Place) (width : Width) (value : ℕ) → SameExistence m Outputs place width value
+outputs_exist m place width value =
     kept_place (λ (s : List ℕ). let r : Areas = record m { outputs = s } in r) (put m.outputs place.byte place.bit width value)
-    ∙ run_exists m.outputs place.byte place.bit width value is.outputs.bytes_are (is_within m.outputs place.byte place.bit width) refl
-written_exists m BitMemory place width value is =
+    ∙ run_exists m.outputs place.byte place.bit width value (is_within m.outputs place.byte place.bit width) refl
+
+memory_exists : (m : Areas) (place : Place) (width : Width) (value : ℕ) → SameExistence m BitMemory place width value
+memory_exists m place width value =
     kept_place (λ (s : List ℕ). let r : Areas = record m { bit_memory = s } in r) (put m.bit_memory place.byte place.bit width value)
-    ∙ run_exists m.bit_memory place.byte place.bit width value is.bit_memory.bytes_are (is_within m.bit_memory place.byte place.bit width) refl
-written_exists m PeripheralInputs place width value is =
-    kept_place (λ (p : PeripheralBytes). let r : Areas = record m { peripheral_inputs = p } in r) (put_peripheral m.peripheral_inputs place.byte place.bit width value)
-    ∙ part_exists m.peripheral_inputs place.byte place.bit width value is.peripheral_inputs (nat_lt place.byte 256) refl
-written_exists m PeripheralOutputs place width value is =
+    ∙ run_exists m.bit_memory place.byte place.bit width value (is_within m.bit_memory place.byte place.bit width) refl
+
+peripheral_exists : (m : Areas) (place : Place) (width : Width) (value : ℕ) → HasImage m → SameExistence m PeripheralOutputs place width value
+peripheral_exists m place width value sizes =
     kept_place (λ (p : PeripheralBytes). let r : Areas = record m { outputs = unwrap_or (put m.outputs place.byte place.bit width value) m.outputs; peripheral_outputs = p } in r) (put_peripheral m.peripheral_outputs place.byte place.bit width value)
-    ∙ part_exists m.peripheral_outputs place.byte place.bit width value is.peripheral_outputs (nat_lt place.byte 256) refl
-written_exists m (DataBlock k) place width value is =
+    ∙ part_exists m.peripheral_outputs place.byte place.bit width value sizes.outputs_low (nat_lt place.byte 256) refl
+
+in_block_exists : (m : Areas) (k : ℕ) (place : Place) (width : Width) (value : ℕ) → SameExistence m (DataBlock k) place width value
+in_block_exists m k place width value =
     kept_place (λ (blocks : map.FinMap nat_cmp (List ℕ)). let r : Areas = record m { data_blocks = blocks } in r) (put_in_block m.data_blocks k place.byte place.bit width value)
-    ∙ block_exists m.data_blocks k place.byte place.bit width value (map.get m.data_blocks k) refl (is.data_blocks k)
+    ∙ block_exists m.data_blocks k place.byte place.bit width value (map.get m.data_blocks k) refl
 
-writing_exists : (m : Areas) (o : Option Region) (place : Place) (width : Width) (value : ℕ) → IsMemory m → is_some (option_and_then (λ (r : Region). written_in m r place.byte place.bit width value) o) ≡ is_some (option_and_then (λ (r : Region). number_of m r place width) o)
-writing_exists m None place width value is = refl
-writing_exists m (Some r) place width value is = written_exists m r place width value is ∙ sym (ap is_some (number_of_region m r place width))
+-- an area that stands with number 0 alone
+lone_exists :
+    (m : Areas) (region : Region) (place : Place) (width : Width) (value : ℕ) (is_zero : Bool)
+    → (is_zero ≡ true → SameExistence m region place width value)
+    → is_some (option_and_then (λ (r : Region). written_in m r place.byte place.bit width value) (cond is_zero (Some region) None)) ≡ is_some (option_and_then (λ (r : Region). number_of m r place width) (cond is_zero (Some region) None))
+lone_exists m region place width value true same = same refl ∙ sym (ap is_some (number_of_region m region place width))
+lone_exists m region place width value false same = refl
 
-pub writes_where_each_bit_exists : WritesWhereEachBitExists
+exists_by_area :
+    (m : Areas) (area : Area) (place : Place) (width : Width) (value : ℕ)
+    → (region_of PeripheralOutputs area place.number ≡ Some PeripheralOutputs → HasImage m)
+    → is_some (option_and_then (λ (r : Region). written_in m r place.byte place.bit width value) (region_of PeripheralOutputs area place.number)) ≡ is_some (option_and_then (λ (r : Region). number_of m r place width) (region_of PeripheralOutputs area place.number))
+exists_by_area m P place width value sizes =
+    lone_exists m PeripheralOutputs place width value (nat_eq place.number 0)
+    (λ zero_number. peripheral_exists m place width value (sizes (ap (λ (t : Bool). let r : Option Region = cond t (Some PeripheralOutputs) None in r) zero_number)))
+exists_by_area m I place width value sizes = lone_exists m Inputs place width value (nat_eq place.number 0) (λ _. inputs_exist m place width value)
+exists_by_area m Q place width value sizes = lone_exists m Outputs place width value (nat_eq place.number 0) (λ _. outputs_exist m place width value)
+exists_by_area m M place width value sizes = lone_exists m BitMemory place width value (nat_eq place.number 0) (λ _. memory_exists m place width value)
+exists_by_area m Db place width value sizes = in_block_exists m place.number place width value ∙ sym (ap is_some (number_of_region m (DataBlock place.number) place width))
+exists_by_area m Di place width value sizes = refl
+exists_by_area m L place width value sizes = refl
+
+pub writing_exists : (m : Areas) (place : Place) (width : Width) (value : ℕ) → (region_written place ≡ Some PeripheralOutputs → HasImage m) → IsSome (written m place width value) ↔ EachBitExists m (region_written place) place width
 unfolding written
-writes_where_each_bit_exists m place width value is =
-    let same = writing_exists m (region_written place) place width value is in
+writing_exists m place width value sizes =
+    let same = exists_by_area m place.area place width value sizes in
     let exists = number_exists m (region_written place) place width in
     (λ h. exists.0 (sym same ∙ h), λ h. same ∙ exists.1 h)
+
+pub writes_where_each_bit_exists : WritesWhereEachBitExists
+writes_where_each_bit_exists m place width value sizes = writing_exists m place width value (λ _. sizes)
+
+-- ---- what the calls answer
+
+pub read_answers : (m : Areas) (place : Place) (width : Width) (r : Result ℕ Missing) → MatchResult r (λ n. number_at m place width ≡ Some n) (λ _. number_at m place width ≡ None) → IsOk r ↔ EachBitExists m (region_read place) place width
+read_answers m place width (Ok n) is = let exists = reads_where_each_bit_exists m place width in (λ _. exists.0 (ap is_some is), λ _. refl)
+read_answers m place width (Err _) is = let exists = reads_where_each_bit_exists m place width in (λ h. absurd (true_not_false (sym h)), λ h. absurd (true_not_false (sym (exists.1 h) ∙ ap is_some is)))
+
+pub write_answers :
+    (m n : Areas) (place : Place) (width : Width) (value : ℕ) (r : Result (Unit {0}) Missing)
+    → (region_written place ≡ Some PeripheralOutputs → HasImage m)
+    → MatchResult r (λ _. written m place width value ≡ Some n) (λ _. (written m place width value ≡ None) × (n ≡ m))
+    → IsOk r ↔ EachBitExists m (region_written place) place width
+write_answers m n place width value (Ok _) sizes is = let exists = writing_exists m place width value sizes in (λ _. exists.0 (ap is_some is), λ _. refl)
+write_answers m n place width value (Err _) sizes is =
+    let exists = writing_exists m place width value sizes in
+    (λ h. absurd (true_not_false (sym h)), λ h. absurd (true_not_false (sym (exists.1 h) ∙ ap is_some is.0)))
+
+pub write_bits :
+    (m n : Areas) (place : Place) (width : Width) (value : ℕ) (r : Result (Unit {0}) Missing)
+    → (region_written place ≡ Some PeripheralOutputs → HasImage m)
+    → value < 2 ^ bit_count width
+    → MatchResult r (λ _. written m place width value ≡ Some n) (λ _. (written m place width value ≡ None) × (n ≡ m))
+    → OnOk r (IsWritten m n place width value)
+write_bits m n place width value (Ok _) sizes fits is = written_is m n place width value sizes fits is
+write_bits m n place width value (Err _) sizes fits is = tt

@@ -18,7 +18,7 @@ use Rattle.plc_mem.specs.Written.{IsWrittenIn, IsWritten, bit_after, value_of_bi
 use Rattle.std.specs.Ordering.{nat_cmp}
 use Rattle.std.proofs.lemmas.Option.{slice_get_past}
 use Rattle.plc_mem.proofs.Numbers.{no_byte}
-use Rattle.plc_mem.proofs.Runs.{mapped, chained, part_put, put_done, unchanged, none_some, run_after, run_holds, peripheral_after, peripheral_holds, block_after, block_holds, block_loaded}
+use Rattle.plc_mem.proofs.Runs.{mapped, part_put, put_done, unchanged, none_some, run_after, run_holds, peripheral_after, peripheral_holds, block_after, block_holds, block_loaded}
 use Rattle.plc_mem.proofs.Stored.{kept_bit}
 
 -- the number in an operand of a region is that of its bytes
@@ -172,29 +172,31 @@ input_written m n place width value size fits done = peripheral_inputs_written m
 
 -- an area that stands with number 0 alone
 lone_region :
-    (m n : Areas) (region : Region) (place : Place) (width : Width) (value : ℕ)
-    → (written_in m region place.byte place.bit width value ≡ Some n → IsWrittenIn m n region place width value)
-    → (is_zero : Bool)
+    (m n : Areas) (region : Region) (place : Place) (width : Width) (value : ℕ) (is_zero : Bool)
+    → (is_zero ≡ true → written_in m region place.byte place.bit width value ≡ Some n → IsWrittenIn m n region place width value)
     → option_and_then (λ (r : Region). written_in m r place.byte place.bit width value) (cond is_zero (Some region) None) ≡ Some n
     → (r : Region) × (cond is_zero (Some region) None ≡ Some r) × IsWrittenIn m n r place width value
-lone_region m n region place width value is true done = (region, refl, is done)
-lone_region m n region place width value is false done = absurd (none_some n done)
+lone_region m n region place width value true is done = (region, refl, is refl done)
+lone_region m n region place width value false is done = absurd (none_some n done)
 
 written_by_area :
     (m n : Areas) (area : Area) (place : Place) (width : Width) (value : ℕ)
-    → (area ≡ P → HasImage m)
+    → (region_of PeripheralOutputs area place.number ≡ Some PeripheralOutputs → HasImage m)
     → value < 2 ^ bit_count width
     → option_and_then (λ (r : Region). written_in m r place.byte place.bit width value) (region_of PeripheralOutputs area place.number) ≡ Some n
     → (r : Region) × (region_of PeripheralOutputs area place.number ≡ Some r) × IsWrittenIn m n r place width value
-written_by_area m n P place width value sizes fits done = lone_region m n PeripheralOutputs place width value (peripheral_outputs_written m n place width value (sizes refl) fits) (nat_eq place.number 0) done
-written_by_area m n I place width value sizes fits done = lone_region m n Inputs place width value (inputs_written m n place width value fits) (nat_eq place.number 0) done
-written_by_area m n Q place width value sizes fits done = lone_region m n Outputs place width value (outputs_written m n place width value fits) (nat_eq place.number 0) done
-written_by_area m n M place width value sizes fits done = lone_region m n BitMemory place width value (memory_written m n place width value fits) (nat_eq place.number 0) done
+written_by_area m n P place width value sizes fits done =
+    lone_region m n PeripheralOutputs place width value (nat_eq place.number 0)
+    (λ zero_number. peripheral_outputs_written m n place width value (sizes (ap (λ (t : Bool). let r : Option Region = cond t (Some PeripheralOutputs) None in r) zero_number)) fits)
+    done
+written_by_area m n I place width value sizes fits done = lone_region m n Inputs place width value (nat_eq place.number 0) (λ _. inputs_written m n place width value fits) done
+written_by_area m n Q place width value sizes fits done = lone_region m n Outputs place width value (nat_eq place.number 0) (λ _. outputs_written m n place width value fits) done
+written_by_area m n M place width value sizes fits done = lone_region m n BitMemory place width value (nat_eq place.number 0) (λ _. memory_written m n place width value fits) done
 written_by_area m n Db place width value sizes fits done = (DataBlock place.number, refl, block_written m n place.number place width value fits done)
 written_by_area m n Di place width value sizes fits done = absurd (none_some n done)
 written_by_area m n L place width value sizes fits done = absurd (none_some n done)
 
 -- a write at a place
-pub written_is : (m n : Areas) (place : Place) (width : Width) (value : ℕ) → (place.area ≡ P → HasImage m) → value < 2 ^ bit_count width → written m place width value ≡ Some n → IsWritten m n place width value
+pub written_is : (m n : Areas) (place : Place) (width : Width) (value : ℕ) → (region_written place ≡ Some PeripheralOutputs → HasImage m) → value < 2 ^ bit_count width → written m place width value ≡ Some n → IsWritten m n place width value
 unfolding written
 written_is m n place width value sizes fits done = written_by_area m n place.area place width value sizes fits done

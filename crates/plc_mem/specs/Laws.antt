@@ -8,7 +8,7 @@ use Rattle.plc_mem.specs.BitPlace.{BitPlace}
 use Rattle.plc_mem.specs.Bits.{bit_at}
 use Rattle.plc_mem.specs.Number.{bit_count, number_at, EachBitExists, region_read, region_written}
 use Rattle.plc_mem.specs.Peripherals.{with_input, outputs_cleared, IsCleared, IsInput}
-use Rattle.plc_mem.specs.Places.{IsMemory, SameBlocks, SamePlaces}
+use Rattle.plc_mem.specs.Places.{HasImage, IsMemory, SameBlocks, SamePlaces}
 use Rattle.plc_mem.specs.Refresh.{refreshed, IsRefreshed}
 use Rattle.plc_mem.specs.Writing.{written}
 use Rattle.plc_mem.specs.Written.{IsWritten}
@@ -33,7 +33,7 @@ ReadsWhereEachBitExists = (m : Areas) (place : Place) (width : Width) → IsSome
 
 abbrev pub WritesWhereEachBitExists : Type 0
 WritesWhereEachBitExists =
-    (m : Areas) (place : Place) (width : Width) (value : ℕ) → IsMemory m → IsSome (written m place width value) ↔ EachBitExists m (region_written place) place width
+    (m : Areas) (place : Place) (width : Width) (value : ℕ) → HasImage m → IsSome (written m place width value) ↔ EachBitExists m (region_written place) place width
 
 -- A number written is read back, but in area P, whose reading reads inputs.
 abbrev pub NumbersAreReadBack : Type 0

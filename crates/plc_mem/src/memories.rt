@@ -1,11 +1,11 @@
 // The memory areas of the controller but local data.
-ghost use Rattle.std.specs.Prelude.{◌≡◌, ◌^◌, ◌<◌, nat_eq, Some, None, IfOk, OnOk, MatchResult};
+ghost use Rattle.std.specs.Prelude.{◌≡◌, ◌^◌, ◌<◌, nat_eq, Some, None, IfOk, OnOk, IsOk, MatchResult, ◌↔◌};
 ghost use Rattle.std.specs.Option.{option_copied};
 ghost use Rattle.std.specs.FinMap as map;
 ghost use Rattle.std.specs.List.{IsDistinct};
 ghost use Rattle.plc_mem.specs.Blocks.{bytes_of, numbers_of};
 ghost use Rattle.plc_mem.specs.Fresh.{fresh};
-ghost use Rattle.plc_mem.specs.Number.{bit_count, number_at};
+ghost use Rattle.plc_mem.specs.Number.{bit_count, number_at, region_read, region_written, EachBitExists};
 ghost use Rattle.plc_mem.specs.Peripherals.{with_input, output_of, outputs_cleared};
 ghost use Rattle.plc_mem.specs.Refresh.{refreshed};
 ghost use Rattle.plc_mem.specs.Writing.{written, written_in};
@@ -67,7 +67,8 @@ impl Memory {
     /// inputs.
 
     pub fn read(&self, place: Place, width: Width) -> Result<u32, Missing>
-        ensures { MatchResult result (λ n. number_at self.now place width ≡ Some n) (λ _. number_at self.now place width ≡ None) }
+        ensures cases { MatchResult result (λ n. number_at self.now place width ≡ Some n) (λ _. number_at self.now place width ≡ None) }
+        ensures exists { IsOk result ↔ EachBitExists self.now (region_read place) place width }
     {
         self.number(place, width).ok_or(Missing)
     }
@@ -78,9 +79,9 @@ impl Memory {
         requires { value < 2 ^ bit_count width }
         ensures cases { MatchResult result (λ _. written self.old place width value ≡ Some self.new) (λ _. (written self.old place width value ≡ None) × (self.new ≡ self.old)) }
         ensures bits { OnOk result (IsWritten self.old self.new place width value) }
+        ensures exists { IsOk result ↔ EachBitExists self.old (region_written place) place width }
     {
-        self.store(place, width, value)?;
-        Ok(())
+        self.store(place, width, value)
     }
 
     /// Sets one byte of the peripheral inputs.
@@ -156,7 +157,7 @@ impl Memory {
     #[tactic(auto, unfolding(crate::specs::Writing::written))]
     fn store(&mut self, place: Place, width: Width, value: u32) -> Result<(), Missing>
         requires { value < 2 ^ bit_count width }
-        ensures sizes { OnOk result (place.area ≡ Area.P → HasImage self.old) }
+        ensures sizes { region_written place ≡ Some PeripheralOutputs → HasImage self.old }
         ensures cases { MatchResult result (λ _. written self.old place width value ≡ Some self.new) (λ _. (written self.old place width value ≡ None) × (self.new ≡ self.old)) }
     {
         if place.area != Area::Db && place.number != 0 {
