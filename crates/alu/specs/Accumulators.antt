@@ -1,4 +1,5 @@
 -- Accumulator instructions TAK, PUSH, POP, CAW, CAD, INC, DEC and + (Add Integer Constant).
+-- Siemens, Statement List (STL): Accumulator and Address Register Instructions; Integer Math Instructions, "Add Integer Constant".
 use Rattle.std.specs.Prelude.{ℕ, ◌+◌, ◌*◌, ◌/◌, ◌%◌, ◌^◌, pos, ◌-ℤ◌}
 use Rattle.status_word.specs.declared.registers.Regs.{Regs}
 use Rattle.alu.specs.Signed.{modulo}

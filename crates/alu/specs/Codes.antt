@@ -1,4 +1,5 @@
 -- Condition codes CC 1 and CC 0, overflow OV and stored overflow OS after a number instruction.
+-- Siemens, Statement List (STL): Integer Math Instructions, evaluating the bits of the status word.
 use Rattle.std.specs.Prelude.{Bool, true, ◌||◌, ℤ, pos, int_lt}
 use Rattle.status_word.specs.declared.statuses.Status.{Status}
 use Rattle.alu.specs.declared.codes.Codes.{Codes}

@@ -1,4 +1,5 @@
 -- Comparison instructions ==, <>, >, <, >= and <= on integers: accumulator 2 with accumulator 1.
+-- Siemens, Statement List (STL): Comparison Instructions.
 use Rattle.std.specs.Prelude.{ℕ, Bool, true, false, ◌&&◌, ◌||◌, ℤ, int_lt, int_le}
 use Rattle.status_word.specs.declared.statuses.Status.{Status}
 use Rattle.status_word.specs.declared.registers.Regs.{Regs}

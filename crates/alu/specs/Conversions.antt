@@ -1,4 +1,5 @@
 -- Conversion instructions BTI, BTD, ITB, DTB, ITD, INVI and INVD.
+-- Siemens, Statement List (STL): Conversion Instructions.
 use Rattle.std.specs.Prelude.{◌≡◌, ℕ, ◌-◌, ◌%◌, ◌^◌, Bool, true, false, ◌||◌, Option, Some, None, Result, MatchResult, option_map}
 use Rattle.plc_base.specs.Bcd.{signed_of_bcd, bcd_of_signed}
 use Rattle.status_word.specs.declared.registers.Regs.{Regs}

@@ -1,4 +1,5 @@
 -- /I, /D and MOD: accumulator 2 divided by accumulator 1, cut toward zero.
+-- Siemens, Statement List (STL): Integer Math Instructions.
 use Rattle.std.specs.Prelude.{ℕ, ◌+◌, ◌-◌, ◌*◌, ◌/◌, ◌^◌, Bool, true, false, ◌&&◌, ◌==◌, if◌then◌else◌, ℤ, pos, ◌-ℤ◌, ◌*ℤ◌, neg_ℤ, unsigned_abs}
 use Rattle.status_word.specs.declared.registers.Regs.{Regs}
 use Rattle.status_word.specs.Check.{exclusive_or}

@@ -1,4 +1,5 @@
 -- *I and *D: the product of accumulators 2 and 1.
+-- Siemens, Statement List (STL): Integer Math Instructions.
 use Rattle.std.specs.Prelude.{ℕ, not, ℤ, ◌*ℤ◌}
 use Rattle.status_word.specs.declared.registers.Regs.{Regs}
 use Rattle.alu.specs.Signed.{signed, modulo, in_range}

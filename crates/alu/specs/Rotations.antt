@@ -1,4 +1,5 @@
 -- Rotate instructions RLD, RRD, RLDA and RRDA, on the 32 bits of accumulator 1.
+-- Siemens, Statement List (STL): Shift and Rotate Instructions.
 use Rattle.std.specs.Prelude.{ℕ, ◌+◌, ◌-◌, ◌*◌, ◌/◌, ◌%◌, ◌^◌, ◌==◌, if◌then◌else◌}
 use Rattle.status_word.specs.declared.registers.Regs.{Regs}
 use Rattle.status_word.specs.StatusNumber.{bit, has_bit}

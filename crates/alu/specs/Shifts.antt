@@ -1,4 +1,5 @@
 -- Shift instructions SSI, SLW, SRW (w = 16) and SSD, SLD, SRD (w = 32).
+-- Siemens, Statement List (STL): Shift and Rotate Instructions.
 use Rattle.std.specs.Prelude.{ℕ, ◌-◌, ◌*◌, ◌/◌, ◌%◌, ◌^◌, min, Bool, false, ◌==◌, nat_lt, if◌then◌else◌, Option, unwrap_or}
 use Rattle.std.specs.Int.{int_shr}
 use Rattle.status_word.specs.declared.registers.Regs.{Regs}

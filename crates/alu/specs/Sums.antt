@@ -1,4 +1,5 @@
 -- +I, +D, -I, -D, NEGI and NEGD: a true sum, and the range in which it lies.
+-- Siemens, Statement List (STL): Integer Math Instructions; Conversion Instructions, "Negate".
 use Rattle.std.specs.Prelude.{ℕ, ◌^◌, true, false, not, ◌==◌, if◌then◌else◌, ℤ, pos, ◌+ℤ◌, ◌-ℤ◌, neg_ℤ, unsigned_abs, int_lt}
 use Rattle.status_word.specs.declared.registers.Regs.{Regs}
 use Rattle.alu.specs.declared.codes.Codes.{Codes}

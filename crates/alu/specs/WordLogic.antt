@@ -1,4 +1,5 @@
 -- Word logic instructions AW, OW, XOW (w = 16) and AD, OD, XOD (w = 32).
+-- Siemens, Statement List (STL): Word Logic Instructions.
 use Rattle.std.specs.Prelude.{ℕ, ◌%◌, ◌^◌, false, not, ◌==◌, Option, unwrap_or, bit_and, bit_or, bit_xor}
 use Rattle.status_word.specs.declared.registers.Regs.{Regs}
 use Rattle.alu.specs.Codes.{shown}

@@ -16,6 +16,7 @@ pub(crate) struct Codes {
 }
 
 impl Codes {
+    /// CC 1, CC 0 and OV.
     pub(crate) fn new(cc1: bool, cc0: bool, ov: bool) -> Codes
         ensures { result ≡ record { cc1 = cc1; cc0 = cc0; ov = ov } }
     {

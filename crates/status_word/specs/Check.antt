@@ -1,4 +1,5 @@
 -- Bit logic instructions A, AN, O, ON, X and XN: the check of one bit.
+-- Siemens, Statement List (STL): Bit Logic Instructions.
 use Rattle.std.specs.Prelude.{Bool, true, false, not, ◌&&◌, ◌||◌, if◌then◌else◌}
 use Rattle.status_word.specs.declared.checks.Check.{Check}
 use Rattle.status_word.specs.declared.checks.Check.TheVariants.{A, An, O, On, X, Xn}

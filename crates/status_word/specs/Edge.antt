@@ -1,4 +1,5 @@
 -- Bit logic instructions FP (Edge Positive) and FN (Edge Negative).
+-- Siemens, Statement List (STL): Bit Logic Instructions, "Edge Positive" and "Edge Negative".
 use Rattle.std.specs.Prelude.{Bool, true, false, not, ◌&&◌, if◌then◌else◌}
 use Rattle.status_word.specs.declared.statuses.Status.{Status}
 use Rattle.status_word.specs.declared.registers.Regs.{Regs}

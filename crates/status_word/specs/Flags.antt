@@ -1,4 +1,5 @@
 -- Bit logic on conditions of the status word: BR, OV, OS, and the result bits CC 1 and CC 0.
+-- Siemens, Statement List (STL): Bit Logic Instructions on status bits.
 use Rattle.std.specs.Prelude.{Bool, not, ◌&&◌}
 use Rattle.status_word.specs.Check.{exclusive_or}
 use Rattle.plc_base.specs.declared.flags.Flag.{Flag}

@@ -1,4 +1,5 @@
 -- Registers of the CPU: accumulators 1 and 2, address registers 1 and 2, and the status word.
+-- Siemens, Statement List (STL): Registers of the CPU.
 use Rattle.std.specs.Prelude.{false}
 use Rattle.status_word.specs.declared.statuses.Status.{Status}
 use Rattle.status_word.specs.declared.registers.Regs.{Regs}

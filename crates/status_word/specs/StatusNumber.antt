@@ -1,4 +1,5 @@
 -- The status word as a number, bit by bit: /FC, RLO, STA, OR, OS, OV, CC 0, CC 1, BR from bit 0 on.
+-- Siemens, Statement List (STL): Load and Transfer Instructions, "L STW" and "T STW".
 use Rattle.std.specs.Prelude.{ℕ, ◌+◌, ◌*◌, ◌/◌, ◌%◌, ◌^◌, Bool, false, nat_eq, if◌then◌else◌}
 use Rattle.status_word.specs.declared.statuses.Status.{Status}
 

@@ -1,4 +1,5 @@
 -- Bit logic instructions = (Assign), S (Set) and R (Reset): what they do to the status word.
+-- Siemens, Statement List (STL): Bit Logic Instructions, "Assign", "Set" and "Reset".
 use Rattle.std.specs.Prelude.{Bool, false}
 use Rattle.status_word.specs.declared.statuses.Status.{Status}
 use Rattle.status_word.specs.declared.registers.Regs.{Regs}
