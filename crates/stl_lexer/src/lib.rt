@@ -23,3 +23,6 @@ pub use lists::Tokens;
 
 /// The most bytes that a source may have.
 pub const SOURCE_LIMIT: usize = 1_048_576;
+
+#[cfg(test)]
+mod tests;
