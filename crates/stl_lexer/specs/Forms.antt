@@ -1,5 +1,5 @@
 -- The forms of the tokens.
-use Rattle.std.specs.Prelude.{ℕ, Bool, true, false, ◌&&◌, ◌||◌, not, ◌==◌, nat_lt, if◌then◌else◌, List, [], ◌∷◌, ◌++◌, length, map, take, drop}
+use Rattle.std.specs.Prelude.{ℕ, Bool, true, false, ◌&&◌, ◌||◌, not, ◌==◌, nat_lt, if◌then◌else◌, List, [], ◌∷◌, ◌++◌, length, take, drop, codes}
 use Rattle.std.specs.List.{list_all, list_any}
 use Rattle.std.specs.Char.{is_ascii_digit}
 use Rattle.std.specs.Str.{str_eq_ignore_ascii_case}
@@ -7,7 +7,6 @@ use Rattle.stl_lexer.specs.declared.kinds.TokenKind.{TokenKind}
 use Rattle.stl_lexer.specs.declared.kinds.TokenKind.TheVariants.{Word, Number, Quoted, Local, Characters, Based, NumberLiteral, TimeLiteral, Mark, SignWord, Attribute, Title}
 use Rattle.stl_lexer.specs.declared.tables.Tail.{Tail}
 use Rattle.stl_lexer.specs.declared.tables.Tail.TheVariants.{Nothing, Apart, Run, SignedRun, Line}
-use Rattle.stl_lexer.specs.declared.tables.TheConstants.{MARKS, SIGN_WORDS, BASED_PREFIXES, LONG_PREFIXES, COUNT_PREFIXES, TIME_PREFIXES, S5TIME_PREFIXES, TITLE_WORDS}
 use Rattle.stl_lexer.specs.Bytes.{hash, double_quote, single_quote, open_brace, close_brace, newline, is_line_byte, is_sign, is_word_start, is_word_byte}
 
 -- a byte that passes the one test, then bytes that pass the other
@@ -78,30 +77,42 @@ is_entry tail entry s after = begins_with entry s && is_tail tail (drop (length 
 unfoldable pub is_listed : Tail → List (List ℕ) → List ℕ → List ℕ → Bool
 is_listed tail table s after = list_any (λ entry. is_entry tail entry s after) table
 
--- the tables: marks, sign words, prefixes of literals, and the word that begins a title
+-- the marks
 unfoldable pub marks : List (List ℕ)
-marks = map (λ entry. entry.now) MARKS
+marks =
+    codes ":=" ∷ codes ":" ∷ codes ";" ∷ codes "," ∷ codes "." ∷ codes ".." ∷ codes "(" ∷ codes ")" ∷ codes "[" ∷ codes "]"
+    ∷ codes "=" ∷ codes "+" ∷ codes "-" ∷ codes "P#" ∷ codes "B#(" ∷ []
 
+-- the sign words: arithmetic, comparison, address registers, and conditions of the status word
 unfoldable pub sign_words : List (List ℕ)
-sign_words = map (λ entry. entry.now) SIGN_WORDS
+sign_words =
+    codes "+I" ∷ codes "-I" ∷ codes "*I" ∷ codes "/I" ∷ codes "+D" ∷ codes "-D" ∷ codes "*D" ∷ codes "/D"
+    ∷ codes "==I" ∷ codes "<>I" ∷ codes ">I" ∷ codes "<I" ∷ codes ">=I" ∷ codes "<=I"
+    ∷ codes "==D" ∷ codes "<>D" ∷ codes ">D" ∷ codes "<D" ∷ codes ">=D" ∷ codes "<=D"
+    ∷ codes "+AR1" ∷ codes "+AR2" ∷ codes "==0" ∷ codes "<>0" ∷ codes ">0" ∷ codes "<0" ∷ codes ">=0" ∷ codes "<=0" ∷ []
 
+-- the prefixes of binary and hexadecimal literals
 unfoldable pub based_prefixes : List (List ℕ)
-based_prefixes = map (λ entry. entry.now) BASED_PREFIXES
+based_prefixes =
+    codes "2#" ∷ codes "B#16#" ∷ codes "BYTE#16#" ∷ codes "W#16#" ∷ codes "WORD#16#" ∷ codes "DW#16#" ∷ codes "DWORD#16#" ∷ []
 
+-- the prefix of a literal of 32 bits, behind which a sign may stand, and that of a count value
 unfoldable pub long_prefixes : List (List ℕ)
-long_prefixes = map (λ entry. entry.now) LONG_PREFIXES
+long_prefixes = codes "L#" ∷ []
 
 unfoldable pub count_prefixes : List (List ℕ)
-count_prefixes = map (λ entry. entry.now) COUNT_PREFIXES
+count_prefixes = codes "C#" ∷ []
 
+-- the prefixes of a time, behind which a sign may stand, and those of a time in the format S5TIME
 unfoldable pub time_prefixes : List (List ℕ)
-time_prefixes = map (λ entry. entry.now) TIME_PREFIXES
+time_prefixes = codes "T#" ∷ codes "TIME#" ∷ []
 
 unfoldable pub s5time_prefixes : List (List ℕ)
-s5time_prefixes = map (λ entry. entry.now) S5TIME_PREFIXES
+s5time_prefixes = codes "S5T#" ∷ codes "S5TIME#" ∷ []
 
+-- the word that begins a title
 unfoldable pub title_words : List (List ℕ)
-title_words = map (λ entry. entry.now) TITLE_WORDS
+title_words = codes "TITLE" ∷ []
 
 -- the bytes s have the form of this kind, where `after` follows; that a literal's digits and parts are right is no matter of its form
 unfoldable pub has_form : TokenKind → List ℕ → List ℕ → Bool

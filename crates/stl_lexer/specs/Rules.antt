@@ -6,11 +6,10 @@ use Rattle.stl_lexer.specs.declared.kinds.TokenKind.{TokenKind}
 use Rattle.stl_lexer.specs.declared.kinds.TokenKind.TheVariants.{Number, Characters, Based, NumberLiteral, TimeLiteral}
 use Rattle.stl_lexer.specs.declared.rules.Fault.{Fault}
 use Rattle.stl_lexer.specs.declared.rules.TheConstants.{NO_TOKEN, NO_END, WRONG_LITERAL, OUT_OF_RANGE, GREATEST_NUMBER, GREATEST_NEGATED, GREATEST_LONG, GREATEST_NEGATED_LONG, GREATEST_COUNT, GREATEST_S5TIME, MOST_CHARACTERS}
-use Rattle.stl_lexer.specs.declared.times.TheConstants.{UNITS}
 use Rattle.stl_lexer.specs.Bytes.{double_quote, hash, single_quote, minus_sign, two_digit, underscore, letter_b, letter_c, letter_s, letter_w, open_brace, in_source}
 use Rattle.stl_lexer.specs.Decimal.{decimal_value}
 use Rattle.stl_lexer.specs.Forms.{is_number, behind_sign}
-use Rattle.stl_lexer.specs.TimeLiteral.{milliseconds}
+use Rattle.stl_lexer.specs.TimeLiteral.{milliseconds, units}
 
 -- the first byte of a token, in lower case
 unfoldable pub first_letter : List ℕ → ℕ
@@ -76,9 +75,9 @@ number_rule s =
 -- `T#` and `TIME#` with `-` or none, `S5T#` and `S5TIME#` without
 unfoldable pub time_rule : List ℕ → Option ℕ
 time_rule s =
-    if first_letter s == letter_s then value_rule GREATEST_S5TIME (milliseconds UNITS (behind_prefix s))
-    else (if is_negative (behind_prefix s) then value_rule (greatest_long true) (milliseconds UNITS (behind_sign (behind_prefix s)))
-    else value_rule (greatest_long false) (milliseconds UNITS (behind_prefix s)))
+    if first_letter s == letter_s then value_rule GREATEST_S5TIME (milliseconds units (behind_prefix s))
+    else (if is_negative (behind_prefix s) then value_rule (greatest_long true) (milliseconds units (behind_sign (behind_prefix s)))
+    else value_rule (greatest_long false) (milliseconds units (behind_prefix s)))
 
 -- one to four characters between the quotes
 unfoldable pub characters_rule : List ℕ → Option ℕ

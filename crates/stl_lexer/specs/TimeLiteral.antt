@@ -8,6 +8,10 @@ use Rattle.stl_lexer.specs.declared.times.TimeUnit.TheVariants.{Day, Hour, Minut
 use Rattle.stl_lexer.specs.Bytes.{underscore}
 use Rattle.stl_lexer.specs.Decimal.{decimal_value}
 
+-- the units in falling order
+unfoldable pub units : List TimeUnit
+units = Day ∷ Hour ∷ Minute ∷ Second ∷ Millisecond ∷ []
+
 -- the letters of a unit, and its milliseconds
 unfoldable pub letters_of : TimeUnit → List ℕ
 letters_of Day = codes "D"

@@ -211,7 +211,7 @@ pub(crate) fn number_rule(token: &[u8]) -> Option<u16>
 }
 
 /// The rule that a time literal breaks.
-#[tactic(auto, unfolding(crate::specs::Rules::time_rule))]
+#[tactic(auto, unfolding(crate::specs::Rules::time_rule, crate::specs::TimeLiteral::units))]
 pub(crate) fn time_rule(token: &[u8]) -> Option<u16>
     ensures { result ≡ time_rule token.now }
 {
