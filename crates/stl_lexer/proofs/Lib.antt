@@ -7,3 +7,4 @@ pub mod RuleLemmas
 pub mod RunLemmas
 pub mod TailLemmas
 pub mod TokenLemmas
+pub mod TimeLemmas

@@ -19,7 +19,7 @@ same_test : (m n : ℕ) → eqb m n ≡ eqb (1 + m) (suc n)
 same_test m n = grind (arith, nat_tests)
 
 -- a text is a number where the run of its digits is the whole text
-all_run : (p : ℕ → Bool) (s : List ℕ) → list_all p s ≡ eqb (prefix_len p s) (length s)
+pub all_run : (p : ℕ → Bool) (s : List ℕ) → list_all p s ≡ eqb (prefix_len p s) (length s)
 all_run p [] = refl
 all_run p (b ∷ s) = elim (cases_Bool (p b)) as (λ _. list_all p (b ∷ s) ≡ eqb (prefix_len p (b ∷ s)) (length (b ∷ s))) [
   | inl yes_ ↦ rw yes_ (all_run p s ∙ same_test (prefix_len p s) (length s))

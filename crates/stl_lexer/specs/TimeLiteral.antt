@@ -1,6 +1,6 @@
 -- Time literals: parts of digits and a unit, as `1D_2H_3M_4S_5MS`.
-use Rattle.std.specs.Prelude.{ℕ, ◌+◌, ◌*◌, Bool, ◌&&◌, ◌==◌, nat_lt, if◌then◌else◌, List, [], ◌∷◌, length, drop, take, Option, None, Some, option_map, codes}
-use Rattle.std.specs.List.{prefix_len}
+use Rattle.std.specs.Prelude.{◌≡◌, ◌↔◌, ◌⊎◌, ◌<◌, ℕ, ◌+◌, ◌*◌, Bool, true, ◌&&◌, not, ◌==◌, nat_lt, if◌then◌else◌, List, [], ◌∷◌, ◌++◌, length, drop, take, Option, None, Some, option_map, codes}
+use Rattle.std.specs.List.{list_all, prefix_len}
 use Rattle.std.specs.Char.{is_ascii_digit, is_ascii_alphabetic}
 use Rattle.std.specs.Str.{str_eq_ignore_ascii_case}
 use Rattle.stl_lexer.specs.declared.times.TimeUnit.{TimeUnit}
@@ -49,12 +49,52 @@ unfoldable pub behind_underscore : List ℕ → List ℕ
 behind_underscore [] = []
 behind_underscore (b ∷ s) = if b == underscore then s else b ∷ s
 
+-- the milliseconds of a part
+abbrev pub part_value : TimeUnit → List ℕ → ℕ
+part_value unit digits = decimal_value digits * length_of unit
+
 -- the milliseconds of a text that is parts of these units, each at most once and in this order; of another text None
 unfoldable pub milliseconds : List TimeUnit → List ℕ → Option ℕ
 milliseconds [] s = None
 milliseconds (unit ∷ smaller) s =
-    if is_part unit s
-    then (if length (behind_part s) == 0
-    then Some (decimal_value (part_digits s) * length_of unit)
-    else option_map (λ rest. decimal_value (part_digits s) * length_of unit + rest) (milliseconds smaller (behind_underscore (behind_part s))))
-    else milliseconds smaller s
+    if not (is_part unit s) then milliseconds smaller s
+    else (if length (behind_part s) == 0 then Some (part_value unit (part_digits s))
+    else option_map (λ rest. part_value unit (part_digits s) + rest) (milliseconds smaller (behind_underscore (behind_part s))))
+
+-- a part by itself: decimal digits, one at least, and the letters of its unit in either case
+pub record Part : Type 0 where
+  pub digits : List ℕ
+  pub letters : List ℕ
+  pub unit : TimeUnit
+
+pub record IsPart (p : Part) : Type 0 where
+  pub some : 0 < length p.digits
+  pub digits : list_all is_ascii_digit p.digits ≡ true
+  pub letters : str_eq_ignore_ascii_case (letters_of p.unit) p.letters ≡ true
+
+-- a text is these parts, one at least, and between two of them stands one `_` or nothing
+abbrev pub Spells : List Part → List ℕ → Type 0
+Spells [] text = ⊥
+Spells (p ∷ []) text = IsPart p × (text ≡ p.digits ++ p.letters)
+Spells (p ∷ q ∷ parts) text =
+    IsPart p × ((rest : List ℕ) × ((text ≡ p.digits ++ p.letters ++ rest) ⊎ (text ≡ p.digits ++ p.letters ++ underscore ∷ rest)) × Spells (q ∷ parts) rest)
+
+-- each unit is below a length, and below the units before it
+abbrev pub FallBelow : ℕ → List Part → Type 0
+FallBelow bound [] = Unit {0}
+FallBelow bound (p ∷ parts) = (length_of p.unit < bound) × FallBelow (length_of p.unit) parts
+
+abbrev pub total : List Part → ℕ
+total [] = 0
+total (p ∷ parts) = part_value p.unit p.digits + total parts
+
+-- a text is parts whose units fall, and these come to n milliseconds together
+pub record IsTime (text : List ℕ) (n : ℕ) : Type 0 where
+  pub parts : List Part
+  pub spelled : Spells parts text
+  pub falling : FallBelow (length_of Day + 1) parts
+  pub sum : n ≡ total parts
+
+-- the milliseconds of a time literal are those of its parts, and there are none where it isn't parts whose units fall
+abbrev pub ReadsTimes : Type 0
+ReadsTimes = (text : List ℕ) (n : ℕ) → (milliseconds units text ≡ Some n) ↔ IsTime text n

@@ -1,4 +1,5 @@
 ghost use Rattle.std.specs.Prelude.{◌≡◌, ◌≤◌, length, IfOk, IfErr};
+ghost use Rattle.stl_lexer.specs.TimeLiteral.{ReadsTimes};
 ghost use Rattle.stl_lexer.specs.Tokens.{AreTokens, AreTokensUnique, ExcludesViolation, IsRefused, IsViolationUnique};
 
 use crate::SOURCE_LIMIT;
@@ -47,4 +48,9 @@ pub fn law_of_tokens()
     ensures one_list { AreTokensUnique }
     ensures list_or_violation { ExcludesViolation }
     ensures one_violation { IsViolationUnique }
+{}
+
+/// A time literal means the sum of its parts, whose units fall.
+pub fn law_of_time_literals()
+    ensures { ReadsTimes }
 {}

@@ -18,7 +18,7 @@ mod times;
 mod words;
 
 pub use kinds::{Token, TokenKind};
-pub use lexer::{law_of_tokens, lex};
+pub use lexer::{law_of_time_literals, law_of_tokens, lex};
 pub use lists::Tokens;
 
 /// The most bytes that a source may have.

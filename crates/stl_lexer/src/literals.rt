@@ -1,4 +1,4 @@
-ghost use Rattle.std.specs.Prelude.{◌≡◌, ◌<◌, ◌≤◌, ℕ, Option, min, option_map};
+ghost use Rattle.std.specs.Prelude.{◌≡◌, ◌<◌, ◌≤◌, ℕ, Option, if◌then◌else◌, min, option_map};
 ghost use Rattle.std.specs.List.{list_all};
 ghost use Rattle.std.specs.Char.{is_digit};
 ghost use Rattle.stl_lexer.specs.Forms.{is_number};
@@ -226,17 +226,23 @@ pub(crate) fn time_rule(token: &[u8]) -> Option<u16>
     }
 }
 
+/// The greatest decimal number, behind the mark `-` or not.
+fn greatest_number(minus: bool) -> u64
+    ensures { result ≡ (if minus then GREATEST_NEGATED else GREATEST_NUMBER) }
+{
+    if minus {
+        GREATEST_NEGATED
+    } else {
+        GREATEST_NUMBER
+    }
+}
+
 /// The rule that a number of its own breaks.
 #[tactic(auto, unfolding(crate::specs::Rules::decimal_rule, crate::specs::Rules::value_rule))]
 pub(crate) fn decimal_rule(token: &[u8], minus: bool) -> Option<u16>
     ensures { result ≡ decimal_rule token.now minus }
 {
-    let greatest = if minus {
-        GREATEST_NEGATED
-    } else {
-        GREATEST_NUMBER
-    };
-    if decimal_value(token) > greatest {
+    if decimal_value(token) > greatest_number(minus) {
         Some(OUT_OF_RANGE)
     } else {
         None
