@@ -8,6 +8,8 @@ mod observing;
 mod processing;
 mod programs;
 mod queues;
+#[cfg(test)]
+mod tests;
 
 pub use controllers::Controller;
 pub use observing::{OUTPUT_BYTES, Observed, Outputs};

@@ -84,16 +84,9 @@ impl Cpu {
             What::Input { byte, value } => {
                 let _ = self.memory.set_input(byte, value);
             }
-            What::Step => {
-                if !is_stop(self.mode) {
-                    self.step(program, outputs);
-                }
-            }
-            What::Arrive { ob, .. } => {
-                if !is_stop(self.mode) {
-                    self.arrive(program, ob, outputs);
-                }
-            }
+            What::Step | What::Arrive { .. } if is_stop(self.mode) => {}
+            What::Step => self.step(program, outputs),
+            What::Arrive { ob, .. } => self.arrive(program, ob, outputs),
         }
     }
 
