@@ -141,7 +141,10 @@ fn expect(
     assert_eq!(rt; controller.observed().outputs.as_slice(), outputs);
     assert_eq!(rt; controller.mode(), mode);
     assert_eq!(rt; controller.history_len(), events.len() as u64);
-    assert_eq!(rt; controller.entry(0).map(|e| e.what), events.first().copied());
+    assert_eq!(rt;
+        controller.entry(0).map(|e| e.what),
+        events.first().copied()
+    );
     assert_eq!(rt; controller.entry(events.len() as u64), None);
 }
 
@@ -166,13 +169,52 @@ fn play(rt: &impl Abort, controller: &mut Controller, events: &[What])
 #[test]
 fn worked_examples(rt: HostRuntime) -> Result<(), Fail> {
     let alloc = rt.alloc();
-    let events = [INPUT_0E, STEP, STEP, STEP, STEP, STEP, STEP, STEP, STEP, STEP];
-    expect(&rt, alloc, and_before_or(alloc)?, &events, &[(4, 1)], Mode::Run);
-    let events = [INPUT_01, STEP, STEP, ARRIVAL, STEP, STEP, STEP, STEP, STEP, STEP];
-    expect(&rt, alloc, with_interrupt(alloc)?, &events, &[(4, 1)], Mode::Run);
+    let events = [
+        INPUT_0E, STEP, STEP, STEP, STEP, STEP, STEP, STEP, STEP, STEP,
+    ];
+    expect(
+        &rt,
+        alloc,
+        and_before_or(alloc)?,
+        &events,
+        &[(4, 1)],
+        Mode::Run,
+    );
+    let events = [
+        INPUT_01, STEP, STEP, ARRIVAL, STEP, STEP, STEP, STEP, STEP, STEP,
+    ];
+    expect(
+        &rt,
+        alloc,
+        with_interrupt(alloc)?,
+        &events,
+        &[(4, 1)],
+        Mode::Run,
+    );
     let events = [INPUT_01, STEP, STEP, STEP, STEP, STEP, STEP, ARRIVAL];
-    expect(&rt, alloc, cycle_alone(alloc)?, &events, &[(4, 0)], stop(8, 1, 3));
-    expect(&rt, alloc, interrupt_alone(alloc)?, &[ARRIVAL; 9], &[], Mode::Run);
-    expect(&rt, alloc, interrupt_alone(alloc)?, &[ARRIVAL; 10], &[], stop(9, 40, 3));
+    expect(
+        &rt,
+        alloc,
+        cycle_alone(alloc)?,
+        &events,
+        &[(4, 0)],
+        stop(8, 1, 3),
+    );
+    expect(
+        &rt,
+        alloc,
+        interrupt_alone(alloc)?,
+        &[ARRIVAL; 9],
+        &[],
+        Mode::Run,
+    );
+    expect(
+        &rt,
+        alloc,
+        interrupt_alone(alloc)?,
+        &[ARRIVAL; 10],
+        &[],
+        stop(9, 40, 3),
+    );
     Ok(())
 }
