@@ -76,18 +76,27 @@ with_file-end (f ∷ fs) name bytes k absent =
       | false ↦ λ later. ap (λ xs. f ∷ xs) (with_file-end fs name bytes (k + 1) later)
     ] absent
 
--- both by the place that a search answers
-pub with_file-found : (files : List (List ℕ × List ℕ)) (name bytes : List ℕ) (d : List ℕ × List ℕ) (i : ℕ)
+-- the same by the place that a search answers
+with_file-found : (files : List (List ℕ × List ℕ)) (name bytes : List ℕ) (d : List ℕ × List ℕ) (i : ℕ)
     → position (λ f. bytes_eq f.0 name) files ≡ Some i → set files i ((get_or files i d).0, bytes) ≡ with_file files name bytes
 with_file-found files name bytes d i found =
     let w = with_file-at files name bytes d 0 i (sym (position_from-zero (λ (f : List ℕ × List ℕ). bytes_eq f.0 name) files) ∙ found) in
     let at : w.0 ≡ i = omega (arith, w.1) in
     subst (λ (k : ℕ). set files k ((get_or files k d).0, bytes) ≡ with_file files name bytes) at w.2
 
-pub with_file-absent : (files : List (List ℕ × List ℕ)) (name bytes : List ℕ)
-    → position (λ f. bytes_eq f.0 name) files ≡ None → files ++ (name, bytes) ∷ [] ≡ with_file files name bytes
-with_file-absent files name bytes absent =
-    with_file-end files name bytes 0 (sym (position_from-zero (λ (f : List ℕ × List ℕ). bytes_eq f.0 name) files) ∙ absent)
+-- the file that a search found was replaced
+pub with_file-replaced : (files : List (List ℕ × List ℕ)) (name bytes : List ℕ) (old new : List ℕ × List ℕ) (i : ℕ)
+    → position (λ f. bytes_eq f.0 name) files ≡ Some i → old ≡ get_or files i old → new ≡ (old.0, bytes)
+    → set files i new ≡ with_file files name bytes
+with_file-replaced files name bytes old new i found here replaced =
+    ap (set files i) (replaced ∙ ap (λ (f : List ℕ × List ℕ). (f.0, bytes)) here) ∙ with_file-found files name bytes old i found
+
+-- the search found none, and the file was pushed
+pub with_file-pushed : (files new : List (List ℕ × List ℕ)) (name bytes : List ℕ) (file : List ℕ × List ℕ)
+    → position (λ f. bytes_eq f.0 name) files ≡ None → file ≡ (name, bytes) → new ≡ files ++ file ∷ [] → new ≡ with_file files name bytes
+with_file-pushed files new name bytes file absent made pushed =
+    pushed ∙ ap (λ (f : List ℕ × List ℕ). files ++ f ∷ []) made
+    ∙ with_file-end files name bytes 0 (sym (position_from-zero (λ (f : List ℕ × List ℕ). bytes_eq f.0 name) files) ∙ absent)
 
 -- files after a put, as the contents that they tell
 pub contents_of-with_file : (old new : List (List ℕ × List ℕ)) (name bytes : List ℕ) → new ≡ with_file old name bytes

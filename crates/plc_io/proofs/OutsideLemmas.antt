@@ -2,9 +2,9 @@
 use Rattle.std.proofs.Common.{◌≡◌, ◌⊎◌, inl, inr, false, nat_lt, ℕ, ◌+◌, ◌-◌, ◌<◌, ◌≤◌, List, [], ◌++◌, true, length, take, drop, refl, sym, ◌∙◌, ap, arith, subst, append_assoc, length-append, length-drop}
 use Rattle.std.specs.Prelude.{Option, None, Some, Ok, Err, Result, option_map, unwrap_or}
 use Rattle.std.proofs.lemmas.Bool.Decides.{nat_tests}
-use Rattle.std.proofs.Math.Seq.{take-add, take-nil}
-use Rattle.std.proofs.lemmas.List.{append-nil, length-take-le, take_all, take_rest}
-use Rattle.plc_io.specs.Contents.{Contents, IsFront, ReadsFrom, SameFiles}
+use Rattle.std.proofs.Math.Seq.{take-add}
+use Rattle.std.proofs.lemmas.List.{append-nil, length-take-le, take_rest}
+use Rattle.plc_io.specs.Contents.{Contents, ReadsFrom, SameFiles}
 use Rattle.plc_io.specs.Counts.{CountsAt, Rose, SameCounts, last_count}
 use Rattle.plc_io.specs.Taken.{Took, TookFront}
 use Rattle.plc_io.specs.declared.faults.IoFault.{IoFault}
@@ -75,9 +75,6 @@ Took-more a b c bytes done n within had took =
 pub record HasRead (c : Contents) (name bytes : List ℕ) : Type 0 where
   pub front : c.told ≡ true → bytes ≡ take (length bytes) (unwrap_or (c.at name) [])
 
-pub HasRead-nothing : (c : Contents) (name : List ℕ) → HasRead c name []
-HasRead-nothing c name = record { front = λ told. refl }
-
 -- one more piece was read
 pub HasRead-more : (c d : Contents) (name bytes into more : List ℕ) (at n : ℕ) → at ≡ length bytes → SameFiles c d → HasRead c name bytes
     → ReadsFrom d name at into n → more ≡ bytes ++ take n into → HasRead c name more
@@ -90,26 +87,6 @@ HasRead-more c d name bytes into more at n place same had reads added = record {
       added ∙ ap (λ xs. xs ++ take n into) start ∙ ap (λ xs. take (length bytes) all.0 ++ xs) (all.2.same ∙ ap (λ k. take n (drop k all.0)) place)
       ∙ sym (take-add (length bytes) n all.0) ∙ ap (λ k. take k all.0) (sym size) ∙ ap (take (length more)) (sym file);
 }
-
--- the file ended: all of it was read
-pub IsFront-at_end : (c d : Contents) (name bytes into more : List ℕ) (most : ℕ) → SameFiles c d → HasRead c name bytes → length bytes ≤ most
-    → 0 < length into → ReadsFrom d name (length bytes) into 0 → more ≡ bytes ++ take 0 into → IsFront c name most more
-IsFront-at_end c d name bytes into more most same had within room reads added told =
-    let all = reads.bytes (same.told ∙ told) in
-    let file : unwrap_or (c.at name) [] ≡ all.0 = ap (λ (o : Option (List ℕ)). unwrap_or o []) (sym (same.at name) ∙ all.1) in
-    let start : bytes ≡ take (length bytes) all.0 = had.front told ∙ ap (take (length bytes)) file in
-    let past : length all.0 ≤ length bytes = all.2.none refl room in
-    let past_most : length all.0 ≤ most = omega arith in
-    (all.0, sym (same.at name) ∙ all.1, added ∙ simp append-nil (start ∙ take_all _ _ past ∙ sym (take_all _ _ past_most)))
-
--- the file is longer than the limit
-pub IsFront-at_limit : (c : Contents) (name bytes : List ℕ) (limit : ℕ) → HasRead c name bytes → length bytes ≡ limit + 1 → IsFront c name (limit + 1) bytes
-IsFront-at_limit c name bytes limit had full told =
-    elim (c.at name) as (λ o. c.at name ≡ o → (all : List ℕ) × (c.at name ≡ Some all) × (bytes ≡ take (limit + 1) all)) [
-      | None ↦ λ absent. let gone : bytes ≡ [] = had.front told ∙ ap (λ (o : Option (List ℕ)). take (length bytes) (unwrap_or o [])) absent ∙ simp take-nil in
-          absurd (let none : length bytes ≡ 0 = ap length gone in omega arith)
-      | Some all ↦ λ there. (all, there, had.front told ∙ ap (λ (o : Option (List ℕ)). take (length bytes) (unwrap_or o [])) there ∙ ap (λ k. take k all) full)
-    ] refl
 
 -- how many bytes there are after one more piece
 pub length-more : (c : Contents) (name bytes into more : List ℕ) (at n : ℕ) → ReadsFrom c name at into n → more ≡ bytes ++ take n into

@@ -126,8 +126,8 @@ fn put_file(files: &mut Vec<NamedFile>, name: &str, bytes: &[u8]) -> Result<(), 
     let alloc = *files.allocator();
     match position_of(files.as_slice(), name) {
         Some(at) => {
-            let bytes = Vec::from_slice(alloc, bytes)?;
-            files[at].replace(bytes);
+            let contents = Vec::from_slice(alloc, bytes)?;
+            files[at].replace(contents);
         }
         None => files.push(NamedFile::new(alloc, name, bytes)?)?,
     }

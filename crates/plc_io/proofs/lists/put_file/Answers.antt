@@ -1,19 +1,32 @@
-use Rattle.std.proofs.Common.{◌≡◌, ◌∙◌, ◌++◌, [], ◌∷◌, ℕ, List, Some, None, bytes_eq, get_or, set, ap, sym, position}
-use Rattle.plc_io.proofs.FileLemmas.{with_file-found, with_file-absent}
+use Rattle.std.proofs.Common.{◌≡◌, ◌∙◌, Some, None, bytes_eq, ap, sym, position}
+use Rattle.plc_io.proofs.FileLemmas.{with_file-pushed, with_file-replaced}
 use Rattle.plc_io.proofs.lists.put_file.Goals as goal
 
-pub returns-in_ok-bytes-in-Some-clause-ok : goal.returns-in_ok-bytes-in-Some-clause-ok
-returns-in_ok-bytes-in-Some-clause-ok c =
+pub returns-in_ok-contents-in-Some-clause-ok : goal.returns-in_ok-contents-in-Some-clause-ok
+returns-in_ok-contents-in-Some-clause-ok c =
     let found : position (λ f. bytes_eq f.0 c.args.name.now) c.args.files.now.items ≡ Some c.in-Some.at =
     sym (c.in-Some.ensures.at ∙ ap (position (λ f. bytes_eq f.0 c.args.name.now)) c.as_slice.ensures.value) in
-    let new : c.replace.new.self ≡ ((get_or c.args.files.now.items c.in-Some.at c.index_mut.result.now).0, c.args.bytes.now) =
-    c.replace.ensures ∙ ap (λ (f : List ℕ × List ℕ). (f.0, c.in_ok-bytes-in-Some.bytes.items)) c.index_mut.ensures.value
-    ∙ ap (λ (b : List ℕ). ((get_or c.args.files.now.items c.in-Some.at c.index_mut.result.now).0, b)) c.in_ok-bytes-in-Some.ensures.items in
-    ap (set c.args.files.now.items c.in-Some.at) new ∙ with_file-found _ _ _ _ _ found
+    with_file-replaced
+    c.args.files.now.items
+    c.args.name.now
+    c.args.bytes.now
+    c.index_mut.result.now
+    c.replace.new.self
+    c.in-Some.at
+    found
+    c.index_mut.ensures.value
+    (rw (← c.in_ok-contents-in-Some.ensures.items) c.replace.ensures)
 
 pub returns-in_ok-push-in-None-clause-ok : goal.returns-in_ok-push-in-None-clause-ok
 returns-in_ok-push-in-None-clause-ok c =
     let absent : position (λ f. bytes_eq f.0 c.args.name.now) c.args.files.now.items ≡ None =
     sym (c.in-None.ensures.at ∙ ap (position (λ f. bytes_eq f.0 c.args.name.now)) c.as_slice.ensures.value) in
-    c.in_ok-push-in-None.ensures.items ∙ ap (λ (f : List ℕ × List ℕ). c.args.files.now.items ++ f ∷ []) c.in_ok-new-in-None.ensures
-    ∙ with_file-absent _ _ _ absent
+    with_file-pushed
+    c.args.files.now.items
+    c.push.new.self.items
+    c.args.name.now
+    c.args.bytes.now
+    c.in_ok-new-in-None.field-0
+    absent
+    c.in_ok-new-in-None.ensures
+    c.in_ok-push-in-None.ensures.items
