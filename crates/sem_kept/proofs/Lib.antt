@@ -1,0 +1,5 @@
+mod Programs
+mod Simulation
+mod Numbered
+mod Runs
+mod Suspended
