@@ -21,7 +21,7 @@ impl Tokens {
     /// The token at a place of the list.
     pub fn token(&self, at: usize) -> Token
         requires { at < vec_len self.now.list }
-        ensures value { IfSome (slice_get self.now.list.items at) (λ t. result ≡ t) }
+        ensures value { slice_get self.now.list.items at ≡ Some result }
         ensures forward { result.start < result.end }
         ensures within { result.end ≤ length self.now.source.items }
     {
