@@ -1,7 +1,6 @@
 -- Bit logic instruction O without an operand: AND before OR.
 -- Siemens, Statement List (STL): Bit Logic Instructions, "And before Or".
 use Rattle.std.specs.Prelude.{true, false, if◌then◌else◌}
-use Rattle.status_word.specs.declared.statuses.Status.{Status}
 use Rattle.status_word.specs.declared.registers.Regs.{Regs}
 
 -- within a logic string OR takes over the RLO, else it stays; STA 1, and a new string begins

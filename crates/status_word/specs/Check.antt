@@ -3,7 +3,6 @@
 use Rattle.std.specs.Prelude.{Bool, true, false, not, ◌&&◌, ◌||◌, if◌then◌else◌}
 use Rattle.status_word.specs.declared.checks.Check.{Check}
 use Rattle.status_word.specs.declared.checks.Check.TheVariants.{A, An, O, On, X, Xn}
-use Rattle.status_word.specs.declared.statuses.Status.{Status}
 use Rattle.status_word.specs.declared.registers.Regs.{Regs}
 
 -- the value of the check, where `read` is the bit read: AN, ON and XN invert it

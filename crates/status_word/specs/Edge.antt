@@ -1,7 +1,6 @@
 -- Bit logic instructions FP (Edge Positive) and FN (Edge Negative).
 -- Siemens, Statement List (STL): Bit Logic Instructions, "Edge Positive" and "Edge Negative".
 use Rattle.std.specs.Prelude.{Bool, true, false, not, ◌&&◌, if◌then◌else◌}
-use Rattle.status_word.specs.declared.statuses.Status.{Status}
 use Rattle.status_word.specs.declared.registers.Regs.{Regs}
 
 -- FP tells a change of the RLO from 0 to 1, FN one from 1 to 0, where the edge bit holds the RLO of the last time

@@ -1,7 +1,6 @@
 -- Bit logic instructions SET, CLR, NOT and SAVE.
 -- Siemens, Statement List (STL): Bit Logic Instructions, "Set RLO", "Clear RLO", "Negate RLO" and "Save RLO in BR Register".
-use Rattle.std.specs.Prelude.{Bool, true, false, not}
-use Rattle.status_word.specs.declared.statuses.Status.{Status}
+use Rattle.std.specs.Prelude.{true, false, not}
 use Rattle.status_word.specs.declared.registers.Regs.{Regs}
 
 -- SET: RLO 1, STA 1, OR 0, /FC 0

@@ -1,7 +1,6 @@
 -- Bit logic instructions = (Assign), S (Set) and R (Reset): what they do to the status word.
 -- Siemens, Statement List (STL): Bit Logic Instructions, "Assign", "Set" and "Reset".
 use Rattle.std.specs.Prelude.{Bool, false}
-use Rattle.status_word.specs.declared.statuses.Status.{Status}
 use Rattle.status_word.specs.declared.registers.Regs.{Regs}
 
 -- the logic string ends: STA is the value of the bit afterwards, OR 0, /FC 0, and the RLO stays
