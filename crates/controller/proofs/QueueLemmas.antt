@@ -3,7 +3,8 @@ use Rattle.std.proofs.Common.{◌≡◌, ◌<◌, ℕ, zero, suc, ◌-◌, Some,
 use Rattle.std.specs.Prelude.{replicate, drop}
 use Rattle.std.proofs.lemmas.List.Folds.{sum_by-replicate}
 use Rattle.std.proofs.lemmas.List.{drop-replicate}
-use Rattle.controller.specs.Request.{best_of, waiting, hardware_ob, hardware_request}
+use Rattle.controller.specs.Request.{best_of, waiting}
+use Rattle.controller.specs.Hardware.{hardware_ob, hardware_request}
 
 best_of_next : (k : ℕ) → best_of (replicate (suc k) hardware_request) ≡ Some (hardware_request, replicate k hardware_request)
 best_of_next zero = refl

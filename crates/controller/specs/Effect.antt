@@ -18,7 +18,8 @@ pub record Parts : Type 0 where
   pub inner : FrameData
   pub memory : Areas
 
--- the error codes of a synchronous error: a place that doesn't exist was read (16#22), or written (16#23)
+-- the error codes of a synchronous error: a place that doesn't exist was read (16#22), or written (16#23); peripheral operands have
+-- others, which no program of bit logic meets
 abbrev pub absent_when_read : ℕ
 absent_when_read = 0x22
 

@@ -1,7 +1,7 @@
 -- What one entry does to the state, what it answers and what it shows, over any program.
-use Rattle.std.specs.Prelude.{ℕ, List, [], ◌∷◌, Bool, true, Option, Some, None, option_map, unwrap_or, ◌++◌, if◌then◌else◌, ◌&&◌, nat_lt, nat_eq}
+use Rattle.std.specs.Prelude.{ℕ, List, [], ◌∷◌, Bool, true, false, Option, Some, None, option_map, unwrap_or, ◌++◌, if◌then◌else◌, ◌&&◌, nat_lt, nat_eq}
 use Rattle.plc_base.specs.declared.Mode.{Mode}
-use Rattle.plc_base.specs.declared.Mode.TheVariants.{Stop}
+use Rattle.plc_base.specs.declared.Mode.TheVariants.{Run, Startup, Stop}
 use Rattle.plc_base.specs.declared.Spot.{Spot}
 use Rattle.plc_mem.specs.Peripherals.{with_input, outputs_cleared}
 use Rattle.plc_mem.specs.Refresh.{refreshed}
@@ -68,7 +68,8 @@ cycle_point code s = record s {
   activations = if code.is_loaded (ob_block cycle_ob) then fresh_activation cycle_ob cycle_class ∷ [] else [];
 }
 
--- what a statement of the running activation, the others being `below`, makes of the state
+-- what a statement of the running activation, the others being `below`, makes of the state; an error of a peripheral operand, which
+-- is OB 122's and no program of bit logic has, would have a cause of its own
 abbrev pub after_statement : Code → State → List Activation → Outcome → State
 after_statement code s below (Went memory a) = record s { memory = memory; activations = a ∷ below }
 after_statement code s below Ended = record s { activations = below }
@@ -99,9 +100,16 @@ effect code s Step = if is_stop s.mode then s else stepped code s
 effect code s (Input byte value) = record s { memory = unwrap_or (with_input s.memory byte value) s.memory }
 effect code s (Arrive ob value) = if is_stop s.mode then s else arrived code s ob
 
--- the mode, where it changed: a controller in STOP keeps cause and place
+-- whether two modes are the same; a controller in STOP keeps cause and spot
+abbrev pub is_same_mode : Mode → Mode → Bool
+is_same_mode Run Run = true
+is_same_mode Startup Startup = true
+is_same_mode (Stop cause at) (Stop cause' at') = true
+is_same_mode before after = false
+
+-- the mode after an entry, where the entry changed it
 abbrev pub changed_mode : Mode → Mode → Option Mode
-changed_mode before after = if is_stop before then None else if is_stop after then Some after else None
+changed_mode before after = if is_same_mode before after then None else Some after
 
 -- the state after an entry, the answer, and what it shows
 pub record Happened : Type 0 where

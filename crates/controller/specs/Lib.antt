@@ -4,11 +4,12 @@ pub mod Frames
 pub mod Effect
 pub mod Statement
 pub mod Request
+pub mod Hardware
 pub mod State
 pub mod ChangedOutputs
 pub mod Event
 pub mod Replay
-pub mod Story
+pub mod Recorded
 pub mod ThinCode
 pub mod Program
 pub mod Fetching

@@ -24,6 +24,6 @@ is_image_bit place = is_image_byte place.area place.byte && nat_eq place.number 
 abbrev pub is_thin_ob : ThinOb → Bool
 is_thin_ob ob = (nat_eq ob.number 1 || nat_eq ob.number 40) && list_all (λ statement. is_image_bit statement.place) ob.statements
 
--- whether this is so of each organization block of a program
+-- whether this is so of each organization block of a program; one that stands twice isn't excluded, since the first one counts
 unfoldable pub is_thin : List ThinOb → Bool
 is_thin program = list_all is_thin_ob program

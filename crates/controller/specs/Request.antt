@@ -21,13 +21,6 @@ cycle_ob = 1
 abbrev pub cycle_class : ℕ
 cycle_class = 1
 
--- OB 40, the hardware interrupt of the first of eight lines, and a request of it
-abbrev pub hardware_ob : ℕ
-hardware_ob = 40
-
-abbrev pub hardware_request : Request
-hardware_request = record { ob = hardware_ob; class = class_of hardware_ob }
-
 -- how many requests of one organization block may wait
 abbrev pub queue_length : ℕ → ℕ
 queue_length ob = if is_hardware ob then 8 else 1

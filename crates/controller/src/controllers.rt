@@ -26,9 +26,9 @@ pub struct Controller {
 }
 
 impl Model for Controller {
-    ghost use Rattle.controller.specs.Story.{Story};
+    ghost use Rattle.controller.specs.Recorded.{Recorded};
 
-    ghost Value = { Story };
+    ghost Value = { Recorded };
 
     ghost use Rattle.controller.specs.Kept.{IsReplay};
 

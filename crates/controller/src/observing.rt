@@ -109,8 +109,9 @@ pub(crate) fn changed_mode(before: Mode, after: Mode) -> Option<Mode>
     ensures { result ≡ changed_mode before after }
 {
     match (before, after) {
-        (Mode::Stop { .. }, _) => None,
-        (_, Mode::Stop { .. }) => Some(after),
-        _ => None,
+        (Mode::Run, Mode::Run)
+        | (Mode::Startup, Mode::Startup)
+        | (Mode::Stop { .. }, Mode::Stop { .. }) => None,
+        _ => Some(after),
     }
 }

@@ -1,5 +1,6 @@
 ghost use Rattle.std.specs.Prelude.{◌≡◌, [], ◌∷◌, ◌++◌, drop, Some, None, MatchBool, IsTrue, nat_lt};
-ghost use Rattle.controller.specs.Request.{best_of, waiting, queue_length, hardware_ob, hardware_request};
+ghost use Rattle.controller.specs.Request.{best_of, waiting, queue_length};
+ghost use Rattle.controller.specs.Hardware.{hardware_ob, hardware_request};
 
 use std::marker::Model;
 
@@ -21,7 +22,8 @@ pub(crate) struct HardwareQueue {
 
 impl Model for HardwareQueue {
     ghost use Rattle.std.specs.Prelude.{List, replicate, ◌≤◌};
-    ghost use Rattle.controller.specs.Request.{Request, hardware_request};
+    ghost use Rattle.controller.specs.Request.{Request};
+    ghost use Rattle.controller.specs.Hardware.{hardware_request};
 
     ghost Value = { List Request };
 

@@ -4,7 +4,7 @@ use Rattle.var_access.specs.declared.Entry.{Entry}
 use Rattle.controller.specs.declared.programs.ThinOb.{ThinOb}
 
 -- the program, the history so far, and for how many further entries there is room
-pub record Story : Type 0 where
+pub record Recorded : Type 0 where
   pub program : List ThinOb
   pub history : List Entry
   pub spare : ℕ
