@@ -145,6 +145,7 @@ fn cuts_sources(rt: HostRuntime) -> Result<(), Fail> {
         }
     }
     law_of_tokens();
+    law_of_time_literals();
     Ok(())
 }
 
