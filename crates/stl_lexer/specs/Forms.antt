@@ -73,6 +73,10 @@ begins_with entry s = str_eq_ignore_ascii_case entry (take (length entry) s)
 unfoldable pub is_entry : Tail → List ℕ → List ℕ → List ℕ → Bool
 is_entry tail entry s after = begins_with entry s && is_tail tail (drop (length entry) s) after
 
+-- a text isn't empty
+abbrev pub is_some_text : List ℕ → Bool
+is_some_text text = nat_lt 0 (length text)
+
 -- one of the entries of a table, with its tail
 unfoldable pub is_listed : Tail → List (List ℕ) → List ℕ → List ℕ → Bool
 is_listed tail table s after = list_any (λ entry. is_entry tail entry s after) table
@@ -114,17 +118,33 @@ s5time_prefixes = codes "S5T#" ∷ codes "S5TIME#" ∷ []
 unfoldable pub title_words : List (List ℕ)
 title_words = codes "TITLE" ∷ []
 
+-- characters: bytes in single quotes, on one line
+abbrev pub is_characters : List ℕ → Bool
+is_characters s = is_enclosed single_quote single_quote true s
+
+-- an attribute: bytes in braces, on any lines
+abbrev pub is_attribute : List ℕ → Bool
+is_attribute s = is_enclosed open_brace close_brace false s
+
+-- a number literal: `L#` with an optional sign, or `C#`
+abbrev pub is_number_literal : List ℕ → List ℕ → Bool
+is_number_literal s after = is_listed SignedRun long_prefixes s after || is_listed Run count_prefixes s after
+
+-- a time literal: `T#` or `TIME#` with an optional sign, or `S5T#` or `S5TIME#`
+abbrev pub is_time_literal : List ℕ → List ℕ → Bool
+is_time_literal s after = is_listed SignedRun time_prefixes s after || is_listed Run s5time_prefixes s after
+
 -- the bytes s have the form of this kind, where `after` follows; that a literal's digits and parts are right is no matter of its form
 unfoldable pub has_form : TokenKind → List ℕ → List ℕ → Bool
 has_form Word s after = is_word s
 has_form Number s after = is_number s
 has_form Quoted s after = is_quoted s
 has_form Local s after = is_local s
-has_form Characters s after = is_enclosed single_quote single_quote true s
+has_form Characters s after = is_characters s
 has_form Based s after = is_listed Run based_prefixes s after
-has_form NumberLiteral s after = is_listed SignedRun long_prefixes s after || is_listed Run count_prefixes s after
-has_form TimeLiteral s after = is_listed SignedRun time_prefixes s after || is_listed Run s5time_prefixes s after
+has_form NumberLiteral s after = is_number_literal s after
+has_form TimeLiteral s after = is_time_literal s after
 has_form Mark s after = is_listed Nothing marks s after
 has_form SignWord s after = is_listed Apart sign_words s after
-has_form Attribute s after = is_enclosed open_brace close_brace false s
+has_form Attribute s after = is_attribute s
 has_form Title s after = is_listed Line title_words s after

@@ -73,6 +73,10 @@ pub record IsLongest (text : List ℕ) (kind : TokenKind) (n : ℕ) : Type 0 whe
 abbrev pub HasNoForm : List ℕ → Type 0
 HasNoForm text = (kind : TokenKind) → HasNone (has_form kind) text
 
+-- the longest token at the front of the text, or None
+abbrev pub FindsToken : List ℕ → Option Found → Type 0
+FindsToken text found = MatchOption found (HasNoForm text) (λ token. IsLongest text token.kind token.length)
+
 -- the better of the token found so far and one of a further kind: the longer, or the later of two that are as long
 abbrev pub better_of : Option Found → TokenKind → Option ℕ → Option Found
 better_of best kind None = best

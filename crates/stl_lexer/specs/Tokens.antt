@@ -1,6 +1,7 @@
 -- The tokens of a source, and its first violation.
-use Rattle.std.specs.Prelude.{◌≡◌, ℕ, ◌+◌, ◌-◌, ◌<◌, ◌≤◌, ◌⊎◌, Bool, false, List, [], ◌∷◌, length, take, drop, None, Some, codes, slice_range}
+use Rattle.std.specs.Prelude.{◌≡◌, ℕ, ◌+◌, ◌-◌, ◌<◌, ◌≤◌, ◌⊎◌, Bool, false, List, [], ◌∷◌, length, take, drop, Option, None, Some, Result, MatchOption, MatchResult, codes, slice_range}
 use Rattle.std.specs.Str.{bytes_eq}
+use Rattle.plc_base.specs.declared.refusals.Refusal.{Refusal}
 use Rattle.plc_base.specs.declared.refusals.SourceFault.{SourceFault}
 use Rattle.plc_base.specs.declared.refusals.SourceFault.TheVariants.{Refused, NoMemory}
 use Rattle.stl_lexer.specs.declared.kinds.TokenKind.{TokenKind}
@@ -61,6 +62,11 @@ pub record Breaks (source : List ℕ) (from : ℕ) (minus : Bool) (line rule : �
   pub at : ℕ
   pub start : IsBehindGap source from at
   pub broken : NoneBegins source at line rule ⊎ OneBreaks source at minus line rule
+
+-- the next token behind `from`, or None where no more stands there, or the rule that is broken there
+abbrev pub FindsNext : List ℕ → ℕ → Bool → Result (Option Token) Refusal → Type 0
+FindsNext source from minus found =
+    MatchResult found (λ next. MatchOption next (IsEnd source from) (IsNext source from minus)) (λ refusal. Breaks source from minus refusal.line refusal.rule)
 
 -- these tokens follow one another behind `from`, and then `rest` holds at the end of the last
 abbrev pub Follow : List ℕ → (ℕ → Bool → Type 0) → ℕ → Bool → List Token → Type 0

@@ -1,22 +1,20 @@
-ghost use Rattle.std.specs.Prelude.{◌≡◌, ◌+◌, ◌<◌, ◌≤◌, ◌||◌, IsTrue, drop, length, map, nat_lt};
+ghost use Rattle.std.specs.Prelude.{◌≡◌, ◌<◌, ◌≤◌, IsTrue, drop, length, map};
 ghost use Rattle.std.specs.Bool.{OnTrue};
-ghost use Rattle.std.specs.List.{list_all, prefix_len};
+ghost use Rattle.std.specs.List.{list_all};
 ghost use Rattle.stl_lexer.specs.declared.tables.Tail.{Tail};
-ghost use Rattle.stl_lexer.specs.declared.tables.Tail.TheVariants.{Nothing, Apart, Run, SignedRun, Line};
-ghost use Rattle.stl_lexer.specs.Bytes.{is_line_byte};
+ghost use Rattle.stl_lexer.specs.declared.tables.Tail.TheVariants.{Nothing, Apart, Run, Line};
 ghost use Rattle.stl_lexer.specs.Forms.{
   based_prefixes,
   begins_with,
   behind_sign,
-  count_prefixes,
   goes_on,
   is_entry,
   is_listed,
-  long_prefixes,
+  is_number_literal,
+  is_some_text,
+  is_time_literal,
   marks,
-  s5time_prefixes,
   sign_words,
-  time_prefixes,
   title_words,
 };
 ghost use Rattle.stl_lexer.specs.Longest.{FindsLongest, FindsTail, longer_of};
@@ -108,7 +106,7 @@ fn longer(a: Option<usize>, b: Option<usize>) -> Option<usize>
 
 /// The length of the longest entry of a table, with its tail, at the front of the text.
 fn longest_entry(tail: Tail, table: &[&[u8]], text: &[u8]) -> Option<usize>
-    requires { IsTrue (list_all (λ entry. nat_lt 0 (length entry)) (map (λ entry. entry.now) table.now)) }
+    requires { IsTrue (list_all is_some_text (map (λ entry. entry.now) table.now)) }
     ensures { FindsLongest (is_listed tail (map (λ entry. entry.now) table.now)) text.now result }
 {
     let mut longest = None;
@@ -145,7 +143,7 @@ pub(crate) fn longest_based(text: &[u8]) -> Option<usize>
 /// The length of the longest literal `L#` or `C#` at the front of the text, right or wrong.
 #[tactic(auto, unfolding(crate::specs::Forms::long_prefixes, crate::specs::Forms::count_prefixes), using(crate::proofs::LongestLemmas::either_longest))]
 pub(crate) fn longest_number_literal(text: &[u8]) -> Option<usize>
-    ensures { FindsLongest (λ s after. is_listed SignedRun long_prefixes s after || is_listed Run count_prefixes s after) text.now result }
+    ensures { FindsLongest is_number_literal text.now result }
 {
     let long = longest_entry(Tail::SignedRun, &LONG_PREFIXES, text);
     let count = longest_entry(Tail::Run, &COUNT_PREFIXES, text);
@@ -155,7 +153,7 @@ pub(crate) fn longest_number_literal(text: &[u8]) -> Option<usize>
 /// The length of the longest time literal at the front of the text, right or wrong.
 #[tactic(auto, unfolding(crate::specs::Forms::time_prefixes, crate::specs::Forms::s5time_prefixes), using(crate::proofs::LongestLemmas::either_longest))]
 pub(crate) fn longest_time_literal(text: &[u8]) -> Option<usize>
-    ensures { FindsLongest (λ s after. is_listed SignedRun time_prefixes s after || is_listed Run s5time_prefixes s after) text.now result }
+    ensures { FindsLongest is_time_literal text.now result }
 {
     let time = longest_entry(Tail::SignedRun, &TIME_PREFIXES, text);
     let s5time = longest_entry(Tail::Run, &S5TIME_PREFIXES, text);

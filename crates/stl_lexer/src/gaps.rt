@@ -1,5 +1,5 @@
-ghost use Rattle.std.specs.Prelude.{◌≡◌, ◌<◌, ◌≤◌, length, drop, false, MatchOption, sum_by};
-ghost use Rattle.stl_lexer.specs.Gap.{after_gap, line_at, newlines_of};
+ghost use Rattle.std.specs.Prelude.{◌≡◌, ◌≤◌, length, drop, false, sum_by};
+ghost use Rattle.stl_lexer.specs.Gap.{GoesOn, after_gap, line_at, newlines_of};
 
 use crate::SOURCE_LIMIT;
 use crate::bytes::{behind, in_source, is_separator, opens_comment};
@@ -26,10 +26,10 @@ pub(crate) fn newlines(text: &[u8]) -> u32
     text.iter().map(|b| newline(*b)).sum()
 }
 
-#[tactic(auto, unfolding(crate::specs::Bytes::is_separator))]
 /// Whether the first byte belongs to the gap, and then whether a comment is open behind it.
+#[tactic(auto, unfolding(crate::specs::Bytes::is_separator))]
 fn gap_byte(in_comment: bool, text: &[u8]) -> Option<bool>
-    ensures { MatchOption result (after_gap in_comment text.now ≡ text.now) (λ open_. (0 < length text.now) × (after_gap in_comment text.now ≡ after_gap open_ (drop 1 text.now))) }
+    ensures { GoesOn in_comment text.now result }
 {
     match text {
         [] => None,

@@ -31,7 +31,8 @@ impl Tokens {
     /// The bytes of the token at a place of the list.
     pub fn text(&self, at: usize) -> &[u8]
         requires { at < vec_len self.now.list }
-        ensures { IfSome (slice_get self.now.list.items at) (λ t. result.now ≡ text_of self.now.source.items t) }
+        ensures { IfSome (slice_get self.now.list.items at)
+            (λ t. result.now ≡ text_of self.now.source.items t) }
     {
         let token = self.token(at);
         &self.source[token.start as usize..token.end as usize]

@@ -64,7 +64,8 @@ fn is_negative(text: &[u8]) -> bool
 #[tactic(auto, unfolding(crate::specs::Rules::value_rule))]
 fn value_rule(greatest: u64, value: Option<u64>) -> Option<u16>
     requires { greatest < VALUE_CAP }
-    ensures { (exact : Option ℕ) → value ≡ option_map (λ n. min n VALUE_CAP) exact → result ≡ value_rule greatest exact }
+    ensures { (exact : Option ℕ) → value ≡ option_map (λ n. min n VALUE_CAP) exact
+        → result ≡ value_rule greatest exact }
 {
     match value {
         None => Some(WRONG_LITERAL),

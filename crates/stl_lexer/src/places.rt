@@ -1,7 +1,7 @@
-ghost use Rattle.std.specs.Prelude.{◌≡◌, ◌<◌, ◌≤◌, length, MatchOption, MatchResult, sum_by};
-ghost use Rattle.stl_lexer.specs.Gap.{line_at, newlines_of};
-ghost use Rattle.stl_lexer.specs.Longest.{HasNoForm, IsLongest, better_of};
-ghost use Rattle.stl_lexer.specs.Tokens.{Breaks, IsEnd, IsNext, is_minus};
+ghost use Rattle.std.specs.Prelude.{◌≡◌, ◌≤◌, length};
+ghost use Rattle.stl_lexer.specs.Gap.{line_at};
+ghost use Rattle.stl_lexer.specs.Longest.{FindsToken, better_of};
+ghost use Rattle.stl_lexer.specs.Tokens.{FindsNext, is_minus};
 
 use crate::SOURCE_LIMIT;
 use crate::bytes::behind;
@@ -38,7 +38,7 @@ fn better(best: Option<Found>, kind: TokenKind, length: Option<usize>) -> Option
 
 /// The longest token at the front of the text.
 fn longest_token(text: &[u8]) -> Option<Found>
-    ensures { MatchOption result (HasNoForm text.now) (λ found. IsLongest text.now found.kind found.length) }
+    ensures { FindsToken text.now result }
 {
     let word = better(None, TokenKind::Word, longest_word(text));
     let number = better(word, TokenKind::Number, longest_number(text));
@@ -78,7 +78,7 @@ pub(crate) fn next_token(source: &[u8], from: Spot, minus: bool) -> Result<Optio
     requires limit { length source.now ≤ SOURCE_LIMIT }
     requires within { from.at ≤ length source.now }
     requires line { from.line ≡ line_at source.now from.at }
-    ensures { MatchResult result (λ next. MatchOption next (IsEnd source.now from.at) (IsNext source.now from.at minus)) (λ refusal. Breaks source.now from.at minus refusal.line refusal.rule) }
+    ensures { FindsNext source.now from.at minus result }
 {
     let start = skip_gap(source, from);
     let text = behind(source, start.at);

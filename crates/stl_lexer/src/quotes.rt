@@ -1,7 +1,6 @@
-ghost use Rattle.std.specs.Prelude.{◌≡◌, ◌≤◌, length, false, true};
+ghost use Rattle.std.specs.Prelude.{◌≡◌, ◌≤◌, length};
 ghost use Rattle.std.specs.List.{prefix_len};
-ghost use Rattle.stl_lexer.specs.Bytes.{close_brace, double_quote, open_brace, single_quote};
-ghost use Rattle.stl_lexer.specs.Forms.{is_enclosed, is_inner, is_quoted};
+ghost use Rattle.stl_lexer.specs.Forms.{is_attribute, is_characters, is_enclosed, is_inner, is_quoted};
 ghost use Rattle.stl_lexer.specs.Longest.{FindsLongest};
 
 /// Whether a byte may stand before the closing one.
@@ -50,14 +49,14 @@ pub(crate) fn longest_quoted(text: &[u8]) -> Option<usize>
 
 /// The length of the characters at the front of the text.
 pub(crate) fn longest_characters(text: &[u8]) -> Option<usize>
-    ensures { FindsLongest (λ s after. is_enclosed single_quote single_quote true s) text.now result }
+    ensures { FindsLongest (λ s after. is_characters s) text.now result }
 {
     longest_enclosed(b'\'', b'\'', true, text)
 }
 
 /// The length of the attribute at the front of the text.
 pub(crate) fn longest_attribute(text: &[u8]) -> Option<usize>
-    ensures { FindsLongest (λ s after. is_enclosed open_brace close_brace false s) text.now result }
+    ensures { FindsLongest (λ s after. is_attribute s) text.now result }
 {
     longest_enclosed(b'{', b'}', false, text)
 }
