@@ -1,11 +1,14 @@
 -- Further laws of memory, proved.
-use Rattle.std.proofs.Common.{◌≡◌, ◌≢◌, ℕ, zero, suc, ◌+◌, ◌-◌, ◌*◌, ◌/◌, ◌%◌, ◌^◌, ◌<◌, ◌≤◌, List, length, refl, sym, ap, ◌∙◌, subst, arith, Option, Some, None, IsSome, Bool, true, false, nat_eq, nat_lt, nat_le, get_or, replicate, slice_get, ◌⊎◌, inl, inr, is_some, cond, ◌↔◌, unwrap_or, Result, Ok, Err, IsOk, OnOk, MatchResult, slice_index}
+use Rattle.std.proofs.Common.{◌≡◌, ◌≢◌, ℕ, zero, suc, ◌+◌, ◌-◌, ◌*◌, ◌/◌, ◌%◌, ◌^◌, ◌<◌, ◌≤◌, List, [], ◌∷◌, length, refl, sym, ap, ◌∙◌, subst, arith, Option, Some, None, IsSome, Bool, true, false, nat_eq, nat_lt, nat_le, get_or, replicate, slice_get, ◌⊎◌, inl, inr, is_some, cond, ◌↔◌, unwrap_or, Result, Ok, Err, IsOk, OnOk, MatchResult, slice_index}
 use Rattle.plc_mem.specs.declared.faults.Missing.{Missing}
 use Rattle.std.specs.Option.{option_map, option_and_then}
 use Rattle.std.specs.FinMap as map
-use Rattle.std.specs.Ordering.{nat_cmp}
+use Rattle.std.specs.Ordering.{nat_cmp, eq_by_cmp}
+use Rattle.std.specs.Cmp.{nat_cmp_total}
+use Rattle.std.specs.List.{AllByRecursion}
+use Rattle.std.specs.FinMap.{find, get-from_entries}
 use Rattle.std.proofs.lemmas.Bool.Decides.{nat_tests}
-use Rattle.std.proofs.lemmas.Bool.{ltb-true}
+use Rattle.std.proofs.lemmas.Bool.{ltb-true, le-leb}
 use Rattle.std.proofs.lemmas.Option.{slice_get-get_or, slice_get_past}
 use Rattle.std.proofs.lemmas.Nat.Bits.{bit_at-zero}
 use Rattle.std.proofs.lemmas.List.{get_or-replicate, length-replicate, get_or_past}
@@ -18,18 +21,18 @@ use Rattle.plc_mem.specs.Areas.{Areas, PeripheralBytes}
 use Rattle.plc_mem.specs.BitPlace.{Region, bit_place, Inputs, Outputs, BitMemory, PeripheralInputs, PeripheralOutputs, DataBlock}
 use Rattle.plc_mem.specs.Bits.{bit_at, bit_in, bit_of, byte_at, peripheral_byte, block_byte}
 use Rattle.plc_mem.specs.Number.{bit_count, weights_of, plus_weight, number_of, number_at, region_of, region_read, region_written, operand_bit, EachBitExists}
-use Rattle.plc_mem.specs.Places.{SamePlaces, IsMemory, IsPeripheral, AreBytes, HasImage}
+use Rattle.plc_mem.specs.Places.{IsRun, SamePlaces, IsMemory, IsPeripheral, AreBytes, HasImage, HasParts}
 use Rattle.plc_mem.specs.Writing.{written, written_in, put, put_peripheral, put_in_block, is_within}
 use Rattle.plc_mem.specs.Written.{IsWritten, bit_after, value_of_bit}
 use Rattle.plc_mem.specs.Run.{number_over, operand_bit_of}
-use Rattle.plc_mem.specs.Peripherals.{with_input, outputs_cleared}
+use Rattle.plc_mem.specs.Peripherals.{IsPeripheralByte, with_input, outputs_cleared}
 use Rattle.plc_mem.specs.Refresh.{refreshed, IsRefreshed}
-use Rattle.plc_mem.specs.Fresh.{clear_peripheral}
-use Rattle.plc_mem.specs.Laws.{ReadsWhereEachBitExists, WritesWhereEachBitExists, NumbersAreReadBack, RefreshesBits, ClearsBits, SetsInputBits, PlacesStay}
+use Rattle.plc_mem.specs.Fresh.{fresh, clear_peripheral}
+use Rattle.plc_mem.specs.Laws.{MemoryStarts, ReadsWhereEachBitExists, WritesWhereEachBitExists, NumbersAreReadBack, RefreshesBits, ClearsBits, SetsInputBits, PlacesStay}
 use Rattle.plc_mem.proofs.Numbers.{weights_none, no_byte as nothing, run_none, both_true, bit_in_some, low_number, high_number, over_none}
 use Rattle.plc_mem.proofs.Writes.{written_is, input_written, number_of_region}
-use Rattle.plc_mem.proofs.OneMemory.{has_image, written_in_memory}
-use Rattle.plc_mem.proofs.Runs.{true_not_false, in_low, in_high, no_weight}
+use Rattle.plc_mem.proofs.OneMemory.{found_block, has_image, written_in_memory}
+use Rattle.plc_mem.proofs.Runs.{true_not_false, none_some, in_low, in_high, no_weight, PartPut, part_put, put_within}
 use Rattle.plc_mem.proofs.Stored.{kept_bit}
 
 -- ---- which numbers there are
@@ -463,3 +466,50 @@ pub write_bits :
     → OnOk r (IsWritten m n place width value)
 write_bits m n place width value (Ok _) sizes fits is = written_is m n place width value sizes fits is
 write_bits m n place width value (Err _) sizes fits is = tt
+
+-- ---- one peripheral byte
+
+byte_of_part : (p q : PeripheralBytes) (at value : ℕ) → HasParts p → PartPut p q at 0 Byte value → IsPeripheralByte at
+byte_of_part p q at value parts (inl w) = let end = put_within p.low w.0 at 0 Byte value w.2 in inl (omega (arith, parts.low))
+byte_of_part p q at value parts (inr w) = let end = put_within p.high w.0 (at - 256) 0 Byte value w.2 in inr (omega (arith, w.1), omega (arith, parts.high, w.1))
+
+byte_put : (p : PeripheralBytes) (at value : ℕ) → HasParts p → IsPeripheralByte at → IsSome (put_peripheral p at 0 Byte value)
+unfolding put_peripheral put
+byte_put p at value parts (inl low) =
+    let first : nat_lt at 256 ≡ true = grind (arith, nat_tests) in
+    let within : nat_le (at + 1) (length p.low) ≡ true = le-leb (at + 1) (length p.low) (omega (arith, parts.low)) in
+    rw (first, within) refl
+byte_put p at value parts (inr high) =
+    let later : nat_lt at 256 ≡ false = grind (arith, nat_tests) in
+    let within : nat_le (at - 256 + 1) (length p.high) ≡ true = le-leb (at - 256 + 1) (length p.high) (omega (arith, parts.high, high.1)) in
+    rw (later, within) refl
+
+pub input_answers :
+    (p q : PeripheralBytes) (at value : ℕ) (r : Result (Unit {0}) Missing)
+    → HasParts p
+    → MatchResult r (λ _. put_peripheral p at 0 Byte value ≡ Some q) (λ _. (put_peripheral p at 0 Byte value ≡ None) × (q ≡ p))
+    → IsOk r ↔ IsPeripheralByte at
+input_answers p q at value (Ok _) parts is = (λ _. byte_of_part p q at value parts (part_put p q at 0 Byte value is), λ _. refl)
+input_answers p q at value (Err _) parts is =
+    (λ h. absurd (true_not_false (sym h)), λ there. absurd (true_not_false (sym (byte_put p at value parts there) ∙ ap is_some is.0)))
+
+-- ---- the start
+
+zero_count : (count : ℕ) → IsRun count (replicate count 0)
+zero_count count = record { count_is = length-replicate count 0; bytes_are = zero_bytes count }
+
+block_found : (blocks : List (ℕ × List ℕ)) (k : ℕ) (bytes : List ℕ) → AllByRecursion (λ (block : ℕ × List ℕ). AreBytes block.1) blocks → find nat_cmp k blocks ≡ Some bytes → AreBytes bytes
+block_found [] k bytes all found = absurd (none_some bytes found)
+block_found (e ∷ es) k bytes all found =
+    found_block (eq_by_cmp nat_cmp k e.0) bytes e.1 (find nat_cmp k es) all.0 (λ s rest. block_found es k s all.1 rest) found
+
+pub memory_starts : MemoryStarts
+unfolding fresh
+memory_starts blocks all = record {
+  inputs = zero_count 128;
+  outputs = zero_count 128;
+  bit_memory = zero_count 256;
+  peripheral_inputs = record { low = zero_count 128; high = zero_count 512 };
+  peripheral_outputs = record { low = zero_count 128; high = zero_count 512 };
+  data_blocks = λ k bytes found. block_found blocks k bytes all (sym (get-from_entries nat_cmp_total blocks k) ∙ found);
+}

@@ -92,7 +92,7 @@ image_run : (bytes : List ℕ) (at bit : ℕ) (width : Width) (value : ℕ) → 
 image_run bytes at bit width value run fits (Some new) e = put_run 128 bytes new at bit width value run fits e
 image_run bytes at bit width value run fits None e = run
 
-found_block :
+pub found_block :
     (same : Bool) (bytes stored : List ℕ) (o : Option (List ℕ)) → AreBytes stored → ((s : List ℕ) → o ≡ Some s → AreBytes s) → cond same (Some stored) o ≡ Some bytes → AreBytes bytes
 found_block true bytes stored o new before e = subst AreBytes (same_some stored bytes e) new
 found_block false bytes stored o new before e = before bytes e

@@ -1,14 +1,16 @@
 -- The laws of memory.
-use Rattle.std.specs.Prelude.{◌≡◌, ◌≢◌, ℕ, ◌^◌, ◌<◌, ◌↔◌, Some, IsSome}
+use Rattle.std.specs.Prelude.{◌≡◌, List, ◌≢◌, ℕ, ◌^◌, ◌<◌, ◌↔◌, Some, IsSome}
+use Rattle.std.specs.List.{AllByRecursion}
 use Rattle.plc_base.specs.declared.Width.{Width}
 use Rattle.plc_base.specs.declared.Place.{Place}
 use Rattle.plc_base.specs.declared.Area.TheVariants.{P}
 use Rattle.plc_mem.specs.Areas.{Areas}
 use Rattle.plc_mem.specs.BitPlace.{BitPlace}
 use Rattle.plc_mem.specs.Bits.{bit_at}
+use Rattle.plc_mem.specs.Fresh.{fresh}
 use Rattle.plc_mem.specs.Number.{bit_count, number_at, EachBitExists, region_read, region_written}
 use Rattle.plc_mem.specs.Peripherals.{with_input, outputs_cleared, IsCleared, IsInput}
-use Rattle.plc_mem.specs.Places.{HasImage, IsMemory, SameBlocks, SamePlaces}
+use Rattle.plc_mem.specs.Places.{AreBytes, HasImage, IsMemory, SameBlocks, SamePlaces}
 use Rattle.plc_mem.specs.Refresh.{refreshed, IsRefreshed}
 use Rattle.plc_mem.specs.Writing.{written}
 use Rattle.plc_mem.specs.Written.{IsWritten}
@@ -64,3 +66,7 @@ ClearsBits = (m : Areas) → IsMemory m → IsMemory (outputs_cleared m) × IsCl
 
 abbrev pub SetsInputBits : Type 0
 SetsInputBits = (m n : Areas) (byte value : ℕ) → IsMemory m → value < 2 ^ 8 → with_input m byte value ≡ Some n → IsMemory n × IsInput m n byte value
+
+-- Memory begins as one, where the data blocks are made of bytes.
+abbrev pub MemoryStarts : Type 0
+MemoryStarts = (blocks : List (ℕ × List ℕ)) → AllByRecursion (λ (block : ℕ × List ℕ). AreBytes block.1) blocks → IsMemory (fresh blocks)

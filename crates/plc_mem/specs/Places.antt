@@ -27,6 +27,11 @@ pub record IsPeripheral (p : PeripheralBytes) : Type 0 where
   pub low : IsRun 128 p.low
   pub high : IsRun 512 p.high
 
+-- The two parts of a peripheral area have their sizes.
+pub record HasParts (p : PeripheralBytes) : Type 0 where
+  pub low : length p.low ≡ 128
+  pub high : length p.high ≡ 512
+
 -- A memory that can be: each area has its size, and memory is made of bytes.
 pub record IsMemory (m : Areas) : Type 0 where
   pub inputs : IsRun 128 m.inputs

@@ -1,5 +1,5 @@
 //! The laws of memory.
-ghost use Rattle.plc_mem.specs.Laws.{BitsDetermineMemory, WritingGivesTheOneMemory, ReadsWhereEachBitExists, WritesWhereEachBitExists, NumbersAreReadBack, PlacesStay, RefreshesBits, ClearsBits, SetsInputBits};
+ghost use Rattle.plc_mem.specs.Laws.{BitsDetermineMemory, WritingGivesTheOneMemory, ReadsWhereEachBitExists, WritesWhereEachBitExists, NumbersAreReadBack, PlacesStay, RefreshesBits, ClearsBits, SetsInputBits, MemoryStarts};
 
 /// Two memories with the same loaded data blocks and the same bits at every bit place are the same.
 pub fn bits_determine_memory()
@@ -33,4 +33,9 @@ pub fn calls_change_these_bits()
     ensures refreshes { RefreshesBits }
     ensures clears { ClearsBits }
     ensures inputs { SetsInputBits }
+{}
+
+/// Memory begins as one that can be, where the data blocks are made of bytes.
+pub fn memory_starts()
+    ensures { MemoryStarts }
 {}

@@ -9,6 +9,8 @@ pub mod laws;
 mod memories;
 mod operands;
 mod peripherals;
+#[cfg(test)]
+mod tests;
 
 pub use faults::{Missing, NoMemory};
 pub use memories::Memory;

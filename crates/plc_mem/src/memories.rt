@@ -1,12 +1,12 @@
 // The memory areas of the controller but local data.
-ghost use Rattle.std.specs.Prelude.{◌≡◌, ◌^◌, ◌<◌, nat_eq, Some, None, IfOk, OnOk, IsOk, MatchResult, ◌↔◌};
+ghost use Rattle.std.specs.Prelude.{◌≡◌, ◌^◌, ◌<◌, nat_eq, Some, None, IfOk, OnOk, IsOk, IsSome, MatchResult, ◌↔◌};
 ghost use Rattle.std.specs.Option.{option_copied};
 ghost use Rattle.std.specs.FinMap as map;
 ghost use Rattle.std.specs.List.{IsDistinct};
 ghost use Rattle.plc_mem.specs.Blocks.{bytes_of, numbers_of};
 ghost use Rattle.plc_mem.specs.Fresh.{fresh};
 ghost use Rattle.plc_mem.specs.Number.{bit_count, number_at, region_read, region_written, EachBitExists};
-ghost use Rattle.plc_mem.specs.Peripherals.{with_input, output_of, outputs_cleared};
+ghost use Rattle.plc_mem.specs.Peripherals.{with_input, output_of, outputs_cleared, IsPeripheralByte};
 ghost use Rattle.plc_mem.specs.Refresh.{refreshed};
 ghost use Rattle.plc_mem.specs.Writing.{written, written_in};
 ghost use Rattle.plc_mem.specs.Written.{IsWritten};
@@ -65,7 +65,6 @@ impl Memory {
 
     /// The number at a place, right-justified with zeros above. Reading area P reads peripheral
     /// inputs.
-
     pub fn read(&self, place: Place, width: Width) -> Result<u32, Missing>
         ensures cases { MatchResult result (λ n. number_at self.now place width ≡ Some n) (λ _. number_at self.now place width ≡ None) }
         ensures exists { IsOk result ↔ EachBitExists self.now (region_read place) place width }
@@ -87,16 +86,18 @@ impl Memory {
     /// Sets one byte of the peripheral inputs.
     #[tactic(auto, unfolding(crate::specs::Peripherals::with_input))]
     pub fn set_input(&mut self, byte: u16, value: u8) -> Result<(), Missing>
-        ensures { MatchResult result (λ _. with_input self.old byte value ≡ Some self.new) (λ _. (with_input self.old byte value ≡ None) × (self.new ≡ self.old)) }
+        ensures exists { IsOk result ↔ IsPeripheralByte byte }
+        ensures cases { MatchResult result (λ _. with_input self.old byte value ≡ Some self.new) (λ _. (with_input self.old byte value ≡ None) × (self.new ≡ self.old)) }
     {
-        self.peripheral_inputs
-            .put(usize::from(byte), 0, Width::Byte, u32::from(value))
+        let at = usize::from(byte);
+        self.peripheral_inputs.put(at, 0, Width::Byte, value.into())
     }
 
     /// One byte of the peripheral outputs, if it exists.
     #[tactic(auto, unfolding(crate::specs::Peripherals::output_of))]
     pub fn output(&self, byte: u16) -> Option<u8>
-        ensures { result ≡ output_of self.now byte }
+        ensures value { result ≡ output_of self.now byte }
+        ensures exists { IsSome result ↔ IsPeripheralByte byte }
     {
         self.peripheral_outputs.byte(byte)
     }
@@ -139,17 +140,14 @@ impl Memory {
     fn number(&self, place: Place, width: Width) -> Option<u32>
         ensures { result ≡ number_at self.now place width }
     {
-        if place.area != Area::Db && place.number != 0 {
-            return None;
-        }
         let at = usize::from(place.byte);
-        match place.area {
-            Area::P => self.peripheral_inputs.number(at, place.bit, width),
-            Area::I => operands::number(&self.inputs, at, place.bit, width),
-            Area::Q => operands::number(&self.outputs, at, place.bit, width),
-            Area::M => operands::number(&self.bit_memory, at, place.bit, width),
-            Area::Db => self.data_blocks.number(place.number, at, place.bit, width),
-            Area::Di | Area::L => None,
+        match (place.area, place.number) {
+            (Area::P, 0) => self.peripheral_inputs.number(at, place.bit, width),
+            (Area::I, 0) => operands::number(&self.inputs, at, place.bit, width),
+            (Area::Q, 0) => operands::number(&self.outputs, at, place.bit, width),
+            (Area::M, 0) => operands::number(&self.bit_memory, at, place.bit, width),
+            (Area::Db, number) => self.data_blocks.number(number, at, place.bit, width),
+            _ => None,
         }
     }
 
@@ -160,19 +158,14 @@ impl Memory {
         ensures sizes { region_written place ≡ Some PeripheralOutputs → HasImage self.old }
         ensures cases { MatchResult result (λ _. written self.old place width value ≡ Some self.new) (λ _. (written self.old place width value ≡ None) × (self.new ≡ self.old)) }
     {
-        if place.area != Area::Db && place.number != 0 {
-            return Err(Missing);
-        }
         let at = usize::from(place.byte);
-        match place.area {
-            Area::P => self.put_outputs(at, place.bit, width, value),
-            Area::I => operands::put(&mut self.inputs, at, place.bit, width, value),
-            Area::Q => operands::put(&mut self.outputs, at, place.bit, width, value),
-            Area::M => operands::put(&mut self.bit_memory, at, place.bit, width, value),
-            Area::Db => self
-                .data_blocks
-                .put(place.number, at, place.bit, width, value),
-            Area::Di | Area::L => Err(Missing),
+        match (place.area, place.number) {
+            (Area::P, 0) => self.put_outputs(at, place.bit, width, value),
+            (Area::I, 0) => operands::put(&mut self.inputs, at, place.bit, width, value),
+            (Area::Q, 0) => operands::put(&mut self.outputs, at, place.bit, width, value),
+            (Area::M, 0) => operands::put(&mut self.bit_memory, at, place.bit, width, value),
+            (Area::Db, number) => self.data_blocks.put(number, at, place.bit, width, value),
+            _ => Err(Missing),
         }
     }
 

@@ -1,9 +1,11 @@
 // Peripheral inputs, or peripheral outputs: bytes 0 to 127, and bytes 256 to 767.
-ghost use Rattle.std.specs.Prelude.{◌≡◌, ◌^◌, ◌<◌, length, Some, None, MatchResult};
+ghost use Rattle.std.specs.Prelude.{◌≡◌, ◌^◌, ◌<◌, Some, None, IsSome, MatchResult, ◌↔◌};
 ghost use Rattle.plc_mem.specs.Bits.{peripheral_byte};
 ghost use Rattle.plc_mem.specs.Changes.{IsFirstChange, IsFirstHighChange};
 ghost use Rattle.plc_mem.specs.Fresh.{clear_peripheral};
 ghost use Rattle.plc_mem.specs.Number.{bit_count};
+ghost use Rattle.plc_mem.specs.Peripherals.{IsPeripheralByte};
+ghost use Rattle.plc_mem.specs.Places.{HasParts};
 ghost use Rattle.plc_mem.specs.Run.{number_over};
 ghost use Rattle.plc_mem.specs.Writing.{put_peripheral};
 
@@ -54,7 +56,8 @@ impl PeripheralArea {
 
     /// The byte of this number, if it exists.
     pub fn byte(&self, number: u16) -> Option<u8>
-        ensures { result ≡ peripheral_byte self.now number }
+        ensures value { result ≡ peripheral_byte self.now number }
+        ensures exists { IsSome result ↔ IsPeripheralByte number }
     {
         let number = usize::from(number);
         if number < HIGH_START {
@@ -107,7 +110,7 @@ impl PeripheralArea {
     ) -> Result<(), Missing>
         requires near { at < 2 ^ 16 }
         requires fits { value < 2 ^ bit_count width }
-        ensures size { length self.old.low ≡ LOW_BYTES }
+        ensures sizes { HasParts self.old }
         ensures cases { MatchResult result (λ _. put_peripheral self.old at bit width value ≡ Some self.new) (λ _. (put_peripheral self.old at bit width value ≡ None) × (self.new ≡ self.old)) }
     {
         if at < HIGH_START {
