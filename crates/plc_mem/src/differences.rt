@@ -1,16 +1,45 @@
 // Where two runs of bytes differ.
-ghost use Rattle.std.specs.Prelude.{◌≡◌, length};
+ghost use Rattle.std.specs.Prelude.{◌≡◌, ℕ, ◌+◌, ◌<◌, ◌≤◌, length, slice_get, IsTrue};
 ghost use Rattle.plc_mem.specs.Changes.{IsFirstDifference};
+
+/// How many bytes are compared at once: outputs seldom change, so most of a walk finds them equal.
+const BLOCK: usize = 16;
 
 /// The first index from `from` on at which two runs of the same length differ.
 pub(crate) fn first_difference(old: &[u8], new: &[u8], from: usize) -> Option<usize>
     requires { length old.now ≡ length new.now }
     ensures { IsFirstDifference old.now new.now from result }
 {
-    for i in from..old.len() {
+    for i in skip_equal_blocks(old, new, from)..old.len() {
         if old[i] != new[i] {
             return Some(i);
         }
     }
     None
+}
+
+// An index from `from` on, before which nothing differs from there on.
+fn skip_equal_blocks(old: &[u8], new: &[u8], from: usize) -> usize
+    requires { length old.now ≡ length new.now }
+    ensures ahead { from ≤ result }
+    ensures same { (n : ℕ) → from ≤ n → n < result → slice_get new.now n ≡ slice_get old.now n }
+{
+    let mut at = from;
+    while at < old.len() && old.len() - at >= BLOCK && is_same_block(old, new, at) {
+        at += BLOCK;
+    }
+    at
+}
+
+// Whether a block of the two runs is the same.
+fn is_same_block(old: &[u8], new: &[u8], at: usize) -> bool
+    requires old { at + BLOCK ≤ length old.now }
+    requires new { at + BLOCK ≤ length new.now }
+    ensures { IsTrue result → (n : ℕ) → at ≤ n → n < at + BLOCK → slice_get new.now n ≡ slice_get old.now n }
+{
+    let mut same = true;
+    for i in at..at + BLOCK {
+        same &= old[i] == new[i];
+    }
+    same
 }
