@@ -30,6 +30,11 @@ unfoldable pub value_rule : ℕ → Option ℕ → Option ℕ
 value_rule greatest None = Some WRONG_LITERAL
 value_rule greatest (Some n) = if nat_lt greatest n then Some OUT_OF_RANGE else None
 
+-- a value where it is at most the greatest
+unfoldable pub within : ℕ → Option ℕ → Option ℕ
+within greatest None = None
+within greatest (Some n) = if nat_le n greatest then Some n else None
+
 -- the value of decimal digits, or None
 unfoldable pub decimal : List ℕ → Option ℕ
 decimal s = if is_number s then Some (decimal_value s) else None

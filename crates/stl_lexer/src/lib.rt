@@ -20,6 +20,7 @@ mod words;
 pub use kinds::{Token, TokenKind};
 pub use lexer::{law_of_time_literals, law_of_tokens, lex};
 pub use lists::Tokens;
+pub use literals::{behind_prefix, first_letter, milliseconds_within};
 
 /// The most bytes that a source may have.
 pub const SOURCE_LIMIT: usize = 1_048_576;

@@ -1,4 +1,4 @@
-ghost use Rattle.std.specs.Prelude.{◌≡◌, ◌<◌, ◌≤◌, ℕ, Option, if◌then◌else◌, min, option_map};
+ghost use Rattle.std.specs.Prelude.{◌≡◌, ◌<◌, ◌≤◌, ℕ, Option, IfSome, if◌then◌else◌, min, option_map};
 ghost use Rattle.std.specs.List.{list_all};
 ghost use Rattle.std.specs.Char.{is_digit};
 ghost use Rattle.stl_lexer.specs.Forms.{is_number};
@@ -18,7 +18,9 @@ ghost use Rattle.stl_lexer.specs.Rules.{
   number_rule,
   time_rule,
   value_rule,
+  within,
 };
+ghost use Rattle.stl_lexer.specs.TimeLiteral.{milliseconds, units};
 
 use crate::bytes::{behind, digit_run};
 use crate::decimals::{VALUE_CAP, decimal_value};
@@ -31,7 +33,7 @@ use crate::times::{UNITS, milliseconds};
 
 /// The first byte of a token, in lower case.
 #[tactic(auto, unfolding(crate::specs::Rules::first_letter))]
-fn first_letter(token: &[u8]) -> u8
+pub fn first_letter(token: &[u8]) -> u8
     ensures { result ≡ first_letter token.now }
 {
     match token {
@@ -41,7 +43,7 @@ fn first_letter(token: &[u8]) -> u8
 }
 
 /// What stands behind the prefix of a literal, which ends with `#`.
-fn behind_prefix(token: &[u8]) -> &[u8]
+pub fn behind_prefix(token: &[u8]) -> &[u8]
     ensures { result.now ≡ behind_prefix token.now }
 {
     let mut start = token.len();
@@ -248,4 +250,30 @@ pub(crate) fn decimal_rule(token: &[u8], minus: bool) -> Option<u16>
     } else {
         None
     }
+}
+
+/// A value where it is at most `greatest`; a value may be cut off at `VALUE_CAP`.
+#[tactic(auto, unfolding(crate::specs::Rules::within))]
+fn within(greatest: u32, value: Option<u64>) -> Option<u32>
+    ensures { (exact : Option ℕ) → value ≡ option_map (λ n. min n VALUE_CAP) exact → result ≡ within greatest exact }
+{
+    match value {
+        None => None,
+        Some(n) => {
+            if n <= u64::from(greatest) {
+                Some(n as u32)
+            } else {
+                None
+            }
+        }
+    }
+}
+
+/// The milliseconds of the parts of a time literal, where they are at most `greatest`.
+#[tactic(auto, unfolding(crate::specs::TimeLiteral::units, crate::specs::Rules::within))]
+pub fn milliseconds_within(greatest: u32, parts: &[u8]) -> Option<u32>
+    ensures value { result ≡ within greatest (milliseconds units parts.now) }
+    ensures bound { IfSome result (λ n. n ≤ greatest) }
+{
+    within(greatest, milliseconds(&UNITS, parts))
 }
