@@ -1,0 +1,16 @@
+pub mod Command
+pub mod Words
+pub mod Lines
+pub mod LineText
+pub mod History
+pub mod LineEntries
+pub mod HistoryFault
+pub mod RunText
+pub mod Says
+pub mod Ends
+pub mod StatusTable
+pub mod Blocks
+pub mod Inner
+pub mod Within
+pub mod ThinClause
+pub mod Faults

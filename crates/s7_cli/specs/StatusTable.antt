@@ -1,0 +1,119 @@
+-- The table of statuses, in so many words.
+use Rattle.std.specs.Prelude.{◌≡◌, ◌≢◌, ◌<◌, ◌≤◌, ◌⊎◌, ◌↔◌, ℕ, List, [], map, length, Contains, Option, Some, None, true}
+use Rattle.plc_io.specs.Contents.{SameFiles}
+use Rattle.plc_io.specs.Counts.{Rose}
+use Rattle.plc_io.specs.Taken.{Took}
+use Rattle.var_access.specs.declared.Entry.{Entry}
+use Rattle.controller.specs.declared.ThinOb.{ThinOb}
+use Rattle.sem_kept.specs.ThinSource.{IsThin}
+use Rattle.sem_kept.specs.Tree.{tree_code}
+use Rattle.s7_cli.specs.declared.answers.Answer.{Answer}
+use Rattle.s7_cli.specs.declared.answers.Answer.TheVariants.{WordsRefused, ReadFault, TooLong, SourceRefused, HistoryRefused}
+use Rattle.s7_cli.specs.declared.answers.File.{File}
+use Rattle.s7_cli.specs.declared.answers.File.TheVariants.{Source, History}
+use Rattle.s7_cli.specs.Command.{Command, Go, inputs_of, limit_of}
+use Rattle.s7_cli.specs.Ends.{Disk, Taking, written_names, CutShort, ChangesOutputs}
+use Rattle.s7_cli.specs.History.{history_of}
+use Rattle.s7_cli.specs.Lines.{line_of}
+use Rattle.s7_cli.specs.RunText.{run_text}
+use Rattle.s7_cli.specs.Says.{IsNoSource, IsNoHistory, not_built}
+
+-- the names of a command's input files
+abbrev pub input_names : Option Command → List (List ℕ)
+input_names None = []
+input_names (Some c) = map (λ i. i.name) (inputs_of c)
+
+-- some count of failed reads of an input file rose in the call
+abbrev pub InputRose : Option Command → Disk → Type 0
+InputRose c d = (name : List ℕ) × Contains (input_names c) name × Rose (d.before.failed_reads name) (d.after.failed_reads name)
+
+-- some count of failed writes of an output file rose, or that of the sink
+abbrev pub OutputRose : Option Command → Disk → Taking → Type 0
+OutputRose c d s =
+    Rose s.before.faults s.after.faults
+    ⊎ ((name : List ℕ) × Contains (written_names c) name × Rose (d.before.failed_writes name) (d.after.failed_writes name))
+
+-- `go` over files that tell what they hold: this source and this history
+pub record GoOver (c : Option Command) (d : Disk) (source history : List ℕ) : Type 0 where
+  pub source_name : List ℕ
+  pub history_name : List ℕ
+  pub command : c ≡ Some (Go source_name history_name)
+  pub told : d.before.contents.told ≡ true
+  pub source_held : d.before.contents.at source_name ≡ Some source
+  pub history_held : d.before.contents.at history_name ≡ Some history
+
+-- both files are within their limits
+abbrev pub AreWithin : (source history : List ℕ) → Type 0
+AreWithin source history = (length source ≤ limit_of Source) × (length history ≤ limit_of History)
+
+abbrev pub IsSource : List ℕ → Type 0
+IsSource source = (program : List ThinOb) × IsThin source program
+
+abbrev pub IsHistory : List ℕ → Type 0
+IsHistory history = (entries : List Entry) × (history_of history ≡ Some entries)
+
+-- the status tells exactly this of the two files
+pub record GoDecides (source history : List ℕ) (code : ℕ) : Type 0 where
+  pub too_long : (code ≡ 8) ↔ ((limit_of Source < length source) ⊎ (limit_of History < length history))
+  pub source_refused : (code ≡ 2) ↔ (AreWithin source history × IsNoSource source)
+  pub history_refused : (code ≡ 4) ↔ (AreWithin source history × IsSource source × IsNoHistory history)
+  pub done : (code ≡ 0) ↔ (AreWithin source history × IsSource source × IsHistory history)
+  pub no_other : (code ≡ 0) ⊎ (code ≡ 2) ⊎ (code ≡ 4) ⊎ (code ≡ 8)
+
+-- the sink took the run text of the source's meaning along the history
+abbrev pub TellsRun : Taking → (source history : List ℕ) → Type 0
+TellsRun s source history =
+    (program : List ThinOb) × (entries : List Entry) × IsThin source program × (history_of history ≡ Some entries)
+    × Took s.before.taken s.after.taken (run_text (tree_code program) entries)
+
+-- the sink took the line of an answer, and nothing else
+abbrev pub TookLine : Taking → Answer → Type 0
+TookLine s answer = Took s.before.taken s.after.taken (line_of answer)
+
+-- the line names the first file in the order of reading that is too long
+abbrev pub NamesTooLong : Taking → (source history : List ℕ) → Type 0
+NamesTooLong s source history =
+    ((limit_of Source < length source) × TookLine s (TooLong Source))
+    ⊎ ((length source ≤ limit_of Source) × (limit_of History < length history) × TookLine s (TooLong History))
+
+-- the line of each refusal
+pub record TakesLine (s : Taking) (code : ℕ) : Type 0 where
+  pub words : code ≡ 1 → TookLine s WordsRefused
+  pub source : code ≡ 2 → TookLine s (SourceRefused not_built)
+  pub history : code ≡ 4 → TookLine s (HistoryRefused not_built)
+  pub read_fault : code ≡ 5 → TookLine s ReadFault
+  pub too_long : code ≡ 8 → (file : File) × TookLine s (TooLong file)
+
+-- the table of statuses
+pub record StatusTable (c : Option Command) (d : Disk) (s : Taking) (code : ℕ) : Type 0 where
+  -- no other status than these
+  pub statuses : (code ≤ 2) ⊎ (code ≡ 4) ⊎ (code ≡ 5) ⊎ (code ≡ 6) ⊎ (code ≡ 7) ⊎ (code ≡ 8)
+  -- 0: the sink took the run text of the source's meaning
+  pub tells_the_run : (source history : List ℕ) → GoOver c d source history → code ≡ 0 → TellsRun s source history
+  -- 1: exactly where the words are refused, whatever the files hold; the sink may fail, or memory be wanting, at its line
+  pub words_refused_only : code ≡ 1 → c ≡ None
+  pub words_refused : c ≡ None → (code ≡ 1) ⊎ (code ≡ 6) ⊎ (code ≡ 7)
+  -- 0, 2, 4, 8: exactly where the two files say so, unless a read or the sink fails, or memory is wanting
+  pub decided : (source history : List ℕ) → GoOver c d source history
+      → (code ≡ 5) ⊎ (code ≡ 6) ⊎ (code ≡ 7) ⊎ GoDecides source history code
+  -- so where no count of an input file, an output file or the sink rose, want of memory alone is free
+  pub complete : (source history : List ℕ) → GoOver c d source history → (InputRose c d → ⊥) → (OutputRose c d s → ⊥)
+      → (code ≡ 7) ⊎ GoDecides source history code
+  -- 1, 2, 4, 5, 8: the sink took the one line of the refusal
+  pub takes_line : TakesLine s code
+  pub names_too_long : (source history : List ℕ) → GoOver c d source history → code ≡ 8 → NamesTooLong s source history
+  -- 5: only where the count of failed reads of an input file rose
+  pub read_fault : code ≡ 5 → InputRose c d
+  -- 6: only where the count of failed writes of an output file rose, or that of the sink
+  pub write_fault : code ≡ 6 → OutputRose c d s
+  -- 6 and 7: a front was taken of a text that another status allows, or nothing
+  pub cut_short : (code ≡ 6) ⊎ (code ≡ 7) → CutShort c d s
+  -- a greater count of failed reads gives 5, 6 or 7
+  pub more_failed_reads : (name : List ℕ) → d.before.failed_reads name < d.after.failed_reads name → (code ≡ 5) ⊎ (code ≡ 6) ⊎ (code ≡ 7)
+  -- a greater count of failed writes, or of the sink's faults, gives 6 or 7
+  pub more_failed_writes : (name : List ℕ) → d.before.failed_writes name < d.after.failed_writes name → (code ≡ 6) ⊎ (code ≡ 7)
+  pub more_faults : s.before.faults < s.after.faults → (code ≡ 6) ⊎ (code ≡ 7)
+  -- no file changed at any other status than 0, 6 and 7, and at no status one that isn't an output file; an output file holds what
+  -- it held, or a front of what the command writes to it
+  pub unchanged : code ≢ 0 → code ≢ 6 → code ≢ 7 → SameFiles d.before.contents d.after.contents
+  pub outputs_alone : ChangesOutputs c d

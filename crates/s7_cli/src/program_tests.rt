@@ -1,0 +1,179 @@
+use crate::s7_main;
+use arrayvec::ArrayVec;
+use plc_io::{MemFiles, MemSink, OpenGate};
+use std::alloc::Global;
+use std::sync::Wait;
+use std::test::Fail;
+use std::thread::Threads;
+
+const GO: [&str; 3] = ["go", "source", "history"];
+
+/// OB 1 with one rung: output 4.0 is input 0.0 and not input 0.1.
+const RUNG: &[u8] =
+    b"ORGANIZATION_BLOCK OB 1\nBEGIN\nA I 0.0;\nAN I 0.1;\n= Q 4.0;\nEND_ORGANIZATION_BLOCK\n";
+
+/// Input 0.0 comes on, then the program starts, runs once, and starts again.
+const ONE_RUN: &[u8] = b"in 0 01\nstep 6\n";
+
+/// The files of a call.
+fn two_files(alloc: Global, source: &[u8], history: &[u8]) -> Result<MemFiles, Fail> {
+    let mut files = MemFiles::new(alloc);
+    files.put("source", source)?;
+    files.put("history", history)?;
+    Ok(files)
+}
+
+/// The status of a call with these words.
+fn call<R: Threads + Wait + Sync>(
+    rt: &R,
+    alloc: Global,
+    words: &[&str],
+    files: &mut MemFiles,
+    out: &mut MemSink,
+) -> Result<u8, Fail> {
+    let mut list = Vec::new(alloc);
+    for word in words {
+        list.push(String::from_str(alloc, *word)?)?;
+    }
+    Ok(s7_main(rt, alloc, &list, files, out, &OpenGate).code)
+}
+
+// What was taken of each run, worked out by hand. The sink takes one byte of each piece.
+#[test]
+fn runs_and_refusals(rt: HostRuntime) -> Result<(), Fail> {
+    // source, history, status, text
+    let table: [(&[u8], &[u8], u8, &[u8]); 11] = [
+        (RUNG, ONE_RUN, 0, b"@7 PQ 4 = 01\nEND 7 RUN\n"),
+        (RUNG, b"in 0 01\nstep 5\n", 0, b"END 6 RUN\n"),
+        (b"", b"step 2\n", 0, b"END 2 RUN\n"),
+        // Two branches of A before =, joined by O: 0.2 is on, and 0.3 too.
+        (
+            b"ORGANIZATION_BLOCK OB 1\nBEGIN\nA I 0.0;\nA I 0.1;\nO;\nA I 0.2;\nA I 0.3;\n= Q 4.0;\nEND_ORGANIZATION_BLOCK\n",
+            b"in 0 0E\nstep 9\n",
+            0,
+            b"@10 PQ 4 = 01\nEND 10 RUN\n",
+        ),
+        // OB 40 interrupts behind the first A, whose result comes back.
+        (
+            b"ORGANIZATION_BLOCK OB 1\nBEGIN\nA I 0.0;\n= Q 4.0;\nEND_ORGANIZATION_BLOCK\nORGANIZATION_BLOCK OB 40\nBEGIN\nA I 0.1;\n= Q 5.0;\nEND_ORGANIZATION_BLOCK\n",
+            b"in 0 01\nstep 2\narrive 40\nstep 6\n",
+            0,
+            b"@10 PQ 4 = 01\nEND 10 RUN\n",
+        ),
+        // OB 40 isn't loaded.
+        (
+            RUNG,
+            b"in 0 01\nstep 6\narrive 40\n",
+            0,
+            b"@7 PQ 4 = 01\n@8 PQ 4 = 00\n@8 MODE STOP 8 AT OB 1 LINE 3\nEND 8 STOP 8\n",
+        ),
+        // The first interrupt starts OB 40, eight wait, and the tenth is one too many.
+        (
+            b"ORGANIZATION_BLOCK OB 40\nBEGIN\nSET;\nEND_ORGANIZATION_BLOCK\n",
+            b"arrive 40\narrive 40\narrive 40\narrive 40\narrive 40\narrive 40\narrive 40\narrive 40\narrive 40\narrive 40\n",
+            0,
+            b"@10 MODE STOP 9 AT OB 40 LINE 3\nEND 10 STOP 9\n",
+        ),
+        // A source that isn't built, a history that isn't, and both.
+        (b"L 1;\n", ONE_RUN, 2, b"source refused: line 0 rule 99\n"),
+        (RUNG, b"tick 1\n", 4, b"history refused: line 0 rule 99\n"),
+        (
+            b"L 1;\n",
+            b"tick 1\n",
+            2,
+            b"source refused: line 0 rule 99\n",
+        ),
+        (b"", b"", 0, b"END 0 RUN\n"),
+    ];
+    for (source, history, status, text) in table {
+        let mut files = two_files(rt.alloc(), source, history)?;
+        let mut out = MemSink::new(rt.alloc(), 1);
+        let code = call(&rt, rt.alloc(), &GO, &mut files, &mut out)?;
+        assert_eq!(rt; code, status);
+        assert_eq!(rt; out.taken.as_slice(), text);
+    }
+    Ok(())
+}
+
+#[test]
+fn words(rt: HostRuntime) -> Result<(), Fail> {
+    let table: [&[&str]; 6] = [
+        &[],
+        &["go"],
+        &["go", "source"],
+        &["go", "source", "history", "more"],
+        &["run", "source", "history"],
+        &["GO", "source", "history"],
+    ];
+    for list in table {
+        let mut files = two_files(rt.alloc(), RUNG, ONE_RUN)?;
+        let mut out = MemSink::new(rt.alloc(), 64);
+        let code = call(&rt, rt.alloc(), list, &mut files, &mut out)?;
+        assert_eq!(rt; code, 1);
+        assert_eq!(rt; out.taken.as_slice(), b"words refused\n".as_slice());
+    }
+    Ok(())
+}
+
+// The file of a name is missing, or one of the first reads fails: the first comes to the source,
+// the second to its end, the third to the history.
+#[test]
+fn failed_reads(rt: HostRuntime) -> Result<(), Fail> {
+    for failing in [1, 2, 3] {
+        let mut files = two_files(rt.alloc(), RUNG, ONE_RUN)?;
+        let mut calls = ArrayVec::new();
+        calls.push(failing);
+        files.fail_reads(calls);
+        let mut out = MemSink::new(rt.alloc(), 64);
+        let code = call(&rt, rt.alloc(), &GO, &mut files, &mut out)?;
+        assert_eq!(rt; code, 5);
+        assert_eq!(rt; out.taken.as_slice(), b"read fault\n".as_slice());
+    }
+    let mut files = two_files(rt.alloc(), RUNG, ONE_RUN)?;
+    let mut out = MemSink::new(rt.alloc(), 64);
+    let code = call(
+        &rt,
+        rt.alloc(),
+        &["go", "source", "none"],
+        &mut files,
+        &mut out,
+    )?;
+    assert_eq!(rt; code, 5);
+    assert_eq!(rt; out.taken.as_slice(), b"read fault\n".as_slice());
+    Ok(())
+}
+
+// The sink takes nine bytes, and fails then.
+#[test]
+fn failed_push(rt: HostRuntime) -> Result<(), Fail> {
+    let mut files = two_files(rt.alloc(), RUNG, ONE_RUN)?;
+    let mut calls = ArrayVec::new();
+    calls.push(2);
+    let mut out = MemSink::new(rt.alloc(), 9);
+    out.fail_pushes(calls);
+    let code = call(&rt, rt.alloc(), &GO, &mut files, &mut out)?;
+    assert_eq!(rt; code, 6);
+    assert_eq!(rt; out.taken.as_slice(), b"@7 PQ 4 =".as_slice());
+    Ok(())
+}
+
+// The longest files, and one byte more.
+#[test]
+fn long_files(rt: HostRuntime) -> Result<(), Fail> {
+    // bytes of the source, of the history, status, text
+    let table: [(usize, usize, u8, &[u8]); 3] = [
+        (1_048_576, 0, 0, b"END 0 RUN\n"),
+        (1_048_577, 0, 8, b"too long: source\n"),
+        (0, 4_194_305, 8, b"too long: history\n"),
+    ];
+    for (source_len, history_len, status, text) in table {
+        let source = vec![in rt.alloc(); b' '; source_len]?;
+        let history = vec![in rt.alloc(); b'\n'; history_len]?;
+        let mut files = two_files(rt.alloc(), &source, &history)?;
+        let mut out = MemSink::new(rt.alloc(), 64);
+        let code = call(&rt, rt.alloc(), &GO, &mut files, &mut out)?;
+        assert_eq!(rt; code, status);
+        assert_eq!(rt; out.taken.as_slice(), text);
+    }
+    Ok(())
+}
