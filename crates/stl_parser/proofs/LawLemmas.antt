@@ -1,9 +1,9 @@
-use Rattle.std.proofs.Common.{ℕ, ◌≡◌, Bool, true, false, List, [], ◌∷◌, Result, Ok, Err, refl, sym, ◌∙◌, ap, subst}
+use Rattle.std.proofs.Common.{ℕ, ◌≡◌, true, false, List, [], ◌∷◌, Result, Ok, Err, refl, sym, ◌∙◌, ap, subst}
 use Rattle.stl_lexer.specs.declared.kinds.Token.{Token}
 use Rattle.stl_parser.specs.declared.clauses.Clause.{Clause}
 use Rattle.stl_parser.specs.declared.places.Place.{Place}
 use Rattle.stl_parser.specs.declared.places.Place.TheVariants as place
-use Rattle.stl_parser.specs.Source.{Step, step_of, Reads, Breaks, IsViolation, AreClauses, is_outside, last_line, AreClausesUnique, ExcludesViolation, IsViolationUnique}
+use Rattle.stl_parser.specs.Source.{Step, step_of, Reads, Breaks, is_outside, last_line, AreClausesUnique, ExcludesViolation, IsViolationUnique}
 use Rattle.stl_parser.specs.Clauses.{clause_at}
 
 ok_same : {A B : Type 0} (a b : A) → ◌≡◌ {A = Result A B} (Ok a) (Ok b) → a ≡ b

@@ -1,4 +1,4 @@
-use Rattle.std.proofs.Common.{◌≡◌, ℕ, ◌+◌, ◌*◌, ◌-◌, ◌<◌, List, [], length, take, get_or, refl, Bool, true, ◌&&◌, if◌then◌else◌, nat_le, ◌≤◌, min, Option, Some, None, arith}
+use Rattle.std.proofs.Common.{◌≡◌, ℕ, ◌+◌, ◌*◌, ◌-◌, ◌<◌, List, [], length, take, get_or, refl, Bool, true, ◌&&◌, if◌then◌else◌, nat_le, ◌≤◌, min, Some, None, arith}
 use Rattle.std.proofs.lemmas.List.Sums.{fold_more}
 use Rattle.stl_lexer.specs.Decimal.{decimal_value}
 

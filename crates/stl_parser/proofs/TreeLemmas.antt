@@ -1,4 +1,4 @@
-use Rattle.std.proofs.Common.{ℕ, ◌≡◌, ◌≤◌, ◌<◌, List, [], ◌∷◌, ◌++◌, length, map, reverse, Option, Some, None, refl, sym, ◌∙◌, ap, subst, arith, length-append}
+use Rattle.std.proofs.Common.{◌≡◌, ◌≤◌, ◌<◌, List, [], ◌∷◌, ◌++◌, length, map, reverse, refl, sym, ◌∙◌, ap, arith, length-append}
 use Rattle.std.specs.List.{flat_map}
 use Rattle.stl_ast.specs.declared.declarations.Declaration.{Declaration}
 use Rattle.stl_ast.specs.Outline.{IsOutline, deepest_behind, level_behind}
@@ -59,16 +59,15 @@ pub put_back : {C : Type 0} (c : C) (front all now less again : List C) → all 
 put_back c front all now less again so_far popped pushed = so_far ∙ ap (λ ys. front ++ reverse ys) (popped ∙ sym pushed)
 
 -- the parts of a block, one behind the other
-pub block_is_spelled : {C : Type 0} (h : C) (p s c t b : List C) (e : C) (r0 r1 r2 r3 r4 r5 r6 : List C) →
-    r0 ≡ p ++ r1 → r1 ≡ s ++ r2 → r2 ≡ c ++ r3 → r3 ≡ t ++ r4 → r4 ≡ b ++ r5 → r5 ≡ e ∷ r6 →
-    h ∷ r0 ≡ (h ∷ (p ++ (s ++ (c ++ (t ++ (b ++ e ∷ [])))))) ++ r6
-block_is_spelled h p s c t b e r0 r1 r2 r3 r4 r5 r6 e0 e1 e2 e3 e4 e5 =
-    let x4 : r4 ≡ (b ++ e ∷ []) ++ r6 = e4 ∙ ap (λ y. b ++ y) e5 ∙ sym (append_parts b (e ∷ []) r6) in
-    let x3 : r3 ≡ (t ++ (b ++ e ∷ [])) ++ r6 = e3 ∙ ap (λ y. t ++ y) x4 ∙ sym (append_parts t (b ++ e ∷ []) r6) in
-    let x2 : r2 ≡ (c ++ (t ++ (b ++ e ∷ []))) ++ r6 = e2 ∙ ap (λ y. c ++ y) x3 ∙ sym (append_parts c (t ++ (b ++ e ∷ [])) r6) in
-    let x1 : r1 ≡ (s ++ (c ++ (t ++ (b ++ e ∷ [])))) ++ r6 = e1 ∙ ap (λ y. s ++ y) x2 ∙ sym (append_parts s (c ++ (t ++ (b ++ e ∷ []))) r6) in
-    let x0 : r0 ≡ (p ++ (s ++ (c ++ (t ++ (b ++ e ∷ []))))) ++ r6 =
-    e0 ∙ ap (λ y. p ++ y) x1 ∙ sym (append_parts p (s ++ (c ++ (t ++ (b ++ e ∷ [])))) r6) in
+pub block_is_spelled : {C : Type 0} (h : C) (p s t b : List C) (e : C) (r0 r1 r2 r3 r4 r5 : List C) →
+    r0 ≡ p ++ r1 → r1 ≡ s ++ r2 → r2 ≡ t ++ r3 → r3 ≡ b ++ r4 → r4 ≡ e ∷ r5 →
+    h ∷ r0 ≡ (h ∷ (p ++ (s ++ (t ++ (b ++ e ∷ []))))) ++ r5
+block_is_spelled h p s t b e r0 r1 r2 r3 r4 r5 e0 e1 e2 e3 e4 =
+    let x3 : r3 ≡ (b ++ e ∷ []) ++ r5 = e3 ∙ ap (λ y. b ++ y) e4 ∙ sym (append_parts b (e ∷ []) r5) in
+    let x2 : r2 ≡ (t ++ (b ++ e ∷ [])) ++ r5 = e2 ∙ ap (λ y. t ++ y) x3 ∙ sym (append_parts t (b ++ e ∷ []) r5) in
+    let x1 : r1 ≡ (s ++ (t ++ (b ++ e ∷ []))) ++ r5 = e1 ∙ ap (λ y. s ++ y) x2 ∙ sym (append_parts s (t ++ (b ++ e ∷ [])) r5) in
+    let x0 : r0 ≡ (p ++ (s ++ (t ++ (b ++ e ∷ [])))) ++ r5 =
+    e0 ∙ ap (λ y. p ++ y) x1 ∙ sym (append_parts p (s ++ (t ++ (b ++ e ∷ []))) r5) in
     ap (λ y. h ∷ y) x0
 
 -- a block takes clauses off the front

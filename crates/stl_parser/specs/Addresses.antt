@@ -1,22 +1,16 @@
 -- Letters with a number, which may stand without a blank.
-use Rattle.std.specs.Prelude.{ℕ, nat_le, Bool, true, false, ◌&&◌, not, is_some, if◌then◌else◌, List, [], ◌∷◌, take, drop, Option, Some, None}
+use Rattle.std.specs.Prelude.{ℕ, nat_le, Bool, ◌&&◌, not, is_some, if◌then◌else◌, List, [], ◌∷◌, take, drop, Option, Some, None}
 use Rattle.std.specs.Option.{option_map, option_or, option_and_then}
 use Rattle.std.specs.List.{prefix_len, list_all}
 use Rattle.std.specs.Char.{is_ascii_digit}
-use Rattle.plc_base.specs.declared.blocks.BlockId.{BlockId}
 use Rattle.plc_base.specs.declared.blocks.BlockKind.{BlockKind}
-use Rattle.plc_base.specs.declared.places.Width.{Width}
-use Rattle.plc_base.specs.declared.places.Width.TheVariants as width
 use Rattle.stl_lexer.specs.declared.kinds.Token.{Token}
 use Rattle.stl_lexer.specs.declared.kinds.TokenKind.TheVariants as kind
 use Rattle.stl_lexer.specs.Tokens.{text_of}
 use Rattle.stl_ast.specs.declared.names.BlockName.{BlockName}
 use Rattle.stl_ast.specs.declared.names.BlockName.TheVariants as block
-use Rattle.stl_ast.specs.declared.operands.Letters.{Letters}
-use Rattle.stl_ast.specs.declared.operands.Letters.TheVariants as letters
 use Rattle.stl_parser.specs.declared.keywords.Mark.TheVariants as mark
 use Rattle.stl_parser.specs.declared.tables.Address.{Address}
-use Rattle.stl_parser.specs.declared.tables.Address.TheVariants as address
 use Rattle.stl_parser.specs.Terminals.{has_kind, is_mark}
 use Rattle.stl_parser.specs.Tables.{look_up, block_kinds, addresses}
 use Rattle.stl_parser.specs.Numbers.{decimal_of, number_of}

@@ -1,5 +1,5 @@
 -- Constants in a clause.
-use Rattle.std.specs.Prelude.{ℕ, ◌-◌, nat_lt, nat_le, Bool, true, false, ◌&&◌, if◌then◌else◌, List, [], ◌∷◌, length, slice_range, Option, Some, None, ℤ, pos}
+use Rattle.std.specs.Prelude.{ℕ, ◌-◌, nat_le, true, false, ◌&&◌, if◌then◌else◌, List, [], ◌∷◌, length, slice_range, Option, Some, None, pos}
 use Rattle.std.specs.Option.{option_map, option_or, option_and_then}
 use Rattle.stl_lexer.specs.declared.kinds.Token.{Token}
 use Rattle.stl_lexer.specs.declared.kinds.TokenKind.{TokenKind}
@@ -9,7 +9,7 @@ use Rattle.stl_ast.specs.declared.literals.Literal.{Literal}
 use Rattle.stl_ast.specs.declared.literals.Literal.TheVariants as literal
 use Rattle.stl_parser.specs.declared.keywords.Mark.TheVariants as mark
 use Rattle.stl_parser.specs.declared.keywords.Key.TheVariants as key
-use Rattle.stl_parser.specs.Terminals.{has_kind, is_mark, is_key}
+use Rattle.stl_parser.specs.Terminals.{is_mark, is_key}
 use Rattle.stl_parser.specs.Numbers.{number_of, signed_at}
 use Rattle.stl_parser.specs.Parts.{whole}
 use Rattle.stl_parser.specs.Values.{based_value, long_or_count, duration}

@@ -1,8 +1,6 @@
 -- Operands.
-use Rattle.std.specs.Prelude.{ℕ, ◌+◌, ◌*◌, Bool, true, false, ◌&&◌, ◌||◌, not, is_some, if◌then◌else◌, List, [], ◌∷◌, length, take, drop, Option, Some, None, ℤ}
+use Rattle.std.specs.Prelude.{ℕ, ◌+◌, ◌*◌, Bool, true, false, ◌&&◌, ◌||◌, is_some, if◌then◌else◌, List, [], ◌∷◌, length, drop, Option, Some, None, ℤ}
 use Rattle.std.specs.Option.{option_map, option_or, option_and_then}
-use Rattle.std.specs.List.{list_all}
-use Rattle.std.specs.Char.{is_ascii_digit}
 use Rattle.plc_base.specs.declared.blocks.BlockKind.TheVariants as kinds
 use Rattle.plc_base.specs.declared.places.Width.{Width}
 use Rattle.plc_base.specs.declared.places.Width.TheVariants as width

@@ -599,14 +599,6 @@ pub(crate) fn head_word_of(word: &[u8]) -> Option<HeadWord>
     look_up(&HEAD_WORDS, word)
 }
 
-/// The kind of block that these letters name.
-#[tactic(auto, unfolding(crate::specs::Tables::block_kinds))]
-pub(crate) fn block_kind_of(word: &[u8]) -> Option<BlockKind>
-    ensures { result ≡ look_up block_kinds word.now }
-{
-    look_up(&BLOCK_KINDS, word)
-}
-
 /// The elementary type that this word names.
 #[tactic(auto, unfolding(crate::specs::Tables::simple_types))]
 pub(crate) fn simple_type_of(word: &[u8]) -> Option<Simple>

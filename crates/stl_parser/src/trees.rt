@@ -1,7 +1,7 @@
 ghost use Rattle.std.specs.Prelude.{◌≡◌, ◌++◌, ◌∷◌, [], map, reverse, IfOk};
 ghost use Rattle.std.specs.List.{flat_map};
 ghost use Rattle.stl_parser.specs.declared.clauses.Clause.TheVariants as spelled;
-ghost use Rattle.stl_parser.specs.Spelling.{spelled_part, spelled_shape, spelled_block};
+ghost use Rattle.stl_parser.specs.Spelling.{is_udt, spelled_part, spelled_shape, spelled_block};
 
 use crate::clauses::Clause;
 use crate::frames::level_behind;
@@ -97,7 +97,7 @@ fn body(alloc: Global, clauses: &mut Vec<Clause>) -> Result<Sequence<Statement>,
 
 /// A type that is no array.
 fn single_type(alloc: Global, of: ElementType) -> TypeTree
-    ensures { result.of ≡ of }
+    ensures { result ≡ record { arrays = []; of = of } }
 {
     TypeTree {
         arrays: Sequence::from_vec(Vec::new(alloc)),
@@ -105,37 +105,91 @@ fn single_type(alloc: Global, of: ElementType) -> TypeTree
     }
 }
 
-/// The shape that a name stands for: the function block of an instance, or a data type.
-fn based(alloc: Global, name: BlockName) -> (Option<TypeTree>, Option<BlockName>)
-    ensures { spelled_shape result.0 result.1 ≡ spelled.Based name ∷ [] }
+/// No declarations.
+fn no_components(alloc: Global) -> Declarations
+    ensures { result ≡ [] }
 {
-    let is_udt = match &name {
+    Declarations::from_vec(Vec::new(alloc))
+}
+
+/// The shape of a block with its components, or the function block of an instance.
+#[derive(Drop)]
+pub(crate) struct Shape {
+    pub(crate) shape: Option<TypeTree>,
+    pub(crate) instance_of: Option<BlockName>,
+    pub(crate) components: Declarations,
+}
+
+/// Whether this is the name of a user-defined data type, by its number.
+fn is_udt(name: &BlockName) -> bool
+    ensures { result ≡ is_udt name.now }
+{
+    match name {
         BlockName::Number { id } => matches!(id.kind, BlockKind::Udt),
         BlockName::Quoted { name: _ } => false,
-    };
-    if is_udt {
-        (Some(single_type(alloc, ElementType::Udt { name })), None)
+    }
+}
+
+/// The shape that a name stands for: a data type, or else the function block of an instance.
+fn based(alloc: Global, name: BlockName) -> Shape
+    ensures { spelled_shape result.shape result.instance_of result.components ≡ spelled.Based name ∷ [] }
+{
+    let components = no_components(alloc);
+    if is_udt(&name) {
+        let shape = Some(single_type(alloc, ElementType::Udt { name }));
+        Shape {
+            shape,
+            instance_of: None,
+            components,
+        }
     } else {
-        (None, Some(name))
+        Shape {
+            shape: None,
+            instance_of: Some(name),
+            components,
+        }
+    }
+}
+
+/// The shape that is a structure with these components.
+fn structured(alloc: Global, components: Declarations) -> Shape
+    ensures { spelled_shape result.shape result.instance_of result.components ≡ spelled.Structure ∷ map spelled.Declares components }
+{
+    let shape = Some(single_type(alloc, ElementType::Structure));
+    Shape {
+        shape,
+        instance_of: None,
+        components,
+    }
+}
+
+/// No shape.
+fn shapeless(alloc: Global) -> Shape
+    ensures { spelled_shape result.shape result.instance_of result.components ≡ [] }
+{
+    Shape {
+        shape: None,
+        instance_of: None,
+        components: no_components(alloc),
     }
 }
 
 /// The shape at the front of the clauses, where one stands there.
 #[tactic(auto, using(crate::proofs::TreeLemmas::reverse_last))]
-fn shape(
-    alloc: Global,
-    clauses: &mut Vec<Clause>,
-) -> Result<(Option<TypeTree>, Option<BlockName>), AllocError>
-    ensures { IfOk result (λ found. reverse clauses.old.items ≡ spelled_shape found.0 found.1 ++ reverse clauses.new.items) }
+fn shape_at_front(alloc: Global, clauses: &mut Vec<Clause>) -> Result<Shape, AllocError>
+    ensures { IfOk result (λ s. reverse clauses.old.items ≡ spelled_shape s.shape s.instance_of s.components ++ reverse clauses.new.items) }
 {
     match clauses.pop() {
-        Some(Clause::Structure) => Ok((Some(single_type(alloc, ElementType::Structure)), None)),
+        Some(Clause::Structure) => {
+            let components = declarations(alloc, clauses)?;
+            Ok(structured(alloc, components))
+        }
         Some(Clause::Based { name }) => Ok(based(alloc, name)),
         Some(other) => {
             clauses.push(other)?;
-            Ok((None, None))
+            Ok(shapeless(alloc))
         }
-        None => Ok((None, None)),
+        None => Ok(shapeless(alloc)),
     }
 }
 
@@ -169,8 +223,11 @@ fn block(
     ensures { IfOk result (λ b. spelled.Head line kind name returns ∷ reverse clauses.old.items ≡ spelled_block b ++ reverse clauses.new.items) }
 {
     let parts = parts(alloc, clauses)?;
-    let (shape, instance_of) = shape(alloc, clauses)?;
-    let components = declarations(alloc, clauses)?;
+    let Shape {
+        shape,
+        instance_of,
+        components,
+    } = shape_at_front(alloc, clauses)?;
     let settings = settings(alloc, clauses)?;
     let body = body(alloc, clauses)?;
     let end_line = end_line(kind, clauses)?;

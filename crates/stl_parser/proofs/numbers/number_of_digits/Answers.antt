@@ -1,4 +1,4 @@
-use Rattle.std.proofs.Common.{◌≡◌, sym, ◌∙◌}
+use Rattle.std.proofs.Common.{sym, ◌∙◌}
 use Rattle.stl_parser.proofs.NumberLemmas.{number_within}
 use Rattle.stl_parser.proofs.numbers.number_of_digits.Goals as goal
 

@@ -1,4 +1,3 @@
-use Rattle.std.proofs.Common.{List}
 use Rattle.stl_parser.specs.Source.{ReadSoFar}
 use Rattle.stl_parser.proofs.sources.judged_source.Given as goal
 

@@ -1,7 +1,4 @@
-use Rattle.std.proofs.Common.{◌≡◌, ℕ, sym, ◌∙◌, ap}
-use Rattle.std.specs.Option.{option_map}
-use Rattle.std.specs.Str.{str_eq_ignore_ascii_case}
-use Rattle.stl_parser.specs.Tables.{look_up}
+use Rattle.std.proofs.Common.{sym, ◌∙◌}
 use Rattle.stl_parser.proofs.TableLemmas.{look_up-map}
 use Rattle.stl_parser.proofs.tables.look_up.Goals as goal
 
