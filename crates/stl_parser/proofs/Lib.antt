@@ -1,0 +1,6 @@
+pub mod TableLemmas
+pub mod NumberLemmas
+pub mod PartLemmas
+pub mod TreeLemmas
+pub mod SourceLemmas
+pub mod LawLemmas

@@ -1,0 +1,15 @@
+pub mod Terminals
+pub mod Tables
+pub mod Numbers
+pub mod Parts
+pub mod Literals
+pub mod Values
+pub mod Addresses
+pub mod Operands
+pub mod Types
+pub mod Declarations
+pub mod Statements
+pub mod Clauses
+pub mod Frame
+pub mod Source
+pub mod Spelling

@@ -1,0 +1,116 @@
+-- The clauses of a source, and its first violation.
+use Rattle.std.specs.Prelude.{◌≡◌, ℕ, Bool, true, false, List, [], ◌∷◌, filter, Option, Some, None, Result, Ok, Err}
+use Rattle.std.specs.List.{flat_map}
+use Rattle.stl_ast.specs.declared.blocks.Tree.{Tree}
+use Rattle.plc_base.specs.declared.refusals.SourceFault.{SourceFault}
+use Rattle.plc_base.specs.declared.refusals.SourceFault.TheVariants as fault
+use Rattle.stl_lexer.specs.declared.kinds.Token.{Token}
+use Rattle.stl_parser.specs.declared.clauses.Clause.{Clause}
+use Rattle.stl_parser.specs.declared.places.Place.{Place}
+use Rattle.stl_parser.specs.declared.places.Place.TheVariants as place
+use Rattle.stl_parser.specs.declared.sources.TheConstants.{NO_CLAUSE, MISPLACED, LONG_LABEL, OPEN_BLOCK}
+use Rattle.stl_parser.specs.declared.sources.Step as Sources
+use Rattle.stl_parser.specs.declared.sources.Step.TheVariants as step
+use Rattle.stl_parser.specs.declared.sources.Outcome.{Outcome}
+use Rattle.stl_parser.specs.declared.sources.Outcome.TheVariants as outcome
+use Rattle.stl_parser.specs.Spelling.{is_kept, spelled_block}
+use Rattle.stl_parser.specs.Clauses.{Read, clause_at}
+use Rattle.stl_parser.specs.Frame.{follow}
+
+-- a clause that is right, what follows it, and where that stands
+abbrev pub Step : Type 0
+Step = Clause × List Token × Place
+
+-- a clause in the grammar: it breaks rule 11 where its kind may not stand here, else rule 12 where a label is too long
+abbrev pub placed : Clause → List Token → Bool → Option Place → Result Step ℕ
+placed c rest long None = Err MISPLACED
+placed c rest true (Some next) = Err LONG_LABEL
+placed c rest false (Some next) = Ok (c, rest, next)
+
+-- a clause that isn't in the grammar breaks rule 10, whatever else it breaks
+abbrev pub judged : Place → Read → Result Step ℕ
+judged p None = Err NO_CLAUSE
+judged p (Some r) = placed r.0 r.1 r.2 (follow p r.0)
+
+-- the clause at the front of the tokens, or the rule that it breaks
+unfoldable pub step_of : List ℕ → Place → List Token → Result Step ℕ
+step_of source p tokens = judged p (clause_at source p tokens)
+
+-- how a step is seen: without the reference to what follows
+abbrev pub seen : Sources.Step → Result Step ℕ
+seen (step.Right c rest next) = Ok (c, rest.now, next)
+seen (step.Breaks rule) = Err rule
+
+-- these clauses, all right, follow one another from the front of the tokens, and behind them stand the tokens `rest` at
+-- the place `q`
+abbrev pub Reads : List ℕ → Place → List Token → List Clause → Place → List Token → Type 0
+Reads source p tokens [] q rest = (p ≡ q) × (tokens ≡ rest)
+Reads source p tokens (c ∷ cs) q rest =
+    (behind : List Token) × (next : Place) × (step_of source p tokens ≡ Ok (c, behind, next)) × Reads source next behind cs q rest
+
+-- the line of the last token
+abbrev pub last_line : ℕ → List Token → ℕ
+last_line line [] = line
+last_line line (t ∷ ts) = last_line t.line ts
+
+-- no block is open
+abbrev pub is_outside : Place → Bool
+is_outside place.Outside = true
+is_outside _ = false
+
+-- at this place the clause at the front breaks the rule; where no token is left, the source ends inside a block
+abbrev pub Breaks : List ℕ → Place → List Token → ℕ → ℕ → ℕ → Type 0
+Breaks source p [] last line rule = (is_outside p ≡ false) × (line ≡ last) × (rule ≡ OPEN_BLOCK)
+Breaks source p (t ∷ ts) last line rule = (line ≡ t.line) × (step_of source p (t ∷ ts) ≡ Err rule)
+
+-- the first violation of a source by its clauses: all the clauses before it are right
+pub record IsViolation (source : List ℕ) (tokens : List Token) (line rule : ℕ) : Type 0 where
+  pub before : List Clause
+  pub at : Place
+  pub rest : List Token
+  pub reads : Reads source place.Outside tokens before at rest
+  pub breaks : Breaks source at rest (last_line 0 tokens) line rule
+
+-- the clauses of a source without violation: they are all right, no token is left behind them, and no block is open
+abbrev pub AreClauses : List ℕ → List Token → List Clause → Type 0
+AreClauses source tokens clauses = Reads source place.Outside tokens clauses place.Outside []
+
+-- the clauses up to this place are right, and `kept` are those of them that a tree keeps
+pub record ReadSoFar (source : List ℕ) (tokens : List Token) (at : Place) (rest : List Token) (kept : List Clause) : Type 0 where
+  pub clauses : List Clause
+  pub reads : Reads source place.Outside tokens clauses at rest
+  pub those : kept ≡ filter is_kept clauses
+
+-- the clauses of the source are right, and `kept` are those of them that a tree keeps
+pub record AreKept (source : List ℕ) (tokens : List Token) (kept : List Clause) : Type 0 where
+  pub clauses : List Clause
+  pub right : AreClauses source tokens clauses
+  pub those : kept ≡ filter is_kept clauses
+
+abbrev pub IsOutcome : List ℕ → List Token → Outcome → Type 0
+IsOutcome source tokens (outcome.Right kept) = AreKept source tokens kept.items
+IsOutcome source tokens (outcome.Refused refusal) = IsViolation source tokens refusal.line refusal.rule
+
+-- the tree of a source: the clauses that it keeps are those that spell it
+abbrev pub IsTree : List ℕ → List Token → Tree → Type 0
+IsTree source tokens tree = AreKept source tokens (flat_map spelled_block tree.blocks)
+
+-- the source is refused by its first violation
+abbrev pub IsRefusedBy : List ℕ → List Token → SourceFault → Type 0
+IsRefusedBy source tokens (fault.Refused refusal) = IsViolation source tokens refusal.line refusal.rule
+IsRefusedBy source tokens fault.NoMemory = Unit {0}
+
+-- there is at most one list of clauses, none where there is a violation, and one first violation
+abbrev pub AreClausesUnique : Type 0
+AreClausesUnique =
+    (source : List ℕ) (tokens : List Token) (cs ds : List Clause) → AreClauses source tokens cs → AreClauses source tokens ds → cs ≡ ds
+
+abbrev pub ExcludesViolation : Type 0
+ExcludesViolation =
+    (source : List ℕ) (tokens : List Token) (cs : List Clause) (line rule : ℕ) → AreClauses source tokens cs →
+    IsViolation source tokens line rule → ⊥
+
+abbrev pub IsViolationUnique : Type 0
+IsViolationUnique =
+    (source : List ℕ) (tokens : List Token) (line rule line' rule' : ℕ) → IsViolation source tokens line rule →
+    IsViolation source tokens line' rule' → (line ≡ line') × (rule ≡ rule')

@@ -1,0 +1,71 @@
+-- A tree as it is spelled by clauses.
+use Rattle.std.specs.Prelude.{Bool, true, false, List, [], ◌∷◌, ◌++◌, if◌then◌else◌, map, Option, Some, None}
+use Rattle.std.specs.List.{flat_map}
+use Rattle.plc_base.specs.declared.blocks.BlockKind.{BlockKind}
+use Rattle.plc_base.specs.declared.blocks.BlockKind.TheVariants as kinds
+use Rattle.stl_ast.specs.declared.blocks.Block.{Block}
+use Rattle.stl_ast.specs.declared.blocks.Part.{Part}
+use Rattle.stl_ast.specs.declared.declarations.Bounds.{Bounds}
+use Rattle.stl_ast.specs.declared.declarations.Declaration.{Declaration}
+use Rattle.stl_ast.specs.declared.declarations.ElementType.{ElementType}
+use Rattle.stl_ast.specs.declared.declarations.ElementType.TheVariants as element
+use Rattle.stl_ast.specs.declared.declarations.TypeTree.{TypeTree}
+use Rattle.stl_ast.specs.declared.names.BlockName.{BlockName}
+use Rattle.stl_ast.specs.declared.names.BlockName.TheVariants as block
+use Rattle.stl_parser.specs.declared.clauses.Clause.{Clause}
+use Rattle.stl_parser.specs.declared.clauses.Clause.TheVariants as clause
+
+-- the clauses that a tree keeps; the others only say where a section, a structure or a network ends or begins, or are
+-- read and ignored
+abbrev pub is_kept : Clause → Bool
+is_kept (clause.Head line k name result) = true
+is_kept (clause.Ends line k) = true
+is_kept (clause.Section line k) = true
+is_kept clause.EndSection = false
+is_kept clause.Begins = false
+is_kept clause.Network = false
+is_kept clause.Structure = true
+is_kept clause.EndStructure = false
+is_kept (clause.Based name) = true
+is_kept clause.Note = false
+is_kept clause.Title = false
+is_kept (clause.Declares d) = true
+is_kept (clause.Sets s) = true
+is_kept (clause.Runs s) = true
+
+-- a section: its first clause and its declarations
+abbrev pub spelled_part : Part → List Clause
+spelled_part p = clause.Section p.line p.kind ∷ map clause.Declares p.items
+
+-- the name is that of a user-defined data type, by its number
+abbrev pub is_udt_kind : BlockKind → Bool
+is_udt_kind kinds.Udt = true
+is_udt_kind _ = false
+
+abbrev pub is_udt : BlockName → Bool
+is_udt (block.Number id) = is_udt_kind id.kind
+is_udt (block.Quoted name) = false
+
+-- what no block spells: a clause that no tree keeps
+abbrev pub nowhere : List Clause
+nowhere = clause.EndSection ∷ []
+
+-- the type of a data block or of a TYPE block: a structure with its components, or a user-defined data type
+abbrev pub spelled_type : List Bounds → ElementType → List Declaration → List Clause
+spelled_type [] element.Structure components = clause.Structure ∷ map clause.Declares components
+spelled_type [] (element.Udt name) [] = if is_udt name then clause.Based name ∷ [] else nowhere
+spelled_type _ _ _ = nowhere
+
+-- the shape of a data block or of a TYPE block with its components, or the function block of an instance; a quoted name
+-- is taken for that of a function block
+abbrev pub spelled_shape : Option TypeTree → Option BlockName → List Declaration → List Clause
+spelled_shape None None [] = []
+spelled_shape None (Some name) [] = if is_udt name then nowhere else clause.Based name ∷ []
+spelled_shape (Some of_) None components = spelled_type of_.arrays of_.of components
+spelled_shape _ _ _ = nowhere
+
+-- a block: its first clause, its sections, its shape, its settings, its statements, its END clause
+abbrev pub spelled_block : Block → List Clause
+spelled_block b =
+    clause.Head b.line b.kind b.name b.result ∷ (flat_map spelled_part b.parts ++ (spelled_shape b.shape b.instance_of b.components
+    ++ (map clause.Sets b.settings ++ (map clause.Runs b.body ++ clause.Ends b.end_line b.kind ∷ []))))

@@ -1,0 +1,185 @@
+-- Instructions and statements.
+use Rattle.std.specs.Prelude.{ℕ, ◌+◌, nat_lt, Bool, true, false, ◌&&◌, ◌||◌, if◌then◌else◌, List, [], ◌∷◌, length, take, drop, Option, Some, None}
+use Rattle.std.specs.Option.{option_map, option_or, option_and_then}
+use Rattle.plc_base.specs.declared.blocks.BlockKind.{BlockKind}
+use Rattle.plc_base.specs.declared.blocks.BlockKind.TheVariants as kinds
+use Rattle.stl_lexer.specs.declared.kinds.Token.{Token}
+use Rattle.stl_lexer.specs.declared.kinds.TokenKind.TheVariants as kind
+use Rattle.stl_lexer.specs.Tokens.{text_of}
+use Rattle.stl_ast.specs.declared.mnemonics.Mnemonic.{Mnemonic}
+use Rattle.stl_ast.specs.declared.mnemonics.Mnemonic.TheVariants as mnemonic
+use Rattle.stl_ast.specs.declared.names.BlockName.{BlockName}
+use Rattle.stl_ast.specs.declared.names.BlockName.TheVariants as block
+use Rattle.stl_ast.specs.declared.operands.Operand.{Operand}
+use Rattle.stl_ast.specs.declared.operands.Operand.TheVariants as operand
+use Rattle.stl_ast.specs.declared.statements.Actual.{Actual}
+use Rattle.stl_ast.specs.declared.statements.Statement.{Statement}
+use Rattle.stl_parser.specs.declared.keywords.Mark.TheVariants as mark
+use Rattle.stl_parser.specs.declared.statements.Instruction.{Instruction}
+use Rattle.stl_parser.specs.declared.statements.TheConstants.{LABEL_LENGTH}
+use Rattle.stl_parser.specs.declared.tables.Form.{Form}
+use Rattle.stl_parser.specs.declared.tables.Form.TheVariants as form
+use Rattle.stl_parser.specs.Terminals.{has_kind, is_mark}
+use Rattle.stl_parser.specs.Tables.{look_up, mnemonics, opening_mnemonics}
+use Rattle.stl_parser.specs.Parts.{parts_from, whole}
+use Rattle.stl_parser.specs.Literals.{unquoted}
+use Rattle.stl_parser.specs.Addresses.{block_at}
+use Rattle.stl_parser.specs.Operands.{operand_of}
+
+-- the value of an actual parameter ends before a `)` that is last, and before a comma with the next parameter
+unfoldable pub value_ends : List ℕ → List Token → Bool
+value_ends source (close ∷ []) = is_mark source close mark.CloseParen
+value_ends source (comma ∷ w ∷ assign ∷ rest) =
+    is_mark source comma mark.Comma && has_kind w kind.Word && is_mark source assign mark.Assign
+value_ends source _ = false
+
+-- how many tokens the value at the front has
+unfoldable pub value_length : List ℕ → List Token → ℕ
+value_length source [] = 0
+value_length source (t ∷ rest) = if value_ends source (t ∷ rest) then 0 else 1 + value_length source rest
+
+-- the value of an actual parameter: any operand but none
+unfoldable pub value_of : List ℕ → List Token → Option Operand
+value_of source [] = None
+value_of source (t ∷ rest) = operand_of source (t ∷ rest)
+
+-- an actual parameter, `word := value`, and what follows
+unfoldable pub actual_at : List ℕ → List Token → Option (Actual × List Token)
+actual_at source (w ∷ assign ∷ rest) =
+    if has_kind w kind.Word && is_mark source assign mark.Assign
+    then option_map (λ value. (record { line = w.line; name = text_of source w; value = value }, drop (value_length source rest) rest))
+    (value_of source (take (value_length source rest) rest))
+    else None
+actual_at source _ = None
+
+-- a further actual parameter, behind its comma
+unfoldable pub next_actual : List ℕ → List Token → Option (Actual × List Token)
+next_actual source [] = None
+next_actual source (t ∷ rest) = if is_mark source t mark.Comma then actual_at source rest else None
+
+-- the last token is `)`
+unfoldable pub actuals_end : List ℕ → List Token → Option (List Token)
+actuals_end source (t ∷ []) = if is_mark source t mark.CloseParen then Some [] else None
+actuals_end source _ = None
+
+-- the actual parameters behind `(`, with its `)` as the last token
+unfoldable pub actuals_behind : List ℕ → List Token → Option (List Actual)
+actuals_behind source tokens =
+    option_and_then (λ r. whole (parts_from (actuals_end source) (next_actual source) (r.0 ∷ []) (length r.1) r.1)) (actual_at source tokens)
+
+-- the actual parameters of a call: none, or those in parentheses
+unfoldable pub actuals_of : List ℕ → List Token → Option (List Actual)
+actuals_of source [] = Some []
+actuals_of source (t ∷ rest) = if is_mark source t mark.OpenParen then actuals_behind source rest else None
+
+-- the name may be that of a block of this kind: it has it, or it is a quoted name
+abbrev pub may_be : BlockName → (BlockKind → Bool) → Bool
+may_be (block.Number id) test = test id.kind
+may_be (block.Quoted name) test = true
+
+abbrev pub is_fb : BlockKind → Bool
+is_fb kinds.Fb = true
+is_fb _ = false
+
+abbrev pub is_db : BlockKind → Bool
+is_db kinds.Db = true
+is_db _ = false
+
+-- the data block behind the comma of a call
+unfoldable pub data_block_at : List ℕ → List Token → Option (BlockName × List Token)
+data_block_at source tokens = option_and_then (λ r. if may_be r.0 is_db then Some r else None) (block_at source tokens)
+
+-- the instance of a call, `, DB n` behind a function block, and what follows
+unfoldable pub instance_at : List ℕ → BlockName → List Token → Option (Option BlockName × List Token)
+instance_at source name [] = Some (None, [])
+instance_at source name (t ∷ rest) =
+    if is_mark source t mark.Comma
+    then (if may_be name is_fb then option_map (λ r. (Some r.0, r.1)) (data_block_at source rest) else None)
+    else Some (None, t ∷ rest)
+
+-- an instruction without actual parameters and without a label that is too long
+abbrev pub plain : Mnemonic → Operand → Instruction
+plain code o = record { code = code; operand = o; actuals = []; long = false }
+
+-- CALL, behind the word
+unfoldable pub call_of : List ℕ → Mnemonic → List Token → Option Instruction
+call_of source code tokens =
+    option_and_then (λ b. option_and_then (λ i. option_map (λ actuals. record { code = code; operand = operand.Called b.0 i.0; actuals = actuals; long = false })
+    (actuals_of source i.1)) (instance_at source b.0 b.1)) (block_at source tokens)
+
+-- UC and CC, behind the word: one block
+unfoldable pub block_call_of : List ℕ → Mnemonic → List Token → Option Instruction
+block_call_of source code tokens = option_map (λ name. plain code (operand.Called name None)) (whole (block_at source tokens))
+
+-- an instruction with an operand of any form, behind the word
+unfoldable pub with_operand : List ℕ → Mnemonic → List Token → Option Instruction
+with_operand source code tokens = option_map (plain code) (operand_of source tokens)
+
+-- a label has at most four characters
+unfoldable pub is_long : List ℕ → Token → Bool
+is_long source t = nat_lt LABEL_LENGTH (length (text_of source t))
+
+-- a jump, behind the word: a word that stands alone is its label
+unfoldable pub jump_of : List ℕ → Mnemonic → List Token → Option Instruction
+jump_of source code (t ∷ []) =
+    if has_kind t kind.Word
+    then Some (record { code = code; operand = operand.Label (text_of source t); actuals = []; long = is_long source t })
+    else with_operand source code (t ∷ [])
+jump_of source code tokens = with_operand source code tokens
+
+-- OPN, behind the word: a quoted name that stands alone is a data block for the DB register
+unfoldable pub open_of : List ℕ → Mnemonic → List Token → Option Instruction
+open_of source code (t ∷ []) =
+    if has_kind t kind.Quoted
+    then Some (plain code (operand.OpenBlock false (block.Quoted (unquoted (text_of source t)))))
+    else with_operand source code (t ∷ [])
+open_of source code tokens = with_operand source code tokens
+
+-- what may stand behind an instruction word of this form
+unfoldable pub behind_word : List ℕ → Form → Mnemonic → List Token → Option Instruction
+behind_word source form.Operand code tokens = with_operand source code tokens
+behind_word source form.Jump code tokens = jump_of source code tokens
+behind_word source form.Open code tokens = open_of source code tokens
+behind_word source form.BlockCall code tokens = block_call_of source code tokens
+behind_word source form.Call code tokens = call_of source code tokens
+
+-- a `(` at the front, and what follows
+unfoldable pub after_paren : List ℕ → List Token → Option (List Token)
+after_paren source [] = None
+after_paren source (t ∷ rest) = if is_mark source t mark.OpenParen then Some rest else None
+
+-- an instruction word that opens a bracket: the word and a `(`
+unfoldable pub opening_of : List ℕ → Token → List Token → Option Instruction
+opening_of source t rest =
+    option_and_then (λ code. option_and_then (λ behind. with_operand source code behind) (after_paren source rest))
+    (look_up opening_mnemonics (text_of source t))
+
+-- an instruction that opens no bracket
+unfoldable pub closed_of : List ℕ → Token → List Token → Option Instruction
+closed_of source t rest = option_and_then (λ m. behind_word source m.1 m.0 rest) (look_up mnemonics (text_of source t))
+
+-- an instruction that is all of the tokens
+unfoldable pub instruction_of : List ℕ → List Token → Option Instruction
+instruction_of source [] = None
+instruction_of source (t ∷ rest) = option_or (opening_of source t rest) (closed_of source t rest)
+
+-- a statement, and whether a label in it is too long
+abbrev pub statement : ℕ → Option (List ℕ) → Instruction → Statement
+statement line label i = record { line = line; label = label; code = i.code; operand = i.operand; actuals = i.actuals }
+
+-- a statement with a label, behind the `:`
+unfoldable pub labelled : List ℕ → ℕ → Token → List Token → Option (Statement × Bool)
+labelled source line w rest =
+    option_map (λ i. (statement line (Some (text_of source w)) i, i.long || is_long source w)) (instruction_of source rest)
+
+-- a statement without a label
+unfoldable pub unlabelled : List ℕ → ℕ → List Token → Option (Statement × Bool)
+unlabelled source line tokens = option_map (λ i. (statement line None i, i.long)) (instruction_of source tokens)
+
+-- a statement that is all of the tokens before its `;`, and whether a label in it is too long
+unfoldable pub statement_of : List ℕ → ℕ → List Token → Option (Statement × Bool)
+statement_of source line [] = Some (statement line None (plain mnemonic.Empty operand.Nothing), false)
+statement_of source line (w ∷ []) = unlabelled source line (w ∷ [])
+statement_of source line (w ∷ colon ∷ rest) =
+    if has_kind w kind.Word && is_mark source colon mark.Colon then labelled source line w rest
+    else unlabelled source line (w ∷ colon ∷ rest)

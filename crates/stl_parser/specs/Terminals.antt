@@ -1,0 +1,70 @@
+-- The tokens that a clause is made of.
+use Rattle.std.specs.Prelude.{ℕ, Bool, ◌&&◌, nat_eq, List, codes}
+use Rattle.std.specs.Str.{str_eq_ignore_ascii_case}
+use Rattle.stl_lexer.specs.declared.kinds.Token.{Token}
+use Rattle.stl_lexer.specs.declared.kinds.TokenKind.{TokenKind}
+use Rattle.stl_lexer.specs.declared.kinds.TokenKind.TheVariants as kind
+use Rattle.stl_lexer.specs.Tokens.{text_of}
+use Rattle.stl_parser.specs.declared.keywords.Mark.{Mark}
+use Rattle.stl_parser.specs.declared.keywords.Mark.TheVariants as mark
+use Rattle.stl_parser.specs.declared.keywords.Key.{Key}
+use Rattle.stl_parser.specs.declared.keywords.Key.TheVariants as key
+
+-- how a mark is written
+unfoldable pub mark_text : Mark → List ℕ
+mark_text mark.Assign = codes ":="
+mark_text mark.Colon = codes ":"
+mark_text mark.Semicolon = codes ";"
+mark_text mark.Comma = codes ","
+mark_text mark.Dot = codes "."
+mark_text mark.DotDot = codes ".."
+mark_text mark.OpenParen = codes "("
+mark_text mark.CloseParen = codes ")"
+mark_text mark.OpenBracket = codes "["
+mark_text mark.CloseBracket = codes "]"
+mark_text mark.Plus = codes "+"
+mark_text mark.Minus = codes "-"
+mark_text mark.Pointer = codes "P#"
+mark_text mark.Bytes = codes "B#("
+
+-- how a word of the language is written
+unfoldable pub key_text : Key → List ℕ
+key_text key.True = codes "TRUE"
+key_text key.False = codes "FALSE"
+key_text key.Array = codes "ARRAY"
+key_text key.Of = codes "OF"
+key_text key.Struct = codes "STRUCT"
+key_text key.Void = codes "VOID"
+key_text key.DateAndTime = codes "DATE_AND_TIME"
+key_text key.Ar1 = codes "AR1"
+key_text key.Ar2 = codes "AR2"
+key_text key.B = codes "B"
+key_text key.W = codes "W"
+key_text key.D = codes "D"
+
+-- the place of a kind in the table of tokens
+abbrev pub kind_rank : TokenKind → ℕ
+kind_rank kind.Word = 0
+kind_rank kind.Number = 1
+kind_rank kind.Quoted = 2
+kind_rank kind.Local = 3
+kind_rank kind.Characters = 4
+kind_rank kind.Based = 5
+kind_rank kind.NumberLiteral = 6
+kind_rank kind.TimeLiteral = 7
+kind_rank kind.Mark = 8
+kind_rank kind.SignWord = 9
+kind_rank kind.Attribute = 10
+kind_rank kind.Title = 11
+
+-- the token is of this kind
+unfoldable pub has_kind : Token → TokenKind → Bool
+has_kind t k = nat_eq (kind_rank t.kind) (kind_rank k)
+
+-- the token is this mark
+unfoldable pub is_mark : List ℕ → Token → Mark → Bool
+is_mark source t m = has_kind t kind.Mark && str_eq_ignore_ascii_case (text_of source t) (mark_text m)
+
+-- the token is this word of the language, without case
+unfoldable pub is_key : List ℕ → Token → Key → Bool
+is_key source t k = has_kind t kind.Word && str_eq_ignore_ascii_case (text_of source t) (key_text k)

@@ -1,0 +1,382 @@
+ghost use Rattle.std.specs.Prelude.{◌≡◌, IfOk};
+ghost use Rattle.stl_ast.specs.Outline.{level_behind};
+ghost use Rattle.stl_parser.specs.Frame.{
+  has_body,
+  has_shape,
+  part_rank,
+  may_have,
+  has_no_init,
+  is_date_and_time,
+  is_single,
+  may_init,
+  may_date,
+  may_declare,
+  section_behind,
+  shape_behind,
+  follow_head,
+  follow_section,
+  follow_between,
+  follow_shape,
+  follow_shaped,
+  follow_body,
+  follow_settings,
+  follow_outside,
+  follow,
+};
+
+use crate::clauses::{Clause, block_rank};
+use crate::places::Place;
+use plc_base::BlockKind;
+use std::alloc::AllocError;
+use stl_ast::{Bounds, Declaration, ElementType, Init, PartKind};
+
+/// Whether a block of this kind has a body.
+fn has_body(kind: BlockKind) -> bool
+    ensures { result ≡ has_body kind }
+{
+    matches!(kind, BlockKind::Ob | BlockKind::Fc | BlockKind::Fb)
+}
+
+/// Whether a block of this kind has a structure.
+fn has_shape(kind: BlockKind) -> bool
+    ensures { result ≡ has_shape kind }
+{
+    matches!(kind, BlockKind::Db | BlockKind::Udt)
+}
+
+/// The place of a section among those of a block.
+fn part_rank(part: PartKind) -> u8
+    ensures { result ≡ part_rank part }
+{
+    match part {
+        PartKind::Input => 0,
+        PartKind::Output => 1,
+        PartKind::InOut => 2,
+        PartKind::Static => 3,
+        PartKind::Temp => 4,
+    }
+}
+
+/// Whether a block of this kind has such a section: an organization block VAR_TEMP alone, a
+/// function all but VAR.
+#[tactic(auto, unfolding(crate::specs::Frame::may_have))]
+fn may_have(kind: BlockKind, part: PartKind) -> bool
+    ensures { result ≡ may_have kind part }
+{
+    match kind {
+        BlockKind::Ob => part_rank(part) == 4,
+        BlockKind::Fc => part_rank(part) != 3,
+        BlockKind::Fb => true,
+        _ => false,
+    }
+}
+
+/// Whether there are no initial values.
+fn has_no_init(init: &[Init]) -> bool
+    ensures { result ≡ has_no_init init.now }
+{
+    match init {
+        [] => true,
+        [_, ..] => false,
+    }
+}
+
+/// Whether this is DATE_AND_TIME, as a type or as the elements of an array.
+fn is_date_and_time(of: &ElementType) -> bool
+    ensures { result ≡ is_date_and_time of.now }
+{
+    matches!(of, ElementType::DateAndTime)
+}
+
+/// Whether a type is no array.
+fn is_single(arrays: &[Bounds]) -> bool
+    ensures { result ≡ is_single arrays.now }
+{
+    match arrays {
+        [] => true,
+        [_, ..] => false,
+    }
+}
+
+/// Whether initial values may stand in this section: in those of a function block but VAR_TEMP.
+#[tactic(auto, unfolding(crate::specs::Frame::may_init))]
+fn may_init(kind: BlockKind, part: PartKind) -> bool
+    ensures { result ≡ may_init kind part }
+{
+    match kind {
+        BlockKind::Fb => !matches!(part, PartKind::Temp),
+        _ => false,
+    }
+}
+
+/// Whether DATE_AND_TIME may stand here: directly in VAR_TEMP, in no array and no structure.
+#[tactic(auto, unfolding(crate::specs::Frame::may_date))]
+fn may_date(part: PartKind, level: u32, arrays: &[Bounds]) -> bool
+    ensures { result ≡ may_date part level arrays.now }
+{
+    match part {
+        PartKind::Temp => level == 0 && is_single(arrays),
+        _ => false,
+    }
+}
+
+/// Whether a declaration may stand in this section, inside so many structures.
+#[tactic(auto, unfolding(crate::specs::Frame::may_declare))]
+fn may_declare(kind: BlockKind, part: PartKind, level: u32, declaration: &Declaration) -> bool
+    ensures { result ≡ may_declare kind part level declaration.now }
+{
+    (has_no_init(declaration.init.as_slice()) || may_init(kind, part))
+        && (!is_date_and_time(&declaration.of.of)
+            || may_date(part, level, declaration.of.arrays.as_slice()))
+}
+
+/// The level behind a declaration. No source has as many open structures as a level can't count.
+pub(crate) fn level_behind(level: u32, of: &ElementType) -> Result<u32, AllocError>
+    ensures { IfOk result (λ behind. behind ≡ level_behind level of.now) }
+{
+    match of {
+        ElementType::Structure => level.checked_add(1).ok_or(AllocError),
+        _ => Ok(level),
+    }
+}
+
+/// Where the clauses behind an END_STRUCT stand, in a section.
+fn section_behind(kind: BlockKind, part: PartKind, level: u32) -> Option<Place>
+    ensures { result ≡ section_behind kind part level }
+{
+    if level == 0 {
+        None
+    } else {
+        Some(Place::Section {
+            kind,
+            part,
+            level: level - 1,
+        })
+    }
+}
+
+/// Where the clauses behind an END_STRUCT stand, in a data block or a `TYPE` block.
+fn shape_behind(kind: BlockKind, level: u32) -> Option<Place>
+    ensures { result ≡ shape_behind kind level }
+{
+    if level == 0 {
+        Some(Place::Shaped { kind })
+    } else {
+        Some(Place::Shape {
+            kind,
+            level: level - 1,
+        })
+    }
+}
+
+/// What may stand in the head of a block.
+#[tactic(auto, unfolding(crate::specs::Frame::follow_head))]
+fn follow_head(kind: BlockKind, clause: &Clause) -> Option<Place>
+    ensures { result ≡ follow_head kind clause.now }
+{
+    match clause {
+        Clause::Note => Some(Place::Head { kind }),
+        Clause::Title => Some(Place::Head { kind }),
+        Clause::Section {
+            line: _,
+            kind: part,
+        } => {
+            if may_have(kind, *part) {
+                Some(Place::Section {
+                    kind,
+                    part: *part,
+                    level: 0,
+                })
+            } else {
+                None
+            }
+        }
+        Clause::Begins => {
+            if has_body(kind) {
+                Some(Place::Body { kind })
+            } else {
+                None
+            }
+        }
+        Clause::Structure => {
+            if has_shape(kind) {
+                Some(Place::Shape { kind, level: 0 })
+            } else {
+                None
+            }
+        }
+        Clause::Based { name: _ } => {
+            if block_rank(kind) == 3 {
+                Some(Place::Shaped { kind })
+            } else {
+                None
+            }
+        }
+        _ => None,
+    }
+}
+
+/// What may stand in a section.
+#[tactic(auto, unfolding(crate::specs::Frame::follow_section))]
+fn follow_section(
+    kind: BlockKind,
+    part: PartKind,
+    level: u32,
+    clause: &Clause,
+) -> Result<Option<Place>, AllocError>
+    ensures { IfOk result (λ next. next ≡ follow_section kind part level clause.now) }
+{
+    match clause {
+        Clause::EndSection => {
+            if level == 0 {
+                Ok(Some(Place::Between { kind, last: part }))
+            } else {
+                Ok(None)
+            }
+        }
+        Clause::Declares { declaration } => {
+            if !may_declare(kind, part, level, declaration) {
+                return Ok(None);
+            }
+            let level = level_behind(level, &declaration.of.of)?;
+            Ok(Some(Place::Section { kind, part, level }))
+        }
+        Clause::EndStructure => Ok(section_behind(kind, part, level)),
+        _ => Ok(None),
+    }
+}
+
+/// What may stand behind a section: a later section, or the body.
+#[tactic(auto, unfolding(crate::specs::Frame::follow_between))]
+fn follow_between(kind: BlockKind, last: PartKind, clause: &Clause) -> Option<Place>
+    ensures { result ≡ follow_between kind last clause.now }
+{
+    match clause {
+        Clause::Section {
+            line: _,
+            kind: part,
+        } => {
+            if may_have(kind, *part) && part_rank(last) < part_rank(*part) {
+                Some(Place::Section {
+                    kind,
+                    part: *part,
+                    level: 0,
+                })
+            } else {
+                None
+            }
+        }
+        Clause::Begins => Some(Place::Body { kind }),
+        _ => None,
+    }
+}
+
+/// What may stand in the structure of a data block or of a `TYPE` block.
+#[tactic(auto, unfolding(crate::specs::Frame::follow_shape))]
+fn follow_shape(kind: BlockKind, level: u32, clause: &Clause) -> Result<Option<Place>, AllocError>
+    ensures { IfOk result (λ next. next ≡ follow_shape kind level clause.now) }
+{
+    match clause {
+        Clause::Declares { declaration } => {
+            if is_date_and_time(&declaration.of.of) {
+                return Ok(None);
+            }
+            let level = level_behind(level, &declaration.of.of)?;
+            Ok(Some(Place::Shape { kind, level }))
+        }
+        Clause::EndStructure => Ok(shape_behind(kind, level)),
+        _ => Ok(None),
+    }
+}
+
+/// What may stand behind it: the settings of a data block, or the end of a `TYPE` block.
+#[tactic(auto, unfolding(crate::specs::Frame::follow_shaped))]
+fn follow_shaped(kind: BlockKind, clause: &Clause) -> Option<Place>
+    ensures { result ≡ follow_shaped kind clause.now }
+{
+    match kind {
+        BlockKind::Db => match clause {
+            Clause::Begins => Some(Place::Settings),
+            _ => None,
+        },
+        BlockKind::Udt => match clause {
+            Clause::Ends {
+                line: _,
+                kind: BlockKind::Udt,
+            } => Some(Place::Outside),
+            _ => None,
+        },
+        _ => None,
+    }
+}
+
+/// What may stand in a body.
+#[tactic(auto, unfolding(crate::specs::Frame::follow_body))]
+fn follow_body(kind: BlockKind, clause: &Clause) -> Option<Place>
+    ensures { result ≡ follow_body kind clause.now }
+{
+    match clause {
+        Clause::Runs { statement: _ } => Some(Place::Body { kind }),
+        Clause::Network => Some(Place::Body { kind }),
+        Clause::Title => Some(Place::Body { kind }),
+        Clause::Ends {
+            line: _,
+            kind: ended,
+        } => {
+            if block_rank(*ended) == block_rank(kind) {
+                Some(Place::Outside)
+            } else {
+                None
+            }
+        }
+        _ => None,
+    }
+}
+
+/// What may stand in the BEGIN part of a data block.
+#[tactic(auto, unfolding(crate::specs::Frame::follow_settings))]
+fn follow_settings(clause: &Clause) -> Option<Place>
+    ensures { result ≡ follow_settings clause.now }
+{
+    match clause {
+        Clause::Sets { setting: _ } => Some(Place::Settings),
+        Clause::Ends {
+            line: _,
+            kind: BlockKind::Db,
+        } => Some(Place::Outside),
+        _ => None,
+    }
+}
+
+/// What may stand between blocks.
+#[tactic(auto, unfolding(crate::specs::Frame::follow_outside))]
+fn follow_outside(clause: &Clause) -> Option<Place>
+    ensures { result ≡ follow_outside clause.now }
+{
+    match clause {
+        Clause::Head {
+            line: _,
+            kind,
+            name: _,
+            result: _,
+        } => Some(Place::Head { kind: *kind }),
+        _ => None,
+    }
+}
+
+/// Where the next clause stands, or None where such a clause may not stand here.
+#[tactic(auto, unfolding(crate::specs::Frame::follow))]
+pub(crate) fn follow(at: Place, clause: &Clause) -> Result<Option<Place>, AllocError>
+    ensures { IfOk result (λ next. next ≡ follow at clause.now) }
+{
+    match at {
+        Place::Outside => Ok(follow_outside(clause)),
+        Place::Head { kind } => Ok(follow_head(kind, clause)),
+        Place::Section { kind, part, level } => follow_section(kind, part, level, clause),
+        Place::Between { kind, last } => Ok(follow_between(kind, last, clause)),
+        Place::Shape { kind, level } => follow_shape(kind, level, clause),
+        Place::Shaped { kind } => Ok(follow_shaped(kind, clause)),
+        Place::Body { kind } => Ok(follow_body(kind, clause)),
+        Place::Settings => Ok(follow_settings(clause)),
+    }
+}

@@ -1,0 +1,25 @@
+//! The parser of STL sources: `parse` reads the tokens of a source into its tree, or names the first
+//! clause that breaks a rule of the grammar.
+#![tactic(auto)]
+
+mod addresses;
+mod clauses;
+mod declarations;
+mod frames;
+mod keywords;
+mod literals;
+mod numbers;
+mod operands;
+mod paths;
+mod places;
+mod sources;
+mod statements;
+mod tables;
+mod trees;
+mod types;
+mod values;
+
+pub use sources::{law_of_clauses, parse};
+
+#[cfg(test)]
+mod tests;

@@ -1,0 +1,599 @@
+ghost use Rattle.std.specs.Prelude.{◌≡◌, ◌≤◌, ◌||◌, IfOk, [], length, drop, take};
+ghost use Rattle.std.specs.Option.{option_map, option_and_then};
+ghost use Rattle.stl_lexer.specs.Tokens.{text_of};
+ghost use Rattle.stl_parser.specs.Parts.{parts_from, whole};
+ghost use Rattle.stl_parser.specs.Statements.{
+  value_ends,
+  value_length,
+  value_of,
+  actual_at,
+  next_actual,
+  actuals_end,
+  actuals_behind,
+  actuals_of,
+  may_be,
+  is_fb,
+  is_db,
+  data_block_at,
+  instance_at,
+  plain,
+  call_of,
+  block_call_of,
+  with_operand,
+  is_long,
+  jump_of,
+  open_of,
+  behind_word,
+  after_paren,
+  opening_of,
+  closed_of,
+  instruction_of,
+  statement,
+  labelled,
+  unlabelled,
+  statement_of,
+};
+
+use crate::addresses::block;
+use crate::keywords::{Mark, has_kind, is_mark, text};
+use crate::literals::unquoted;
+use crate::operands::operand;
+use crate::tables::{Form, mnemonic_of, opening_mnemonic_of};
+use plc_base::BlockKind;
+use std::alloc::{AllocError, Global};
+use stl_ast::{Actual, BlockName, Mnemonic, Name, Operand, Sequence, Statement};
+use stl_lexer::{Token, TokenKind};
+
+/// The most characters that a label may have.
+pub const LABEL_LENGTH: usize = 4;
+
+/// An instruction with its operand; `long` says that a label in it is too long.
+#[derive(Drop)]
+pub struct Instruction {
+    pub code: Mnemonic,
+    pub operand: Operand,
+    pub actuals: Sequence<Actual>,
+    pub long: bool,
+}
+
+/// Whether the value of an actual parameter ends here: before a `)` that is last, and before a
+/// comma with the next parameter.
+#[tactic(auto, unfolding(crate::specs::Statements::value_ends))]
+fn value_ends(source: &[u8], tokens: &[Token]) -> bool
+    ensures { result ≡ value_ends source.now tokens.now }
+{
+    match tokens {
+        [close] => is_mark(source, close, Mark::CloseParen),
+        [comma, word, assign, ..] => {
+            is_mark(source, comma, Mark::Comma)
+                && has_kind(word, TokenKind::Word)
+                && is_mark(source, assign, Mark::Assign)
+        }
+        _ => false,
+    }
+}
+
+/// How many tokens the value at the front has.
+#[tactic(auto, unfolding(crate::specs::Statements::value_length))]
+fn value_length(source: &[u8], tokens: &[Token]) -> usize
+    ensures value { result ≡ value_length source.now tokens.now }
+    ensures within { result ≤ length tokens.now }
+{
+    let mut count = 0;
+    let mut rest = tokens;
+    while let [_, more @ ..] = rest {
+        if value_ends(source, rest) {
+            return count;
+        }
+        count += 1;
+        rest = more;
+    }
+    count
+}
+
+/// The value of an actual parameter: any operand but none.
+#[tactic(auto, unfolding(crate::specs::Statements::value_of))]
+fn value(alloc: Global, source: &[u8], tokens: &[Token]) -> Result<Option<Operand>, AllocError>
+    ensures { IfOk result (λ found. found ≡ value_of source.now tokens.now) }
+{
+    match tokens {
+        [] => Ok(None),
+        [_, ..] => operand(alloc, source, tokens),
+    }
+}
+
+/// An actual parameter, `word := value`, and what follows.
+#[tactic(auto, unfolding(crate::specs::Statements::actual_at))]
+fn actual<'a>(
+    alloc: Global,
+    source: &[u8],
+    tokens: &'a [Token],
+) -> Result<Option<(Actual, &'a [Token])>, AllocError>
+    ensures { IfOk result (λ found. option_map (λ r. (r.0, r.1.now)) found ≡ actual_at source.now tokens.now) }
+{
+    let [word, assign, rest @ ..] = tokens else {
+        return Ok(None);
+    };
+    if !(has_kind(word, TokenKind::Word) && is_mark(source, assign, Mark::Assign)) {
+        return Ok(None);
+    }
+    let (value_tokens, rest) = rest.split_at(value_length(source, rest));
+    let Some(value) = value(alloc, source, value_tokens)? else {
+        return Ok(None);
+    };
+    let name = Name::new(alloc, text(source, word))?;
+    Ok(Some((
+        Actual {
+            line: word.line,
+            name,
+            value,
+        },
+        rest,
+    )))
+}
+
+/// A further actual parameter, behind its comma.
+#[tactic(auto, unfolding(crate::specs::Statements::next_actual))]
+fn next_actual<'a>(
+    alloc: Global,
+    source: &[u8],
+    tokens: &'a [Token],
+) -> Result<Option<(Actual, &'a [Token])>, AllocError>
+    ensures { IfOk result (λ found. option_map (λ r. (r.0, r.1.now)) found ≡ next_actual source.now tokens.now) }
+{
+    let [token, rest @ ..] = tokens else {
+        return Ok(None);
+    };
+    if is_mark(source, token, Mark::Comma) {
+        actual(alloc, source, rest)
+    } else {
+        Ok(None)
+    }
+}
+
+/// The last token is `)`; nothing stands behind it.
+#[tactic(auto, unfolding(crate::specs::Statements::actuals_end))]
+fn actuals_end<'a>(source: &[u8], tokens: &'a [Token]) -> Option<&'a [Token]>
+    ensures { option_map (λ r. r.now) result ≡ actuals_end source.now tokens.now }
+{
+    match tokens {
+        [close] => {
+            if is_mark(source, close, Mark::CloseParen) {
+                Some(&[])
+            } else {
+                None
+            }
+        }
+        _ => None,
+    }
+}
+
+/// Further actual parameters behind the first ones, up to the `)`.
+#[tactic(auto, using(crate::proofs::PartLemmas::parts_from_end, crate::proofs::PartLemmas::parts_from_stuck, crate::proofs::PartLemmas::parts_from_part, crate::proofs::PartLemmas::parts_from_over))]
+fn further_actuals<'a>(
+    alloc: Global,
+    source: &[u8],
+    first: Vec<Actual>,
+    tokens: &'a [Token],
+) -> Result<Option<(Sequence<Actual>, &'a [Token])>, AllocError>
+    ensures { IfOk result (λ found. option_map (λ r. (r.0, r.1.now)) found ≡ parts_from (actuals_end source.now) (next_actual source.now) first.items (length tokens.now) tokens.now) }
+{
+    let mut read = first;
+    let mut rest = tokens;
+    for _done in 0..tokens.len() {
+        if let Some(end) = actuals_end(source, rest) {
+            return Ok(Some((Sequence::from_vec(read), end)));
+        }
+        let Some((actual, more)) = next_actual(alloc, source, rest)? else {
+            return Ok(None);
+        };
+        read.push(actual)?;
+        rest = more;
+    }
+    match actuals_end(source, rest) {
+        Some(end) => Ok(Some((Sequence::from_vec(read), end))),
+        None => Ok(None),
+    }
+}
+
+/// The actual parameters behind `(`, with its `)` as the last token.
+#[tactic(auto, unfolding(crate::specs::Statements::actuals_behind))]
+fn actuals_behind(
+    alloc: Global,
+    source: &[u8],
+    tokens: &[Token],
+) -> Result<Option<Sequence<Actual>>, AllocError>
+    ensures { IfOk result (λ found. found ≡ actuals_behind source.now tokens.now) }
+{
+    let Some((actual, rest)) = actual(alloc, source, tokens)? else {
+        return Ok(None);
+    };
+    let mut first = Vec::new(alloc);
+    first.push(actual)?;
+    match further_actuals(alloc, source, first, rest)? {
+        Some((actuals, [])) => Ok(Some(actuals)),
+        _ => Ok(None),
+    }
+}
+
+/// The actual parameters of a call: none, or those in parentheses.
+#[tactic(auto, unfolding(crate::specs::Statements::actuals_of))]
+fn actuals(
+    alloc: Global,
+    source: &[u8],
+    tokens: &[Token],
+) -> Result<Option<Sequence<Actual>>, AllocError>
+    ensures { IfOk result (λ found. found ≡ actuals_of source.now tokens.now) }
+{
+    let [token, rest @ ..] = tokens else {
+        return Ok(Some(Sequence::from_vec(Vec::new(alloc))));
+    };
+    if is_mark(source, token, Mark::OpenParen) {
+        actuals_behind(alloc, source, rest)
+    } else {
+        Ok(None)
+    }
+}
+
+/// Whether the name may be that of a function block.
+fn may_be_fb(name: &BlockName) -> bool
+    ensures { result ≡ may_be name.now is_fb }
+{
+    match name {
+        BlockName::Number { id } => matches!(id.kind, BlockKind::Fb),
+        BlockName::Quoted { name: _ } => true,
+    }
+}
+
+/// Whether the name may be that of a data block.
+fn may_be_db(name: &BlockName) -> bool
+    ensures { result ≡ may_be name.now is_db }
+{
+    match name {
+        BlockName::Number { id } => matches!(id.kind, BlockKind::Db),
+        BlockName::Quoted { name: _ } => true,
+    }
+}
+
+/// The data block behind the comma of a call.
+#[tactic(auto, unfolding(crate::specs::Statements::data_block_at))]
+fn data_block<'a>(
+    alloc: Global,
+    source: &[u8],
+    tokens: &'a [Token],
+) -> Result<Option<(BlockName, &'a [Token])>, AllocError>
+    ensures { IfOk result (λ found. option_map (λ r. (r.0, r.1.now)) found ≡ data_block_at source.now tokens.now) }
+{
+    let Some((name, rest)) = block(alloc, source, tokens)? else {
+        return Ok(None);
+    };
+    if may_be_db(&name) {
+        Ok(Some((name, rest)))
+    } else {
+        Ok(None)
+    }
+}
+
+/// The instance of a call, `, DB n` behind a function block, and what follows.
+#[tactic(auto, unfolding(crate::specs::Statements::instance_at))]
+fn instance<'a>(
+    alloc: Global,
+    source: &[u8],
+    name: &BlockName,
+    tokens: &'a [Token],
+) -> Result<Option<(Option<BlockName>, &'a [Token])>, AllocError>
+    ensures { IfOk result (λ found. option_map (λ r. (r.0, r.1.now)) found ≡ instance_at source.now name.now tokens.now) }
+{
+    let [token, rest @ ..] = tokens else {
+        return Ok(Some((None, tokens)));
+    };
+    if !is_mark(source, token, Mark::Comma) {
+        return Ok(Some((None, tokens)));
+    }
+    if !may_be_fb(name) {
+        return Ok(None);
+    }
+    let Some((instance, rest)) = data_block(alloc, source, rest)? else {
+        return Ok(None);
+    };
+    Ok(Some((Some(instance), rest)))
+}
+
+/// An instruction without actual parameters and without a label that is too long.
+fn plain(alloc: Global, code: Mnemonic, operand: Operand) -> Instruction
+    ensures { result ≡ plain code operand }
+{
+    Instruction {
+        code,
+        operand,
+        actuals: Sequence::from_vec(Vec::new(alloc)),
+        long: false,
+    }
+}
+
+/// CALL, behind the word.
+#[tactic(auto, unfolding(crate::specs::Statements::call_of))]
+fn call(
+    alloc: Global,
+    source: &[u8],
+    code: Mnemonic,
+    tokens: &[Token],
+) -> Result<Option<Instruction>, AllocError>
+    ensures { IfOk result (λ found. found ≡ call_of source.now code tokens.now) }
+{
+    let Some((name, rest)) = block(alloc, source, tokens)? else {
+        return Ok(None);
+    };
+    let Some((instance, rest)) = instance(alloc, source, &name, rest)? else {
+        return Ok(None);
+    };
+    let Some(actuals) = actuals(alloc, source, rest)? else {
+        return Ok(None);
+    };
+    let operand = Operand::Called { name, instance };
+    Ok(Some(Instruction {
+        code,
+        operand,
+        actuals,
+        long: false,
+    }))
+}
+
+/// UC and CC, behind the word: one block.
+#[tactic(auto, unfolding(crate::specs::Statements::block_call_of))]
+fn block_call(
+    alloc: Global,
+    source: &[u8],
+    code: Mnemonic,
+    tokens: &[Token],
+) -> Result<Option<Instruction>, AllocError>
+    ensures { IfOk result (λ found. found ≡ block_call_of source.now code tokens.now) }
+{
+    match block(alloc, source, tokens)? {
+        Some((name, [])) => {
+            let operand = Operand::Called {
+                name,
+                instance: None,
+            };
+            Ok(Some(plain(alloc, code, operand)))
+        }
+        _ => Ok(None),
+    }
+}
+
+/// An instruction with an operand of any form, behind the word.
+#[tactic(auto, unfolding(crate::specs::Statements::with_operand))]
+fn with_operand(
+    alloc: Global,
+    source: &[u8],
+    code: Mnemonic,
+    tokens: &[Token],
+) -> Result<Option<Instruction>, AllocError>
+    ensures { IfOk result (λ found. found ≡ with_operand source.now code tokens.now) }
+{
+    let Some(operand) = operand(alloc, source, tokens)? else {
+        return Ok(None);
+    };
+    Ok(Some(plain(alloc, code, operand)))
+}
+
+/// Whether a label is too long.
+#[tactic(auto, unfolding(crate::specs::Statements::is_long))]
+fn is_long(source: &[u8], token: &Token) -> bool
+    ensures { result ≡ is_long source.now token.now }
+{
+    text(source, token).len() > LABEL_LENGTH
+}
+
+/// A jump, behind the word: a word that stands alone is its label.
+#[tactic(auto, unfolding(crate::specs::Statements::jump_of))]
+fn jump(
+    alloc: Global,
+    source: &[u8],
+    code: Mnemonic,
+    tokens: &[Token],
+) -> Result<Option<Instruction>, AllocError>
+    ensures { IfOk result (λ found. found ≡ jump_of source.now code tokens.now) }
+{
+    match tokens {
+        [token] if has_kind(token, TokenKind::Word) => {
+            let name = Name::new(alloc, text(source, token))?;
+            Ok(Some(Instruction {
+                code,
+                operand: Operand::Label { name },
+                actuals: Sequence::from_vec(Vec::new(alloc)),
+                long: is_long(source, token),
+            }))
+        }
+        _ => with_operand(alloc, source, code, tokens),
+    }
+}
+
+/// OPN, behind the word: a quoted name that stands alone is a data block for the DB register.
+#[tactic(auto, unfolding(crate::specs::Statements::open_of))]
+fn open(
+    alloc: Global,
+    source: &[u8],
+    code: Mnemonic,
+    tokens: &[Token],
+) -> Result<Option<Instruction>, AllocError>
+    ensures { IfOk result (λ found. found ≡ open_of source.now code tokens.now) }
+{
+    match tokens {
+        [token] if has_kind(token, TokenKind::Quoted) => {
+            let name = Name::new(alloc, unquoted(text(source, token)))?;
+            let operand = Operand::OpenBlock {
+                di: false,
+                name: BlockName::Quoted { name },
+            };
+            Ok(Some(plain(alloc, code, operand)))
+        }
+        _ => with_operand(alloc, source, code, tokens),
+    }
+}
+
+/// What may stand behind an instruction word of this form.
+#[tactic(auto, unfolding(crate::specs::Statements::behind_word))]
+fn behind_word(
+    alloc: Global,
+    source: &[u8],
+    form: Form,
+    code: Mnemonic,
+    tokens: &[Token],
+) -> Result<Option<Instruction>, AllocError>
+    ensures { IfOk result (λ found. found ≡ behind_word source.now form code tokens.now) }
+{
+    match form {
+        Form::Operand => with_operand(alloc, source, code, tokens),
+        Form::Jump => jump(alloc, source, code, tokens),
+        Form::Open => open(alloc, source, code, tokens),
+        Form::BlockCall => block_call(alloc, source, code, tokens),
+        Form::Call => call(alloc, source, code, tokens),
+    }
+}
+
+/// A `(` at the front, and what follows.
+#[tactic(auto, unfolding(crate::specs::Statements::after_paren))]
+fn after_paren<'a>(source: &[u8], tokens: &'a [Token]) -> Option<&'a [Token]>
+    ensures { option_map (λ r. r.now) result ≡ after_paren source.now tokens.now }
+{
+    let [token, rest @ ..] = tokens else {
+        return None;
+    };
+    if is_mark(source, token, Mark::OpenParen) {
+        Some(rest)
+    } else {
+        None
+    }
+}
+
+/// An instruction word that opens a bracket: the word and a `(`.
+#[tactic(auto, unfolding(crate::specs::Statements::opening_of))]
+fn opening(
+    alloc: Global,
+    source: &[u8],
+    token: &Token,
+    rest: &[Token],
+) -> Result<Option<Instruction>, AllocError>
+    ensures { IfOk result (λ found. found ≡ opening_of source.now token.now rest.now) }
+{
+    let Some(code) = opening_mnemonic_of(text(source, token)) else {
+        return Ok(None);
+    };
+    let Some(behind) = after_paren(source, rest) else {
+        return Ok(None);
+    };
+    with_operand(alloc, source, code, behind)
+}
+
+/// An instruction that opens no bracket.
+#[tactic(auto, unfolding(crate::specs::Statements::closed_of))]
+fn closed(
+    alloc: Global,
+    source: &[u8],
+    token: &Token,
+    rest: &[Token],
+) -> Result<Option<Instruction>, AllocError>
+    ensures { IfOk result (λ found. found ≡ closed_of source.now token.now rest.now) }
+{
+    let Some((code, form)) = mnemonic_of(text(source, token)) else {
+        return Ok(None);
+    };
+    behind_word(alloc, source, form, code, rest)
+}
+
+/// An instruction that is all of the tokens.
+#[tactic(auto, unfolding(crate::specs::Statements::instruction_of))]
+fn whole_instruction(
+    alloc: Global,
+    source: &[u8],
+    tokens: &[Token],
+) -> Result<Option<Instruction>, AllocError>
+    ensures { IfOk result (λ found. found ≡ instruction_of source.now tokens.now) }
+{
+    let [token, rest @ ..] = tokens else {
+        return Ok(None);
+    };
+    if let Some(opening) = opening(alloc, source, token, rest)? {
+        return Ok(Some(opening));
+    }
+    closed(alloc, source, token, rest)
+}
+
+/// The statement of an instruction.
+fn statement_with(line: u32, label: Option<Name>, instruction: Instruction) -> Statement
+    ensures { result ≡ statement line label instruction }
+{
+    let Instruction {
+        code,
+        operand,
+        actuals,
+        long: _,
+    } = instruction;
+    Statement {
+        line,
+        label,
+        code,
+        operand,
+        actuals,
+    }
+}
+
+/// A statement with a label, behind the `:`, and whether a label in it is too long.
+#[tactic(auto, unfolding(crate::specs::Statements::labelled))]
+fn labelled(
+    alloc: Global,
+    source: &[u8],
+    line: u32,
+    word: &Token,
+    tokens: &[Token],
+) -> Result<Option<(Statement, bool)>, AllocError>
+    ensures { IfOk result (λ found. found ≡ labelled source.now line word.now tokens.now) }
+{
+    let Some(instruction) = whole_instruction(alloc, source, tokens)? else {
+        return Ok(None);
+    };
+    let long = instruction.long || is_long(source, word);
+    let label = Name::new(alloc, text(source, word))?;
+    Ok(Some((statement_with(line, Some(label), instruction), long)))
+}
+
+/// A statement without a label, and whether a label in it is too long.
+#[tactic(auto, unfolding(crate::specs::Statements::unlabelled))]
+fn unlabelled(
+    alloc: Global,
+    source: &[u8],
+    line: u32,
+    tokens: &[Token],
+) -> Result<Option<(Statement, bool)>, AllocError>
+    ensures { IfOk result (λ found. found ≡ unlabelled source.now line tokens.now) }
+{
+    let Some(instruction) = whole_instruction(alloc, source, tokens)? else {
+        return Ok(None);
+    };
+    let long = instruction.long;
+    Ok(Some((statement_with(line, None, instruction), long)))
+}
+
+/// A statement that is all of the tokens before its `;`, and whether a label in it is too long.
+#[tactic(auto, unfolding(crate::specs::Statements::statement_of))]
+pub(crate) fn statement(
+    alloc: Global,
+    source: &[u8],
+    line: u32,
+    tokens: &[Token],
+) -> Result<Option<(Statement, bool)>, AllocError>
+    ensures { IfOk result (λ found. found ≡ statement_of source.now line tokens.now) }
+{
+    match tokens {
+        [] => {
+            let empty = plain(alloc, Mnemonic::Empty, Operand::Nothing);
+            Ok(Some((statement_with(line, None, empty), false)))
+        }
+        [word, colon, rest @ ..]
+            if has_kind(word, TokenKind::Word) && is_mark(source, colon, Mark::Colon) => {
+            labelled(alloc, source, line, word, rest)
+        }
+        _ => unlabelled(alloc, source, line, tokens),
+    }
+}
