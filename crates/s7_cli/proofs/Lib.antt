@@ -1,14 +1,10 @@
 pub mod RunLemmas
 pub mod TextLemmas
-pub mod TokenLemmas
 pub mod ListLemmas
-pub mod BlockLemmas
-pub mod PieceLemmas
 pub mod WordLemmas
 pub mod NumberLemmas
 pub mod LineLemmas
 pub mod HistoryLemmas
 pub mod TableLemmas
 pub mod ValidLemmas
-pub mod ThinLemmas
 pub mod GoLemmas

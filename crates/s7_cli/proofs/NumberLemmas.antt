@@ -5,7 +5,7 @@ use Rattle.std.specs.List.{list_all}
 use Rattle.std.specs.Str.Parse.{digits_value_after}
 use Rattle.std.proofs.lemmas.Grind.{common_steps}
 use Rattle.std.proofs.Math.Seq.{drop-cons}
-use Rattle.sem_kept.specs.Decimal.{decimal_value}
+use Rattle.s7_cli.specs.Decimal.{decimal_value}
 
 -- the number, where n was read of it and these bytes follow
 abbrev pub decimal_after : ℕ → List ℕ → Option ℕ

@@ -4,7 +4,7 @@ use Rattle.std.specs.Option.{option_map, option_and_then}
 use Rattle.std.specs.Str.Lines.{lines}
 use Rattle.std.proofs.lemmas.Grind.{common_steps}
 use Rattle.std.proofs.lemmas.List.Elements.{All-nil, All-cons, All-append, All-replicate}
-use Rattle.sem_kept.specs.Decimal.{decimal_value}
+use Rattle.s7_cli.specs.Decimal.{decimal_value}
 use Rattle.var_access.specs.Entry.{IsValid, IsPeripheralByte}
 use Rattle.var_access.specs.declared.entries.Entry.{Entry}
 use Rattle.s7_cli.specs.History.{hex_byte, one_step, steps_of, entries_of_step, is_peripheral, input_of, entries_of_in, arrival_of, entries_of_arrive, words_of, entries_of_words, is_skipped, entries_of_line, entries_of_lines, with_few_steps, history_of}

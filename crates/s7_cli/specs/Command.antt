@@ -1,16 +1,12 @@
 -- What the words of a call ask for, and which files that reads and writes.
-use Rattle.std.specs.Prelude.{ℕ, List, [], ◌∷◌, Option, Some, None, codes, bytes_eq, if◌then◌else◌}
+use Rattle.std.specs.Prelude.{ℕ, List, [], ◌∷◌}
 use Rattle.s7_cli.specs.declared.answers.File.{File}
 use Rattle.s7_cli.specs.declared.answers.File.TheVariants.{Source, History}
 
--- `go SRC HIST`: run a source along a history
+-- `go SRC HIST` runs a source along a history; `check SRC` judges a source
 pub data Command : Type 0 where
   Go : (source history : List ℕ) → Command
-
--- the words, without the program's name: any others are refused
-abbrev pub command_of : List (List ℕ) → Option Command
-command_of (command ∷ source ∷ history ∷ []) = if bytes_eq command (codes "go") then Some (Go source history) else None
-command_of words = None
+  Check : (source : List ℕ) → Command
 
 -- a file that a command reads: what it is read as, and its name
 pub record Input : Type 0 where
@@ -20,14 +16,17 @@ pub record Input : Type 0 where
 -- in the order in which they are read
 abbrev pub inputs_of : Command → List Input
 inputs_of (Go source history) = record { file = Source; name = source } ∷ record { file = History; name = history } ∷ []
+inputs_of (Check source) = record { file = Source; name = source } ∷ []
 
 -- the files that a command writes
 abbrev pub outputs_of : Command → List (List ℕ)
 outputs_of (Go source history) = []
+outputs_of (Check source) = []
 
 -- what it writes to one of them
 abbrev pub Writes : Command → List ℕ → List ℕ → Type 0
 Writes (Go source history) name bytes = ⊥
+Writes (Check source) name bytes = ⊥
 
 -- the most bytes that each file may hold
 abbrev pub limit_of : File → ℕ

@@ -7,14 +7,16 @@ use Rattle.plc_base.specs.declared.SourceFault.{SourceFault}
 use Rattle.plc_base.specs.declared.SourceFault.TheVariants.{Refused, NoMemory as no_memory}
 use Rattle.var_access.specs.declared.Entry.{Entry}
 use Rattle.controller.specs.declared.ThinOb.{ThinOb}
-use Rattle.sem_kept.specs.ThinSource.{IsThin}
+use Rattle.stl_ast.specs.declared.Tree.{Tree}
+use Rattle.sem_kept.specs.Built.{program_of}
+use Rattle.sem_kept.specs.ThinSource.{IsThin, IsRefused}
 use Rattle.s7_cli.specs.declared.answers.Answer.{Answer}
 use Rattle.s7_cli.specs.declared.endings.Ending.{Ending}
 use Rattle.s7_cli.specs.declared.endings.Ending.TheVariants.{Said, SinkFault, NoMemory}
 use Rattle.s7_cli.specs.Command.{Command, Input, limit_of}
 use Rattle.s7_cli.specs.History.{history_of}
 use Rattle.s7_cli.specs.Lines.{line_of}
-use Rattle.s7_cli.specs.Says.{GoSays, IsNoSource, not_built}
+use Rattle.s7_cli.specs.Says.{GoSays, CheckSays}
 use Rattle.s7_cli.specs.Ends.{FilesAt, SinkAt, Disk, Taking, Holds, StopsAt, Answers, CountsReads, IsSaid, IsSinkFault, IsNoMemory}
 use Rattle.s7_cli.specs.declared.answers.Answer.TheVariants.{Done}
 
@@ -42,8 +44,13 @@ FileRead view start now i (Err NoMemory) = OnlyReads start now
 
 -- a source that is refused
 abbrev pub RefusesSource : List ℕ → SourceFault → Type 0
-RefusesSource source (Refused refusal) = (refusal ≡ not_built) × IsNoSource source
+RefusesSource source (Refused refusal) = IsRefused source refusal
 RefusesSource source no_memory = Unit {0}
+
+-- a tree with a clause that isn't built
+abbrev pub RefusesTree : Tree → SourceFault → Type 0
+RefusesTree tree (Refused refusal) = (program_of tree ≡ Err refusal.line) × (refusal.rule ≡ 99)
+RefusesTree tree no_memory = Unit {0}
 
 -- the judging of what the files of `go` hold
 abbrev pub GoJudged : {V : Type 0} (program : V → List ThinOb) (entries : V → List Entry) → (source history : List ℕ) → Result V Ending → Type 0
@@ -51,6 +58,13 @@ GoJudged program entries source history (Ok v) = IsThin source (program v) × (h
 GoJudged program entries source history (Err (Said answer)) = GoSays source history answer (line_of answer)
 GoJudged program entries source history (Err SinkFault) = ⊥
 GoJudged program entries source history (Err NoMemory) = Unit {0}
+
+-- the judging of what the file of `check` holds
+abbrev pub CheckJudged : {V : Type 0} (program : V → List ThinOb) → (source : List ℕ) → Result V Ending → Type 0
+CheckJudged program source (Ok v) = IsThin source (program v)
+CheckJudged program source (Err (Said answer)) = CheckSays source answer (line_of answer)
+CheckJudged program source (Err SinkFault) = ⊥
+CheckJudged program source (Err NoMemory) = Unit {0}
 
 -- the writing of a whole text
 abbrev pub TextWritten : List ℕ → Taking → Result Unit Ending → Type 0
@@ -61,7 +75,7 @@ TextWritten text s (Err SinkFault) =
 TextWritten text s (Err NoMemory) = TookPrefix s.before.taken s.after.taken text × (s.after.faults ≡ s.before.faults)
 
 -- a refusal that isn't written yet
-pub record IsRefused (c : Option Command) (d : Disk) (s : Taking) (answer : Answer) : Type 0 where
+pub record Refuses (c : Option Command) (d : Disk) (s : Taking) (answer : Answer) : Type 0 where
   pub answers : Answers c d answer (line_of answer)
   pub taken : s.after.taken ≡ s.before.taken
   pub faults : s.after.faults ≡ s.before.faults
@@ -71,7 +85,7 @@ pub record IsRefused (c : Option Command) (d : Disk) (s : Taking) (answer : Answ
 -- how a command came out before its refusal is written
 abbrev pub Comes : Option Command → Disk → Taking → Result Unit Ending → Type 0
 Comes c d s (Ok done) = IsSaid c d s Done
-Comes c d s (Err (Said answer)) = IsRefused c d s answer
+Comes c d s (Err (Said answer)) = Refuses c d s answer
 Comes c d s (Err SinkFault) = IsSinkFault c d s
 Comes c d s (Err NoMemory) = IsNoMemory c d s
 

@@ -9,8 +9,6 @@ pub mod RunText
 pub mod Says
 pub mod Ends
 pub mod StatusTable
-pub mod Blocks
+pub mod Decimal
 pub mod Inner
-pub mod Within
-pub mod ThinClause
 pub mod Faults

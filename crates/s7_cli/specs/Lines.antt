@@ -16,6 +16,10 @@ unfoldable pub refusal_text : File → Refusal → List ℕ
 refusal_text file refusal =
     file_text file ++ codes " refused: line " ++ decimal refusal.line ++ codes " rule " ++ decimal refusal.rule ++ codes "\n"
 
+-- what `check` writes for a source that is accepted
+unfoldable pub ok_line : List ℕ
+ok_line = codes "OK\n"
+
 -- the line of an answer that is no result
 unfoldable pub line_of : Answer → List ℕ
 line_of WordsRefused = codes "words refused\n"

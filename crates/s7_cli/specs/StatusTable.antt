@@ -1,22 +1,23 @@
 -- The table of statuses, in so many words.
 use Rattle.std.specs.Prelude.{◌≡◌, ◌≢◌, ◌<◌, ◌≤◌, ◌⊎◌, ◌↔◌, ℕ, List, [], map, length, Contains, Option, Some, None, true}
+use Rattle.plc_base.specs.declared.Refusal.{Refusal}
 use Rattle.plc_io.specs.Contents.{SameFiles}
 use Rattle.plc_io.specs.Counts.{Rose}
 use Rattle.plc_io.specs.Taken.{Took}
 use Rattle.var_access.specs.declared.Entry.{Entry}
 use Rattle.controller.specs.declared.ThinOb.{ThinOb}
-use Rattle.sem_kept.specs.ThinSource.{IsThin}
+use Rattle.sem_kept.specs.ThinSource.{IsThin, IsRefused}
 use Rattle.sem_kept.specs.Tree.{tree_code}
 use Rattle.s7_cli.specs.declared.answers.Answer.{Answer}
 use Rattle.s7_cli.specs.declared.answers.Answer.TheVariants.{WordsRefused, ReadFault, TooLong, SourceRefused, HistoryRefused}
 use Rattle.s7_cli.specs.declared.answers.File.{File}
 use Rattle.s7_cli.specs.declared.answers.File.TheVariants.{Source, History}
-use Rattle.s7_cli.specs.Command.{Command, Go, inputs_of, limit_of}
+use Rattle.s7_cli.specs.Command.{Command, Go, Check, inputs_of, limit_of}
 use Rattle.s7_cli.specs.Ends.{Disk, Taking, written_names, CutShort, ChangesOutputs}
 use Rattle.s7_cli.specs.History.{history_of}
-use Rattle.s7_cli.specs.Lines.{line_of}
+use Rattle.s7_cli.specs.Lines.{line_of, ok_line}
 use Rattle.s7_cli.specs.RunText.{run_text}
-use Rattle.s7_cli.specs.Says.{IsNoSource, IsNoHistory, not_built}
+use Rattle.s7_cli.specs.Says.{IsNoHistory, not_built}
 
 -- the names of a command's input files
 abbrev pub input_names : Option Command → List (List ℕ)
@@ -42,17 +43,29 @@ pub record GoOver (c : Option Command) (d : Disk) (source history : List ℕ) : 
   pub source_held : d.before.contents.at source_name ≡ Some source
   pub history_held : d.before.contents.at history_name ≡ Some history
 
+-- `check` over a file that tells what it holds: this source
+pub record CheckOver (c : Option Command) (d : Disk) (source : List ℕ) : Type 0 where
+  pub source_name : List ℕ
+  pub command : c ≡ Some (Check source_name)
+  pub told : d.before.contents.told ≡ true
+  pub source_held : d.before.contents.at source_name ≡ Some source
+
 -- both files are within their limits
 abbrev pub AreWithin : (source history : List ℕ) → Type 0
 AreWithin source history = (length source ≤ limit_of Source) × (length history ≤ limit_of History)
 
+-- the source is accepted
 abbrev pub IsSource : List ℕ → Type 0
 IsSource source = (program : List ThinOb) × IsThin source program
+
+-- the source is refused
+abbrev pub IsNoSource : List ℕ → Type 0
+IsNoSource source = (refusal : Refusal) × IsRefused source refusal
 
 abbrev pub IsHistory : List ℕ → Type 0
 IsHistory history = (entries : List Entry) × (history_of history ≡ Some entries)
 
--- the status tells exactly this of the two files
+-- the status tells exactly this of the two files of `go`
 pub record GoDecides (source history : List ℕ) (code : ℕ) : Type 0 where
   pub too_long : (code ≡ 8) ↔ ((limit_of Source < length source) ⊎ (limit_of History < length history))
   pub source_refused : (code ≡ 2) ↔ (AreWithin source history × IsNoSource source)
@@ -60,15 +73,30 @@ pub record GoDecides (source history : List ℕ) (code : ℕ) : Type 0 where
   pub done : (code ≡ 0) ↔ (AreWithin source history × IsSource source × IsHistory history)
   pub no_other : (code ≡ 0) ⊎ (code ≡ 2) ⊎ (code ≡ 4) ⊎ (code ≡ 8)
 
+-- and this of the file of `check`
+pub record CheckDecides (source : List ℕ) (code : ℕ) : Type 0 where
+  pub too_long : (code ≡ 8) ↔ (limit_of Source < length source)
+  pub source_refused : (code ≡ 2) ↔ ((length source ≤ limit_of Source) × IsNoSource source)
+  pub done : (code ≡ 0) ↔ ((length source ≤ limit_of Source) × IsSource source)
+  pub no_other : (code ≡ 0) ⊎ (code ≡ 2) ⊎ (code ≡ 8)
+
 -- the sink took the run text of the source's meaning along the history
 abbrev pub TellsRun : Taking → (source history : List ℕ) → Type 0
 TellsRun s source history =
     (program : List ThinOb) × (entries : List Entry) × IsThin source program × (history_of history ≡ Some entries)
     × Took s.before.taken s.after.taken (run_text (tree_code program) entries)
 
+-- the source is accepted, and the sink took `OK`
+abbrev pub TellsOk : Taking → (source : List ℕ) → Type 0
+TellsOk s source = IsSource source × Took s.before.taken s.after.taken ok_line
+
 -- the sink took the line of an answer, and nothing else
 abbrev pub TookLine : Taking → Answer → Type 0
 TookLine s answer = Took s.before.taken s.after.taken (line_of answer)
+
+-- the line names the refusal of the source
+abbrev pub NamesRefusal : Taking → (source : List ℕ) → Type 0
+NamesRefusal s source = (refusal : Refusal) × IsRefused source refusal × TookLine s (SourceRefused refusal)
 
 -- the line names the first file in the order of reading that is too long
 abbrev pub NamesTooLong : Taking → (source history : List ℕ) → Type 0
@@ -79,29 +107,49 @@ NamesTooLong s source history =
 -- the line of each refusal
 pub record TakesLine (s : Taking) (code : ℕ) : Type 0 where
   pub words : code ≡ 1 → TookLine s WordsRefused
-  pub source : code ≡ 2 → TookLine s (SourceRefused not_built)
+  pub source : code ≡ 2 → (refusal : Refusal) × TookLine s (SourceRefused refusal)
   pub history : code ≡ 4 → TookLine s (HistoryRefused not_built)
   pub read_fault : code ≡ 5 → TookLine s ReadFault
   pub too_long : code ≡ 8 → (file : File) × TookLine s (TooLong file)
 
--- the table of statuses
-pub record StatusTable (c : Option Command) (d : Disk) (s : Taking) (code : ℕ) : Type 0 where
-  -- no other status than these
-  pub statuses : (code ≤ 2) ⊎ (code ≡ 4) ⊎ (code ≡ 5) ⊎ (code ≡ 6) ⊎ (code ≡ 7) ⊎ (code ≡ 8)
+-- the rows of `go`, over files that tell what they hold
+pub record GoTable (c : Option Command) (d : Disk) (s : Taking) (code : ℕ) : Type 0 where
   -- 0: the sink took the run text of the source's meaning
   pub tells_the_run : (source history : List ℕ) → GoOver c d source history → code ≡ 0 → TellsRun s source history
-  -- 1: exactly where the words are refused, whatever the files hold; the sink may fail, or memory be wanting, at its line
-  pub words_refused_only : code ≡ 1 → c ≡ None
-  pub words_refused : c ≡ None → (code ≡ 1) ⊎ (code ≡ 6) ⊎ (code ≡ 7)
   -- 0, 2, 4, 8: exactly where the two files say so, unless a read or the sink fails, or memory is wanting
   pub decided : (source history : List ℕ) → GoOver c d source history
       → (code ≡ 5) ⊎ (code ≡ 6) ⊎ (code ≡ 7) ⊎ GoDecides source history code
   -- so where no count of an input file, an output file or the sink rose, want of memory alone is free
   pub complete : (source history : List ℕ) → GoOver c d source history → (InputRose c d → ⊥) → (OutputRose c d s → ⊥)
       → (code ≡ 7) ⊎ GoDecides source history code
+  -- 2, 8: the line names the source's one refusal, or the file
+  pub names_refusal : (source history : List ℕ) → GoOver c d source history → code ≡ 2 → NamesRefusal s source
+  pub names_too_long : (source history : List ℕ) → GoOver c d source history → code ≡ 8 → NamesTooLong s source history
+
+-- the rows of `check`, over a file that tells what it holds
+pub record CheckTable (c : Option Command) (d : Disk) (s : Taking) (code : ℕ) : Type 0 where
+  -- 0: the source is accepted, and the sink took `OK`
+  pub accepts : (source : List ℕ) → CheckOver c d source → code ≡ 0 → TellsOk s source
+  -- 0, 2, 8: exactly where the file says so, unless a read or the sink fails, or memory is wanting
+  pub decided : (source : List ℕ) → CheckOver c d source → (code ≡ 5) ⊎ (code ≡ 6) ⊎ (code ≡ 7) ⊎ CheckDecides source code
+  pub complete : (source : List ℕ) → CheckOver c d source → (InputRose c d → ⊥) → (OutputRose c d s → ⊥)
+      → (code ≡ 7) ⊎ CheckDecides source code
+  -- 2, 8: the line names the source's one refusal, or that it is too long
+  pub names_refusal : (source : List ℕ) → CheckOver c d source → code ≡ 2 → NamesRefusal s source
+  pub names_too_long : (source : List ℕ) → CheckOver c d source → code ≡ 8 → TookLine s (TooLong Source)
+
+-- the table of statuses
+pub record StatusTable (c : Option Command) (d : Disk) (s : Taking) (code : ℕ) : Type 0 where
+  -- no other status than these
+  pub statuses : (code ≤ 2) ⊎ (code ≡ 4) ⊎ (code ≡ 5) ⊎ (code ≡ 6) ⊎ (code ≡ 7) ⊎ (code ≡ 8)
+  -- 0, 2, 4, 8: what the files of the command say
+  pub go : GoTable c d s code
+  pub check : CheckTable c d s code
+  -- 1: exactly where the words are refused, whatever the files hold; the sink may fail, or memory be wanting, at its line
+  pub words_refused_only : code ≡ 1 → c ≡ None
+  pub words_refused : c ≡ None → (code ≡ 1) ⊎ (code ≡ 6) ⊎ (code ≡ 7)
   -- 1, 2, 4, 5, 8: the sink took the one line of the refusal
   pub takes_line : TakesLine s code
-  pub names_too_long : (source history : List ℕ) → GoOver c d source history → code ≡ 8 → NamesTooLong s source history
   -- 5: only where the count of failed reads of an input file rose
   pub read_fault : code ≡ 5 → InputRose c d
   -- 6: only where the count of failed writes of an output file rose, or that of the sink

@@ -1,5 +1,5 @@
 ghost use Rattle.std.specs.Prelude.{◌≡◌, ℕ, ◌<◌, ◌≤◌, Some, MatchOption};
-ghost use Rattle.sem_kept.specs.Decimal.{decimal_value};
+ghost use Rattle.s7_cli.specs.Decimal.{decimal_value};
 
 /// The greatest bound of a number that is read.
 pub(crate) const GREATEST_BOUND: u32 = 100_000_000;

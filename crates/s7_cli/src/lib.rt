@@ -2,8 +2,8 @@
 #![tactic(auto)]
 
 mod answers;
-mod blocks;
-mod clauses;
+mod built;
+mod checking;
 mod decimals;
 mod endings;
 mod files;
@@ -18,13 +18,14 @@ mod program;
 mod program_tests;
 mod running;
 mod sources;
-mod terminals;
 #[cfg(test)]
 mod tests;
 mod texts;
 mod words;
 
 pub use answers::{Answer, File};
+pub use built::built;
+pub use checking::cmd_check;
 pub use endings::{Ending, Status};
 pub use going::cmd_go;
 pub use histories::{HistoryFault, read_history};

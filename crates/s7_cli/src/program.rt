@@ -1,9 +1,10 @@
 ghost use Rattle.std.specs.Prelude.{◌≡◌, map, string_bytes};
-ghost use Rattle.s7_cli.specs.Command.{command_of};
+ghost use Rattle.s7_cli.specs.Words.{command_of};
 ghost use Rattle.s7_cli.specs.Ends.{Ended, files_at, sink_at};
 ghost use Rattle.s7_cli.specs.StatusTable.{StatusTable};
 
 use crate::answers::Answer;
+use crate::checking::cmd_check;
 use crate::endings::{Ending, Status};
 use crate::finish::end_command;
 use crate::going::cmd_go;
@@ -14,7 +15,7 @@ use std::sync::Wait;
 use std::thread::Threads;
 
 /// Does what the words of a call ask for, without the program's name: `go SRC HIST` runs a source
-/// along a history. The status is that of the text that `out` took:
+/// along a history, `check SRC` judges a source. The status is that of the text that `out` took:
 ///
 /// | Status | When |
 /// |---|---|
@@ -39,6 +40,7 @@ pub fn s7_main<R: Threads + Wait + Sync, F: Files, K: Sink, G: Gate + Sync>(
 {
     match read_words(words) {
         Some(Asked::Go { source, history }) => cmd_go(alloc, source, history, None, files, out),
+        Some(Asked::Check { source }) => cmd_check(alloc, source, None, files, out),
         None => end_command(
             out,
             Err(Ending::Said {

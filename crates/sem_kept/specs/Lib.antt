@@ -1,6 +1,4 @@
-pub mod Decimal
-pub mod Terminals
-pub mod Clause
+pub mod Built
 pub mod ThinSource
 pub mod Tree
 pub mod Moved

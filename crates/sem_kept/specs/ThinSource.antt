@@ -1,47 +1,43 @@
--- Small sources: which bytes are one, and which program they spell.
-use Rattle.std.specs.Prelude.{ℕ, ◌≡◌, ◌==◌, List, [], ◌∷◌, ◌++◌, Bool, true, not, ◌&&◌, Option, Some, None, option_map, option_and_then, if◌then◌else◌}
-use Rattle.std.specs.List.{list_any}
+-- Sources: the one tree of a source, the program that it has, or its refusal.
+use Rattle.std.specs.Prelude.{ℕ, ◌≡◌, ◌⊎◌, List, Ok, Err}
+use Rattle.plc_base.specs.declared.Refusal.{Refusal}
 use Rattle.stl_lexer.specs.declared.Token.{Token}
-use Rattle.stl_lexer.specs.Tokens.{AreTokens}
-use Rattle.controller.specs.declared.ThinStatement.{ThinStatement}
+use Rattle.stl_lexer.specs.Tokens.{AreTokens, IsViolation as BreaksTokenRule}
+use Rattle.stl_ast.specs.declared.Tree.{Tree}
+use Rattle.stl_parser.specs.Source.{IsTree, IsViolation as BreaksClauseRule}
 use Rattle.controller.specs.declared.ThinOb.{ThinOb}
-use Rattle.sem_kept.specs.declared.clauses.Clause.{Clause}
-use Rattle.sem_kept.specs.declared.clauses.Clause.TheVariants.{Begins, Holds, Ends}
-use Rattle.sem_kept.specs.Clause.{pieces, clause_of}
+use Rattle.sem_kept.specs.Built.{program_of}
 
--- each piece is a clause
-abbrev pub clauses_of : List ℕ → List (List Token) → Option (List Clause)
-clauses_of source [] = Some []
-clauses_of source (piece ∷ more) =
-    option_and_then (λ c. option_map (λ cs. c ∷ cs) (clauses_of source more)) (clause_of source piece)
+-- the source has this tree: its tokens keep the rules of tokens, and its clauses those of clauses
+abbrev pub HasTree : List ℕ → Tree → Type 0
+HasTree source tree = (tokens : List Token) × AreTokens source tokens × IsTree source tokens tree
 
--- an organization block that has begun
-pub record Open : Type 0 where
-  pub number : ℕ
-  pub statements : List ThinStatement
-
--- the frame of clauses: a block begins outside of blocks, statements and the end stand inside one
-abbrev pub blocks_of : Option Open → List Clause → Option (List ThinOb)
-blocks_of None [] = Some []
-blocks_of None (Begins number ∷ cs) = blocks_of (Some (record { number = number; statements = [] })) cs
-blocks_of (Some o) (Holds st ∷ cs) = blocks_of (Some (record o { statements = o.statements ++ st ∷ [] })) cs
-blocks_of (Some o) (Ends line ∷ cs) =
-    option_map (λ obs. record { number = o.number; statements = o.statements; end_line = line } ∷ obs) (blocks_of None cs)
-blocks_of o cs = None
-
--- no number stands twice
-abbrev pub are_distinct : List ThinOb → Bool
-are_distinct [] = true
-are_distinct (ob ∷ obs) = not (list_any (λ other. other.number == ob.number) obs) && are_distinct obs
-
-abbrev pub if_distinct : List ThinOb → Option (List ThinOb)
-if_distinct obs = if are_distinct obs then Some obs else None
-
--- the program that the tokens of a source spell
-unfoldable pub thin_of : List ℕ → List Token → Option (List ThinOb)
-thin_of source tokens =
-    option_and_then if_distinct (option_and_then (blocks_of None) (clauses_of source (pieces source tokens)))
-
--- a small source and its program
+-- a source that is built, and its program
 abbrev pub IsThin : List ℕ → List ThinOb → Type 0
-IsThin source program = (tokens : List Token) × AreTokens source tokens × (thin_of source tokens ≡ Some program)
+IsThin source program = (tree : Tree) × HasTree source tree × (program_of tree ≡ Ok program)
+
+-- the first clause that isn't built, by its line; this is asked of a source with a tree alone
+abbrev pub IsNotBuilt : List ℕ → Refusal → Type 0
+IsNotBuilt source refusal = (tree : Tree) × HasTree source tree × (program_of tree ≡ Err refusal.line) × (refusal.rule ≡ 99)
+
+-- a clause breaks a rule; this is asked of a source whose tokens are right
+abbrev pub BreaksClauses : List ℕ → Refusal → Type 0
+BreaksClauses source refusal =
+    (tokens : List Token) × AreTokens source tokens × BreaksClauseRule source tokens refusal.line refusal.rule
+
+-- the refusal of a source: the first token that breaks a rule, else the first clause that does, else the first that isn't built
+abbrev pub IsRefused : List ℕ → Refusal → Type 0
+IsRefused source refusal =
+    BreaksTokenRule source refusal.line refusal.rule ⊎ BreaksClauses source refusal ⊎ IsNotBuilt source refusal
+
+-- a source has at most one program
+abbrev pub IsProgramUnique : Type 0
+IsProgramUnique = (source : List ℕ) (p q : List ThinOb) → IsThin source p → IsThin source q → p ≡ q
+
+-- none where it is refused
+abbrev pub ExcludesRefusal : Type 0
+ExcludesRefusal = (source : List ℕ) (p : List ThinOb) (refusal : Refusal) → IsThin source p → IsRefused source refusal → ⊥
+
+-- and at most one refusal
+abbrev pub IsRefusalUnique : Type 0
+IsRefusalUnique = (source : List ℕ) (r s : Refusal) → IsRefused source r → IsRefused source s → r ≡ s

@@ -4,13 +4,29 @@ ghost use Rattle.std.specs.Prelude.{◌≡◌, List, [], All};
 ghost use Rattle.controller.specs.ThinCode.{thin_code};
 ghost use Rattle.controller.specs.declared.ThinOb.{ThinOb};
 ghost use Rattle.var_access.specs.Entry.{IsValid};
-ghost use Rattle.sem_kept.specs.ThinSource.{IsThin};
+ghost use Rattle.sem_kept.specs.ThinSource.{
+  IsThin,
+  IsProgramUnique,
+  ExcludesRefusal,
+  IsRefusalUnique,
+};
 ghost use Rattle.sem_kept.specs.Tree.{tree_code};
 ghost use Rattle.sem_kept.specs.Agreement.{Agree};
 ghost use Rattle.sem_kept.specs.Resumption.{IsSuspended, Resumes};
 
 use controller::Thin;
 use var_access::Entry;
+
+/// A source is judged in one way: it has at most one program, none where it is refused, and at most
+/// one refusal.
+pub fn law_of_sources()
+    ensures one_program { IsProgramUnique }
+    ensures program_or_refusal { ExcludesRefusal }
+    ensures one_refusal { IsRefusalUnique }
+{
+    stl_lexer::law_of_tokens();
+    stl_parser::law_of_clauses();
+}
 
 /// No history tells the controller's program from the statements of its source: after each one the
 /// mode with cause and place, the memory, the reply and the observations are the same.
@@ -36,7 +52,7 @@ pub fn resumes_source(
     ensures { (program : List ThinOb) → IsThin source.now program → Resumes (tree_code program) entries.now place from to }
 {
     // the source has one program
-    stl_lexer::law_of_tokens();
+    law_of_sources();
 }
 
 /// The law of resumption over the controller's own program.

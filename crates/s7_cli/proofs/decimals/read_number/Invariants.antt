@@ -1,5 +1,5 @@
 use Rattle.std.proofs.Common.{◌≡◌, ◌≤◌, drop}
-use Rattle.sem_kept.specs.Decimal.{decimal_value}
+use Rattle.s7_cli.specs.Decimal.{decimal_value}
 use Rattle.s7_cli.proofs.NumberLemmas.{decimal_after}
 use Rattle.s7_cli.proofs.decimals.read_number.Given as goal
 
