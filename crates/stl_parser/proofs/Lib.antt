@@ -4,3 +4,4 @@ pub mod PartLemmas
 pub mod TreeLemmas
 pub mod SourceLemmas
 pub mod LawLemmas
+pub mod SpellingLemmas

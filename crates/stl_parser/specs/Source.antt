@@ -114,3 +114,12 @@ abbrev pub IsViolationUnique : Type 0
 IsViolationUnique =
     (source : List ℕ) (tokens : List Token) (line rule line' rule' : ℕ) → IsViolation source tokens line rule →
     IsViolation source tokens line' rule' → (line ≡ line') × (rule ≡ rule')
+
+-- there is at most one tree
+abbrev pub IsTreeUnique : Type 0
+IsTreeUnique = (source : List ℕ) (tokens : List Token) (t u : Tree) → IsTree source tokens t → IsTree source tokens u → t ≡ u
+
+-- and none where there is a violation of the clauses
+abbrev pub TreeExcludesViolation : Type 0
+TreeExcludesViolation =
+    (source : List ℕ) (tokens : List Token) (t : Tree) (line rule : ℕ) → IsTree source tokens t → IsViolation source tokens line rule → ⊥

@@ -1,4 +1,5 @@
 use Rattle.stl_parser.proofs.LawLemmas.{one_list, list_or_violation, one_violation}
+use Rattle.stl_parser.proofs.SpellingLemmas.{one_tree, tree_or_violation}
 use Rattle.stl_parser.proofs.sources.law_of_clauses.Goals as goal
 
 pub returns-clause-one_list : goal.returns-clause-one_list
@@ -9,3 +10,9 @@ returns-clause-list_or_violation c = list_or_violation
 
 pub returns-clause-one_violation : goal.returns-clause-one_violation
 returns-clause-one_violation c = one_violation
+
+pub returns-clause-one_tree : goal.returns-clause-one_tree
+returns-clause-one_tree c = one_tree
+
+pub returns-clause-tree_or_violation : goal.returns-clause-tree_or_violation
+returns-clause-tree_or_violation c = tree_or_violation
