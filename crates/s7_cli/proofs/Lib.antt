@@ -8,3 +8,4 @@ pub mod HistoryLemmas
 pub mod TableLemmas
 pub mod ValidLemmas
 pub mod GoLemmas
+pub mod MatchLemmas

@@ -38,14 +38,15 @@ pub fn s7_main<R: Threads + Wait + Sync, F: Files, K: Sink, G: Gate + Sync>(
     ensures ends { Ended (command_of (map string_bytes words.now)) (record { before = files_at F.contents F.failed_reads F.failed_writes files.old; after = files_at F.contents F.failed_reads F.failed_writes files.new }) (record { before = sink_at K.taken K.faults out.old; after = sink_at K.taken K.faults out.new }) result.code }
     ensures table { StatusTable (command_of (map string_bytes words.now)) (record { before = files_at F.contents F.failed_reads F.failed_writes files.old; after = files_at F.contents F.failed_reads F.failed_writes files.new }) (record { before = sink_at K.taken K.faults out.old; after = sink_at K.taken K.faults out.new }) result.code }
 {
-    match read_words(words) {
-        Some(Asked::Go { source, history }) => cmd_go(alloc, source, history, None, files, out),
-        Some(Asked::Check { source }) => cmd_check(alloc, source, None, files, out),
-        None => end_command(
+    match read_words(alloc, words) {
+        Ok(Some(Asked::Go { source, history })) => cmd_go(alloc, source, history, None, files, out),
+        Ok(Some(Asked::Check { source })) => cmd_check(alloc, source, None, files, out),
+        Ok(None) => end_command(
             out,
             Err(Ending::Said {
                 answer: Answer::WordsRefused,
             }),
         ),
+        Err(_) => end_command(out, Err(Ending::NoMemory)),
     }
 }

@@ -1,5 +1,11 @@
-ghost use Rattle.std.specs.Prelude.{◌≡◌, map, string_bytes, option_map};
-ghost use Rattle.s7_cli.specs.Words.{command_of, command_value};
+ghost use Rattle.std.specs.Prelude.{◌≡◌, ◌≢◌, map, string_bytes, option_map, IfOk, None};
+ghost use Rattle.clap.specs.Words.{FailsBy, app_of, fault_of, found_of, kind_of, matches_of, rows_of};
+ghost use Rattle.clap.specs.declared.error.kind.ErrorKind.TheVariants.{OutOfMemory};
+ghost use Rattle.s7_cli.specs.Words.{the_line, asked_for, asked_by, command_of, command_value};
+
+use clap::error::ErrorKind;
+use clap::{Arg, ArgAction, ArgMatches, Command, Error};
+use std::alloc::{AllocError, Global};
 
 /// What the words of a call ask for.
 #[derive(Clone, Copy)]
@@ -10,18 +16,86 @@ pub enum Asked<'a> {
     Check { source: &'a str },
 }
 
-/// Reads the words, without the program's name: `go SRC HIST` or `check SRC`. Any others are refused.
-pub fn read_words(words: &[String]) -> Option<Asked<'_>>
-    ensures { option_map command_value result ≡ command_of (map string_bytes words.now) }
+/// The command line, for words without the program's name.
+fn command_line<'a>(alloc: Global) -> Result<Command<'a>, AllocError>
+    ensures { IfOk result (λ line. app_of line ≡ the_line) }
 {
-    match words {
-        [command, source, history] if command.as_str() == "go" => Some(Asked::Go {
-            source: source.as_str(),
-            history: history.as_str(),
-        }),
-        [command, source] if command.as_str() == "check" => Some(Asked::Check {
-            source: source.as_str(),
-        }),
+    let command = Arg::new(alloc, "COMMAND")
+        .required(true)
+        .action(ArgAction::Set);
+    let files = Arg::new(alloc, "FILES")
+        .num_args(0..)
+        .action(ArgAction::Append);
+    let symbols = Arg::new(alloc, "symbols")
+        .long("symbols")
+        .action(ArgAction::Set);
+    let steps = Arg::new(alloc, "steps")
+        .long("steps")
+        .action(ArgAction::Set);
+    Command::new(alloc, "s7")
+        .no_binary_name(true)
+        .arg(command)?
+        .arg(files)?
+        .arg(symbols)?
+        .arg(steps)
+}
+
+/// What is found in the words.
+fn find_matches<'a>(alloc: Global, words: &'a [String]) -> Result<ArgMatches<'a>, Error>
+    ensures fails { FailsBy (fault_of the_line (map string_bytes words.now)) result }
+    ensures finds { IfOk result (λ found. rows_of (found_of found) ≡ matches_of the_line (map string_bytes words.now)) }
+{
+    let line = command_line(alloc)?;
+    line.try_get_matches_from(words)
+}
+
+/// The command that a word, files and options ask for.
+fn asked_for<'a>(
+    command: &str,
+    files: &[&'a str],
+    symbols: Option<&str>,
+    steps: Option<&str>,
+) -> Option<Asked<'a>>
+    ensures { option_map command_value result ≡ asked_for command.now (map (λ file. file.now) files.now) (option_map (λ s. s.now) symbols.entry) (option_map (λ s. s.now) steps.entry) }
+{
+    match (files, symbols, steps) {
+        ([source, history], None, None) if command == "go" => Some(Asked::Go { source, history }),
+        ([source], None, None) if command == "check" => Some(Asked::Check { source }),
         _ => None,
+    }
+}
+
+/// The command that the matches ask for.
+fn asked_by<'a>(matches: &ArgMatches<'a>) -> Option<Asked<'a>>
+    ensures { option_map command_value result ≡ asked_by (rows_of (found_of matches.now)) }
+{
+    let command = matches.get_str("COMMAND")?;
+    let files = matches.get_strs("FILES").unwrap_or(&[]);
+    asked_for(
+        command,
+        files,
+        matches.get_str("symbols"),
+        matches.get_str("steps"),
+    )
+}
+
+/// Want of memory is an error of the reading, and any other error refuses the words.
+fn refusal<'a>(error: &Error) -> Result<Option<Asked<'a>>, AllocError>
+    ensures { IfOk result (λ asked. (asked ≡ None) × (kind_of error.now ≢ OutOfMemory)) }
+{
+    match error.kind() {
+        ErrorKind::OutOfMemory => Err(AllocError),
+        _ => Ok(None),
+    }
+}
+
+/// Reads the words, without the program's name: `go SRC HIST` or `check SRC`. Any others are
+/// refused. Fails where memory is wanting.
+pub fn read_words(alloc: Global, words: &[String]) -> Result<Option<Asked<'_>>, AllocError>
+    ensures { IfOk result (λ asked. option_map command_value asked ≡ command_of (map string_bytes words.now)) }
+{
+    match find_matches(alloc, words) {
+        Ok(matches) => Ok(asked_by(&matches)),
+        Err(error) => refusal(&error),
     }
 }
