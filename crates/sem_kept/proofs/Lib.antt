@@ -1,4 +1,4 @@
-mod Programs
+mod SourceLemmas
 mod Simulation
 mod Numbered
 mod Runs

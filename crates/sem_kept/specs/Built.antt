@@ -1,5 +1,5 @@
 -- What is built of the language: the program of a tree, or its first clause that isn't built.
-use Rattle.std.specs.Prelude.{ℕ, nat_eq, Bool, true, false, ◌&&◌, ◌||◌, List, [], ◌∷◌, ◌++◌, Option, Some, None, Result, Ok, Err, option_map, option_and_then, if◌then◌else◌}
+use Rattle.std.specs.Prelude.{ℕ, nat_eq, Bool, true, false, ◌||◌, List, [], ◌∷◌, ◌++◌, Option, Some, None, Result, Ok, Err, option_map, option_and_then, if◌then◌else◌}
 use Rattle.std.specs.List.{list_any}
 use Rattle.plc_base.specs.declared.Area.{Area}
 use Rattle.plc_base.specs.declared.Area.TheVariants as area
@@ -17,6 +17,7 @@ use Rattle.stl_ast.specs.declared.Mnemonic.TheVariants as mnemonic
 use Rattle.stl_ast.specs.declared.Operand.{Operand}
 use Rattle.stl_ast.specs.declared.Operand.TheVariants as operand
 use Rattle.stl_ast.specs.declared.Statement.{Statement}
+use Rattle.stl_ast.specs.declared.Actual.{Actual}
 use Rattle.stl_ast.specs.declared.Part.{Part}
 use Rattle.stl_ast.specs.declared.Block.{Block}
 use Rattle.stl_ast.specs.declared.Tree.{Tree}
@@ -48,7 +49,7 @@ place_of (operand.Direct None l w byte bit) = bit_at w l byte bit
 place_of _ = None
 
 -- the instructions on a bit: A, AN, O and =
-abbrev pub code_on_bit : Mnemonic → Option ThinCode
+unfoldable pub code_on_bit : Mnemonic → Option ThinCode
 code_on_bit mnemonic.A = Some code.A
 code_on_bit mnemonic.An = Some code.An
 code_on_bit mnemonic.O = Some code.O
@@ -56,7 +57,7 @@ code_on_bit mnemonic.Assign = Some code.Assign
 code_on_bit _ = None
 
 -- the instructions without operand: O, SET and CLR
-abbrev pub code_alone : Mnemonic → Option ThinCode
+unfoldable pub code_alone : Mnemonic → Option ThinCode
 code_alone mnemonic.O = Some code.OrBare
 code_alone mnemonic.Set = Some code.Set
 code_alone mnemonic.Clr = Some code.Clr
@@ -66,13 +67,17 @@ code_alone _ = None
 abbrev pub no_place : Place
 no_place = record { area = area.M; number = 0; byte = 0; bit = 0 }
 
+-- an instruction on the bit of its operand
+unfoldable pub on_bit : Mnemonic → Operand → Option (ThinCode × Place)
+on_bit m o = option_and_then (λ c. option_map (λ p. (c, p)) (place_of o)) (code_on_bit m)
+
 -- an instruction with its operand
 unfoldable pub instruction_of : Mnemonic → Operand → Option (ThinCode × Place)
 instruction_of m operand.Nothing = option_map (λ c. (c, no_place)) (code_alone m)
-instruction_of m o = option_and_then (λ c. option_map (λ p. (c, p)) (place_of o)) (code_on_bit m)
+instruction_of m o = on_bit m o
 
 -- the statement `;`
-abbrev pub is_empty_statement : Mnemonic → Operand → Bool
+unfoldable pub is_empty_statement : Mnemonic → Operand → Bool
 is_empty_statement mnemonic.Empty operand.Nothing = true
 is_empty_statement _ _ = false
 
@@ -82,12 +87,14 @@ statements_of line m o =
     if is_empty_statement m o then Some []
     else option_map (λ i. record { code = i.0; place = i.1; line = line } ∷ []) (instruction_of m o)
 
--- what a statement comes to; a label isn't built, and neither are actual parameters
+-- a statement with a label or with actual parameters isn't built
+abbrev pub without_label : Option (List ℕ) → List Actual → Option (List ThinStatement) → Option (List ThinStatement)
+without_label None [] built = built
+without_label _ _ built = None
+
+-- what a statement comes to
 unfoldable pub built_statement : Statement → Option (List ThinStatement)
-built_statement st = by_parts st.label st.actuals
-  where
-    by_parts None [] = statements_of st.line st.code st.operand
-    by_parts _ _ = None
+built_statement st = without_label st.label st.actuals (statements_of st.line st.code st.operand)
 
 -- a statement before the rest of its body
 abbrev pub before_rest : ℕ → Option (List ThinStatement) → Result (List ThinStatement) ℕ → Result (List ThinStatement) ℕ
@@ -105,10 +112,12 @@ abbrev pub built_number : BlockKind → ℕ → Option ℕ
 built_number kinds.Ob n = if nat_eq n 1 || nat_eq n 40 then Some n else None
 built_number _ n = None
 
+-- a block with a name of this kind
 abbrev pub numbered : BlockName → Option ℕ
 numbered (name.Number id) = built_number id.kind id.number
 numbered (name.Quoted quoted) = None
 
+-- the number of an organization block that is built, by kind and name of its head
 unfoldable pub ob_number : BlockKind → BlockName → Option ℕ
 ob_number kinds.Ob n = numbered n
 ob_number _ n = None
@@ -121,22 +130,24 @@ has_number obs n = list_any (λ ob. nat_eq ob.number n) obs
 unfoldable pub new_number : List ThinOb → BlockKind → BlockName → Option ℕ
 new_number before k n = option_and_then (λ number. if has_number before number then None else Some number) (ob_number k n)
 
+-- an organization block of these statements
+abbrev pub ended : ℕ → (end_line : ℕ) → Result (List ThinStatement) ℕ → Result ThinOb ℕ
+ended number end_line (Ok sts) = Ok (record { number = number; statements = sts; end_line = end_line })
+ended number end_line (Err line) = Err line
+
 -- an organization block: sections aren't built
 unfoldable pub built_parts : ℕ → List Part → List Statement → (end_line : ℕ) → Result ThinOb ℕ
+built_parts number [] body end_line = ended number end_line (built_body body)
 built_parts number (part ∷ parts) body end_line = Err part.line
-built_parts number [] body end_line = ended (built_body body)
-  where
-    ended : Result (List ThinStatement) ℕ → Result ThinOb ℕ
-    ended (Ok sts) = Ok (record { number = number; statements = sts; end_line = end_line })
-    ended (Err line) = Err line
+
+-- a block whose head is built, or isn't
+abbrev pub headed : Block → Option ℕ → Result ThinOb ℕ
+headed b None = Err b.line
+headed b (Some number) = built_parts number b.parts b.body b.end_line
 
 -- a block behind these blocks, or the line of its first clause that isn't built
 unfoldable pub built_block : List ThinOb → Block → Result ThinOb ℕ
-built_block before b = headed (new_number before b.kind b.name)
-  where
-    headed : Option ℕ → Result ThinOb ℕ
-    headed None = Err b.line
-    headed (Some number) = built_parts number b.parts b.body b.end_line
+built_block before b = headed b (new_number before b.kind b.name)
 
 -- what follows a block, if it is built
 abbrev pub behind_block : Result ThinOb ℕ → (ThinOb → Result (List ThinOb) ℕ) → Result (List ThinOb) ℕ
