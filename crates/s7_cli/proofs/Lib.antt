@@ -1,6 +1,7 @@
 pub mod RunLemmas
 pub mod TextLemmas
 pub mod ListLemmas
+pub mod BuiltLemmas
 pub mod WordLemmas
 pub mod NumberLemmas
 pub mod LineLemmas

@@ -16,6 +16,7 @@ use Rattle.s7_cli.specs.declared.endings.Ending.TheVariants.{Said, SinkFault, No
 use Rattle.s7_cli.specs.Command.{Command, Input, limit_of}
 use Rattle.s7_cli.specs.History.{history_of}
 use Rattle.s7_cli.specs.Lines.{line_of}
+use Rattle.s7_cli.specs.Unbuilt.{IsUnbuilt}
 use Rattle.s7_cli.specs.Says.{GoSays, CheckSays}
 use Rattle.s7_cli.specs.Ends.{FilesAt, SinkAt, Disk, Taking, Holds, StopsAt, Answers, CountsReads, IsSaid, IsSinkFault, IsNoMemory}
 use Rattle.s7_cli.specs.declared.answers.Answer.TheVariants.{Done}
@@ -49,8 +50,7 @@ RefusesSource source no_memory = Unit {0}
 
 -- a tree with a clause that isn't built
 abbrev pub RefusesTree : Tree → SourceFault → Type 0
-RefusesTree tree (Refused refusal) = (program_of tree ≡ Err refusal.line) × (refusal.rule ≡ 99)
-RefusesTree tree no_memory = Unit {0}
+RefusesTree tree = IsUnbuilt (program_of tree)
 
 -- the judging of what the files of `go` hold
 abbrev pub GoJudged : {V : Type 0} (program : V → List ThinOb) (entries : V → List Entry) → (source history : List ℕ) → Result V Ending → Type 0

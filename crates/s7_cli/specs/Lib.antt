@@ -10,5 +10,6 @@ pub mod Says
 pub mod Ends
 pub mod StatusTable
 pub mod Decimal
+pub mod Unbuilt
 pub mod Inner
 pub mod Faults

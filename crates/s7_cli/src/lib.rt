@@ -2,7 +2,7 @@
 #![tactic(auto)]
 
 mod answers;
-mod built;
+mod building;
 mod checking;
 mod decimals;
 mod endings;
@@ -24,7 +24,7 @@ mod texts;
 mod words;
 
 pub use answers::{Answer, File};
-pub use built::built;
+pub use building::built;
 pub use checking::cmd_check;
 pub use endings::{Ending, Status};
 pub use going::cmd_go;

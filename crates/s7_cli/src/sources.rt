@@ -3,7 +3,7 @@ ghost use Rattle.controller.specs.Program.{is_thin};
 ghost use Rattle.sem_kept.specs.ThinSource.{IsThin};
 ghost use Rattle.s7_cli.specs.Inner.{RefusesSource};
 
-use crate::built::built;
+use crate::building::built;
 use controller::Thin;
 use plc_base::SourceFault;
 use std::alloc::Global;
