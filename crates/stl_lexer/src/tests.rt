@@ -219,3 +219,32 @@ fn names_the_first_violation(rt: HostRuntime) -> Result<(), Fail> {
     }
     Ok(())
 }
+
+// By hand: 2 h 46 min 30 s are 7,200 + 2,760 + 30 = 9,990 s; a day and two hours are 93,600 s.
+#[test]
+fn reads_parts_of_literals(rt: HostRuntime) {
+    for (token, letter) in [
+        (b"S5T#1S".as_slice(), b's'),
+        (b"c#12", b'c'),
+        (b"L#-5", b'l'),
+    ] {
+        assert_eq!(rt; first_letter(token), letter, "in {token:?}");
+    }
+    for (token, want) in [
+        (b"T#-1S".as_slice(), b"-1S".as_slice()),
+        (b"DW#16#1_F", b"1_F"),
+        (b"S5TIME#2H", b"2H"),
+    ] {
+        assert_eq!(rt; behind_prefix(token), want, "in {token:?}");
+    }
+    for (greatest, parts, want) in [
+        (9_990_000, b"2H46M30S".as_slice(), Some(9_990_000)),
+        (9_989_999, b"2H46M30S", None),
+        (2_147_483_647, b"1d_2H", Some(93_600_000)),
+        (100_000, b"90S5MS", Some(90_005)),
+        (100_000, b"5", None),
+        (100_000, b"1S2M", None),
+    ] {
+        assert_eq!(rt; milliseconds_within(greatest, parts), want, "in {parts:?}");
+    }
+}

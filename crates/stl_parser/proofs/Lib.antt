@@ -5,3 +5,4 @@ pub mod TreeLemmas
 pub mod SourceLemmas
 pub mod LawLemmas
 pub mod SpellingLemmas
+pub mod FrameLemmas

@@ -13,7 +13,7 @@ append_cons : {C : Type 0} (xs : List C) (c : C) (rest : List C) → (xs ++ c �
 append_cons [] c rest = refl
 append_cons (x ∷ xs) c rest = ap (λ ys. x ∷ ys) (append_cons xs c rest)
 
-append_parts : {C : Type 0} (xs ys rest : List C) → (xs ++ ys) ++ rest ≡ xs ++ (ys ++ rest)
+pub append_parts : {C : Type 0} (xs ys rest : List C) → (xs ++ ys) ++ rest ≡ xs ++ (ys ++ rest)
 append_parts [] ys rest = refl
 append_parts (x ∷ xs) ys rest = ap (λ zs. x ∷ zs) (append_parts xs ys rest)
 

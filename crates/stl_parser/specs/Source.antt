@@ -115,6 +115,11 @@ IsViolationUnique =
     (source : List ℕ) (tokens : List Token) (line rule line' rule' : ℕ) → IsViolation source tokens line rule →
     IsViolation source tokens line' rule' → (line ≡ line') × (rule ≡ rule')
 
+-- there is a tree where all clauses are right
+abbrev pub ClausesHaveTree : Type 0
+ClausesHaveTree =
+    (source : List ℕ) (tokens : List Token) (cs : List Clause) → AreClauses source tokens cs → (t : Tree) × IsTree source tokens t
+
 -- there is at most one tree
 abbrev pub IsTreeUnique : Type 0
 IsTreeUnique = (source : List ℕ) (tokens : List Token) (t u : Tree) → IsTree source tokens t → IsTree source tokens u → t ≡ u

@@ -11,6 +11,7 @@ ghost use Rattle.stl_parser.specs.Source.{
   AreClausesUnique,
   ExcludesViolation,
   IsViolationUnique,
+  ClausesHaveTree,
   IsTreeUnique,
   TreeExcludesViolation,
 };
@@ -195,13 +196,14 @@ fn tree_of(alloc: Global, kept: Vec<Clause>) -> Result<Tree, AllocError>
 }
 
 /// There is at most one list of clauses for the tokens of a source, none where there is a
-/// violation, and one first violation. There is at most one tree, and none where there is a
-/// violation. So what `parse` answers is the tree of the source, and what it refuses has no tree,
-/// and exactly that line and rule.
+/// violation, and one first violation. Right clauses have a tree; there is at most one, and none
+/// where there is a violation. So what `parse` answers is the tree of the source, and what it
+/// refuses has no tree, and exactly that line and rule.
 pub fn law_of_clauses()
     ensures one_list { AreClausesUnique }
     ensures list_or_violation { ExcludesViolation }
     ensures one_violation { IsViolationUnique }
+    ensures tree_there { ClausesHaveTree }
     ensures one_tree { IsTreeUnique }
     ensures tree_or_violation { TreeExcludesViolation }
 {}

@@ -1,4 +1,5 @@
 use Rattle.stl_parser.proofs.LawLemmas.{one_list, list_or_violation, one_violation}
+use Rattle.stl_parser.proofs.FrameLemmas.{tree_there}
 use Rattle.stl_parser.proofs.SpellingLemmas.{one_tree, tree_or_violation}
 use Rattle.stl_parser.proofs.sources.law_of_clauses.Goals as goal
 
@@ -16,3 +17,6 @@ returns-clause-one_tree c = one_tree
 
 pub returns-clause-tree_or_violation : goal.returns-clause-tree_or_violation
 returns-clause-tree_or_violation c = tree_or_violation
+
+pub returns-clause-tree_there : goal.returns-clause-tree_there
+returns-clause-tree_there c = tree_there

@@ -1,0 +1,396 @@
+//! Trees as text: one line for each block, section, declaration, setting, statement and actual
+//! parameter, each with its line in the source, so that a table holds trees beside their sources.
+
+use std::alloc::{AllocError, Global};
+use stl_ast::{
+    Actual, Block, BlockName, Bounds, Characters, Declaration, ElementType, Init, Letters, Literal,
+    Name, Operand, Part, PathHead, PathStep, Setting, Simple, Statement, Tree, TypeTree,
+};
+
+type Written = Result<(), AllocError>;
+
+/// The name, or `?` where it is no text.
+fn name_text(name: &Name) -> &str {
+    str::from_utf8(name.as_bytes()).unwrap_or("?")
+}
+
+/// `Db 10`, or a quoted name.
+fn block_name(out: &mut String, name: &BlockName) -> Written {
+    match name {
+        BlockName::Number { id } => {
+            let kind = id.kind;
+            let number = id.number;
+            write!(out, "{kind:?} {number}")
+        }
+        BlockName::Quoted { name } => {
+            let text = name_text(name);
+            write!(out, "\"{text}\"")
+        }
+    }
+}
+
+/// The bytes, each behind a blank.
+fn bytes(out: &mut String, bytes: &Characters) -> Written {
+    for byte in bytes.as_slice() {
+        write!(out, " {byte}")?;
+    }
+    Ok(())
+}
+
+/// `Word 255`; a time is in milliseconds.
+fn literal(out: &mut String, literal: &Literal) -> Written {
+    match literal {
+        Literal::Truth { value } => write!(out, "Truth {value}"),
+        Literal::Number { value } => write!(out, "Number {value}"),
+        Literal::Binary { value } => write!(out, "Binary {value}"),
+        Literal::Byte { value } => write!(out, "Byte {value}"),
+        Literal::Word { value } => write!(out, "Word {value}"),
+        Literal::Dword { value } => write!(out, "Dword {value}"),
+        Literal::Long { value } => write!(out, "Long {value}"),
+        Literal::Count { value } => write!(out, "Count {value}"),
+        Literal::Time { ms } => write!(out, "Time {ms}"),
+        Literal::S5time { ms } => write!(out, "S5time {ms}"),
+        Literal::Characters { bytes: own } => {
+            out.push_str("Characters")?;
+            bytes(out, own)
+        }
+        Literal::Bytes { bytes: own } => {
+            out.push_str("Bytes")?;
+            bytes(out, own)
+        }
+    }
+}
+
+/// `.name` or `[index]`.
+fn step(out: &mut String, step: &PathStep) -> Written {
+    match step {
+        PathStep::Named { name } => {
+            let text = name_text(name);
+            write!(out, ".{text}")
+        }
+        PathStep::Index { at } => write!(out, "[{at}]"),
+    }
+}
+
+fn steps(out: &mut String, steps: &[PathStep]) -> Written {
+    for one in steps {
+        step(out, one)?;
+    }
+    Ok(())
+}
+
+fn path_head(out: &mut String, head: &PathHead) -> Written {
+    match head {
+        PathHead::Local { name } => {
+            let text = name_text(name);
+            write!(out, "Local {text}")
+        }
+        PathHead::InBlock { name } => {
+            out.push_str("In ")?;
+            block_name(out, name)
+        }
+        PathHead::Symbol { name } => {
+            let text = name_text(name);
+            write!(out, "Symbol {text}")
+        }
+    }
+}
+
+/// A blank and the letters, where there are any.
+fn area(out: &mut String, area: Option<Letters>) -> Written {
+    match area {
+        Some(letters) => write!(out, " {letters:?}"),
+        None => Ok(()),
+    }
+}
+
+/// ` in Db 10`, where the address names its data block.
+fn inside(out: &mut String, block: &Option<BlockName>) -> Written {
+    match block {
+        Some(name) => {
+            out.push_str(" in ")?;
+            block_name(out, name)
+        }
+        None => Ok(()),
+    }
+}
+
+/// ` with Db 2`, where the call names its instance.
+fn instance(out: &mut String, instance: &Option<BlockName>) -> Written {
+    match instance {
+        Some(name) => {
+            out.push_str(" with ")?;
+            block_name(out, name)
+        }
+        None => Ok(()),
+    }
+}
+
+/// An operand, as `Direct M Word 2.0`.
+fn operand(out: &mut String, operand: &Operand) -> Written {
+    match operand {
+        Operand::Nothing => out.push_str("Nothing"),
+        Operand::Direct {
+            block,
+            area,
+            width,
+            byte,
+            bit,
+        } => {
+            write!(out, "Direct {area:?} {width:?} {byte}.{bit}")?;
+            inside(out, block)
+        }
+        Operand::Timer { number } => write!(out, "Timer {number}"),
+        Operand::Counter { number } => write!(out, "Counter {number}"),
+        Operand::Named { head, steps: own } => {
+            path_head(out, head)?;
+            steps(out, own.as_slice())
+        }
+        Operand::ByMemory {
+            area,
+            width,
+            from,
+            byte,
+        } => write!(out, "ByMemory {area:?} {width:?} {from:?} {byte}"),
+        Operand::NumberBy { what, from, byte } => {
+            write!(out, "NumberBy {what:?} {from:?} {byte}")
+        }
+        Operand::ByRegister {
+            area: letters,
+            width,
+            register,
+            bits,
+        } => {
+            out.push_str("ByRegister")?;
+            area(out, *letters)?;
+            write!(out, " {width:?} {register} {bits}")
+        }
+        Operand::Pointer {
+            area: letters,
+            byte,
+            bit,
+        } => {
+            out.push_str("Pointer")?;
+            area(out, *letters)?;
+            write!(out, " {byte}.{bit}")
+        }
+        Operand::Constant { value } => literal(out, value),
+        Operand::Label { name } => {
+            let text = name_text(name);
+            write!(out, "Label {text}")
+        }
+        Operand::OfStatus { flag } => write!(out, "OfStatus {flag:?}"),
+        Operand::Other { name } => {
+            let text = name_text(name);
+            write!(out, "Other {text}")
+        }
+        Operand::OpenBlock { di, name } => {
+            out.push_str(if *di {
+                "OpenBlock DI "
+            } else {
+                "OpenBlock DB "
+            })?;
+            block_name(out, name)
+        }
+        Operand::Called {
+            name,
+            instance: data,
+        } => {
+            out.push_str("Called ")?;
+            block_name(out, name)?;
+            instance(out, data)
+        }
+    }
+}
+
+/// `  7 a := Direct M Word 2.0`.
+fn actual(out: &mut String, actual: &Actual) -> Written {
+    let line = actual.line;
+    let name = name_text(&actual.name);
+    write!(out, "  {line} {name} := ")?;
+    operand(out, &actual.value)?;
+    out.push_str("\n")
+}
+
+fn label(out: &mut String, label: &Option<Name>) -> Written {
+    match label {
+        Some(name) => {
+            let text = name_text(name);
+            write!(out, "{text}: ")
+        }
+        None => Ok(()),
+    }
+}
+
+/// `7 M1: L Direct M Word 2.0`, and a line for each actual parameter.
+fn statement(out: &mut String, statement: &Statement) -> Written {
+    let line = statement.line;
+    let code = statement.code;
+    write!(out, "{line} ")?;
+    label(out, &statement.label)?;
+    write!(out, "{code:?} ")?;
+    operand(out, &statement.operand)?;
+    out.push_str("\n")?;
+    for one in statement.actuals.as_slice() {
+        actual(out, one)?;
+    }
+    Ok(())
+}
+
+fn statements(out: &mut String, statements: &[Statement]) -> Written {
+    for one in statements {
+        statement(out, one)?;
+    }
+    Ok(())
+}
+
+/// `9 Set .a[1] := Word 255`.
+fn setting(out: &mut String, setting: &Setting) -> Written {
+    let line = setting.line;
+    write!(out, "{line} Set ")?;
+    steps(out, setting.path.as_slice())?;
+    out.push_str(" := ")?;
+    literal(out, &setting.value)?;
+    out.push_str("\n")
+}
+
+fn settings(out: &mut String, settings: &[Setting]) -> Written {
+    for one in settings {
+        setting(out, one)?;
+    }
+    Ok(())
+}
+
+fn arrays(out: &mut String, arrays: &[Bounds]) -> Written {
+    for bounds in arrays {
+        let low = bounds.low;
+        let high = bounds.high;
+        write!(out, "Array {low}..{high} of ")?;
+    }
+    Ok(())
+}
+
+fn element(out: &mut String, element: &ElementType) -> Written {
+    match element {
+        ElementType::Plain { kind } => write!(out, "{kind:?}"),
+        ElementType::Structure => out.push_str("Structure"),
+        ElementType::Udt { name } => block_name(out, name),
+        ElementType::DateAndTime => out.push_str("DateAndTime"),
+    }
+}
+
+/// `Array 1..2 of Int`.
+fn type_tree(out: &mut String, of: &TypeTree) -> Written {
+    arrays(out, of.arrays.as_slice())?;
+    element(out, &of.of)
+}
+
+fn count(out: &mut String, count: Option<u16>) -> Written {
+    match count {
+        Some(count) => write!(out, "{count} times "),
+        None => Ok(()),
+    }
+}
+
+/// Each initial value behind `:=`.
+fn inits(out: &mut String, inits: &[Init]) -> Written {
+    for init in inits {
+        out.push_str(" := ")?;
+        count(out, init.count)?;
+        literal(out, &init.value)?;
+    }
+    Ok(())
+}
+
+/// `4 level 1 a : Array 1..2 of Int := 2 times Number 5`.
+fn declaration(out: &mut String, declaration: &Declaration) -> Written {
+    let line = declaration.line;
+    let level = declaration.level;
+    let name = name_text(&declaration.name);
+    write!(out, "{line} level {level} {name} : ")?;
+    type_tree(out, &declaration.of)?;
+    inits(out, declaration.init.as_slice())?;
+    out.push_str("\n")
+}
+
+fn declarations(out: &mut String, declarations: &[Declaration]) -> Written {
+    for one in declarations {
+        declaration(out, one)?;
+    }
+    Ok(())
+}
+
+/// `3 Section Static`, and its declarations.
+fn part(out: &mut String, part: &Part) -> Written {
+    let line = part.line;
+    let kind = part.kind;
+    writeln!(out, "{line} Section {kind:?}")?;
+    declarations(out, part.items.as_slice())
+}
+
+fn parts(out: &mut String, parts: &[Part]) -> Written {
+    for one in parts {
+        part(out, one)?;
+    }
+    Ok(())
+}
+
+fn shape(out: &mut String, shape: &Option<TypeTree>) -> Written {
+    match shape {
+        Some(of) => {
+            out.push_str("Shape ")?;
+            type_tree(out, of)?;
+            out.push_str("\n")
+        }
+        None => Ok(()),
+    }
+}
+
+fn instance_of(out: &mut String, name: &Option<BlockName>) -> Written {
+    match name {
+        Some(name) => {
+            out.push_str("Instance of ")?;
+            block_name(out, name)?;
+            out.push_str("\n")
+        }
+        None => Ok(()),
+    }
+}
+
+/// ` : Int`, where a function gives a value back.
+fn returns(out: &mut String, returns: Option<Simple>) -> Written {
+    match returns {
+        Some(kind) => write!(out, " : {kind:?}"),
+        None => Ok(()),
+    }
+}
+
+/// `1 to 9 Fc "x" : Int`.
+fn head(out: &mut String, block: &Block) -> Written {
+    let line = block.line;
+    let end_line = block.end_line;
+    let kind = block.kind;
+    write!(out, "{line} to {end_line} {kind:?} ")?;
+    block_name(out, &block.name)?;
+    returns(out, block.result)?;
+    out.push_str("\n")
+}
+
+fn block(out: &mut String, block: &Block) -> Written {
+    head(out, block)?;
+    parts(out, block.parts.as_slice())?;
+    shape(out, &block.shape)?;
+    instance_of(out, &block.instance_of)?;
+    declarations(out, block.components.as_slice())?;
+    settings(out, block.settings.as_slice())?;
+    statements(out, block.body.as_slice())
+}
+
+/// The tree as text.
+pub fn described(alloc: Global, tree: &Tree) -> Result<String, AllocError> {
+    let mut out = String::new(alloc);
+    for one in tree.blocks.as_slice() {
+        block(&mut out, one)?;
+    }
+    Ok(out)
+}
