@@ -1,6 +1,6 @@
 -- What the inner calls of a command tell, from the moment at which the command began.
-use Rattle.std.specs.Prelude.{◌≡◌, ◌≤◌, ◌<◌, ℕ, List, length, Option, Some, Result, Ok, Err}
-use Rattle.plc_io.specs.Contents.{Contents, Agrees, SameFiles}
+use Rattle.std.specs.Prelude.{◌≡◌, ◌≤◌, ℕ, List, Option, Some, Result, Ok, Err}
+use Rattle.plc_io.specs.Contents.{SameFiles}
 use Rattle.plc_io.specs.Counts.{Rose, SameCounts, NeverFell}
 use Rattle.plc_io.specs.Taken.{Took, TookPrefix}
 use Rattle.plc_base.specs.declared.SourceFault.{SourceFault}
@@ -13,12 +13,12 @@ use Rattle.sem_kept.specs.ThinSource.{IsThin, IsRefused}
 use Rattle.s7_cli.specs.declared.answers.Answer.{Answer}
 use Rattle.s7_cli.specs.declared.endings.Ending.{Ending}
 use Rattle.s7_cli.specs.declared.endings.Ending.TheVariants.{Said, SinkFault, NoMemory}
-use Rattle.s7_cli.specs.Command.{Command, Input, limit_of}
+use Rattle.s7_cli.specs.Command.{Command, Input}
 use Rattle.s7_cli.specs.History.{history_of}
 use Rattle.s7_cli.specs.Lines.{line_of}
 use Rattle.s7_cli.specs.Unbuilt.{IsUnbuilt}
 use Rattle.s7_cli.specs.Says.{GoSays, CheckSays}
-use Rattle.s7_cli.specs.Ends.{FilesAt, SinkAt, Disk, Taking, Holds, StopsAt, Answers, CountsReads, IsSaid, IsSinkFault, IsNoMemory}
+use Rattle.s7_cli.specs.Ends.{FilesAt, Disk, Taking, Holds, StopsAt, Answers, CountsReads, IsSaid, IsSinkFault, IsNoMemory}
 use Rattle.s7_cli.specs.declared.answers.Answer.TheVariants.{Done}
 
 -- nothing has changed for the files

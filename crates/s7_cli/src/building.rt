@@ -304,16 +304,10 @@ fn built_block(alloc: Global, before: &[ThinOb], block: &Block) -> Result<ThinOb
     }
 }
 
-/// The program of a tree, as far as the language is built: organization blocks 1 and 40, each at
-/// most once, with statements on bits of I, Q and M.
-///
-/// # Errors
-///
-/// The line of the first clause that isn't built, with rule 99; or want of memory.
+/// The organization blocks of a tree.
 #[tactic(auto, unfolding(sem_kept::specs::Built::program_of))]
-pub fn built(alloc: Global, t: &Tree) -> Result<Thin, SourceFault>
-    ensures ok { IfOk result (λ program. program_of t.now ≡ Ok program) }
-    ensures thin { IfOk result (λ program. IsTrue (is_thin program)) }
+fn built_blocks(alloc: Global, t: &Tree) -> Result<Vec<ThinOb>, SourceFault>
+    ensures ok { IfOk result (λ obs. program_of t.now ≡ Ok obs.items) }
     ensures refused { IfErr result (RefusesTree t.now) }
 {
     let mut obs = Vec::new(alloc);
@@ -321,5 +315,20 @@ pub fn built(alloc: Global, t: &Tree) -> Result<Thin, SourceFault>
         let ob = built_block(alloc, obs.as_slice(), block)?;
         obs.push(ob)?;
     }
-    Ok(Thin::new(obs))
+    Ok(obs)
+}
+
+/// The program of a tree, as far as the language is built: organization blocks 1 and 40, each at
+/// most once, with statements on bits of I, Q and M.
+///
+/// # Errors
+///
+/// The line of the first clause that isn't built, with rule 99; or want of memory.
+#[tactic(auto, using(crate::proofs::BuiltLemmas::program_thin))]
+pub fn built(alloc: Global, t: &Tree) -> Result<Thin, SourceFault>
+    ensures ok { IfOk result (λ program. program_of t.now ≡ Ok program) }
+    ensures thin { IfOk result (λ program. IsTrue (is_thin program)) }
+    ensures refused { IfErr result (RefusesTree t.now) }
+{
+    Ok(Thin::new(built_blocks(alloc, t)?))
 }
