@@ -1,6 +1,12 @@
-//! The program `s7`: the top call over the real files and standard output.
+//! The program `s7`: what it tells of itself, and else the top call over the real files and standard
+//! output.
 #![tactic(auto)]
 
+mod help;
+#[cfg(test)]
+mod help_tests;
+
+use help::{question_in, write_answer};
 use plc_io::{OpenGate, RealFiles, RealSink};
 use s7_cli::s7_main;
 use std::alloc::{AllocError, Global};
@@ -26,6 +32,9 @@ fn main(rt: HostRuntime) -> ExitCode {
     };
     let mut files = RealFiles::new(rt);
     let mut out = RealSink::new(rt);
-    let status = s7_main(&rt, alloc, &words, &mut files, &mut out, &OpenGate);
+    let status = match question_in(&words) {
+        Some(question) => write_answer(&mut out, question),
+        None => s7_main(&rt, alloc, &words, &mut files, &mut out, &OpenGate),
+    };
     ExitCode::from(status.code)
 }

@@ -22,6 +22,8 @@ mod sources;
 mod tests;
 mod texts;
 mod words;
+#[cfg(test)]
+mod words_tests;
 
 pub use answers::{Answer, File};
 pub use building::built;

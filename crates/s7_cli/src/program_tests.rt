@@ -9,14 +9,14 @@ use std::thread::Threads;
 const GO: [&str; 3] = ["go", "source", "history"];
 
 /// OB 1 with one rung: output 4.0 is input 0.0 and not input 0.1.
-const RUNG: &[u8] =
+pub(crate) const RUNG: &[u8] =
     b"ORGANIZATION_BLOCK OB 1\nBEGIN\nA I 0.0;\nAN I 0.1;\n= Q 4.0;\nEND_ORGANIZATION_BLOCK\n";
 
 /// Input 0.0 comes on, then the program starts, runs once, and starts again.
-const ONE_RUN: &[u8] = b"in 0 01\nstep 6\n";
+pub(crate) const ONE_RUN: &[u8] = b"in 0 01\nstep 6\n";
 
 /// The files of a call.
-fn two_files(alloc: Global, source: &[u8], history: &[u8]) -> Result<MemFiles, Fail> {
+pub(crate) fn two_files(alloc: Global, source: &[u8], history: &[u8]) -> Result<MemFiles, Fail> {
     let mut files = MemFiles::new(alloc);
     files.put("source", source)?;
     files.put("history", history)?;
@@ -24,7 +24,7 @@ fn two_files(alloc: Global, source: &[u8], history: &[u8]) -> Result<MemFiles, F
 }
 
 /// The status of a call with these words.
-fn call<R: Threads + Wait + Sync>(
+pub(crate) fn call<R: Threads + Wait + Sync>(
     rt: &R,
     alloc: Global,
     words: &[&str],
@@ -91,26 +91,6 @@ fn runs_and_refusals(rt: HostRuntime) -> Result<(), Fail> {
         let code = call(&rt, rt.alloc(), &GO, &mut files, &mut out)?;
         assert_eq!(rt; code, status);
         assert_eq!(rt; out.taken.as_slice(), text);
-    }
-    Ok(())
-}
-
-#[test]
-fn words(rt: HostRuntime) -> Result<(), Fail> {
-    let table: [&[&str]; 6] = [
-        &[],
-        &["go"],
-        &["go", "source"],
-        &["go", "source", "history", "more"],
-        &["run", "source", "history"],
-        &["GO", "source", "history"],
-    ];
-    for list in table {
-        let mut files = two_files(rt.alloc(), RUNG, ONE_RUN)?;
-        let mut out = MemSink::new(rt.alloc(), 64);
-        let code = call(&rt, rt.alloc(), list, &mut files, &mut out)?;
-        assert_eq!(rt; code, 1);
-        assert_eq!(rt; out.taken.as_slice(), b"words refused\n".as_slice());
     }
     Ok(())
 }

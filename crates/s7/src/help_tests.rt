@@ -1,0 +1,34 @@
+use crate::help::{Question, question_in, write_answer};
+use plc_io::MemSink;
+use std::test::Fail;
+
+// A question is the only word.
+#[test]
+fn questions(rt: HostRuntime) -> Result<(), Fail> {
+    let table: [(&[&str], Option<Question>); 7] = [
+        (&["--help"], Some(Question::Help)),
+        (&["--version"], Some(Question::Version)),
+        (&[], None),
+        (&["help"], None),
+        (&["-h"], None),
+        (&["--help", "go"], None),
+        (&["go", "--version"], None),
+    ];
+    for (words, question) in table {
+        let mut list = Vec::new(rt.alloc());
+        for word in words {
+            list.push(String::from_str(rt.alloc(), *word)?)?;
+        }
+        assert_eq!(rt; question_in(&list), question);
+    }
+    Ok(())
+}
+
+// The sink takes three bytes of each piece.
+#[test]
+fn answers(rt: HostRuntime) -> Result<(), Fail> {
+    let mut out = MemSink::new(rt.alloc(), 3);
+    assert_eq!(rt; write_answer(&mut out, Question::Version).code, 0);
+    assert_eq!(rt; out.taken.as_slice(), b"s7 0.1.0\n".as_slice());
+    Ok(())
+}
