@@ -1,18 +1,30 @@
 use crate::program_tests::{ONE_RUN, RUNG, call, two_files};
 use plc_io::MemSink;
+use std::alloc::Global;
+use std::process::Abort;
+use std::sync::Wait;
 use std::test::Fail;
+use std::thread::Threads;
 
 const REFUSED: &str = "words refused\n";
+
 const RUN: &str = "@7 PQ 4 = 01\nEND 7 RUN\n";
+
 const OK: &str = "OK\n";
 
 /// Calls with these words over the files `source`, `history` and `--symbols`, which is a source too.
-fn is_told(rt: &HostRuntime, calls: &[&[&str]], status: u8, text: &str) -> Result<(), Fail> {
+fn is_told<R: Abort + Threads + Wait + Sync>(
+    rt: &R,
+    alloc: Global,
+    calls: &[&[&str]],
+    status: u8,
+    text: &str,
+) -> Result<(), Fail> {
     for words in calls {
-        let mut files = two_files(rt.alloc(), RUNG, ONE_RUN)?;
+        let mut files = two_files(alloc, RUNG, ONE_RUN)?;
         files.put("--symbols", RUNG)?;
-        let mut out = MemSink::new(rt.alloc(), 64);
-        let code = call(rt, rt.alloc(), words, &mut files, &mut out)?;
+        let mut out = MemSink::new(alloc, 64);
+        let code = call(rt, alloc, words, &mut files, &mut out)?;
         assert_eq!(rt; code, status, "{words:?}");
         assert_eq!(rt; out.taken.as_slice(), text.as_bytes(), "{words:?}");
     }
@@ -34,7 +46,7 @@ fn commands(rt: HostRuntime) -> Result<(), Fail> {
         &["GO", "source", "history"],
         &["", "source", "history"],
     ];
-    is_told(&rt, &calls, 1, REFUSED)
+    is_told(&rt, rt.alloc(), &calls, 1, REFUSED)
 }
 
 // A word that begins with a hyphen is an option. There are two, each with a value and once at most,
@@ -57,7 +69,7 @@ fn options(rt: HostRuntime) -> Result<(), Fail> {
         &["go", "source", "history", "-h"],
         &["--version", "go"],
     ];
-    is_told(&rt, &calls, 1, REFUSED)
+    is_told(&rt, rt.alloc(), &calls, 1, REFUSED)
 }
 
 // `--` ends the options and is no word of the rest: what stands behind it is the command, if none
@@ -72,11 +84,11 @@ fn accepted(rt: HostRuntime) -> Result<(), Fail> {
         &["--", "go", "source", "history"],
         &["go", "--", "--symbols", "history"],
     ];
-    is_told(&rt, &runs, 0, RUN)?;
+    is_told(&rt, rt.alloc(), &runs, 0, RUN)?;
     let judged: [&[&str]; 3] = [
         &["check", "source"],
         &["check", "--", "source"],
         &["check", "--", "--symbols"],
     ];
-    is_told(&rt, &judged, 0, OK)
+    is_told(&rt, rt.alloc(), &judged, 0, OK)
 }
