@@ -6,3 +6,6 @@ pub mod SourceLemmas
 pub mod LawLemmas
 pub mod SpellingLemmas
 pub mod FrameLemmas
+pub mod LevelLemmas
+pub mod LengthLemmas
+pub mod TotalLemmas

@@ -55,7 +55,7 @@ open_at_end source tokens at rest kept line none so_far open_ last =
       breaks = (open_, last, refl);
     }
 
-outside_is : (at : Place) → is_outside at ≡ true → at ≡ place.Outside
+pub outside_is : (at : Place) → is_outside at ≡ true → at ≡ place.Outside
 outside_is place.Outside h = refl
 outside_is (place.Head k) h = cc
 outside_is (place.Section k p l) h = cc

@@ -12,6 +12,7 @@ ghost use Rattle.stl_parser.specs.Source.{
   ExcludesViolation,
   IsViolationUnique,
   ClausesHaveTree,
+  IsTotal,
   IsTreeUnique,
   TreeExcludesViolation,
 };
@@ -197,13 +198,14 @@ fn tree_of(alloc: Global, kept: Vec<Clause>) -> Result<Tree, AllocError>
 
 /// There is at most one list of clauses for the tokens of a source, none where there is a
 /// violation, and one first violation. Right clauses have a tree; there is at most one, and none
-/// where there is a violation. So what `parse` answers is the tree of the source, and what it
-/// refuses has no tree, and exactly that line and rule.
+/// where there is a violation. So a source has one tree, or no tree and one first violation, and
+/// `parse` answers the tree, refuses with the violation, or wants memory.
 pub fn law_of_clauses()
     ensures one_list { AreClausesUnique }
     ensures list_or_violation { ExcludesViolation }
     ensures one_violation { IsViolationUnique }
     ensures tree_there { ClausesHaveTree }
+    ensures total { IsTotal }
     ensures one_tree { IsTreeUnique }
     ensures tree_or_violation { TreeExcludesViolation }
 {}

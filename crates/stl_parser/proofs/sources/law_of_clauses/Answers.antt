@@ -1,5 +1,6 @@
 use Rattle.stl_parser.proofs.LawLemmas.{one_list, list_or_violation, one_violation}
 use Rattle.stl_parser.proofs.FrameLemmas.{tree_there}
+use Rattle.stl_parser.proofs.TotalLemmas.{total}
 use Rattle.stl_parser.proofs.SpellingLemmas.{one_tree, tree_or_violation}
 use Rattle.stl_parser.proofs.sources.law_of_clauses.Goals as goal
 
@@ -20,3 +21,6 @@ returns-clause-tree_or_violation c = tree_or_violation
 
 pub returns-clause-tree_there : goal.returns-clause-tree_there
 returns-clause-tree_there c = tree_there
+
+pub returns-clause-total : goal.returns-clause-total
+returns-clause-total c = total
