@@ -3,6 +3,8 @@
 
 mod answers;
 mod building;
+#[cfg(test)]
+mod built_tests;
 mod checking;
 mod decimals;
 mod endings;
