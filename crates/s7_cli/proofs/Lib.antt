@@ -7,6 +7,11 @@ pub mod NumberLemmas
 pub mod LineLemmas
 pub mod HistoryLemmas
 pub mod TableLemmas
+pub mod GoRowLemmas
+pub mod CheckRowLemmas
+pub mod StatusLemmas
+pub mod ComesLemmas
 pub mod ValidLemmas
 pub mod GoLemmas
 pub mod MatchLemmas
+pub mod CheckLemmas

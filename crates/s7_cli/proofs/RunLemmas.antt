@@ -1,5 +1,5 @@
 -- The text of a run, entry by entry.
-use Rattle.std.proofs.Common.{◌≡◌, ◌<◌, refl, sym, ◌∙◌, ap, subst, ℕ, ◌+◌, ◌-◌, max, List, [], ◌∷◌, ◌++◌, length, take, drop, get_or, Result, Ok, Err, arith, length-append}
+use Rattle.std.proofs.Common.{◌≡◌, ◌<◌, refl, sym, ◌∙◌, ap, subst, ℕ, ◌+◌, ◌-◌, List, [], ◌∷◌, ◌++◌, length, take, drop, get_or, Result, Ok, Err, arith, length-append}
 use Rattle.std.proofs.lemmas.List.{take-append-drop, take_more}
 use Rattle.std.proofs.lemmas.Grind.{common_steps}
 use Rattle.plc_base.specs.declared.Mode.{Mode}
@@ -14,7 +14,7 @@ use Rattle.controller.specs.ThinCode.{thin_code}
 use Rattle.sem_kept.specs.Tree.{tree_code}
 use Rattle.sem_kept.specs.Agreement.{Agree}
 use Rattle.s7_cli.specs.declared.endings.Ending.{Ending}
-use Rattle.s7_cli.specs.Ends.{SinkAt, Taking}
+use Rattle.s7_cli.specs.Ends.{SinkAt}
 use Rattle.s7_cli.specs.Inner.{TextWritten}
 use Rattle.s7_cli.specs.LineText.{end_text}
 use Rattle.s7_cli.specs.RunText.{entry_text, lines_after, run_text}

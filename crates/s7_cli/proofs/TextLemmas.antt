@@ -1,7 +1,6 @@
 -- Texts that are written one after another.
-use Rattle.std.proofs.Common.{◌≡◌, ◌≤◌, ◌<◌, refl, sym, ◌∙◌, ap, subst, ℕ, ◌+◌, ◌-◌, min, List, [], ◌∷◌, ◌++◌, length, take, drop, get_or, Option, Some, None, Result, Ok, Err, arith, rules}
-use Rattle.std.specs.Option.{option_map}
-use Rattle.std.proofs.Math.Seq.{take-length, take-append_seam, take-append-add}
+use Rattle.std.proofs.Common.{◌≡◌, ◌≤◌, ◌<◌, refl, sym, ◌∙◌, ap, subst, ℕ, ◌+◌, min, List, [], ◌∷◌, ◌++◌, length, take, drop, get_or, Option, Some, None, Result, Ok, Err, arith}
+use Rattle.std.proofs.Math.Seq.{take-length, take-append-add}
 use Rattle.std.specs.List.{flat_map}
 use Rattle.std.proofs.lemmas.List.{take-append-le, take-append-drop, take_more}
 use Rattle.std.proofs.lemmas.Grind.{common_steps, flat_map-append}
@@ -9,7 +8,7 @@ use Rattle.plc_io.specs.Counts.{Rose}
 use Rattle.plc_io.specs.Taken.{Took, TookPrefix}
 use Rattle.s7_cli.specs.declared.endings.Ending.{Ending}
 use Rattle.s7_cli.specs.declared.endings.Ending.TheVariants.{Said, SinkFault, NoMemory}
-use Rattle.s7_cli.specs.Ends.{SinkAt, Taking}
+use Rattle.s7_cli.specs.Ends.{SinkAt}
 use Rattle.s7_cli.specs.Inner.{TextWritten}
 use Rattle.s7_cli.proofs.ListLemmas.{drop-next}
 

@@ -1,5 +1,5 @@
 -- How a call ends: what it answers, and what it leaves of the files and the sink.
-use Rattle.std.specs.Prelude.{◌≡◌, ◌<◌, ◌≤◌, ◌⊎◌, ℕ, List, [], ◌∷◌, length, take, map, Contains, Option, Some, None, Bool, true}
+use Rattle.std.specs.Prelude.{◌≡◌, ◌<◌, ◌≤◌, ◌⊎◌, ℕ, List, [], ◌∷◌, length, take, Contains, Option, Some, None, true}
 use Rattle.plc_io.specs.Contents.{Contents, Agrees, SameFiles}
 use Rattle.plc_io.specs.Counts.{Rose, SameCounts, NeverFell}
 use Rattle.plc_io.specs.Taken.{Took, TookPrefix}

@@ -1,6 +1,5 @@
 -- Why a history isn't read.
-use Rattle.std.specs.Prelude.{◌≡◌, ℕ, List, Option, None}
-use Rattle.var_access.specs.declared.entries.Entry.{Entry}
+use Rattle.std.specs.Prelude.{◌≡◌, ℕ, List, None}
 use Rattle.s7_cli.specs.declared.histories.HistoryFault.{HistoryFault}
 use Rattle.s7_cli.specs.declared.histories.HistoryFault.TheVariants.{Refused, NoMemory}
 use Rattle.s7_cli.specs.History.{history_of}

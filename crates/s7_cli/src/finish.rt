@@ -48,5 +48,7 @@ pub fn end_command<K: Sink>(out: &mut K, came: Result<(), Ending>) -> Status
     ensures ends { (c : Option Command) (d : Disk) (before : SinkAt) → Comes c d (record { before = before; after = sink_at K.taken K.faults out.old }) came → Ended c d (record { before = before; after = sink_at K.taken K.faults out.new }) result.code }
     ensures table { (c : Option Command) (d : Disk) (before : SinkAt) → Comes c d (record { before = before; after = sink_at K.taken K.faults out.old }) came → StatusTable c d (record { before = before; after = sink_at K.taken K.faults out.new }) result.code }
 {
+    // no source is both accepted and refused
+    sem_kept::laws::law_of_sources();
     finish(out, came).status()
 }

@@ -1,14 +1,15 @@
-use Rattle.std.proofs.Common.{rules, arith, ap, sym, ◌∙◌, subst, ◌≤◌, List, ℕ, length, Vec, Global, Err}
+use Rattle.std.proofs.Common.{ap, refl, ◌∙◌, List, ℕ, Vec, Global, Err}
 use Rattle.std.proofs.lemmas.Result.{err_from_is_err_and}
 use Rattle.controller.specs.declared.ThinOb.{ThinOb}
 use Rattle.var_access.specs.declared.Entry.{Entry}
-use Rattle.s7_cli.proofs.GoLemmas.{source-fails, history-fails, both-read, judge-refuses, run-comes}
+use Rattle.s7_cli.proofs.ComesLemmas.{source-fails}
+use Rattle.s7_cli.proofs.GoLemmas.{history-fails, both-read, judge-refuses, run-comes}
 use Rattle.s7_cli.proofs.going.go.Goals as goal
 
 pub returns-in_err-source : goal.returns-in_err-source
 returns-in_err-source g c =
     let fault = err_from_is_err_and c.from_residual.result c.from_residual.ensures.1 in
-    source-fails (λ (v : Vec ℕ Global). v.items) _ _ _ _ _ _ _ (fault.1 ∙ ap Err fault.2) c.in_err-source.ensures
+    source-fails (λ (v : Vec ℕ Global). v.items) _ _ _ _ _ _ _ _ refl (fault.1 ∙ ap Err fault.2) c.in_err-source.ensures
 
 pub returns-in_err-history : goal.returns-in_err-history
 returns-in_err-history g c =

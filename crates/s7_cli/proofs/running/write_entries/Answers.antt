@@ -1,4 +1,4 @@
-use Rattle.std.proofs.Common.{◌∙◌, ap, Err, rules, arith}
+use Rattle.std.proofs.Common.{◌∙◌, ap, Err, rules}
 use Rattle.std.proofs.lemmas.Result.{err_from_is_err_and}
 use Rattle.s7_cli.proofs.RunLemmas.{lines-cut, lines-on}
 use Rattle.s7_cli.proofs.running.write_entries.Goals as goal

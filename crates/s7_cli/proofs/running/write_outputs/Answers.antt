@@ -1,7 +1,7 @@
-use Rattle.std.proofs.Common.{◌∙◌, ap, Err, rules, arith}
+use Rattle.std.proofs.Common.{◌∙◌, ap, Err, rules}
 use Rattle.std.proofs.lemmas.Result.{err_from_is_err_and}
 use Rattle.s7_cli.specs.LineText.{output_text}
-use Rattle.s7_cli.proofs.TextLemmas.{texts-cut, texts-on, texts-all, wrote-nothing}
+use Rattle.s7_cli.proofs.TextLemmas.{texts-cut}
 use Rattle.s7_cli.proofs.running.write_outputs.Goals as goal
 
 pub returns-in_err-write_text : goal.returns-in_err-write_text
