@@ -1,5 +1,5 @@
 -- The rows of `check`: what its file says, over a file that tells what it holds.
-use Rattle.std.proofs.Common.{◌≡◌, ◌<◌, ◌≤◌, ◌⊎◌, inl, inr, refl, ◌∙◌, ap, subst, ℕ, List, length, Option, Some, true, arith}
+use Rattle.std.proofs.Common.{◌≡◌, ◌<◌, ◌≤◌, ◌⊎◌, inl, inr, refl, ◌∙◌, ap, subst, ℕ, List, [], length, Option, Some, true, arith}
 use Rattle.plc_io.specs.Taken.{Took}
 use Rattle.sem_kept.specs.ThinSource.{ExcludesRefusal}
 use Rattle.s7_cli.specs.declared.answers.Answer.{Answer}
@@ -8,9 +8,9 @@ use Rattle.s7_cli.specs.declared.answers.File.TheVariants.{Source}
 use Rattle.s7_cli.specs.Command.{Command, Check, limit_of}
 use Rattle.s7_cli.specs.Ends.{Disk, Taking, Answers, IsSaid, answer_code}
 use Rattle.s7_cli.specs.Lines.{line_of, ok_line}
-use Rattle.s7_cli.specs.Says.{CheckSays}
-use Rattle.s7_cli.specs.StatusTable.{OutputRose, CheckOver, IsSource, IsNoSource, CheckDecides, TellsOk, TookLine, NamesRefusal, CheckTable}
-use Rattle.s7_cli.proofs.TableLemmas.{agrees-held, StopsOver, stops-over, source-or-not, LineIs, line-said, took-line, read-fault-said, not-6}
+use Rattle.s7_cli.specs.Says.{Says, CheckSays}
+use Rattle.s7_cli.specs.StatusTable.{OutputRose, CheckOver, IsAbsent, IsSource, IsNoSource, CheckDecides, TellsOk, TookLine, NamesRefusal, CheckTable}
+use Rattle.s7_cli.proofs.TableLemmas.{agrees-held, StopsOver, stops-over, no-file, source-or-not, LineIs, line-said, took-line, read-fault-said, not-6}
 
 -- the reading of the file of `check` ends at it, or it is within its limit
 abbrev Ways : Disk → (name source : List ℕ) → Answer → List ℕ → Type 0
@@ -97,6 +97,12 @@ names-said d s name source (TooLong file) text (inl stops) took is e =
 names-said d s name source (TooLong file) text (inr says) took is e = absurd says.1
 names-said d s name source answer text way took is e = absurd (omega arith)
 
+no-source-said : (c : Option Command) (d : Disk) (answer : Answer) (text source_name : List ℕ)
+    → c ≡ Some (Check source_name) → IsAbsent d source_name → Answers c d answer text → answer_code answer ≡ 5
+no-source-said c d answer text source_name is absent answers =
+    no-file d (record { file = Source; name = source_name }) [] (Says (Check source_name)) answer text absent
+    (subst (λ (k : Option Command). Answers k d answer text) is answers)
+
 -- the rows of `check`, by how the call ends
 pub check-said : ExcludesRefusal → (c : Option Command) (d : Disk) (s : Taking) (answer : Answer) → IsSaid c d s answer → CheckTable c d s (answer_code answer)
 check-said excludes c d s answer said =
@@ -116,6 +122,7 @@ check-said excludes c d s answer said =
       names_refusal = λ source over e. refusal-said d s over.source_name source answer said.text (way source over) said.took e;
       names_too_long = λ source over e.
           names-said d s over.source_name source answer said.text (way source over) said.took (line-said c d answer said.text said.answers) e;
+      no_source = λ source_name is absent. inl (no-source-said c d answer said.text source_name is absent said.answers);
     }
 
 pub check-sink : (c : Option Command) (d : Disk) (s : Taking) → OutputRose c d s → CheckTable c d s 6
@@ -125,6 +132,7 @@ check-sink c d s rose = record {
   complete = λ source over reads writes. absurd (writes rose);
   names_refusal = λ source over e. absurd (omega arith);
   names_too_long = λ source over e. absurd (omega arith);
+  no_source = λ source_name is absent. inr (inl refl);
 }
 
 pub check-memory : (c : Option Command) (d : Disk) (s : Taking) → CheckTable c d s 7
@@ -134,4 +142,5 @@ check-memory c d s = record {
   complete = λ source over reads writes. inl refl;
   names_refusal = λ source over e. absurd (omega arith);
   names_too_long = λ source over e. absurd (omega arith);
+  no_source = λ source_name is absent. inr (inr refl);
 }

@@ -1,5 +1,5 @@
 -- The rows of `go`: what its two files say, over files that tell what they hold.
-use Rattle.std.proofs.Common.{◌≡◌, ◌<◌, ◌≤◌, ◌⊎◌, inl, inr, refl, ◌∙◌, ap, subst, ℕ, List, length, Option, Some, true, arith}
+use Rattle.std.proofs.Common.{◌≡◌, ◌<◌, ◌≤◌, ◌⊎◌, inl, inr, refl, ◌∙◌, ap, subst, ℕ, List, [], ◌∷◌, length, Option, Some, true, arith}
 use Rattle.plc_io.specs.Taken.{Took}
 use Rattle.sem_kept.specs.ThinSource.{ExcludesRefusal}
 use Rattle.s7_cli.specs.declared.answers.Answer.{Answer}
@@ -8,9 +8,9 @@ use Rattle.s7_cli.specs.declared.answers.File.TheVariants.{Source, History}
 use Rattle.s7_cli.specs.Command.{Command, Go, limit_of}
 use Rattle.s7_cli.specs.Ends.{Disk, Taking, Answers, IsSaid, answer_code}
 use Rattle.s7_cli.specs.Lines.{line_of}
-use Rattle.s7_cli.specs.Says.{GoSays, IsNoHistory}
-use Rattle.s7_cli.specs.StatusTable.{OutputRose, GoOver, AreWithin, IsSource, IsNoSource, IsHistory, GoDecides, TellsRun, NamesRefusal, NamesTooLong, GoTable}
-use Rattle.s7_cli.proofs.TableLemmas.{agrees-held, StopsOver, stops-over, source-or-not, LineIs, line-said, took-line, read-fault-said, not-6}
+use Rattle.s7_cli.specs.Says.{Says, GoSays, IsNoHistory}
+use Rattle.s7_cli.specs.StatusTable.{OutputRose, GoOver, IsAbsent, IsHeld, TellsLongSource, AreWithin, IsSource, IsNoSource, IsHistory, GoDecides, TellsRun, NamesRefusal, NamesTooLong, GoTable}
+use Rattle.s7_cli.proofs.TableLemmas.{agrees-held, StopsOver, stops-over, no-file, source-or-not, LineIs, line-said, took-line, read-fault-said, not-6}
 
 -- the reading of the two files of `go` ends at one of them, or both are within their limits
 abbrev Ways : Disk → (source_name history_name source history : List ℕ) → Answer → List ℕ → Type 0
@@ -140,6 +140,62 @@ names-said d s source_name history_name source history (TooLong file) text (inr 
 names-said d s source_name history_name source history (TooLong file) text (inr (inr says)) took is e = absurd says.1
 names-said d s source_name history_name source history answer text way took is e = absurd (omega arith)
 
+-- the source is absent
+no-source-said : (c : Option Command) (d : Disk) (answer : Answer) (text source_name history_name : List ℕ)
+    → c ≡ Some (Go source_name history_name) → IsAbsent d source_name → Answers c d answer text → answer_code answer ≡ 5
+no-source-said c d answer text source_name history_name is absent answers =
+    no-file d (record { file = Source; name = source_name }) (record { file = History; name = history_name } ∷ []) (Says (Go source_name history_name)) answer text absent
+    (subst (λ (k : Option Command). Answers k d answer text) is answers)
+
+-- the source is right in length, and the history absent
+history-absent : (d : Disk) (answer : Answer) (text source_name history_name source : List ℕ) → IsHeld d source_name source
+    → length source ≤ limit_of Source → IsAbsent d history_name → Answers (Some (Go source_name history_name)) d answer text → answer_code answer ≡ 5
+history-absent d answer text source_name history_name source held within absent (inl stops) =
+    in-limit answer (stops-over d Source source_name source answer held.0 held.1 stops.0)
+  where
+    in-limit : (a : Answer) → StopsOver d Source source_name source a → answer_code a ≡ 5
+    in-limit ReadFault over = refl
+    in-limit (TooLong file) over = absurd (omega (arith, over.1))
+    in-limit WordsRefused over = absurd over
+    in-limit (SourceRefused refusal) over = absurd over
+    in-limit (HistoryRefused refusal) over = absurd over
+    in-limit Done over = absurd over
+history-absent d answer text source_name history_name source held within absent (inr (bytes, holds, rest)) =
+    no-file d (record { file = History; name = history_name }) [] (λ files. Says (Go source_name history_name) (bytes ∷ files)) answer text absent rest
+
+no-history-said : (c : Option Command) (d : Disk) (answer : Answer) (text source_name history_name source : List ℕ)
+    → c ≡ Some (Go source_name history_name) → IsHeld d source_name source → length source ≤ limit_of Source → IsAbsent d history_name
+    → Answers c d answer text → answer_code answer ≡ 5
+no-history-said c d answer text source_name history_name source is held within absent answers =
+    history-absent d answer text source_name history_name source held within absent
+    (subst (λ (k : Option Command). Answers k d answer text) is answers)
+
+-- the source is too long
+source-long : (d : Disk) (answer : Answer) (text source_name history_name source : List ℕ) → IsHeld d source_name source
+    → limit_of Source < length source → Answers (Some (Go source_name history_name)) d answer text
+    → TellsLongSource d source_name (answer_code answer)
+source-long d answer text source_name history_name source held long (inl stops) =
+    past-limit answer (stops-over d Source source_name source answer held.0 held.1 stops.0)
+  where
+    past-limit : (a : Answer) → StopsOver d Source source_name source a → TellsLongSource d source_name (answer_code a)
+    past-limit ReadFault over = inr (inl (refl, over))
+    past-limit (TooLong file) over = inl refl
+    past-limit WordsRefused over = absurd over
+    past-limit (SourceRefused refusal) over = absurd over
+    past-limit (HistoryRefused refusal) over = absurd over
+    past-limit Done over = absurd over
+source-long d answer text source_name history_name source held long (inr (bytes, holds, rest)) =
+    let is : bytes ≡ source = agrees-held d.before.contents source_name bytes source held.0 held.1 holds.agrees in
+    let within : length source ≤ limit_of Source = subst (λ (b : List ℕ). length b ≤ limit_of Source) is holds.within in
+    absurd (omega (arith, long, within))
+
+long-source-said : (c : Option Command) (d : Disk) (answer : Answer) (text source_name history_name source : List ℕ)
+    → c ≡ Some (Go source_name history_name) → IsHeld d source_name source → limit_of Source < length source
+    → Answers c d answer text → TellsLongSource d source_name (answer_code answer)
+long-source-said c d answer text source_name history_name source is held long answers =
+    source-long d answer text source_name history_name source held long
+    (subst (λ (k : Option Command). Answers k d answer text) is answers)
+
 -- the rows of `go`, by how the call ends
 pub go-said : ExcludesRefusal → (c : Option Command) (d : Disk) (s : Taking) (answer : Answer) → IsSaid c d s answer → GoTable c d s (answer_code answer)
 go-said excludes c d s answer said =
@@ -159,6 +215,11 @@ go-said excludes c d s answer said =
       names_refusal = λ source history over e. refusal-said d s over.source_name over.history_name source history answer said.text (way source history over) said.took e;
       names_too_long = λ source history over e.
           names-said d s over.source_name over.history_name source history answer said.text (way source history over) said.took (line-said c d answer said.text said.answers) e;
+      no_source = λ source_name history_name is absent. inl (no-source-said c d answer said.text source_name history_name is absent said.answers);
+      no_history = λ source_name history_name source is held within absent.
+          inl (no-history-said c d answer said.text source_name history_name source is held within absent said.answers);
+      long_source = λ source_name history_name source is held long.
+          long-source-said c d answer said.text source_name history_name source is held long said.answers;
     }
 
 pub go-sink : (c : Option Command) (d : Disk) (s : Taking) → OutputRose c d s → GoTable c d s 6
@@ -168,6 +229,9 @@ go-sink c d s rose = record {
   complete = λ source history over reads writes. absurd (writes rose);
   names_refusal = λ source history over e. absurd (omega arith);
   names_too_long = λ source history over e. absurd (omega arith);
+  no_source = λ source_name history_name is absent. inr (inl refl);
+  no_history = λ source_name history_name source is held within absent. inr (inl refl);
+  long_source = λ source_name history_name source is held long. inr (inr (inl refl));
 }
 
 pub go-memory : (c : Option Command) (d : Disk) (s : Taking) → GoTable c d s 7
@@ -177,4 +241,7 @@ go-memory c d s = record {
   complete = λ source history over reads writes. inl refl;
   names_refusal = λ source history over e. absurd (omega arith);
   names_too_long = λ source history over e. absurd (omega arith);
+  no_source = λ source_name history_name is absent. inr (inr refl);
+  no_history = λ source_name history_name source is held within absent. inr (inr refl);
+  long_source = λ source_name history_name source is held long. inr (inr (inr refl));
 }

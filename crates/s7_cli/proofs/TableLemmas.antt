@@ -1,5 +1,5 @@
 -- What the rows of every command share: the answers over told files, the line of each, and the counts.
-use Rattle.std.proofs.Common.{◌≡◌, ◌≢◌, ◌<◌, ◌≤◌, ◌⊎◌, inl, inr, refl, sym, ◌∙◌, ap, subst, ℕ, List, length, Option, Some, None, true, arith}
+use Rattle.std.proofs.Common.{◌≡◌, ◌≢◌, ◌<◌, ◌≤◌, ◌⊎◌, inl, inr, refl, sym, ◌∙◌, ap, subst, ℕ, List, ◌∷◌, length, Option, Some, None, true, arith}
 use Rattle.plc_io.specs.Contents.{Contents, Agrees, SameFiles}
 use Rattle.plc_io.specs.Counts.{Rose}
 use Rattle.plc_io.specs.Taken.{Took}
@@ -8,11 +8,11 @@ use Rattle.s7_cli.specs.declared.answers.Answer.{Answer}
 use Rattle.s7_cli.specs.declared.answers.Answer.TheVariants.{WordsRefused, ReadFault, TooLong, SourceRefused, HistoryRefused, Done}
 use Rattle.s7_cli.specs.declared.answers.File.{File}
 use Rattle.s7_cli.specs.declared.answers.File.TheVariants.{Source, History}
-use Rattle.s7_cli.specs.Command.{Command, Go, Check, limit_of}
-use Rattle.s7_cli.specs.Ends.{Disk, Taking, StopsAt, Answers, CountsReads, HoldsFront, LeavesFiles, ChangesOutputs, answer_code}
+use Rattle.s7_cli.specs.Command.{Command, Input, Go, Check, limit_of}
+use Rattle.s7_cli.specs.Ends.{Disk, Taking, StopsAt, Reads, Answers, CountsReads, HoldsFront, LeavesFiles, ChangesOutputs, answer_code}
 use Rattle.s7_cli.specs.Lines.{line_of}
 use Rattle.s7_cli.specs.Says.{GoSays, CheckSays, not_built}
-use Rattle.s7_cli.specs.StatusTable.{InputRose, IsSource, IsNoSource, TakesLine}
+use Rattle.s7_cli.specs.StatusTable.{InputRose, IsAbsent, IsSource, IsNoSource, TakesLine}
 
 -- over told contents the bytes that agree are the ones held
 pub agrees-held : (c : Contents) (name bytes held : List ℕ) → c.told ≡ true → c.at name ≡ Some held → Agrees c name bytes → bytes ≡ held
@@ -38,6 +38,25 @@ stops-over d file name held WordsRefused told is stops = stops
 stops-over d file name held (SourceRefused refusal) told is stops = stops
 stops-over d file name held (HistoryRefused refusal) told is stops = stops
 stops-over d file name held Done told is stops = stops
+
+-- over told contents no bytes agree with a file that is absent
+agrees-absent : (c : Contents) (name bytes : List ℕ) → c.told ≡ true → c.at name ≡ None → Agrees c name bytes → ⊥
+agrees-absent c name bytes told is agrees = cc (is, agrees told)
+
+stops-absent : (d : Disk) (i : Input) (answer : Answer) → IsAbsent d i.name → StopsAt d i answer → answer_code answer ≡ 5
+stops-absent d i ReadFault absent stops = refl
+stops-absent d i (TooLong f) absent stops = absurd (agrees-absent d.before.contents i.name stops.1.0 absent.0 absent.1 stops.1.1)
+stops-absent d i WordsRefused absent stops = absurd stops
+stops-absent d i (SourceRefused refusal) absent stops = absurd stops
+stops-absent d i (HistoryRefused refusal) absent stops = absurd stops
+stops-absent d i Done absent stops = absurd stops
+
+-- the reading comes to a file that is absent: only a failed read answers
+pub no-file : (d : Disk) (i : Input) (more : List Input) (says : List (List ℕ) → Answer → List ℕ → Type 0) (answer : Answer) (text : List ℕ)
+    → IsAbsent d i.name → Reads d (i ∷ more) says answer text → answer_code answer ≡ 5
+no-file d i more says answer text absent (inl stops) = stops-absent d i answer absent stops.0
+no-file d i more says answer text absent (inr (bytes, holds, rest)) =
+    absurd (agrees-absent d.before.contents i.name bytes absent.0 absent.1 holds.agrees)
 
 -- the line that goes with an answer
 abbrev pub LineIs : Answer → List ℕ → Type 0

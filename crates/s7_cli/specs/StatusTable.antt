@@ -50,6 +50,23 @@ pub record CheckOver (c : Option Command) (d : Disk) (source : List ℕ) : Type 
   pub told : d.before.contents.told ≡ true
   pub source_held : d.before.contents.at source_name ≡ Some source
 
+-- the files tell what they hold, and there is none of this name
+abbrev pub IsAbsent : Disk → (name : List ℕ) → Type 0
+IsAbsent d name = (d.before.contents.told ≡ true) × (d.before.contents.at name ≡ None)
+
+-- the files tell what they hold, and the one of this name these bytes
+abbrev pub IsHeld : Disk → (name bytes : List ℕ) → Type 0
+IsHeld d name bytes = (d.before.contents.told ≡ true) × (d.before.contents.at name ≡ Some bytes)
+
+-- a read or the sink failed, or memory was wanting
+abbrev pub IsFault : ℕ → Type 0
+IsFault code = (code ≡ 5) ⊎ (code ≡ 6) ⊎ (code ≡ 7)
+
+-- a source that is too long is told, whatever the history is, unless its own read or the sink failed, or memory was wanting
+abbrev pub TellsLongSource : Disk → (source_name : List ℕ) → ℕ → Type 0
+TellsLongSource d source_name code =
+    (code ≡ 8) ⊎ ((code ≡ 5) × Rose (d.before.failed_reads source_name) (d.after.failed_reads source_name)) ⊎ (code ≡ 6) ⊎ (code ≡ 7)
+
 -- both files are within their limits
 abbrev pub AreWithin : (source history : List ℕ) → Type 0
 AreWithin source history = (length source ≤ limit_of Source) × (length history ≤ limit_of History)
@@ -125,6 +142,13 @@ pub record GoTable (c : Option Command) (d : Disk) (s : Taking) (code : ℕ) : T
   -- 2, 8: the line names the source's one refusal, or the file
   pub names_refusal : (source history : List ℕ) → GoOver c d source history → code ≡ 2 → NamesRefusal s source
   pub names_too_long : (source history : List ℕ) → GoOver c d source history → code ≡ 8 → NamesTooLong s source history
+  -- where there is no source, or no history behind a source within its limit, no other answer than a fault
+  pub no_source : (source_name history_name : List ℕ) → c ≡ Some (Go source_name history_name) → IsAbsent d source_name → IsFault code
+  pub no_history : (source_name history_name source : List ℕ) → c ≡ Some (Go source_name history_name) → IsHeld d source_name source
+      → length source ≤ limit_of Source → IsAbsent d history_name → IsFault code
+  -- the source decides first: where it is too long the history isn't asked, and may be absent
+  pub long_source : (source_name history_name source : List ℕ) → c ≡ Some (Go source_name history_name) → IsHeld d source_name source
+      → limit_of Source < length source → TellsLongSource d source_name code
 
 -- the rows of `check`, over a file that tells what it holds
 pub record CheckTable (c : Option Command) (d : Disk) (s : Taking) (code : ℕ) : Type 0 where
@@ -137,6 +161,8 @@ pub record CheckTable (c : Option Command) (d : Disk) (s : Taking) (code : ℕ) 
   -- 2, 8: the line names the source's one refusal, or that it is too long
   pub names_refusal : (source : List ℕ) → CheckOver c d source → code ≡ 2 → NamesRefusal s source
   pub names_too_long : (source : List ℕ) → CheckOver c d source → code ≡ 8 → TookLine s (TooLong Source)
+  -- where there is no source, no other answer than a fault
+  pub no_source : (source_name : List ℕ) → c ≡ Some (Check source_name) → IsAbsent d source_name → IsFault code
 
 -- the table of statuses
 pub record StatusTable (c : Option Command) (d : Disk) (s : Taking) (code : ℕ) : Type 0 where

@@ -226,7 +226,11 @@ fn failed_reads(rt: HostRuntime) -> Result<(), Fail> {
         assert_eq!(rt; code, 5);
         assert_eq!(rt; out.taken.as_slice(), b"read fault\n".as_slice());
     }
-    let missing: [&[&str]; 2] = [&["go", "source", "none"], &["check", "none"]];
+    let missing: [&[&str]; 3] = [
+        &["go", "none", "history"],
+        &["go", "source", "none"],
+        &["check", "none"],
+    ];
     for list in missing {
         let mut files = two_files(rt.alloc(), RUNG, ONE_RUN)?;
         let mut out = MemSink::new(rt.alloc(), 64);
@@ -259,14 +263,21 @@ fn failed_push(rt: HostRuntime) -> Result<(), Fail> {
     Ok(())
 }
 
-// The longest files, and one byte more.
+// The longest files, and one byte more; then the history needn't be there.
 #[test]
 fn long_files(rt: HostRuntime) -> Result<(), Fail> {
     // words, bytes of the source, of the history, status, text
-    let table: [(&[&str], usize, usize, u8, &[u8]); 5] = [
+    let table: [(&[&str], usize, usize, u8, &[u8]); 6] = [
         (&GO, 1_048_576, 0, 0, b"END 0 RUN\n"),
         (&GO, 1_048_577, 0, 8, b"too long: source\n"),
         (&GO, 0, 4_194_305, 8, b"too long: history\n"),
+        (
+            &["go", "source", "none"],
+            1_048_577,
+            0,
+            8,
+            b"too long: source\n",
+        ),
         (&CHECK, 1_048_576, 0, 0, b"OK\n"),
         (&CHECK, 1_048_577, 0, 8, b"too long: source\n"),
     ];
