@@ -15,3 +15,4 @@ pub mod ValidLemmas
 pub mod GoLemmas
 pub mod MatchLemmas
 pub mod CheckLemmas
+pub mod PlainLemmas

@@ -1,6 +1,7 @@
 -- The words of a call, and the command that they ask for. How a command line is read is clap's: its `fault_of` has what is wrong with
 -- the words (also a request for help), and its `matches_of` what each argument found, of which `first_of` and `all_of` give the words.
-use Rattle.std.specs.Prelude.{ℕ, List, [], ◌∷◌, Option, Some, None, true, codes, bytes_eq, option_and_then, unwrap_or, if◌then◌else◌}
+use Rattle.std.specs.Prelude.{◌≡◌, ◌==◌, ℕ, Bool, true, not, List, [], ◌∷◌, Option, Some, None, codes, bytes_eq, option_and_then, unwrap_or, if◌then◌else◌}
+use Rattle.std.specs.List.{list_all}
 use Rattle.clap.specs.Lexer.{usize_max}
 use Rattle.clap.specs.Simple.{on_top}
 use Rattle.clap.specs.Walk.{is_empty}
@@ -55,3 +56,22 @@ command_of words = if is_empty (fault_of the_line words) then asked_by (matches_
 abbrev pub command_value : Asked → Command
 command_value (asked.Go source history) = Go source.now history.now
 command_value (asked.Check source) = Check source.now
+
+-- a word that can be no option: it doesn't begin with a hyphen (45)
+abbrev pub is_plain_word : List ℕ → Bool
+is_plain_word [] = true
+is_plain_word (first ∷ rest) = not (first == 45)
+
+-- how such words are read: by their first and their count
+abbrev pub plain_command : List (List ℕ) → Option Command
+plain_command (command ∷ source ∷ history ∷ []) = if bytes_eq command (codes "go") then Some (Go source history) else None
+plain_command (command ∷ source ∷ []) = if bytes_eq command (codes "check") then Some (Check source) else None
+plain_command words = None
+
+-- words without a hyphen at their front are read so
+abbrev pub ReadsPlainWords : Type 0
+ReadsPlainWords = (words : List (List ℕ)) → list_all is_plain_word words ≡ true → command_of words ≡ plain_command words
+
+-- and so are words behind `--`, whatever they begin with
+abbrev pub ReadsWordsBehindDashes : Type 0
+ReadsWordsBehindDashes = (words : List (List ℕ)) → command_of (codes "--" ∷ words) ≡ plain_command words

@@ -38,3 +38,4 @@ pub use lines::{LINE_LIMIT, Line};
 pub use program::s7_main;
 pub use sources::read_source;
 pub use texts::{answer_line, end_line, mode_line, output_line};
+pub use words::law_of_words;

@@ -1,7 +1,7 @@
 ghost use Rattle.std.specs.Prelude.{◌≡◌, ◌≢◌, map, string_bytes, option_map, IfOk, None};
 ghost use Rattle.clap.specs.Words.{FailsBy, app_of, fault_of, found_of, kind_of, matches_of, rows_of};
 ghost use Rattle.clap.specs.declared.error.kind.ErrorKind.TheVariants.{OutOfMemory};
-ghost use Rattle.s7_cli.specs.Words.{the_line, asked_for, asked_by, command_of, command_value};
+ghost use Rattle.s7_cli.specs.Words.{the_line, asked_for, asked_by, command_of, command_value, ReadsPlainWords, ReadsWordsBehindDashes};
 
 use clap::error::ErrorKind;
 use clap::{Arg, ArgAction, ArgMatches, Command, Error};
@@ -99,3 +99,11 @@ pub fn read_words(alloc: Global, words: &[String]) -> Result<Option<Asked<'_>>, 
         Err(error) => refusal(&error),
     }
 }
+
+/// Words that don't begin with a hyphen are read by their first word and their count alone:
+/// `go SRC HIST` and `check SRC` are calls, and any others are refused. Behind `--` at the front
+/// all words are read so, whatever they begin with.
+pub fn law_of_words()
+    ensures plain { ReadsPlainWords }
+    ensures behind_dashes { ReadsWordsBehindDashes }
+{}

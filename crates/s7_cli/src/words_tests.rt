@@ -1,3 +1,4 @@
+use crate::law_of_words;
 use crate::program_tests::{ONE_RUN, RUNG, call, two_files};
 use plc_io::MemSink;
 use std::alloc::Global;
@@ -46,7 +47,9 @@ fn commands(rt: HostRuntime) -> Result<(), Fail> {
         &["GO", "source", "history"],
         &["", "source", "history"],
     ];
-    is_told(&rt, rt.alloc(), &calls, 1, REFUSED)
+    is_told(&rt, rt.alloc(), &calls, 1, REFUSED)?;
+    law_of_words();
+    Ok(())
 }
 
 // A word that begins with a hyphen is an option. There are two, each with a value and once at most,
