@@ -1,7 +1,18 @@
 ghost use Rattle.std.specs.Prelude.{◌≡◌, ◌++◌, ◌∷◌, [], map, reverse, IfOk};
 ghost use Rattle.std.specs.List.{flat_map};
 ghost use Rattle.stl_parser.specs.declared.clauses.Clause.TheVariants as spelled;
-ghost use Rattle.stl_parser.specs.Spelling.{is_udt, spelled_part, spelled_shape, spelled_block};
+ghost use Rattle.stl_parser.specs.Spelling.{
+  FrontIsNo,
+  IsWholeShape,
+  is_declaration,
+  is_section,
+  is_setting,
+  is_statement,
+  is_udt,
+  spelled_part,
+  spelled_shape,
+  spelled_block,
+};
 
 use crate::clauses::Clause;
 use crate::frames::level_behind;
@@ -16,7 +27,8 @@ use stl_ast::{
 /// stand deeper than the one before it allows.
 #[tactic(auto, using(crate::proofs::TreeLemmas::taken, crate::proofs::TreeLemmas::put_back, crate::proofs::TreeLemmas::reverse_last, crate::proofs::TreeLemmas::outline_push, crate::proofs::TreeLemmas::deepest_push))]
 fn declarations(alloc: Global, clauses: &mut Vec<Clause>) -> Result<Declarations, AllocError>
-    ensures { IfOk result (λ items. reverse clauses.old.items ≡ map spelled.Declares items ++ reverse clauses.new.items) }
+    ensures all { IfOk result (λ _. FrontIsNo is_declaration (reverse clauses.new.items)) }
+    ensures taken { IfOk result (λ items. reverse clauses.old.items ≡ map spelled.Declares items ++ reverse clauses.new.items) }
 {
     let mut items: Vec<Declaration> = Vec::new(alloc);
     let mut deepest = 0;
@@ -41,7 +53,8 @@ fn declarations(alloc: Global, clauses: &mut Vec<Clause>) -> Result<Declarations
 /// The sections at the front of the clauses.
 #[tactic(auto, using(crate::proofs::TreeLemmas::taken_with, crate::proofs::TreeLemmas::put_back, crate::proofs::TreeLemmas::append_none, crate::proofs::TreeLemmas::reverse_last))]
 fn parts(alloc: Global, clauses: &mut Vec<Clause>) -> Result<Sequence<Part>, AllocError>
-    ensures { IfOk result (λ parts. reverse clauses.old.items ≡ flat_map spelled_part parts ++ reverse clauses.new.items) }
+    ensures all { IfOk result (λ _. FrontIsNo is_section (reverse clauses.new.items)) }
+    ensures taken { IfOk result (λ parts. reverse clauses.old.items ≡ flat_map spelled_part parts ++ reverse clauses.new.items) }
 {
     let mut read: Vec<Part> = Vec::new(alloc);
     while let Some(clause) = clauses.pop() {
@@ -62,7 +75,8 @@ fn parts(alloc: Global, clauses: &mut Vec<Clause>) -> Result<Sequence<Part>, All
 /// The settings at the front of the clauses.
 #[tactic(auto, using(crate::proofs::TreeLemmas::taken, crate::proofs::TreeLemmas::put_back, crate::proofs::TreeLemmas::reverse_last))]
 fn settings(alloc: Global, clauses: &mut Vec<Clause>) -> Result<Sequence<Setting>, AllocError>
-    ensures { IfOk result (λ settings. reverse clauses.old.items ≡ map spelled.Sets settings ++ reverse clauses.new.items) }
+    ensures all { IfOk result (λ _. FrontIsNo is_setting (reverse clauses.new.items)) }
+    ensures taken { IfOk result (λ settings. reverse clauses.old.items ≡ map spelled.Sets settings ++ reverse clauses.new.items) }
 {
     let mut read: Vec<Setting> = Vec::new(alloc);
     while let Some(clause) = clauses.pop() {
@@ -80,7 +94,8 @@ fn settings(alloc: Global, clauses: &mut Vec<Clause>) -> Result<Sequence<Setting
 /// The statements at the front of the clauses.
 #[tactic(auto, using(crate::proofs::TreeLemmas::taken, crate::proofs::TreeLemmas::put_back, crate::proofs::TreeLemmas::reverse_last))]
 fn body(alloc: Global, clauses: &mut Vec<Clause>) -> Result<Sequence<Statement>, AllocError>
-    ensures { IfOk result (λ body. reverse clauses.old.items ≡ map spelled.Runs body ++ reverse clauses.new.items) }
+    ensures all { IfOk result (λ _. FrontIsNo is_statement (reverse clauses.new.items)) }
+    ensures taken { IfOk result (λ body. reverse clauses.old.items ≡ map spelled.Runs body ++ reverse clauses.new.items) }
 {
     let mut read: Vec<Statement> = Vec::new(alloc);
     while let Some(clause) = clauses.pop() {
@@ -177,7 +192,8 @@ fn shapeless(alloc: Global) -> Shape
 /// The shape at the front of the clauses, where one stands there.
 #[tactic(auto, using(crate::proofs::TreeLemmas::reverse_last))]
 fn shape_at_front(alloc: Global, clauses: &mut Vec<Clause>) -> Result<Shape, AllocError>
-    ensures { IfOk result (λ s. reverse clauses.old.items ≡ spelled_shape s.shape s.instance_of s.components ++ reverse clauses.new.items) }
+    ensures all { IfOk result (λ s. IsWholeShape (spelled_shape s.shape s.instance_of s.components) (reverse clauses.new.items)) }
+    ensures taken { IfOk result (λ s. reverse clauses.old.items ≡ spelled_shape s.shape s.instance_of s.components ++ reverse clauses.new.items) }
 {
     match clauses.pop() {
         Some(Clause::Structure) => {
