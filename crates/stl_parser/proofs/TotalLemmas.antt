@@ -1,5 +1,5 @@
 -- Each source has a tree or a violation.
-use Rattle.std.proofs.Common.{arith, ℕ, zero, suc, ◌≡◌, ◌≤◌, ◌⊎◌, inl, inr, Bool, true, false, List, [], ◌∷◌, length, Result, Ok, Err, refl}
+use Rattle.std.proofs.Common.{arith, ℕ, zero, suc, sym, ◌≡◌, ◌<◌, ◌≤◌, ◌⊎◌, inl, inr, Bool, true, false, List, [], ◌∷◌, length, Result, Ok, Err, refl}
 use Rattle.stl_lexer.specs.declared.kinds.Token.{Token}
 use Rattle.stl_parser.specs.declared.clauses.Clause.{Clause}
 use Rattle.stl_parser.specs.declared.places.Place.{Place}
@@ -31,6 +31,12 @@ shorter : (source : List ℕ) (p : Place) (t : Token) (ts : List Token) (c : Cla
     step_of source p (t ∷ ts) ≡ Ok (c, behind, q) → length behind ≤ length ts
 shorter source p t ts c behind q read =
     let right = right_clause source p (t ∷ ts) c behind q read in read_rest source p t ts (c, behind, right.0) right.1
+
+-- fewer tokens are left behind a right clause
+pub fewer_left : (source : List ℕ) (p : Place) (ts : List Token) (c : Clause) (behind : List Token) (q : Place) →
+    1 ≤ length ts → Ok (c, behind, q) ≡ step_of source p ts → length behind < length ts
+fewer_left source p [] c behind q some read = absurd (omega (arith, some))
+fewer_left source p (t ∷ ts) c behind q some read = omega (arith, shorter source p t ts c behind q (sym read))
 
 by_step : (source : List ℕ) (p : Place) (t : Token) (ts : List Token) (last : ℕ) (r : Result Step ℕ) → step_of source p (t ∷ ts) ≡ r →
     ((q : Place) (behind : List Token) → length behind ≤ length ts → Ends source q behind last) → Ends source p (t ∷ ts) last

@@ -149,10 +149,7 @@ fn judged_source(alloc: Global, source: &[u8], tokens: &[Token]) -> Result<Outco
     let mut kept: Vec<Clause> = Vec::new(alloc);
     let mut at = Place::Outside;
     let mut rest = tokens;
-    for _turn in 0..tokens.len() {
-        let [first, ..] = rest else {
-            break;
-        };
+    while let [first, ..] = rest {
         match judged_clause(alloc, source, at, rest)? {
             Step::Breaks { rule } => {
                 let refusal = Refusal {
@@ -172,10 +169,6 @@ fn judged_source(alloc: Global, source: &[u8], tokens: &[Token]) -> Result<Outco
             }
         }
     }
-    // Each clause takes a token, so that none is left.
-    let [] = rest else {
-        return Err(AllocError);
-    };
     if is_outside(at) {
         Ok(Outcome::Right { kept })
     } else {
