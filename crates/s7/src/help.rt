@@ -26,21 +26,23 @@ Calls:
   s7 --help        write this text
   s7 --version     write the version
 
-A word behind -- is a file, even if it begins with a hyphen.
+Behind -- no word is an option, so that a file may begin with a hyphen.
 
 Example:
   s7 go examples/motor_start_stop/source.awl examples/motor_start_stop/history.txt
 
 Exit status, and the line that is written in place of a result:
   0  done
-  1  the words are no call as above    words refused
-  2  the source breaks a rule          source refused: line L rule R
-  4  the history breaks a rule         history refused: line L rule R
-  5  a file can't be read              read fault
+  1  the words are no call as above          words refused
+  2  the source breaks a rule; by rule 99    source refused: line L rule R
+     it has a clause that isn't built yet
+  4  the history breaks a rule; by rule 99   history refused: line L rule R
+     it has a line that isn't built yet
+  5  a file can't be read                    read fault
   6  standard output failed
   7  memory ran out
-  8  a file is too long                too long: source (past 1,048,576 bytes)
-                                       too long: history (past 4,194,304 bytes)
+  8  a file is too long                      too long: source (past 1,048,576 bytes)
+                                             too long: history (past 4,194,304 bytes)
 ";
 
 /// The answer to `--version`.
