@@ -3,6 +3,7 @@
 
 mod bcd;
 mod blocks;
+mod faults;
 mod flags;
 pub mod laws;
 mod modes;
@@ -18,6 +19,7 @@ pub use bcd::{
     dint_to_bcd7, int_to_bcd, unsigned_to_bcd,
 };
 pub use blocks::{BlockId, BlockKind};
+pub use faults::NoMemory;
 pub use flags::Flag;
 pub use modes::{Mode, Spot};
 pub use places::{Area, Place, Width};
