@@ -89,7 +89,7 @@ pub fn bcd7_to_dint(word: u32) -> Result<i32, BadBcd>
 #[tactic(auto, unfolding(crate::specs::Bcd::bcd_of_signed))]
 pub fn int_to_bcd(number: i16) -> Option<u16>
     ensures value { result ≡ bcd_of_signed 3 number }
-    ensures none { IsNone result ↔ (MOST_OF_3_DIGITS < nat_abs number) }
+    ensures none { IsNone result ↔ (999 < nat_abs number) }
 {
     let size = number.unsigned_abs();
     if size > MOST_OF_3_DIGITS {
@@ -108,7 +108,7 @@ pub fn int_to_bcd(number: i16) -> Option<u16>
 #[tactic(auto, unfolding(crate::specs::Bcd::bcd_of_signed))]
 pub fn dint_to_bcd7(number: i32) -> Option<u32>
     ensures value { result ≡ bcd_of_signed 7 number }
-    ensures none { IsNone result ↔ (MOST_OF_7_DIGITS < nat_abs number) }
+    ensures none { IsNone result ↔ (9999999 < nat_abs number) }
 {
     let size = number.unsigned_abs();
     if size > MOST_OF_7_DIGITS {

@@ -3,6 +3,7 @@
 
 mod bcd;
 mod blocks;
+mod decimals;
 mod faults;
 mod flags;
 pub mod laws;
@@ -19,6 +20,7 @@ pub use bcd::{
     dint_to_bcd7, int_to_bcd, unsigned_to_bcd,
 };
 pub use blocks::{BlockId, BlockKind};
+pub use decimals::{capped_decimal, decimal_up_to};
 pub use faults::NoMemory;
 pub use flags::Flag;
 pub use modes::{Mode, Spot};
