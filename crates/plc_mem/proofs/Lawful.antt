@@ -20,12 +20,14 @@ use Rattle.plc_base.specs.declared.Place.{Place}
 use Rattle.plc_mem.specs.Areas.{Areas, PeripheralBytes}
 use Rattle.plc_mem.specs.BitPlace.{Region, bit_place, Inputs, Outputs, BitMemory, PeripheralInputs, PeripheralOutputs, DataBlock}
 use Rattle.plc_mem.specs.Bits.{bit_at, bit_in, bit_of, byte_at, peripheral_byte, block_byte}
-use Rattle.plc_mem.specs.Number.{bit_count, weights_of, plus_weight, number_of, number_at, region_of, region_read, region_written, operand_bit, EachBitExists}
+use Rattle.plc_base.specs.Widths.{bit_count}
+use Rattle.plc_mem.specs.Number.{weights_of, plus_weight, number_of, number_at, region_of, region_read, region_written, operand_bit, EachBitExists}
 use Rattle.plc_mem.specs.Places.{IsRun, SamePlaces, IsMemory, IsPeripheral, AreBytes, HasImage, HasParts}
 use Rattle.plc_mem.specs.Writing.{written, written_in, put, put_peripheral, put_in_block, is_within}
 use Rattle.plc_mem.specs.Written.{IsWritten, bit_after, value_of_bit}
 use Rattle.plc_mem.specs.Run.{number_over, operand_bit_of}
-use Rattle.plc_mem.specs.Peripherals.{IsPeripheralByte, with_input, outputs_cleared}
+use Rattle.plc_base.specs.AreaBytes.{is_peripheral_byte}
+use Rattle.plc_mem.specs.Peripherals.{with_input, outputs_cleared}
 use Rattle.plc_mem.specs.Refresh.{refreshed, IsRefreshed}
 use Rattle.plc_mem.specs.Fresh.{fresh, clear_peripheral}
 use Rattle.plc_mem.specs.Laws.{MemoryStarts, ReadsWhereEachBitExists, WritesWhereEachBitExists, NumbersAreReadBack, RefreshesBits, ClearsBits, SetsInputBits, PlacesStay}
@@ -469,11 +471,17 @@ write_bits m n place width value (Err _) sizes fits is = tt
 
 -- ---- one peripheral byte
 
-byte_of_part : (p q : PeripheralBytes) (at value : ℕ) → HasParts p → PartPut p q at 0 Byte value → IsPeripheralByte at
-byte_of_part p q at value parts (inl w) = let end = put_within p.low w.0 at 0 Byte value w.2 in inl (omega (arith, parts.low))
-byte_of_part p q at value parts (inr w) = let end = put_within p.high w.0 (at - 256) 0 Byte value w.2 in inr (omega (arith, w.1), omega (arith, parts.high, w.1))
+byte_of_part : (p q : PeripheralBytes) (at value : ℕ) → HasParts p → PartPut p q at 0 Byte value → is_peripheral_byte at ≡ true
+byte_of_part p q at value parts (inl w) = let end = put_within p.low w.0 at 0 Byte value w.2 in
+    let below : at < 128 = omega (arith, parts.low) in grind (arith, nat_tests)
+byte_of_part p q at value parts (inr w) = let end = put_within p.high w.0 (at - 256) 0 Byte value w.2 in
+    let from : 256 ≤ at = w.1 in let below : at < 768 = omega (arith, parts.high, w.1) in grind (arith, nat_tests)
 
-byte_put : (p : PeripheralBytes) (at value : ℕ) → HasParts p → IsPeripheralByte at → IsSome (put_peripheral p at 0 Byte value)
+-- in which part a peripheral byte lies
+part_of_byte : (at : ℕ) → is_peripheral_byte at ≡ true → (at < 128) ⊎ ((256 ≤ at) × (at < 768))
+part_of_byte at there = grind (arith, nat_tests)
+
+byte_put : (p : PeripheralBytes) (at value : ℕ) → HasParts p → (at < 128) ⊎ ((256 ≤ at) × (at < 768)) → IsSome (put_peripheral p at 0 Byte value)
 unfolding put_peripheral put
 byte_put p at value parts (inl low) =
     let first : nat_lt at 256 ≡ true = grind (arith, nat_tests) in
@@ -488,10 +496,10 @@ pub input_answers :
     (p q : PeripheralBytes) (at value : ℕ) (r : Result (Unit {0}) Missing)
     → HasParts p
     → MatchResult r (λ _. put_peripheral p at 0 Byte value ≡ Some q) (λ _. (put_peripheral p at 0 Byte value ≡ None) × (q ≡ p))
-    → IsOk r ↔ IsPeripheralByte at
+    → IsOk r ↔ (is_peripheral_byte at ≡ true)
 input_answers p q at value (Ok _) parts is = (λ _. byte_of_part p q at value parts (part_put p q at 0 Byte value is), λ _. refl)
 input_answers p q at value (Err _) parts is =
-    (λ h. absurd (true_not_false (sym h)), λ there. absurd (true_not_false (sym (byte_put p at value parts there) ∙ ap is_some is.0)))
+    (λ h. absurd (true_not_false (sym h)), λ there. absurd (true_not_false (sym (byte_put p at value parts (part_of_byte at there)) ∙ ap is_some is.0)))
 
 -- ---- the start
 

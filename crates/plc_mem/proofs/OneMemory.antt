@@ -9,7 +9,8 @@ use Rattle.plc_base.specs.declared.Place.{Place}
 use Rattle.plc_mem.specs.Areas.{Areas, PeripheralBytes}
 use Rattle.plc_mem.specs.BitPlace.{Region, Inputs, Outputs, BitMemory, PeripheralInputs, PeripheralOutputs, DataBlock}
 use Rattle.plc_mem.specs.Bits.{bit_at}
-use Rattle.plc_mem.specs.Number.{bit_count, region_written}
+use Rattle.plc_base.specs.Widths.{bit_count}
+use Rattle.plc_mem.specs.Number.{region_written}
 use Rattle.plc_mem.specs.Places.{AreBytes, IsRun, IsPeripheral, IsMemory, HasImage}
 use Rattle.plc_mem.specs.Writing.{is_within, stored, with_bit, put, put_peripheral, put_in_block, written_in, written}
 use Rattle.std.specs.Option.{option_map}

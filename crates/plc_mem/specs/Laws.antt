@@ -8,7 +8,8 @@ use Rattle.plc_mem.specs.Areas.{Areas}
 use Rattle.plc_mem.specs.BitPlace.{BitPlace}
 use Rattle.plc_mem.specs.Bits.{bit_at}
 use Rattle.plc_mem.specs.Fresh.{fresh}
-use Rattle.plc_mem.specs.Number.{bit_count, number_at, EachBitExists, region_read, region_written}
+use Rattle.plc_base.specs.Widths.{bit_count}
+use Rattle.plc_mem.specs.Number.{number_at, EachBitExists, region_read, region_written}
 use Rattle.plc_mem.specs.Peripherals.{with_input, outputs_cleared, IsCleared, IsInput}
 use Rattle.plc_mem.specs.Places.{AreBytes, HasImage, IsMemory, SameBlocks, SamePlaces}
 use Rattle.plc_mem.specs.Refresh.{refreshed, IsRefreshed}

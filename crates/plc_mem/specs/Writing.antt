@@ -9,7 +9,8 @@ use Rattle.plc_base.specs.declared.Width.TheVariants.{Bit, Byte, Word, Dword}
 use Rattle.plc_base.specs.declared.Place.{Place}
 use Rattle.plc_mem.specs.Areas.{Areas, PeripheralBytes}
 use Rattle.plc_mem.specs.BitPlace.{Region, Inputs, Outputs, BitMemory, PeripheralInputs, PeripheralOutputs, DataBlock}
-use Rattle.plc_mem.specs.Number.{byte_count, region_written}
+use Rattle.plc_base.specs.Widths.{byte_count}
+use Rattle.plc_mem.specs.Number.{region_written}
 
 -- A byte with another value of bit k.
 abbrev pub with_bit : ℕ → ℕ → ℕ → ℕ

@@ -12,6 +12,6 @@ mod peripherals;
 #[cfg(test)]
 mod tests;
 
-pub use faults::{Missing, NoMemory};
+pub use faults::Missing;
 pub use memories::Memory;
 pub use peripherals::PeripheralArea;

@@ -1,12 +1,15 @@
 // The memory areas of the controller but local data.
-ghost use Rattle.std.specs.Prelude.{◌≡◌, ◌^◌, ◌<◌, nat_eq, Some, None, IfOk, OnOk, IsOk, IsSome, MatchResult, ◌↔◌};
+ghost use Rattle.std.specs.Prelude.{◌≡◌, ◌^◌, ◌<◌, nat_eq, Some, None, IfOk, OnOk, IsOk, IsSome, IsTrue, MatchResult, ◌↔◌};
 ghost use Rattle.std.specs.Option.{option_copied};
 ghost use Rattle.std.specs.FinMap as map;
 ghost use Rattle.std.specs.List.{IsDistinct};
 ghost use Rattle.plc_mem.specs.Blocks.{bytes_of, numbers_of};
 ghost use Rattle.plc_mem.specs.Fresh.{fresh};
-ghost use Rattle.plc_mem.specs.Number.{bit_count, number_at, region_read, region_written, EachBitExists};
-ghost use Rattle.plc_mem.specs.Peripherals.{with_input, output_of, outputs_cleared, IsPeripheralByte};
+ghost use Rattle.plc_base.specs.AreaBytes.{is_peripheral_byte};
+ghost use Rattle.plc_base.specs.Changes.{ChangesOrStays};
+ghost use Rattle.plc_base.specs.Widths.{bit_count};
+ghost use Rattle.plc_mem.specs.Number.{number_at, region_read, region_written, EachBitExists};
+ghost use Rattle.plc_mem.specs.Peripherals.{with_input, output_of, outputs_cleared};
 ghost use Rattle.plc_mem.specs.Refresh.{refreshed};
 ghost use Rattle.plc_mem.specs.Writing.{written, written_in};
 ghost use Rattle.plc_mem.specs.Written.{IsWritten};
@@ -14,10 +17,10 @@ ghost use Rattle.plc_mem.specs.Places.{HasImage};
 ghost use Rattle.plc_mem.specs.BitPlace.{PeripheralOutputs};
 
 use crate::data_blocks::DataBlocks;
-use crate::faults::{Missing, NoMemory};
+use crate::faults::Missing;
 use crate::operands;
 use crate::peripherals::{LOW_BYTES, PeripheralArea};
-use plc_base::{Area, Place, Width};
+use plc_base::{Area, NoMemory, Place, Width};
 use std::alloc::Global;
 use std::marker::Model;
 
@@ -76,7 +79,7 @@ impl Memory {
     /// the process image of the outputs where these exist.
     pub fn write(&mut self, place: Place, width: Width, value: u32) -> Result<(), Missing>
         requires { value < 2 ^ bit_count width }
-        ensures cases { MatchResult result (λ _. written self.old place width value ≡ Some self.new) (λ _. (written self.old place width value ≡ None) × (self.new ≡ self.old)) }
+        ensures cases { ChangesOrStays (written self.old place width value) self.old self.new result }
         ensures bits { OnOk result (IsWritten self.old self.new place width value) }
         ensures exists { IsOk result ↔ EachBitExists self.old (region_written place) place width }
     {
@@ -86,8 +89,8 @@ impl Memory {
     /// Sets one byte of the peripheral inputs.
     #[tactic(auto, unfolding(crate::specs::Peripherals::with_input))]
     pub fn set_input(&mut self, byte: u16, value: u8) -> Result<(), Missing>
-        ensures exists { IsOk result ↔ IsPeripheralByte byte }
-        ensures cases { MatchResult result (λ _. with_input self.old byte value ≡ Some self.new) (λ _. (with_input self.old byte value ≡ None) × (self.new ≡ self.old)) }
+        ensures exists { IsOk result ↔ IsTrue (is_peripheral_byte byte) }
+        ensures cases { ChangesOrStays (with_input self.old byte value) self.old self.new result }
     {
         let at = usize::from(byte);
         self.peripheral_inputs.put(at, 0, Width::Byte, value.into())
@@ -97,7 +100,7 @@ impl Memory {
     #[tactic(auto, unfolding(crate::specs::Peripherals::output_of))]
     pub fn output(&self, byte: u16) -> Option<u8>
         ensures value { result ≡ output_of self.now byte }
-        ensures exists { IsSome result ↔ IsPeripheralByte byte }
+        ensures exists { IsSome result ↔ IsTrue (is_peripheral_byte byte) }
     {
         self.peripheral_outputs.byte(byte)
     }
@@ -156,7 +159,7 @@ impl Memory {
     fn store(&mut self, place: Place, width: Width, value: u32) -> Result<(), Missing>
         requires { value < 2 ^ bit_count width }
         ensures sizes { region_written place ≡ Some PeripheralOutputs → HasImage self.old }
-        ensures cases { MatchResult result (λ _. written self.old place width value ≡ Some self.new) (λ _. (written self.old place width value ≡ None) × (self.new ≡ self.old)) }
+        ensures cases { ChangesOrStays (written self.old place width value) self.old self.new result }
     {
         let at = usize::from(place.byte);
         match (place.area, place.number) {
@@ -174,7 +177,7 @@ impl Memory {
         requires near { at < 2 ^ 16 }
         requires fits { value < 2 ^ bit_count width }
         ensures sizes { HasImage self.old }
-        ensures cases { MatchResult result (λ _. written_in self.old PeripheralOutputs at bit width value ≡ Some self.new) (λ _. (written_in self.old PeripheralOutputs at bit width value ≡ None) × (self.new ≡ self.old)) }
+        ensures cases { ChangesOrStays (written_in self.old PeripheralOutputs at bit width value) self.old self.new result }
     {
         self.peripheral_outputs.put(at, bit, width, value)?;
         // Only bytes 0 to 127 have a place in the process image.

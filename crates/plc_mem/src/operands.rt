@@ -1,6 +1,7 @@
 // Operands in bytes that stand next to each other.
-ghost use Rattle.std.specs.Prelude.{◌≡◌, ◌+◌, ◌*◌, ◌^◌, ◌<◌, ◌≤◌, length, slice_index, Some, None, IsTrue, MatchResult, slice_get, if◌then◌else◌};
-ghost use Rattle.plc_mem.specs.Number.{bit_count};
+ghost use Rattle.std.specs.Prelude.{◌≡◌, ◌+◌, ◌*◌, ◌^◌, ◌<◌, ◌≤◌, length, slice_index, Some, None, IsTrue, slice_get, if◌then◌else◌};
+ghost use Rattle.plc_base.specs.Changes.{ChangesOrStays};
+ghost use Rattle.plc_base.specs.Widths.{bit_count};
 ghost use Rattle.plc_mem.specs.Run.{number_of_bytes, number_over};
 ghost use Rattle.plc_mem.specs.Writing.{is_within as is_within_spec, put as put_spec, stored, with_bit as with_bit_spec};
 
@@ -32,7 +33,7 @@ pub(crate) fn put(
 ) -> Result<(), Missing>
     requires near { at < 2 ^ 16 }
     requires fits { value < 2 ^ bit_count width }
-    ensures { MatchResult result (λ _. put_spec bytes.old at bit width value ≡ Some bytes.new) (λ _. (put_spec bytes.old at bit width value ≡ None) × (bytes.new ≡ bytes.old)) }
+    ensures { ChangesOrStays (put_spec bytes.old at bit width value) bytes.old bytes.new result }
 {
     if !is_within(bytes, at, bit, width) {
         return Err(Missing);
