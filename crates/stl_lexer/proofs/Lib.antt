@@ -8,3 +8,4 @@ pub mod RunLemmas
 pub mod TailLemmas
 pub mod TokenLemmas
 pub mod TimeLemmas
+pub mod TotalLemmas

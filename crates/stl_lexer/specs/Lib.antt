@@ -3,6 +3,7 @@ pub mod Decimal
 pub mod Forms
 pub mod Gap
 pub mod Longest
+pub mod Marks
 pub mod Rules
 pub mod TimeLiteral
 pub mod Tokens

@@ -1,20 +1,16 @@
 -- Rules 1 to 4 of a source.
 use Rattle.std.specs.Prelude.{ℕ, ◌+◌, Bool, true, false, ◌&&◌, ◌||◌, not, ◌==◌, nat_lt, nat_le, if◌then◌else◌, List, [], ◌∷◌, length, position, count_by, Option, None, Some}
 use Rattle.std.specs.List.{list_all, slice_split, after_last}
-use Rattle.std.specs.Char.{is_digit, to_ascii_lowercase}
+use Rattle.std.specs.Char.{is_digit}
 use Rattle.stl_lexer.specs.declared.kinds.TokenKind.{TokenKind}
 use Rattle.stl_lexer.specs.declared.kinds.TokenKind.TheVariants.{Number, Characters, Based, NumberLiteral, TimeLiteral}
 use Rattle.stl_lexer.specs.declared.rules.Fault.{Fault}
 use Rattle.stl_lexer.specs.declared.rules.TheConstants.{NO_TOKEN, NO_END, WRONG_LITERAL, OUT_OF_RANGE, GREATEST_NUMBER, GREATEST_NEGATED, GREATEST_LONG, GREATEST_NEGATED_LONG, GREATEST_COUNT, GREATEST_S5TIME, MOST_CHARACTERS}
 use Rattle.stl_lexer.specs.Bytes.{double_quote, hash, single_quote, minus_sign, two_digit, underscore, letter_b, letter_c, letter_s, letter_w, open_brace, in_source}
 use Rattle.stl_lexer.specs.Decimal.{decimal_value}
+pub use Rattle.stl_lexer.specs.Forms.{first_letter}
 use Rattle.stl_lexer.specs.Forms.{is_number, behind_sign}
 use Rattle.stl_lexer.specs.TimeLiteral.{milliseconds, units}
-
--- the first byte of a token, in lower case
-unfoldable pub first_letter : List ℕ → ℕ
-first_letter [] = 0
-first_letter (b ∷ s) = to_ascii_lowercase b
 
 -- what stands behind the prefix of a literal, which ends with `#`
 unfoldable pub behind_prefix : List ℕ → List ℕ

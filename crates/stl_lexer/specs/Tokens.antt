@@ -97,3 +97,10 @@ ExcludesViolation = (source : List ℕ) (ts : List Token) (line rule : ℕ) → 
 -- one line and one rule are the first violation
 abbrev pub IsViolationUnique : Type 0
 IsViolationUnique = (source : List ℕ) (line rule line' rule' : ℕ) → IsViolation source line rule → IsViolation source line' rule' → (line ≡ line') × (rule ≡ rule')
+
+-- each source has tokens, or a violation
+abbrev pub HasTokensOrViolation : List ℕ → Type 0
+HasTokensOrViolation source = ((ts : List Token) × AreTokens source ts) ⊎ ((line : ℕ) × (rule : ℕ) × IsViolation source line rule)
+
+abbrev pub IsTotal : Type 0
+IsTotal = (source : List ℕ) → HasTokensOrViolation source

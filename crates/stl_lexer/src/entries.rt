@@ -7,19 +7,21 @@ ghost use Rattle.stl_lexer.specs.Forms.{
   based_prefixes,
   begins_with,
   behind_sign,
+  first_letter,
   goes_on,
   is_entry,
   is_listed,
   is_number_literal,
   is_some_text,
   is_time_literal,
-  marks,
+  opens_entry,
   sign_words,
   title_words,
 };
+ghost use Rattle.stl_lexer.specs.Marks.{marks};
 ghost use Rattle.stl_lexer.specs.Longest.{FindsLongest, FindsTail, longer_of};
 
-use crate::bytes::{behind, is_sign, is_word_byte, line_run, word_run};
+use crate::bytes::{behind, first_letter, is_sign, is_word_byte, line_run, word_run};
 use crate::tables::{
     BASED_PREFIXES, COUNT_PREFIXES, LONG_PREFIXES, MARKS, S5TIME_PREFIXES, SIGN_WORDS,
     TIME_PREFIXES, TITLE_WORDS, Tail,
@@ -71,11 +73,15 @@ fn tail_length(tail: Tail, text: &[u8]) -> Option<usize>
 }
 
 /// Whether a text begins with an entry, without case of ASCII letters.
-#[tactic(auto, unfolding(crate::specs::Forms::begins_with), using(crate::proofs::EntryLemmas::entry_within, crate::proofs::EntryLemmas::too_short))]
-pub(crate) fn begins_with(entry: &[u8], text: &[u8]) -> bool
+#[tactic(auto, unfolding(crate::specs::Forms::begins_with), using(crate::proofs::EntryLemmas::entry_within, crate::proofs::EntryLemmas::too_short, crate::proofs::EntryLemmas::not_begun))]
+fn begins_with(entry: &[u8], text: &[u8]) -> bool
+    requires { 0 < length entry.now }
     ensures value { result ≡ begins_with entry.now text.now }
     ensures within { OnTrue result (length entry.now ≤ length text.now) }
 {
+    if first_letter(entry) != first_letter(text) {
+        return false;
+    }
     entry.len() <= text.len() && entry.eq_ignore_ascii_case(&text[..entry.len()])
 }
 
@@ -116,12 +122,53 @@ fn longest_entry(tail: Tail, table: &[&[u8]], text: &[u8]) -> Option<usize>
     longest
 }
 
+/// The same, where it is known whether an entry of the table begins with the text's first letter.
+fn longest_listed(tail: Tail, table: &[&[u8]], opened: bool, text: &[u8]) -> Option<usize>
+    requires some { IsTrue (list_all is_some_text (map (λ entry. entry.now) table.now)) }
+    requires opened { opened
+        ≡ opens_entry (map (λ entry. entry.now) table.now) (first_letter text.now) }
+    ensures { FindsLongest (is_listed tail (map (λ entry. entry.now) table.now)) text.now result }
+{
+    if opened {
+        longest_entry(tail, table, text)
+    } else {
+        None
+    }
+}
+
+/// Whether a mark begins with this letter.
+#[tactic(auto, unfolding(crate::specs::Forms::opens_entry, crate::specs::Forms::first_letter, crate::specs::Marks::mark_text, crate::specs::Marks::marks))]
+fn opens_mark(letter: u8) -> bool
+    ensures { result ≡ opens_entry marks letter }
+{
+    matches!(
+        letter,
+        b':' | b';' | b',' | b'.' | b'(' | b')' | b'[' | b']' | b'=' | b'+' | b'-' | b'p' | b'b'
+    )
+}
+
+/// Whether a sign word begins with this letter.
+#[tactic(auto, unfolding(crate::specs::Forms::opens_entry, crate::specs::Forms::first_letter, crate::specs::Forms::sign_words))]
+fn opens_sign_word(letter: u8) -> bool
+    ensures { result ≡ opens_entry sign_words letter }
+{
+    matches!(letter, b'+' | b'-' | b'*' | b'/' | b'=' | b'<' | b'>')
+}
+
+/// Whether the prefix of a binary or hexadecimal literal begins with this letter.
+#[tactic(auto, unfolding(crate::specs::Forms::opens_entry, crate::specs::Forms::first_letter, crate::specs::Forms::based_prefixes))]
+fn opens_based(letter: u8) -> bool
+    ensures { result ≡ opens_entry based_prefixes letter }
+{
+    matches!(letter, b'2' | b'b' | b'w' | b'd')
+}
+
 /// The length of the longest mark at the front of the text.
-#[tactic(auto, unfolding(crate::specs::Forms::marks))]
+#[tactic(auto, unfolding(crate::specs::Marks::marks, crate::specs::Marks::mark_text))]
 pub(crate) fn longest_mark(text: &[u8]) -> Option<usize>
     ensures { FindsLongest (is_listed Nothing marks) text.now result }
 {
-    longest_entry(Tail::Nothing, &MARKS, text)
+    longest_listed(Tail::Nothing, &MARKS, opens_mark(first_letter(text)), text)
 }
 
 /// The length of the longest sign word at the front of the text.
@@ -129,7 +176,8 @@ pub(crate) fn longest_mark(text: &[u8]) -> Option<usize>
 pub(crate) fn longest_sign_word(text: &[u8]) -> Option<usize>
     ensures { FindsLongest (is_listed Apart sign_words) text.now result }
 {
-    longest_entry(Tail::Apart, &SIGN_WORDS, text)
+    let opened = opens_sign_word(first_letter(text));
+    longest_listed(Tail::Apart, &SIGN_WORDS, opened, text)
 }
 
 /// The length of the longest binary or hexadecimal literal at the front of the text, right or wrong.
@@ -137,7 +185,8 @@ pub(crate) fn longest_sign_word(text: &[u8]) -> Option<usize>
 pub(crate) fn longest_based(text: &[u8]) -> Option<usize>
     ensures { FindsLongest (is_listed Run based_prefixes) text.now result }
 {
-    longest_entry(Tail::Run, &BASED_PREFIXES, text)
+    let opened = opens_based(first_letter(text));
+    longest_listed(Tail::Run, &BASED_PREFIXES, opened, text)
 }
 
 /// The length of the longest literal `L#` or `C#` at the front of the text, right or wrong.

@@ -1,6 +1,6 @@
 ghost use Rattle.std.specs.Prelude.{◌≡◌, ◌≤◌, length, IfOk, IfErr};
 ghost use Rattle.stl_lexer.specs.TimeLiteral.{ReadsTimes};
-ghost use Rattle.stl_lexer.specs.Tokens.{AreTokens, AreTokensUnique, ExcludesViolation, IsRefused, IsViolationUnique};
+ghost use Rattle.stl_lexer.specs.Tokens.{AreTokens, AreTokensUnique, ExcludesViolation, IsRefused, IsTotal, IsViolationUnique};
 
 use crate::SOURCE_LIMIT;
 use crate::gaps::{Spot, newlines};
@@ -42,12 +42,13 @@ pub fn lex(alloc: Global, bytes: &[u8]) -> Result<Tokens, SourceFault>
     }
 }
 
-/// There is at most one list of tokens for a source, none where there is a violation, and one first
-/// violation: so `lex` refuses exactly the sources without tokens, with exactly that line and rule.
+/// A source has one list of tokens, or no list and one first violation: so `lex` refuses exactly the
+/// sources without tokens, with exactly that line and rule.
 pub fn law_of_tokens()
     ensures one_list { AreTokensUnique }
     ensures list_or_violation { ExcludesViolation }
     ensures one_violation { IsViolationUnique }
+    ensures total { IsTotal }
 {}
 
 /// A time literal means the sum of its parts, whose units fall.

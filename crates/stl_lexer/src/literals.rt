@@ -11,7 +11,6 @@ ghost use Rattle.stl_lexer.specs.Rules.{
   decimal,
   decimal_rule,
   digit_count,
-  first_letter,
   greatest_long,
   is_negative,
   most_digits,
@@ -22,7 +21,7 @@ ghost use Rattle.stl_lexer.specs.Rules.{
 };
 ghost use Rattle.stl_lexer.specs.TimeLiteral.{milliseconds, units};
 
-use crate::bytes::{behind, digit_run};
+use crate::bytes::{behind, digit_run, first_letter};
 use crate::decimals::{VALUE_CAP, decimal_value};
 use crate::entries::sign_length;
 use crate::rules::{
@@ -30,17 +29,6 @@ use crate::rules::{
     GREATEST_S5TIME, OUT_OF_RANGE, WRONG_LITERAL,
 };
 use crate::times::{UNITS, milliseconds};
-
-/// The first byte of a token, in lower case.
-#[tactic(auto, unfolding(crate::specs::Rules::first_letter))]
-pub fn first_letter(token: &[u8]) -> u8
-    ensures { result ≡ first_letter token.now }
-{
-    match token {
-        [first, ..] => first.to_ascii_lowercase(),
-        [] => 0,
-    }
-}
 
 /// What stands behind the prefix of a literal, which ends with `#`.
 pub fn behind_prefix(token: &[u8]) -> &[u8]

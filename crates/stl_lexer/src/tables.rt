@@ -14,19 +14,19 @@ pub(crate) enum Tail {
 }
 
 /// The marks.
-pub(crate) const MARKS: [&[u8]; 15] = [
+pub(crate) static MARKS: [&[u8]; 15] = [
     b":=", b":", b";", b",", b".", b"..", b"(", b")", b"[", b"]", b"=", b"+", b"-", b"P#", b"B#(",
 ];
 
 /// The sign words: arithmetic and comparison instructions, and conditions of the status word.
-pub(crate) const SIGN_WORDS: [&[u8]; 28] = [
+pub(crate) static SIGN_WORDS: [&[u8]; 28] = [
     b"+I", b"-I", b"*I", b"/I", b"+D", b"-D", b"*D", b"/D", b"==I", b"<>I", b">I", b"<I", b">=I",
     b"<=I", b"==D", b"<>D", b">D", b"<D", b">=D", b"<=D", b"+AR1", b"+AR2", b"==0", b"<>0", b">0",
     b"<0", b">=0", b"<=0",
 ];
 
 /// The prefixes of binary and hexadecimal literals.
-pub(crate) const BASED_PREFIXES: [&[u8]; 7] = [
+pub(crate) static BASED_PREFIXES: [&[u8]; 7] = [
     b"2#",
     b"B#16#",
     b"BYTE#16#",
@@ -37,16 +37,16 @@ pub(crate) const BASED_PREFIXES: [&[u8]; 7] = [
 ];
 
 /// The prefix of a literal of 32 bits, behind which a sign may stand.
-pub(crate) const LONG_PREFIXES: [&[u8]; 1] = [b"L#"];
+pub(crate) static LONG_PREFIXES: [&[u8]; 1] = [b"L#"];
 
 /// The prefix of a count value.
-pub(crate) const COUNT_PREFIXES: [&[u8]; 1] = [b"C#"];
+pub(crate) static COUNT_PREFIXES: [&[u8]; 1] = [b"C#"];
 
 /// The prefixes of a time of 32 bits, behind which a sign may stand.
-pub(crate) const TIME_PREFIXES: [&[u8]; 2] = [b"T#", b"TIME#"];
+pub(crate) static TIME_PREFIXES: [&[u8]; 2] = [b"T#", b"TIME#"];
 
 /// The prefixes of a time in the format S5TIME.
-pub(crate) const S5TIME_PREFIXES: [&[u8]; 2] = [b"S5T#", b"S5TIME#"];
+pub(crate) static S5TIME_PREFIXES: [&[u8]; 2] = [b"S5T#", b"S5TIME#"];
 
 /// The word that begins a title.
-pub(crate) const TITLE_WORDS: [&[u8]; 1] = [b"TITLE"];
+pub(crate) static TITLE_WORDS: [&[u8]; 1] = [b"TITLE"];
