@@ -1,16 +1,17 @@
 -- A table's entry at the front of a text.
-use Rattle.std.proofs.Common.{◌≡◌, ℕ, ◌+◌, ◌-◌, ◌<◌, ◌≤◌, true, false, ◌||◌, List, [], ◌∷◌, length, take, drop, get_or, Option, inl, inr, sym, ◌∙◌, ap, subst, arith}
+use Rattle.std.proofs.Common.{◌≡◌, ℕ, ◌+◌, ◌-◌, ◌<◌, ◌≤◌, true, false, ◌||◌, List, [], ◌∷◌, length, take, drop, get_or, Option, None, Some, inl, inr, refl, sym, ◌∙◌, ap, subst, arith}
 use Rattle.std.specs.Prelude.{◌==◌, nat_lt}
-use Rattle.std.specs.List.{list_all, list_any}
+use Rattle.std.specs.List.{filter, list_all, list_any}
 use Rattle.std.specs.Str.{str_eq_ignore_ascii_case, str_to_ascii_lowercase}
 use Rattle.std.specs.Char.{to_ascii_lowercase}
 use Rattle.std.proofs.lemmas.Slice.Eq.{bytes_eq-Decides}
-use Rattle.std.proofs.lemmas.Bool.{and_parts, and_from, eq-eqb, ltb-true, or_cases, or_left, or_right, false≢true, false_from_ne_true}
+use Rattle.std.proofs.lemmas.Bool.{and_parts, and_from, cases_Bool, eq-eqb, ltb-true, or_cases, or_left, or_right, false≢true, false_from_ne_true}
 use Rattle.std.proofs.lemmas.List.{length-map, length-take, length-drop, take-take, drop-take, drop-drop, take_all}
 use Rattle.std.proofs.lemmas.List.Folds.{list_any_more}
 use Rattle.std.proofs.lemmas.List.Sums.{AllPass-from_list_all}
 use Rattle.stl_lexer.specs.declared.tables.Tail.{Tail}
-use Rattle.stl_lexer.specs.Forms.{begins_with, first_letter, is_tail, is_entry, is_listed, opens_entry}
+use Rattle.stl_lexer.specs.Forms.{begins_with, entries_from, first_letter, is_tail, is_entry, is_listed, opens_entry}
+use Rattle.stl_lexer.specs.Marks.{mark_text, marks}
 use Rattle.stl_lexer.specs.Longest.{IsFormAt, IsLongestOf, HasNone, FindsLongest, IsTailAt, IsLongestTail, longer_of}
 use Rattle.stl_lexer.proofs.LongestLemmas.{same_form, either_longest}
 
@@ -116,6 +117,41 @@ opened_by tail (entry ∷ table) text n some e pos within =
 pub not_opened : (tail : Tail) (table : List (List ℕ)) (text : List ℕ) → list_all (λ entry. nat_lt 0 (length entry)) table ≡ true → opens_entry table (first_letter text) ≡ false → HasNone (is_listed tail table) text
 unfolding is_listed
 not_opened tail table text some e n at = false≢true (sym e ∙ opened_by tail table text n some at.fits at.some at.within)
+
+-- an entry of a table at the front of a text is one of those that begin with the text's first letter
+only_from : (tail : Tail) (table : List (List ℕ)) (text : List ℕ) (n : ℕ) → list_all (λ entry. nat_lt 0 (length entry)) table ≡ true → 0 < n → n ≤ length text → list_any (λ entry. is_entry tail entry (take n text) (drop n text)) (entries_from (first_letter text) table) ≡ list_any (λ entry. is_entry tail entry (take n text) (drop n text)) table
+unfolding entries_from
+only_from tail [] text n some pos within = refl
+only_from tail (entry ∷ table) text n some pos within =
+    let parts = and_parts (nat_lt 0 (length entry)) (list_all (λ entry. nat_lt 0 (length entry)) table) some in
+    let rest = only_from tail table text n parts.1 pos within in
+    elim (cases_Bool (first_letter entry == first_letter text)) as (λ _. list_any (λ entry. is_entry tail entry (take n text) (drop n text)) (filter (λ entry. first_letter entry == first_letter text) (entry ∷ table)) ≡ list_any (λ entry. is_entry tail entry (take n text) (drop n text)) (entry ∷ table)) [
+      | inl same ↦ rw same (ap (λ b. is_entry tail entry (take n text) (drop n text) || b) rest)
+      | inr other ↦
+          let no : is_entry tail entry (take n text) (drop n text) ≡ false = false_from_ne_true (is_entry tail entry (take n text) (drop n text)) (λ here.
+          false≢true (sym other ∙ eq-eqb (first_letter entry) (first_letter text) (begun entry text (ltb-true 0 (length entry) parts.0) (entry_at tail entry text n (record { some = pos; within = within; fits = here })).1))) in
+          rw (other, no) rest
+    ]
+
+from_table : (tail : Tail) (table : List (List ℕ)) (text : List ℕ) (n : ℕ) → list_all (λ entry. nat_lt 0 (length entry)) table ≡ true → IsFormAt (is_listed tail (entries_from (first_letter text) table)) text n → IsFormAt (is_listed tail table) text n
+unfolding is_listed
+from_table tail table text n some at = record { some = at.some; within = at.within; fits = sym (only_from tail table text n some at.some at.within) ∙ at.fits }
+
+of_table : (tail : Tail) (table : List (List ℕ)) (text : List ℕ) (n : ℕ) → list_all (λ entry. nat_lt 0 (length entry)) table ≡ true → IsFormAt (is_listed tail table) text n → IsFormAt (is_listed tail (entries_from (first_letter text) table)) text n
+unfolding is_listed
+of_table tail table text n some at = record { some = at.some; within = at.within; fits = only_from tail table text n some at.some at.within ∙ at.fits }
+
+from_found : (tail : Tail) (table : List (List ℕ)) (text : List ℕ) (found : Option ℕ) → list_all (λ entry. nat_lt 0 (length entry)) table ≡ true → FindsLongest (is_listed tail (entries_from (first_letter text) table)) text found → FindsLongest (is_listed tail table) text found
+from_found tail table text None some h = λ n at. h n (of_table tail table text n some at)
+from_found tail table text (Some n) some h = record { fits = from_table tail table text n some h.fits; longest = λ m at. h.longest m (of_table tail table text m some at) }
+
+-- the longest of the entries that begin with the text's first letter is the longest of all
+pub found_from : (tail : Tail) (table entries : List (List ℕ)) (text : List ℕ) (found : Option ℕ) → list_all (λ entry. nat_lt 0 (length entry)) table ≡ true → entries ≡ entries_from (first_letter text) table → FindsLongest (is_listed tail entries) text found → FindsLongest (is_listed tail table) text found
+found_from tail table entries text found some e h = from_found tail table text found some (subst (λ l. FindsLongest (is_listed tail l) text found) e h)
+
+pub marks_some : list_all (λ entry. nat_lt 0 (length entry)) marks ≡ true
+unfolding marks mark_text
+marks_some = refl
 
 -- no entry is empty
 pub entry_some : (table : List (List ℕ)) (i : ℕ) → list_all (λ entry. nat_lt 0 (length entry)) table ≡ true → i < length table → 0 < length (get_or table i [])

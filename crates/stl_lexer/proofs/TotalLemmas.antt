@@ -20,10 +20,13 @@ use Rattle.stl_lexer.proofs.RankLemmas.{FindsBest, best_none, best_more, best_of
 longest_below : (form : Form) (text : List ℕ) (n : ℕ) → n ≤ length text → ((m : ℕ) → n < m → IsFormAt form text m → ⊥) → (found : Option ℕ) × FindsLongest form text found
 longest_below form text zero h none = (None, λ m at. none m at.some at)
 longest_below form text (suc n) h none = elim (cases_Bool (form (take (suc n) text) (drop (suc n) text))) [
-  | inl yes_ ↦ (Some (suc n), record {
+  | inl yes_ ↦ (
+    Some (suc n),
+    record {
       fits = record { some = omega arith; within = h; fits = yes_ };
       longest = λ m at. elim (cases_lt (suc n) m) [ inl above ↦ absurd (none m above at) | inr le ↦ le ];
-    })
+    },
+  )
   | inr no_ ↦ longest_below form text n (omega arith) (λ m above at. elim (cases_lt (suc n) m) [
     | inl higher ↦ none m higher at
     | inr le ↦
@@ -88,28 +91,39 @@ token_at : (source : List ℕ) (from at : ℕ) (minus : Bool) (found : Found) �
 token_at source from at minus found start longest None right =
     let n = found.length in
     let size : (at + n) - at ≡ n = omega arith in
-    inl (record { kind = found.kind; start = at; end = at + n; line = line_at source at }, record {
-      start = start;
-      forward = omega (arith, longest.fits.some);
-      within = omega (arith, longest.fits.within, length-drop at source, start.within);
-      longest = rw size longest;
-      right = rw size right;
-      line = refl;
-    })
+    inl (
+      record { kind = found.kind; start = at; end = at + n; line = line_at source at },
+      record {
+        start = start;
+        forward = omega (arith, longest.fits.some);
+        within = omega (arith, longest.fits.within, length-drop at source, start.within);
+        longest = rw size longest;
+        right = rw size right;
+        line = refl;
+      },
+    )
 token_at source from at minus found start longest (Some fault) broken =
-    inr (inr (line_at source (at + fault.offset), fault.rule, record {
-      at = at;
-      start = start;
-      broken = inr (record { kind = found.kind; size = found.length; longest = longest; fault = fault; breaks = broken; line_is = refl; rule_is = refl });
-    }))
+    inr (inr (
+      line_at source (at + fault.offset),
+      fault.rule,
+      record {
+        at = at;
+        start = start;
+        broken = inr (record { kind = found.kind; size = found.length; longest = longest; fault = fault; breaks = broken; line_is = refl; rule_is = refl });
+      },
+    ))
 
 begins_at : (source : List ℕ) (from at : ℕ) (minus : Bool) → IsBehindGap source from at → (found : Option Found) → FindsToken (drop at source) found → HasNext source from minus
 begins_at source from at minus start None none =
-    inr (inr (line_at source at, rule_without_form (drop at source), record {
-      at = at;
-      start = start;
-      broken = inl (record { none = none; line_is = refl; rule_is = refl });
-    }))
+    inr (inr (
+      line_at source at,
+      rule_without_form (drop at source),
+      record {
+        at = at;
+        start = start;
+        broken = inl (record { none = none; line_is = refl; rule_is = refl });
+      },
+    ))
 begins_at source from at minus start (Some found) longest =
     token_at source from at minus found start longest (fault_of found.kind (take found.length (drop at source)) minus) refl
 

@@ -1,6 +1,6 @@
 -- The forms of the tokens.
 use Rattle.std.specs.Prelude.{ℕ, Bool, true, false, ◌&&◌, ◌||◌, not, ◌==◌, nat_lt, if◌then◌else◌, List, [], ◌∷◌, ◌++◌, length, take, drop, codes}
-use Rattle.std.specs.List.{list_all, list_any}
+use Rattle.std.specs.List.{filter, list_all, list_any}
 use Rattle.std.specs.Char.{is_ascii_digit, to_ascii_lowercase}
 use Rattle.std.specs.Str.{str_eq_ignore_ascii_case}
 use Rattle.stl_lexer.specs.declared.kinds.TokenKind.{TokenKind}
@@ -74,6 +74,10 @@ begins_with entry s = str_eq_ignore_ascii_case entry (take (length entry) s)
 unfoldable pub first_letter : List ℕ → ℕ
 first_letter [] = 0
 first_letter (b ∷ s) = to_ascii_lowercase b
+
+-- the entries of a table that begin with this letter
+unfoldable pub entries_from : ℕ → List (List ℕ) → List (List ℕ)
+entries_from letter table = filter (λ entry. first_letter entry == letter) table
 
 -- an entry of a table begins with this letter
 unfoldable pub opens_entry : List (List ℕ) → ℕ → Bool

@@ -7,6 +7,7 @@ ghost use Rattle.stl_lexer.specs.Forms.{
   based_prefixes,
   begins_with,
   behind_sign,
+  count_prefixes,
   first_letter,
   goes_on,
   is_entry,
@@ -14,17 +15,21 @@ ghost use Rattle.stl_lexer.specs.Forms.{
   is_number_literal,
   is_some_text,
   is_time_literal,
+  long_prefixes,
   opens_entry,
+  s5time_prefixes,
   sign_words,
+  time_prefixes,
   title_words,
 };
 ghost use Rattle.stl_lexer.specs.Marks.{marks};
 ghost use Rattle.stl_lexer.specs.Longest.{FindsLongest, FindsTail, longer_of};
 
 use crate::bytes::{behind, first_letter, is_sign, is_word_byte, line_run, word_run};
+use crate::marks::marks_from;
 use crate::tables::{
-    BASED_PREFIXES, COUNT_PREFIXES, LONG_PREFIXES, MARKS, S5TIME_PREFIXES, SIGN_WORDS,
-    TIME_PREFIXES, TITLE_WORDS, Tail,
+    BASED_PREFIXES, COUNT_PREFIXES, LONG_PREFIXES, S5TIME_PREFIXES, SIGN_WORDS, TIME_PREFIXES,
+    TITLE_WORDS, Tail,
 };
 
 /// Whether a letter, a digit or `_` stands here.
@@ -136,17 +141,6 @@ fn longest_listed(tail: Tail, table: &[&[u8]], opened: bool, text: &[u8]) -> Opt
     }
 }
 
-/// Whether a mark begins with this letter.
-#[tactic(auto, unfolding(crate::specs::Forms::opens_entry, crate::specs::Forms::first_letter, crate::specs::Marks::mark_text, crate::specs::Marks::marks))]
-fn opens_mark(letter: u8) -> bool
-    ensures { result ≡ opens_entry marks letter }
-{
-    matches!(
-        letter,
-        b':' | b';' | b',' | b'.' | b'(' | b')' | b'[' | b']' | b'=' | b'+' | b'-' | b'p' | b'b'
-    )
-}
-
 /// Whether a sign word begins with this letter.
 #[tactic(auto, unfolding(crate::specs::Forms::opens_entry, crate::specs::Forms::first_letter, crate::specs::Forms::sign_words))]
 fn opens_sign_word(letter: u8) -> bool
@@ -163,12 +157,51 @@ fn opens_based(letter: u8) -> bool
     matches!(letter, b'2' | b'b' | b'w' | b'd')
 }
 
+/// Whether the prefix of a literal of 32 bits begins with this letter.
+#[tactic(auto, unfolding(crate::specs::Forms::opens_entry, crate::specs::Forms::first_letter, crate::specs::Forms::long_prefixes))]
+fn opens_long(letter: u8) -> bool
+    ensures { result ≡ opens_entry long_prefixes letter }
+{
+    letter == b'l'
+}
+
+/// Whether the prefix of a count value begins with this letter.
+#[tactic(auto, unfolding(crate::specs::Forms::opens_entry, crate::specs::Forms::first_letter, crate::specs::Forms::count_prefixes))]
+fn opens_count(letter: u8) -> bool
+    ensures { result ≡ opens_entry count_prefixes letter }
+{
+    letter == b'c'
+}
+
+/// Whether the prefix of a time of 32 bits begins with this letter.
+#[tactic(auto, unfolding(crate::specs::Forms::opens_entry, crate::specs::Forms::first_letter, crate::specs::Forms::time_prefixes))]
+fn opens_time(letter: u8) -> bool
+    ensures { result ≡ opens_entry time_prefixes letter }
+{
+    letter == b't'
+}
+
+/// Whether the prefix of a time in the format S5TIME begins with this letter.
+#[tactic(auto, unfolding(crate::specs::Forms::opens_entry, crate::specs::Forms::first_letter, crate::specs::Forms::s5time_prefixes))]
+fn opens_s5time(letter: u8) -> bool
+    ensures { result ≡ opens_entry s5time_prefixes letter }
+{
+    letter == b's'
+}
+
+/// Whether the word of a title begins with this letter.
+#[tactic(auto, unfolding(crate::specs::Forms::opens_entry, crate::specs::Forms::first_letter, crate::specs::Forms::title_words))]
+fn opens_title(letter: u8) -> bool
+    ensures { result ≡ opens_entry title_words letter }
+{
+    letter == b't'
+}
+
 /// The length of the longest mark at the front of the text.
-#[tactic(auto, unfolding(crate::specs::Marks::marks, crate::specs::Marks::mark_text))]
 pub(crate) fn longest_mark(text: &[u8]) -> Option<usize>
     ensures { FindsLongest (is_listed Nothing marks) text.now result }
 {
-    longest_listed(Tail::Nothing, &MARKS, opens_mark(first_letter(text)), text)
+    longest_entry(Tail::Nothing, marks_from(first_letter(text)), text)
 }
 
 /// The length of the longest sign word at the front of the text.
@@ -194,8 +227,9 @@ pub(crate) fn longest_based(text: &[u8]) -> Option<usize>
 pub(crate) fn longest_number_literal(text: &[u8]) -> Option<usize>
     ensures { FindsLongest is_number_literal text.now result }
 {
-    let long = longest_entry(Tail::SignedRun, &LONG_PREFIXES, text);
-    let count = longest_entry(Tail::Run, &COUNT_PREFIXES, text);
+    let letter = first_letter(text);
+    let long = longest_listed(Tail::SignedRun, &LONG_PREFIXES, opens_long(letter), text);
+    let count = longest_listed(Tail::Run, &COUNT_PREFIXES, opens_count(letter), text);
     longer(long, count)
 }
 
@@ -204,8 +238,9 @@ pub(crate) fn longest_number_literal(text: &[u8]) -> Option<usize>
 pub(crate) fn longest_time_literal(text: &[u8]) -> Option<usize>
     ensures { FindsLongest is_time_literal text.now result }
 {
-    let time = longest_entry(Tail::SignedRun, &TIME_PREFIXES, text);
-    let s5time = longest_entry(Tail::Run, &S5TIME_PREFIXES, text);
+    let letter = first_letter(text);
+    let time = longest_listed(Tail::SignedRun, &TIME_PREFIXES, opens_time(letter), text);
+    let s5time = longest_listed(Tail::Run, &S5TIME_PREFIXES, opens_s5time(letter), text);
     longer(time, s5time)
 }
 
@@ -214,5 +249,10 @@ pub(crate) fn longest_time_literal(text: &[u8]) -> Option<usize>
 pub(crate) fn longest_title(text: &[u8]) -> Option<usize>
     ensures { FindsLongest (is_listed Line title_words) text.now result }
 {
-    longest_entry(Tail::Line, &TITLE_WORDS, text)
+    longest_listed(
+        Tail::Line,
+        &TITLE_WORDS,
+        opens_title(first_letter(text)),
+        text,
+    )
 }

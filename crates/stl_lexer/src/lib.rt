@@ -22,8 +22,8 @@ pub use bytes::first_letter;
 pub use kinds::{Token, TokenKind};
 pub use lexer::{law_of_time_literals, law_of_tokens, lex};
 pub use lists::Tokens;
-pub use marks::{Mark, mark_text};
 pub use literals::{behind_prefix, milliseconds_within};
+pub use marks::{Mark, mark_text};
 
 /// The most bytes that a source may have.
 pub const SOURCE_LIMIT: usize = 1_048_576;

@@ -13,11 +13,6 @@ pub(crate) enum Tail {
     Line,
 }
 
-/// The marks.
-pub(crate) static MARKS: [&[u8]; 15] = [
-    b":=", b":", b";", b",", b".", b"..", b"(", b")", b"[", b"]", b"=", b"+", b"-", b"P#", b"B#(",
-];
-
 /// The sign words: arithmetic and comparison instructions, and conditions of the status word.
 pub(crate) static SIGN_WORDS: [&[u8]; 28] = [
     b"+I", b"-I", b"*I", b"/I", b"+D", b"-D", b"*D", b"/D", b"==I", b"<>I", b">I", b"<I", b">=I",
