@@ -1,8 +1,10 @@
 -- Each source has tokens, or a violation.
-use Rattle.std.proofs.Common.{◌≡◌, ℕ, zero, suc, ◌+◌, ◌-◌, ◌<◌, ◌≤◌, ◌⊎◌, Bool, true, false, List, [], ◌∷◌, length, take, drop, Option, None, Some, inl, inr, refl, sym, ◌∙◌, ap, subst, arith}
+use Rattle.std.proofs.Common.{◌≡◌, ℕ, zero, suc, ◌+◌, ◌-◌, ◌<◌, ◌≤◌, ◌⊎◌, Bool, true, false, List, [], ◌∷◌, length, take, drop, Option, None, Some, inl, inr, refl, sym, ◌∙◌, subst, arith}
 use Rattle.std.specs.Prelude.{◌==◌}
 use Rattle.std.proofs.lemmas.Bool.{cases_Bool, cases_lt, false≢true}
 use Rattle.std.proofs.lemmas.List.{length-drop, drop-drop, nil_from_length}
+use Rattle.stl_lexer.specs.declared.gaps.GapPart.{GapPart}
+use Rattle.stl_lexer.specs.declared.gaps.GapPart.TheVariants.{Blanks, Comment}
 use Rattle.stl_lexer.specs.declared.kinds.TokenKind.{TokenKind}
 use Rattle.stl_lexer.specs.declared.kinds.TokenKind.TheVariants.{Word, Number, Quoted, Local, Characters, Based, NumberLiteral, TimeLiteral, Mark, SignWord, Attribute, Title}
 use Rattle.stl_lexer.specs.declared.kinds.Token.{Token}
@@ -11,9 +13,9 @@ use Rattle.stl_lexer.specs.declared.rules.Fault.{Fault}
 use Rattle.stl_lexer.specs.Bytes.{newline, in_source, is_separator, opens_comment}
 use Rattle.stl_lexer.specs.Forms.{has_form}
 use Rattle.stl_lexer.specs.Gap.{after_gap, line_at}
-use Rattle.stl_lexer.specs.Longest.{Form, IsFormAt, FindsLongest, FindsToken, HasNoForm, IsLongest, rank_of, better_of}
+use Rattle.stl_lexer.specs.Longest.{Form, IsFormAt, FindsLongest, FindsToken, IsLongest, rank_of, better_of}
 use Rattle.stl_lexer.specs.Rules.{fault_of, rule_without_form}
-use Rattle.stl_lexer.specs.Tokens.{text_of, is_minus, IsBehindGap, IsNext, IsEnd, NoneBegins, OneBreaks, Breaks, Follow, AreTokens, IsViolation, HasTokensOrViolation, IsTotal}
+use Rattle.stl_lexer.specs.Tokens.{text_of, is_minus, IsBehindGap, IsNext, IsEnd, Breaks, Follow, AreTokens, IsViolation, IsTotal}
 use Rattle.stl_lexer.proofs.RankLemmas.{FindsBest, best_none, best_more, best_of_all}
 
 -- the longest of a form is at most n bytes, or there is none
@@ -59,26 +61,26 @@ token_there text =
     (all.0, best_of_all text all.0 all.1)
 
 -- a gap ends somewhere
-abbrev GapEnds : Bool → List ℕ → Type 0
+abbrev GapEnds : GapPart → List ℕ → Type 0
 GapEnds inside text = (n : ℕ) × (n ≤ length text) × (drop n text ≡ after_gap inside text)
 
-gap_longer : (inside opened : Bool) (b : ℕ) (s : List ℕ) → after_gap inside (b ∷ s) ≡ after_gap opened s → GapEnds opened s → GapEnds inside (b ∷ s)
+gap_longer : (inside opened : GapPart) (b : ℕ) (s : List ℕ) → after_gap inside (b ∷ s) ≡ after_gap opened s → GapEnds opened s → GapEnds inside (b ∷ s)
 gap_longer inside opened b s e (n, within, ends) = (suc n, omega arith, ends ∙ sym e)
 
-gap_there : (inside : Bool) (text : List ℕ) → GapEnds inside text
-gap_there true [] = (zero, omega arith, refl)
-gap_there false [] = (zero, omega arith, refl)
-gap_there true (b ∷ s) = elim (cases_Bool (b == newline)) [
-  | inl ends ↦ gap_longer true false b s (rw ends refl) (gap_there false s)
+gap_there : (inside : GapPart) (text : List ℕ) → GapEnds inside text
+gap_there Comment [] = (zero, omega arith, refl)
+gap_there Blanks [] = (zero, omega arith, refl)
+gap_there Comment (b ∷ s) = elim (cases_Bool (b == newline)) [
+  | inl ends ↦ gap_longer Comment Blanks b s (rw ends refl) (gap_there Blanks s)
   | inr stays ↦ elim (cases_Bool (in_source b)) [
-    | inl on ↦ gap_longer true true b s (rw (stays, on) refl) (gap_there true s)
+    | inl on ↦ gap_longer Comment Comment b s (rw (stays, on) refl) (gap_there Comment s)
     | inr foreign ↦ (zero, omega arith, rw (stays, foreign) refl)
   ]
 ]
-gap_there false (b ∷ s) = elim (cases_Bool (is_separator b)) [
-  | inl on ↦ gap_longer false false b s (rw on refl) (gap_there false s)
+gap_there Blanks (b ∷ s) = elim (cases_Bool (is_separator b)) [
+  | inl on ↦ gap_longer Blanks Blanks b s (rw on refl) (gap_there Blanks s)
   | inr other ↦ elim (cases_Bool (opens_comment (b ∷ s))) [
-    | inl opens ↦ gap_longer false true b s (rw (other, opens) refl) (gap_there true s)
+    | inl opens ↦ gap_longer Blanks Comment b s (rw (other, opens) refl) (gap_there Comment s)
     | inr none ↦ (zero, omega arith, rw (other, none) refl)
   ]
 ]
@@ -129,9 +131,9 @@ begins_at source from at minus start (Some found) longest =
 
 next_there : (source : List ℕ) (from : ℕ) (minus : Bool) → from ≤ length source → HasNext source from minus
 next_there source from minus h =
-    let gap = gap_there false (drop from source) in
+    let gap = gap_there Blanks (drop from source) in
     let at = from + gap.0 in
-    let behind : drop at source ≡ after_gap false (drop from source) = sym (drop-drop gap.0 from source) ∙ gap.2 in
+    let behind : drop at source ≡ after_gap Blanks (drop from source) = sym (drop-drop gap.0 from source) ∙ gap.2 in
     elim (cases_lt at (length source)) [
       | inl within ↦
           let there = token_there (drop at source) in

@@ -3,7 +3,7 @@ ghost use Rattle.stl_lexer.specs.TimeLiteral.{ReadsTimes};
 ghost use Rattle.stl_lexer.specs.Tokens.{AreTokens, AreTokensUnique, ExcludesViolation, IsRefused, IsTotal, IsViolationUnique};
 
 use crate::SOURCE_LIMIT;
-use crate::gaps::{Spot, newlines};
+use crate::gaps::{Position, newlines};
 use crate::lists::Tokens;
 use crate::places::{is_minus, next_token};
 use plc_base::SourceFault;
@@ -23,14 +23,14 @@ pub fn lex(alloc: Global, bytes: &[u8]) -> Result<Tokens, SourceFault>
 {
     let source = Vec::from_slice(alloc, bytes)?;
     let mut list = Vec::new(alloc);
-    let mut from = Spot { at: 0, line: 1 };
+    let mut from = Position { offset: 0, line: 1 };
     let mut minus = false;
     loop {
         match next_token(bytes, from, minus) {
             Ok(Some(token)) => {
                 let text = &bytes[token.start as usize..token.end as usize];
-                from = Spot {
-                    at: token.end as usize,
+                from = Position {
+                    offset: token.end as usize,
                     line: token.line + newlines(text),
                 };
                 minus = is_minus(token.kind, text);
