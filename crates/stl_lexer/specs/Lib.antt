@@ -2,6 +2,7 @@ pub mod Bytes
 pub mod Decimal
 pub mod Forms
 pub mod Gap
+pub mod Limits
 pub mod Longest
 pub mod Marks
 pub mod Rules

@@ -9,8 +9,8 @@ ghost use Rattle.stl_lexer.specs.Gap.{
   line_at,
   newlines_of,
 };
+ghost use Rattle.stl_lexer.specs.Limits.{source_limit};
 
-use crate::SOURCE_LIMIT;
 use crate::bytes::{behind, in_source, is_separator, opens_comment};
 
 /// A place in a source: how many bytes stand before it, and its line.
@@ -38,7 +38,7 @@ fn newline(b: u8) -> u32
 
 /// How many lines end in a text.
 pub(crate) fn newlines(text: &[u8]) -> u32
-    requires { length text.now ≤ SOURCE_LIMIT }
+    requires { length text.now ≤ source_limit }
     ensures { result ≡ sum_by newlines_of text.now }
 {
     text.iter().map(|b| newline(*b)).sum()
@@ -118,7 +118,7 @@ fn part_run(part: GapPart, text: &[u8]) -> usize
 /// The position behind separators and comments.
 #[tactic(auto, using(crate::proofs::LineLemmas::line_at_more, crate::proofs::LineLemmas::line_at_limit, crate::proofs::LineLemmas::drop_more))]
 pub(crate) fn skip_gap(source: &[u8], from: Position) -> Position
-    requires limit { length source.now ≤ SOURCE_LIMIT }
+    requires limit { length source.now ≤ source_limit }
     requires within { from.offset ≤ length source.now }
     requires line { from.line ≡ line_at source.now from.offset }
     ensures forward { from.offset ≤ result.offset }

@@ -1,8 +1,8 @@
 ghost use Rattle.std.specs.Prelude.{◌≡◌, ◌≤◌, length, IfOk, IfErr};
+ghost use Rattle.stl_lexer.specs.Limits.{source_limit};
 ghost use Rattle.stl_lexer.specs.TimeLiteral.{ReadsTimes};
 ghost use Rattle.stl_lexer.specs.Tokens.{AreTokens, AreTokensUnique, ExcludesViolation, IsRefused, IsTotal, IsViolationUnique};
 
-use crate::SOURCE_LIMIT;
 use crate::gaps::{Position, newlines};
 use crate::lists::Tokens;
 use crate::places::{is_minus, next_token};
@@ -16,7 +16,7 @@ use std::alloc::Global;
 /// The line and the rule, 1 to 4, of the first place that breaks one, exactly where there is such a
 /// place; or want of memory.
 pub fn lex(alloc: Global, bytes: &[u8]) -> Result<Tokens, SourceFault>
-    requires { length bytes.now ≤ SOURCE_LIMIT }
+    requires { length bytes.now ≤ source_limit }
     ensures source { IfOk result (λ tokens. tokens.source.items ≡ bytes.now) }
     ensures tokens { IfOk result (λ tokens. AreTokens bytes.now tokens.list.items) }
     ensures refused { IfErr result (IsRefused bytes.now) }

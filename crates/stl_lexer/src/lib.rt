@@ -27,6 +27,3 @@ pub use marks::{Mark, mark_text};
 
 /// The most bytes that a source may have.
 pub const SOURCE_LIMIT: usize = 1_048_576;
-
-#[cfg(test)]
-mod tests;

@@ -1,9 +1,9 @@
 ghost use Rattle.std.specs.Prelude.{◌≡◌, ◌≤◌, length};
 ghost use Rattle.stl_lexer.specs.Gap.{line_at};
+ghost use Rattle.stl_lexer.specs.Limits.{source_limit};
 ghost use Rattle.stl_lexer.specs.Longest.{FindsToken, better_of};
 ghost use Rattle.stl_lexer.specs.Tokens.{FindsNext, is_minus};
 
-use crate::SOURCE_LIMIT;
 use crate::bytes::behind;
 use crate::entries::{
     longest_based, longest_mark, longest_number_literal, longest_sign_word, longest_time_literal,
@@ -79,7 +79,7 @@ pub(crate) fn next_token(
     from: Position,
     minus: bool,
 ) -> Result<Option<Token>, Refusal>
-    requires limit { length source.now ≤ SOURCE_LIMIT }
+    requires limit { length source.now ≤ source_limit }
     requires within { from.offset ≤ length source.now }
     requires line { from.line ≡ line_at source.now from.offset }
     ensures { FindsNext source.now from.offset minus result }

@@ -1,10 +1,13 @@
-use super::*;
-use TokenKind::{
+use plc_base::{Refusal, SourceFault};
+use std::test::Fail;
+use stl_lexer::TokenKind::{
     Attribute, Based, Characters, Local, Mark, Number, NumberLiteral, Quoted, SignWord,
     TimeLiteral, Title, Word,
 };
-use plc_base::{Refusal, SourceFault};
-use std::test::Fail;
+use stl_lexer::{
+    SOURCE_LIMIT, TokenKind, behind_prefix, first_letter, law_of_time_literals, law_of_tokens, lex,
+    mark_text, milliseconds_within,
+};
 
 struct Cut {
     source: &'static [u8],
@@ -141,6 +144,11 @@ fn cuts_sources(rt: HostRuntime) -> Result<(), Fail> {
             assert!(rt; i < tokens.list.len());
             assert_eq!(rt; tokens.token(i).kind, want.0, "token {i} of {source:?}");
             assert_eq!(rt; tokens.text(i), want.1, "token {i} of {source:?}");
+            assert_eq!(rt;
+                tokens.token(i).text(source),
+                want.1,
+                "token {i} of {source:?}"
+            );
             assert_eq!(rt; tokens.token(i).line, want.2, "token {i} of {source:?}");
         }
     }
@@ -218,6 +226,19 @@ fn names_the_first_violation(rt: HostRuntime) -> Result<(), Fail> {
         );
     }
     Ok(())
+}
+
+// By hand after the table of tokens in docs/LANGUAGE.md.
+#[test]
+fn writes_marks(rt: HostRuntime) {
+    for (mark, want) in [
+        (stl_lexer::Mark::Assign, b":=".as_slice()),
+        (stl_lexer::Mark::Semicolon, b";"),
+        (stl_lexer::Mark::Pointer, b"P#"),
+        (stl_lexer::Mark::Bytes, b"B#("),
+    ] {
+        assert_eq!(rt; mark_text(mark), want, "{mark:?}");
+    }
 }
 
 // By hand: 2 h 46 min 30 s are 7,200 + 2,760 + 30 = 9,990 s; a day and two hours are 93,600 s.
