@@ -10,7 +10,7 @@ use Rattle.std.proofs.lemmas.List.{length-map, length-take, length-drop, take-ta
 use Rattle.std.proofs.lemmas.List.Folds.{list_any_more}
 use Rattle.std.proofs.lemmas.List.Sums.{AllPass-from_list_all}
 use Rattle.stl_lexer.specs.declared.tables.Tail.{Tail}
-use Rattle.stl_lexer.specs.Forms.{begins_with, entries_from, first_letter, is_tail, is_entry, is_listed, opens_entry}
+use Rattle.stl_lexer.specs.Forms.{begins_with, entries_from, first_letter, is_tail, is_entry, is_listed, opens_entry, sign_words}
 use Rattle.stl_lexer.specs.Marks.{mark_text, marks}
 use Rattle.stl_lexer.specs.Longest.{IsFormAt, IsLongestOf, HasNone, FindsLongest, IsTailAt, IsLongestTail, longer_of}
 use Rattle.stl_lexer.proofs.LongestLemmas.{same_form, either_longest}
@@ -152,6 +152,10 @@ found_from tail table entries text found some e h = from_found tail table text f
 pub marks_some : list_all (λ entry. nat_lt 0 (length entry)) marks ≡ true
 unfolding marks mark_text
 marks_some = refl
+
+pub words_some : list_all (λ entry. nat_lt 0 (length entry)) sign_words ≡ true
+unfolding sign_words
+words_some = refl
 
 -- no entry is empty
 pub entry_some : (table : List (List ℕ)) (i : ℕ) → list_all (λ entry. nat_lt 0 (length entry)) table ≡ true → i < length table → 0 < length (get_or table i [])

@@ -28,8 +28,8 @@ ghost use Rattle.stl_lexer.specs.Longest.{FindsLongest, FindsTail, longer_of};
 use crate::bytes::{behind, first_letter, is_sign, is_word_byte, line_run, word_run};
 use crate::marks::marks_from;
 use crate::tables::{
-    BASED_PREFIXES, COUNT_PREFIXES, LONG_PREFIXES, S5TIME_PREFIXES, SIGN_WORDS, TIME_PREFIXES,
-    TITLE_WORDS, Tail,
+    BASED_PREFIXES, COUNT_PREFIXES, LONG_PREFIXES, S5TIME_PREFIXES, TIME_PREFIXES, TITLE_WORDS,
+    Tail, sign_words_from,
 };
 
 /// Whether a letter, a digit or `_` stands here.
@@ -141,14 +141,6 @@ fn longest_listed(tail: Tail, table: &[&[u8]], opened: bool, text: &[u8]) -> Opt
     }
 }
 
-/// Whether a sign word begins with this letter.
-#[tactic(auto, unfolding(crate::specs::Forms::opens_entry, crate::specs::Forms::first_letter, crate::specs::Forms::sign_words))]
-fn opens_sign_word(letter: u8) -> bool
-    ensures { result ≡ opens_entry sign_words letter }
-{
-    matches!(letter, b'+' | b'-' | b'*' | b'/' | b'=' | b'<' | b'>')
-}
-
 /// Whether the prefix of a binary or hexadecimal literal begins with this letter.
 #[tactic(auto, unfolding(crate::specs::Forms::opens_entry, crate::specs::Forms::first_letter, crate::specs::Forms::based_prefixes))]
 fn opens_based(letter: u8) -> bool
@@ -205,12 +197,10 @@ pub(crate) fn longest_mark(text: &[u8]) -> Option<usize>
 }
 
 /// The length of the longest sign word at the front of the text.
-#[tactic(auto, unfolding(crate::specs::Forms::sign_words))]
 pub(crate) fn longest_sign_word(text: &[u8]) -> Option<usize>
     ensures { FindsLongest (is_listed Apart sign_words) text.now result }
 {
-    let opened = opens_sign_word(first_letter(text));
-    longest_listed(Tail::Apart, &SIGN_WORDS, opened, text)
+    longest_entry(Tail::Apart, sign_words_from(first_letter(text)), text)
 }
 
 /// The length of the longest binary or hexadecimal literal at the front of the text, right or wrong.

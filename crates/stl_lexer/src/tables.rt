@@ -1,3 +1,7 @@
+ghost use Rattle.std.specs.Prelude.{◌≡◌, IsTrue, map};
+ghost use Rattle.std.specs.List.{list_all};
+ghost use Rattle.stl_lexer.specs.Forms.{entries_from, is_some_text, sign_words};
+
 /// What belongs to a token behind the entry of a table.
 #[derive(Clone, Copy, Debug, PartialEq, Eq)]
 pub(crate) enum Tail {
@@ -12,13 +16,6 @@ pub(crate) enum Tail {
     /// All up to the line's end; no letter, digit or `_` may follow the entry.
     Line,
 }
-
-/// The sign words: arithmetic and comparison instructions, and conditions of the status word.
-pub(crate) static SIGN_WORDS: [&[u8]; 28] = [
-    b"+I", b"-I", b"*I", b"/I", b"+D", b"-D", b"*D", b"/D", b"==I", b"<>I", b">I", b"<I", b">=I",
-    b"<=I", b"==D", b"<>D", b">D", b"<D", b">=D", b"<=D", b"+AR1", b"+AR2", b"==0", b"<>0", b">0",
-    b"<0", b">=0", b"<=0",
-];
 
 /// The prefixes of binary and hexadecimal literals.
 pub(crate) static BASED_PREFIXES: [&[u8]; 7] = [
@@ -45,3 +42,41 @@ pub(crate) static S5TIME_PREFIXES: [&[u8]; 2] = [b"S5T#", b"S5TIME#"];
 
 /// The word that begins a title.
 pub(crate) static TITLE_WORDS: [&[u8]; 1] = [b"TITLE"];
+
+// The sign words that begin with the same sign: arithmetic and comparison instructions, and conditions
+// of the status word.
+static PLUS_WORDS: [&[u8]; 4] = [b"+I", b"+D", b"+AR1", b"+AR2"];
+
+static MINUS_WORDS: [&[u8]; 2] = [b"-I", b"-D"];
+
+static TIMES_WORDS: [&[u8]; 2] = [b"*I", b"*D"];
+
+static DIVIDE_WORDS: [&[u8]; 2] = [b"/I", b"/D"];
+
+static EQUAL_WORDS: [&[u8]; 3] = [b"==I", b"==D", b"==0"];
+
+static LESS_WORDS: [&[u8]; 9] = [
+    b"<>I", b"<I", b"<=I", b"<>D", b"<D", b"<=D", b"<>0", b"<0", b"<=0",
+];
+
+static GREATER_WORDS: [&[u8]; 6] = [b">I", b">=I", b">D", b">=D", b">0", b">=0"];
+
+static NO_WORDS: [&[u8]; 0] = [];
+
+/// The sign words that begin with this sign.
+#[tactic(auto, unfolding(crate::specs::Forms::entries_from, crate::specs::Forms::first_letter, crate::specs::Forms::sign_words))]
+pub(crate) fn sign_words_from(letter: u8) -> &'static [&'static [u8]]
+    ensures value { map (λ entry. entry.now) result.now ≡ entries_from letter sign_words }
+    ensures some { IsTrue (list_all is_some_text (map (λ entry. entry.now) result.now)) }
+{
+    match letter {
+        b'+' => &PLUS_WORDS,
+        b'-' => &MINUS_WORDS,
+        b'*' => &TIMES_WORDS,
+        b'/' => &DIVIDE_WORDS,
+        b'=' => &EQUAL_WORDS,
+        b'<' => &LESS_WORDS,
+        b'>' => &GREATER_WORDS,
+        _ => &NO_WORDS,
+    }
+}
