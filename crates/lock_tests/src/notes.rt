@@ -38,7 +38,8 @@ impl Register {
     /// Adds a note, up to a million.
     pub fn note(&mut self, who: u8, value: u64) -> Result<(), NoMemory>
         ensures origin { self.new.first ≡ self.old.first }
-        ensures ok { OnOk result (self.new.notes.items ≡ self.old.notes.items ++ record { who = who; value = value } ∷ []) }
+        ensures ok { OnOk result (self.new.notes.items
+            ≡ self.old.notes.items ++ record { who = who; value = value } ∷ []) }
         ensures err { OnErr result (self.new.notes.items ≡ self.old.notes.items) }
         ensures room { length self.new.notes.items + 1 < 2 ^ 64 }
     {

@@ -72,7 +72,8 @@ pub struct SeatsOut<V: Storied + Drop> {
 fn first_pass<V: Storied>(key: &Key<V>, seat: PassSeat<V>, number: u8) -> Pass<V>
     requires seat { IsFreshSeat (V.origin key.now.first.value) key.now.passes number seat.me }
     requires number { (1 ≤ number) × (number ≤ key.now.passes) }
-    ensures { result ≡ fresh_pass (lock_of seat.table_id (V.origin key.now.first.value) key.now.passes) number }
+    ensures { result
+        ≡ fresh_pass (lock_of seat.table_id (V.origin key.now.first.value) key.now.passes) number }
 {
     let _ = key;
     Pass {
@@ -95,7 +96,8 @@ fn deal<V: Storied>(
     requires some { 1 ≤ n }
     requires key { (steps.now.key ≡ key.now) × (key.now.passes ≡ n) }
     requires seat { IsFirstSeat (V.origin key.now.first.value) n seat.me }
-    ensures { IfOk result (λ v. v.items ≡ fresh_passes (lock_of steps.now.table_id (V.origin key.now.first.value) n) 0 n) }
+    ensures { IfOk result (λ v. v.items
+        ≡ fresh_passes (lock_of steps.now.table_id (V.origin key.now.first.value) n) 0 n) }
 {
     let mut passes = Vec::new(alloc);
     let mut left = n;
@@ -193,7 +195,8 @@ impl<V: Storied + Drop> TrackedLock<V> {
         requires lock { p.lock ≡ self }
         requires free { p.out ≡ false }
         ensures ok { IfOk result (IsClosed V.origin V.story V.maker self p) }
-        ensures err { IfErr result (λ o. IsCountOut self p o.count × (o.lock ≡ self) × (o.pass ≡ p)) }
+        ensures err { IfErr result (λ o. IsCountOut self p o.count
+            × (o.lock ≡ self) × (o.pass ≡ p)) }
     {
         if p.numbers < self.passes {
             return Err(SeatsOut {

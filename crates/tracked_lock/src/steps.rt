@@ -41,7 +41,8 @@ pub fn make<V: Storied + Drop>(
 ) -> Result<(LockTable<V>, PassSeat<V>), NoMemory>
     requires first { key.now.first.value ≡ value }
     requires empty { V.story value ≡ [] }
-    ensures table { IfOk result (λ r. IsLockTable r.0.shared.table_id × (r.0.shared.key ≡ key.now)) }
+    ensures table { IfOk result (λ r. IsLockTable r.0.shared.table_id
+        × (r.0.shared.key ≡ key.now)) }
     ensures seat { IfOk result (λ r. IsFirstSeat (V.origin value) key.now.passes r.1.me) }
     ensures same { IfOk result (λ r. r.1.table_id ≡ r.0.shared.table_id) }
 {
@@ -59,7 +60,8 @@ pub fn split_last<V: Storied>(steps: &Steps<V>, seat: &mut PassSeat<V>) -> PassS
     requires seat { (1 < length seat.old.me.0.made) × (seat.old.me.0.turn ≡ false) }
     ensures seat { (seat.new.table_id ≡ seat.old.table_id) × (seat.new.id ≡ seat.old.id) }
     ensures rest { seat.new.me ≡ (without_last seat.old.me.0, seat.old.me.1) }
-    ensures last { (result.table_id ≡ seat.old.table_id) × (result.me ≡ (only_last seat.old.me.0, [])) }
+    ensures last { (result.table_id ≡ seat.old.table_id)
+        × (result.me ≡ (only_last seat.old.me.0, [])) }
 {
     steps.split_seat::<LastNumber>(seat)
 }
@@ -150,7 +152,8 @@ pub fn give_back<V: Storied + Drop>(steps: &Steps<V>, seat: &mut PassSeat<V>, va
     requires steps { IsLockTable steps.now.table_id × (seat.old.table_id ≡ steps.now.table_id) }
     requires turn { HasTurn seat.old.me × (seat.old.me.1 ≡ (0, None) ∷ []) }
     requires origin { V.origin value ∷ [] ≡ seat.old.me.0.origin }
-    requires entries { IsAdded V.maker (own_number seat.old.me.0.made) seat.old.me.0.seen (V.story value) }
+    requires entries { IsAdded V.maker (own_number seat.old.me.0.made)
+        seat.old.me.0.seen (V.story value) }
     requires len { len ≡ length (V.story value) }
     ensures seat { (seat.new.table_id ≡ seat.old.table_id) × (seat.new.id ≡ seat.old.id) }
     ensures back { seat.new.me ≡ (without_turn (grown seat.old.me.0 (V.story value)), []) }
@@ -166,7 +169,8 @@ pub fn join_seats<V: Storied>(steps: &Steps<V>, seat: &mut PassSeat<V>, other: P
     requires other { (other.table_id ≡ steps.now.table_id) × (other.me.1 ≡ []) }
     requires views { CanJoin V.maker seat.old.me.0 other.me.0 }
     ensures seat { (seat.new.table_id ≡ seat.old.table_id) × (seat.new.id ≡ seat.old.id) }
-    ensures reads { Reads V.maker (joined seat.old.me.0 other.me.0, seat.old.me.1) result seat.new.me }
+    ensures reads { Reads V.maker (joined seat.old.me.0 other.me.0, seat.old.me.1)
+        result seat.new.me }
 {
     join_other(steps, seat, other);
     read_count(steps, seat)
