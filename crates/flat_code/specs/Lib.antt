@@ -5,3 +5,4 @@ pub mod Forms
 pub mod Ops
 pub mod Laws
 pub mod Programs
+pub mod Names

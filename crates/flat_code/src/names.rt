@@ -1,4 +1,10 @@
+ghost use Rattle.std.specs.Prelude.{◌≡◌};
+ghost use Rattle.std.specs.Cmp.Lexicographic.{slice_cmp};
+ghost use Rattle.std.specs.Ordering.{nat_cmp};
+ghost use Rattle.flat_code.specs.Names.{upper_case, IsNames, find as found_among};
+
 use plc_base::{Place, Width};
+use std::cmp::Ordering;
 use std::marker::Model;
 
 /// A name of a variable: its bytes, in upper case, and the variable's place and width.
@@ -17,7 +23,40 @@ impl Model for NameEntry {
     ghost view = { λ e. record { name = e.name.items; place = e.place; width = e.width } };
 }
 
-/// The names of the variables of a program.
+impl NameEntry {
+    ghost use Rattle.std.specs.Prelude.{◌≡◌};
+
+    /// The place and width of the variable.
+    fn variable(&self) -> (Place, Width)
+        ensures { result ≡ (self.now.place, self.now.width) }
+    {
+        (self.place, self.width)
+    }
+}
+
+/// How a name in upper case compares with a name in any case.
+fn order_of(upper: &[u8], name: &[u8]) -> Ordering
+    ensures { result ≡ slice_cmp nat_cmp upper.now (upper_case name.now) }
+{
+    upper
+        .iter()
+        .copied()
+        .cmp(name.iter().map(|byte: &u8| byte.to_ascii_uppercase()))
+}
+
+/// The place and width of the variable that has the name.
+fn variable_of(list: &[NameEntry], name: &[u8]) -> Option<(Place, Width)>
+    requires { IsNames list.now }
+    ensures { result ≡ found_among list.now name.now }
+{
+    let found = list.binary_search_by(|entry: &NameEntry| order_of(entry.name.as_slice(), name));
+    match found {
+        Ok(at) => Some(list[at].variable()),
+        Err(_) => None,
+    }
+}
+
+/// The names of the variables of a program, in upper case and in the order of their bytes.
 #[derive(Drop)]
 pub struct Names {
     list: Vec<NameEntry>,
@@ -26,17 +65,22 @@ pub struct Names {
 impl Model for Names {
     ghost use Rattle.std.specs.Prelude.{List};
     ghost use Rattle.flat_code.specs.Programs.{NameEntry as NameEntryData};
+    ghost use Rattle.flat_code.specs.Names.{IsNames};
 
     ghost Value = { List NameEntryData };
 
     ghost view = { λ n. n.list.items };
+
+    ghost invariant = { λ n. IsNames n.list.items };
 }
 
 impl Names {
     ghost use Rattle.std.specs.Prelude.{◌≡◌};
+    ghost use Rattle.flat_code.specs.Names.{IsNames, find as found_among};
 
     /// Takes the list over.
     pub fn new(list: Vec<NameEntry>) -> Self
+        requires { IsNames list.items }
         ensures { result ≡ list.items }
     {
         Names { list }
@@ -47,5 +91,13 @@ impl Names {
         ensures { result.now ≡ self.now }
     {
         self.list.as_slice()
+    }
+
+    /// The place and width of the variable of this name, whatever the case of its letters A to Z;
+    /// `None` where no variable has it.
+    pub fn find(&self, name: &[u8]) -> Option<(Place, Width)>
+        ensures { result ≡ found_among self.now name.now }
+    {
+        variable_of(self.list.as_slice(), name)
     }
 }
