@@ -1,8 +1,7 @@
 -- What a name finds among names that rise.
-use Rattle.std.proofs.Common.{◌≡◌, ℕ, zero, suc, ◌+◌, ◌<◌, ◌≤◌, Bool, true, false, cond, not, ◌&&◌, List, [], ◌∷◌, length, map, get_or, ltb, Option, Some, None, refl, sym, ap, subst, ◌∙◌, arith}
+use Rattle.std.proofs.Common.{◌≡◌, ℕ, zero, suc, ◌<◌, ◌≤◌, Bool, true, false, not, ◌&&◌, List, [], ◌∷◌, length, get_or, ltb, Some, None, refl, sym, ap, ◌∙◌, arith}
 use Rattle.std.specs.Char.{to_ascii_uppercase, is_ascii_lowercase}
 use Rattle.std.specs.Cmp.Lexicographic.{slice_cmp}
-use Rattle.std.specs.List.{list_all, All, AllWithin}
 use Rattle.std.specs.List.Sorted.{IsNonDecreasingBy, IsPartitionPoint}
 use Rattle.std.specs.Ordering.{is_lt, is_eq, nat_cmp, ordering_index}
 use Rattle.std.specs.Str.{bytes_eq}
@@ -12,6 +11,8 @@ use Rattle.std.proofs.lemmas.Bool.{and_parts}
 use Rattle.std.proofs.lemmas.Bool.Decides.{nat_tests}
 use Rattle.std.proofs.lemmas.Cmp.{nat_list_cmp_total, alike_right}
 use Rattle.std.proofs.lemmas.Map.Text.{is_eq-slice_cmp}
+use Rattle.plc_base.specs.declared.places.Place.{Place}
+use Rattle.plc_base.specs.declared.places.Width.{Width}
 use Rattle.flat_code.specs.Programs.{NameEntry}
 use Rattle.flat_code.specs.Names.{upper_case, is_upper_case, is_after, names_rise, is_same_name, find}
 
@@ -73,7 +74,7 @@ rises t before (e ∷ es) h (suc i) zero d le lt = absurd (omega arith)
 rises t before (e ∷ es) h (suc i) (suc j) d le lt = rises t e.name es (parts_of before e es h).more i j d (omega arith) (omega arith)
 
 -- the variable of an entry whose name this is
-pub found : (name before : List ℕ) (es : List NameEntry) → names_rise before es ≡ true → (i : ℕ) (d : NameEntry) → i < length es
+found : (name before : List ℕ) (es : List NameEntry) → names_rise before es ≡ true → (i : ℕ) (d : NameEntry) → i < length es
     → slice_cmp nat_cmp (get_or es i d).name (upper_case name) ≡ Equal → find es name ≡ Some ((get_or es i d).place, (get_or es i d).width)
 unfolding find
 found name before [] h i d lt is = absurd (omega arith)
@@ -84,6 +85,12 @@ found name before (e ∷ es) h (suc i) d lt is =
     let p = parts_of before e es h in
     let less : slice_cmp nat_cmp e.name (upper_case name) ≡ Less = sym (alike_right nat_list_cmp_total (get_or es i d).name (upper_case name) e.name is) ∙ later e.name es p.more i d (omega arith) in
     rw (same_is e.name name p.upper ∙ ap is_eq less) (found name e.name es p.more i d (omega arith) is)
+
+-- the variable that was read from such an entry
+pub found_in : (name : List ℕ) (es : List NameEntry) → names_rise [] es ≡ true → (i : ℕ) (entry : NameEntry) (variable : Place × Width) → i < length es
+    → slice_cmp nat_cmp (get_or es i entry).name (upper_case name) ≡ Equal → entry ≡ get_or es i entry → variable ≡ (entry.place, entry.width) → Some variable ≡ find es name
+found_in name es h i entry variable lt is at reads =
+    ap Some reads ∙ ap (λ (e : NameEntry). Some (e.place, e.width)) at ∙ sym (found name [] es h i entry lt is)
 
 -- where no entry has the name, it finds nothing
 none_found : (name before : List ℕ) (es : List NameEntry) → names_rise before es ≡ true

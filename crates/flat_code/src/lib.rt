@@ -4,9 +4,10 @@
 mod decoding;
 mod encoding;
 mod fields;
+mod kinds;
 pub mod laws;
-mod making;
 mod names;
+mod op_codes;
 mod operands;
 mod ops;
 mod programs;
@@ -17,12 +18,12 @@ mod words;
 
 pub use decoding::{BadOp, decode_op};
 pub use encoding::encode_op;
-pub use making::{assign, bare};
+pub use kinds::{CONDITIONS, JUMPS, JumpWord, condition_of, flag_of, jump_of};
 pub use names::{NameEntry, Names};
 pub use operands::{Operand, Passed};
 pub use ops::Op;
 pub use programs::{CodeBlock, DataBlock, Param, Program};
-pub use table::{Takes, taken_by};
+pub use table::{Takes, taken_by, taken_by_word};
 pub use words::{
     Adding, CallWord, Comparison, EndWord, Joined, Logic, Number, PointerWord, Shift, StartWord,
     WORDS, Word, word_of,
