@@ -24,7 +24,8 @@ is_after before name = is_lt (slice_cmp nat_cmp before name)
 -- whether names are in upper case and rise strictly, the first one from `before`
 abbrev pub names_rise : List ℕ → List NameEntry → Bool
 names_rise before [] = true
-names_rise before (entry ∷ entries) = is_after before entry.name && is_upper_case entry.name && names_rise entry.name entries
+names_rise before (entry ∷ entries) =
+    is_after before entry.name && is_upper_case entry.name && names_rise entry.name entries
 
 -- the lists of names that a program may have: none is empty or stands twice
 abbrev pub IsNames : List NameEntry → Type 0
@@ -37,4 +38,5 @@ is_same_name a b = bytes_eq (upper_case a) (upper_case b)
 -- the variable of a name
 unfoldable pub find : List NameEntry → List ℕ → Option (Place × Width)
 find [] name = None
-find (entry ∷ entries) name = if is_same_name entry.name name then Some (entry.place, entry.width) else find entries name
+find (entry ∷ entries) name =
+    if is_same_name entry.name name then Some (entry.place, entry.width) else find entries name

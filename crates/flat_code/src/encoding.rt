@@ -49,7 +49,8 @@ fn first_byte(code: u8, last: bool) -> u8
 
 #[tactic(auto, unfolding(crate::specs::Forms::direct))]
 fn put(out: &mut Vec<u8>, first: u8, operand: &Operand) -> Result<(), NoMemory>
-    ensures ok { OnOk result (out.new.items ≡ out.old.items ++ first ∷ form_of_operand operand.now ∷ payload operand.now) }
+    ensures ok { OnOk result (out.new.items
+        ≡ out.old.items ++ first ∷ form_of_operand operand.now ∷ payload operand.now) }
     ensures err { OnErr result (out.new.items ≡ out.old.items) }
 {
     match *operand {

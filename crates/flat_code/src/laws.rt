@@ -7,8 +7,8 @@ pub fn one_coding()
     ensures spelled { OpsAreSpelledSo }
 {}
 
-/// Each word stands in the table of words at its op code, each jump at its kind and each condition at
-/// its number: no two share one.
+/// Each word stands in the table of words at its op code, each jump at its kind and each condition
+/// at its number: no two share one.
 pub fn one_number_each()
     ensures words { WordsHaveTheirCodes }
     ensures jumps { JumpsHaveTheirKinds }

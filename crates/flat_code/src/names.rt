@@ -1,7 +1,7 @@
 ghost use Rattle.std.specs.Prelude.{◌≡◌};
 ghost use Rattle.std.specs.Cmp.Lexicographic.{slice_cmp};
 ghost use Rattle.std.specs.Ordering.{nat_cmp};
-ghost use Rattle.flat_code.specs.Names.{upper_case, IsNames, find as found_among};
+ghost use Rattle.flat_code.specs.Names.{upper_case, is_upper_case, IsNames, find as found_among};
 
 use plc_base::{Place, Width};
 use std::cmp::Ordering;
@@ -24,7 +24,16 @@ impl Model for NameEntry {
 }
 
 impl NameEntry {
-    ghost use Rattle.std.specs.Prelude.{◌≡◌};
+    ghost use Rattle.std.specs.Prelude.{◌≡◌, ◌&&◌};
+    ghost use Rattle.flat_code.specs.Names.{is_after, is_upper_case};
+
+    /// Whether the name is in upper case and stands after another in the order of bytes.
+    fn stands_after(&self, before: &[u8]) -> bool
+        ensures { result ≡ (is_after before.now self.now.name && is_upper_case self.now.name) }
+    {
+        let name = self.name.as_slice();
+        before.cmp(name).is_lt() && has_no_lower_case(name)
+    }
 
     /// The place and width of the variable.
     fn variable(&self) -> (Place, Width)
@@ -32,6 +41,13 @@ impl NameEntry {
     {
         (self.place, self.width)
     }
+}
+
+/// Whether no byte of a name is a letter a to z.
+fn has_no_lower_case(name: &[u8]) -> bool
+    ensures { result ≡ is_upper_case name.now }
+{
+    name.iter().all(|byte: &u8| !byte.is_ascii_lowercase())
 }
 
 /// How a name in upper case compares with a name in any case.
@@ -75,8 +91,23 @@ impl Model for Names {
 }
 
 impl Names {
-    ghost use Rattle.std.specs.Prelude.{◌≡◌};
-    ghost use Rattle.flat_code.specs.Names.{IsNames, find as found_among};
+    ghost use Rattle.std.specs.Prelude.{◌≡◌, []};
+    ghost use Rattle.flat_code.specs.Names.{IsNames, names_rise, find as found_among};
+
+    /// Whether names are in upper case and rise strictly in the order of their bytes, as those of a
+    /// program do. None is empty then, and none stands twice.
+    pub fn are_in_order(list: &[NameEntry]) -> bool
+        ensures { result ≡ names_rise [] list.now }
+    {
+        let mut before: &[u8] = &[];
+        for entry in list {
+            if !entry.stands_after(before) {
+                return false;
+            }
+            before = entry.name.as_slice();
+        }
+        true
+    }
 
     /// Takes the list over.
     pub fn new(list: Vec<NameEntry>) -> Self

@@ -66,7 +66,11 @@ impl Model for DataBlock {
 
     ghost Value = { DataBlockData };
 
-    ghost view = { λ b. record { number = b.number; instance_of = b.instance_of; bytes = b.bytes.items } };
+    ghost view = { λ b. record {
+      number = b.number;
+      instance_of = b.instance_of;
+      bytes = b.bytes.items;
+    } };
 }
 
 /// A program: its code blocks, its data blocks, and the names of its variables.
