@@ -50,9 +50,7 @@ fn is_within(bytes: &[u8], at: usize, bit: u8, width: Width) -> bool
 {
     match width {
         Width::Bit => at < bytes.len() && bit < BYTE_BITS,
-        Width::Byte => at + 1 <= bytes.len(),
-        Width::Word => at + 2 <= bytes.len(),
-        Width::Dword => at + 4 <= bytes.len(),
+        _ => at + width.byte_count() <= bytes.len(),
     }
 }
 
