@@ -112,7 +112,8 @@ impl PeripheralArea {
         requires near { at < 2 ^ 16 }
         requires fits { value < 2 ^ bit_count width }
         ensures sizes { HasParts self.old }
-        ensures cases { ChangesOrStays (put_peripheral self.old at bit width value) self.old self.new result }
+        ensures cases { ChangesOrStays (put_peripheral self.old at bit width value)
+            self.old self.new result }
     {
         if at < HIGH_START {
             operands::put(&mut self.low, at, bit, width, value)
