@@ -1,12 +1,12 @@
 -- Finding the changed outputs one after another.
-use Rattle.std.proofs.Common.{◌≡◌, ◌≢◌, ◌<◌, ◌≤◌, ℕ, zero, suc, ◌+◌, ◌-◌, List, [], ◌∷◌, ◌++◌, Option, Some, None, refl, sym, ap, ◌∙◌, arith, append_assoc, min, inl, inr}
+use Rattle.std.proofs.Common.{◌≡◌, ◌≢◌, ◌<◌, ◌≤◌, ℕ, zero, suc, ◌+◌, ◌-◌, List, [], ◌∷◌, ◌++◌, Option, Some, None, refl, sym, ap, ◌∙◌, arith, append_assoc, min, true}
 use Rattle.std.specs.List.{cons_option, filter_map, range_with_len}
 use Rattle.std.proofs.lemmas.Bool.Decides.{nat_tests}
 use Rattle.std.proofs.lemmas.List.{append-nil}
 use Rattle.plc_mem.specs.Areas.{PeripheralBytes}
 use Rattle.plc_mem.specs.Bits.{peripheral_byte}
 use Rattle.plc_mem.specs.Changes.{IsFirstChange}
-use Rattle.plc_mem.specs.Peripherals.{IsPeripheralByte}
+use Rattle.plc_base.specs.AreaBytes.{is_peripheral_byte}
 use Rattle.controller.specs.ChangedOutputs.{if_changed, changed_output, changed_outputs}
 
 -- the changed bytes from a number on
@@ -91,18 +91,10 @@ changes_next found all before after from byte value first within is e =
     rw append_assoc (rw (first_change before after from byte value first within (sym is)) at e)
 
 -- peripheral bytes have numbers below 768
-pub below_end : (byte : ℕ) → IsPeripheralByte byte → byte < 768
-below_end byte (inl low) = omega (arith, low)
-below_end byte (inr high) = omega (arith, high.1)
+pub below_end : (byte : ℕ) → is_peripheral_byte byte ≡ true → byte < 768
+below_end byte exists = grind (arith, nat_tests, exists)
 
 -- no more changes are found than there are peripheral bytes
-pub one_more_change : (from byte found : ℕ) → from ≤ byte → IsPeripheralByte byte → found ≤ min from 128 + (from - 256)
+pub one_more_change : (from byte found : ℕ) → from ≤ byte → is_peripheral_byte byte ≡ true → found ≤ min from 128 + (from - 256)
     → found + 1 ≤ min (byte + 1) 128 + (byte + 1 - 256)
-one_more_change from byte found ahead (inl low) few =
-    let before : min from 128 ≡ from = omega arith in
-    let after : min (byte + 1) 128 ≡ byte + 1 = omega arith in
-    omega (arith, low, before, after)
-one_more_change from byte found ahead (inr high) few =
-    let after : min (byte + 1) 128 ≡ 128 = omega (arith, high.0) in
-    let most : min from 128 ≤ 128 = omega arith in
-    omega (arith, high.0, after, most)
+one_more_change from byte found ahead exists few = grind (arith, nat_tests, exists)

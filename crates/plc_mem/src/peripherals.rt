@@ -72,7 +72,7 @@ impl PeripheralArea {
     /// one. What changed is found by asking again from the number after it.
     pub fn next_change(&self, before: &PeripheralArea, from: u16) -> Option<u16>
         ensures first { IsFirstChange before.now self.now from result }
-        ensures exists { IfSome result IsPeripheralByte }
+        ensures exists { IfSome result (λ byte. IsTrue (is_peripheral_byte byte)) }
     {
         let from = usize::from(from);
         match first_difference(&before.low, &self.low, from) {
@@ -84,7 +84,7 @@ impl PeripheralArea {
     // The same for the upper part, of which the first `skip` bytes are passed over.
     fn next_high_change(&self, before: &PeripheralArea, skip: usize) -> Option<u16>
         ensures first { IsFirstHighChange before.now self.now skip result }
-        ensures exists { IfSome result IsPeripheralByte }
+        ensures exists { IfSome result (λ byte. IsTrue (is_peripheral_byte byte)) }
     {
         let index = first_difference(&before.high, &self.high, skip)?;
         Some((HIGH_START + index) as u16)
