@@ -31,7 +31,7 @@ op_bytes op = code_byte op.code op.last ∷ form_of_operand op.operand ∷ paylo
 unfoldable pub op_at : List ℕ → Option (OpData × List ℕ)
 op_at (b ∷ n ∷ rest) =
     option_and_then (λ r. if admits (takes_of (b % 128)) r.0
-        then Some (record { code = b % 128; last = nat_le 128 b; operand = r.0 }, r.1) else None)
+    then Some (record { code = b % 128; last = nat_le 128 b; operand = r.0 }, r.1) else None)
     (payload_in n rest)
 op_at _ = None
 

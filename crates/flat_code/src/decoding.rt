@@ -3,7 +3,10 @@ ghost use Rattle.std.specs.Option.{option_map};
 ghost use Rattle.flat_code.specs.Forms.{payload_in, payload_fits};
 ghost use Rattle.flat_code.specs.Ops.{op_at, is_op, Decodes};
 
-use crate::fields::{actual_at, area_at, callable_at, crossing_at, direct_at, memory_area_at, pointer_area_at, u8_at, u16_at, u32_at, width_at, within_at};
+use crate::fields::{
+    actual_at, area_at, callable_at, crossing_at, direct_at, memory_area_at, pointer_area_at,
+    u8_at, u16_at, u32_at, width_at, within_at,
+};
 use crate::operands::Operand;
 use crate::ops::Op;
 use crate::table::taken_by;
@@ -24,21 +27,45 @@ fn payload_at(form: u8, bytes: &[u8]) -> Option<(Operand, &[u8])>
         }
         2 => {
             let (area, width, byte, bit, rest) = direct_at(bytes)?;
-            Some((Operand::Direct { area, width, byte, bit }, rest))
+            Some((
+                Operand::Direct {
+                    area,
+                    width,
+                    byte,
+                    bit,
+                },
+                rest,
+            ))
         }
         3 => {
             let (area, rest) = memory_area_at(bytes)?;
             let (width, rest) = width_at(rest)?;
             let (from, rest) = pointer_area_at(rest)?;
             let (byte, rest) = u16_at(rest)?;
-            Some((Operand::ByMemory { area, width, from, byte }, rest))
+            Some((
+                Operand::ByMemory {
+                    area,
+                    width,
+                    from,
+                    byte,
+                },
+                rest,
+            ))
         }
         4 => {
             let (area, rest) = crossing_at(bytes)?;
             let (width, rest) = width_at(rest)?;
             let (register, rest) = within_at(rest, 1, 2)?;
             let (bits, rest) = u32_at(rest)?;
-            Some((Operand::ByRegister { area, width, register, bits }, rest))
+            Some((
+                Operand::ByRegister {
+                    area,
+                    width,
+                    register,
+                    bits,
+                },
+                rest,
+            ))
         }
         5 => {
             let (index, rest) = u8_at(bytes)?;
@@ -78,7 +105,14 @@ fn payload_at(form: u8, bytes: &[u8]) -> Option<(Operand, &[u8])>
             let (kind, rest) = callable_at(bytes)?;
             let (number, rest) = u16_at(rest)?;
             let (instance, rest) = u16_at(rest)?;
-            Some((Operand::Called { kind, number, instance }, rest))
+            Some((
+                Operand::Called {
+                    kind,
+                    number,
+                    instance,
+                },
+                rest,
+            ))
         }
         14 => {
             let (register, rest) = within_at(bytes, 1, 2)?;
@@ -89,7 +123,14 @@ fn payload_at(form: u8, bytes: &[u8]) -> Option<(Operand, &[u8])>
             let (register, rest) = within_at(bytes, 1, 2)?;
             let (from, rest) = pointer_area_at(rest)?;
             let (byte, rest) = u16_at(rest)?;
-            Some((Operand::OpenBy { register, from, byte }, rest))
+            Some((
+                Operand::OpenBy {
+                    register,
+                    from,
+                    byte,
+                },
+                rest,
+            ))
         }
         _ => None,
     }
@@ -137,7 +178,14 @@ fn op_behind(bytes: &[u8], at: u32) -> Option<(Op, u32)>
 {
     let (code, last, operand, rest) = op_from(behind(bytes, at as usize))?;
     let end = (bytes.len() - rest.len()) as u32;
-    Some((Op { code, last, operand }, end))
+    Some((
+        Op {
+            code,
+            last,
+            operand,
+        },
+        end,
+    ))
 }
 
 /// The op at an offset, and the offset after it.

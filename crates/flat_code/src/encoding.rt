@@ -58,17 +58,58 @@ fn put(out: &mut Vec<u8>, first: u8, operand: &Operand) -> Result<(), NoMemory>
             let [a, b, c, d] = value.to_be_bytes();
             out.extend_from_slice(&[first, 1, a, b, c, d])
         }
-        Operand::Direct { area, width, byte, bit } => {
+        Operand::Direct {
+            area,
+            width,
+            byte,
+            bit,
+        } => {
             let [a, b] = byte.to_be_bytes();
-            out.extend_from_slice(&[first, 2, code_of_area(area), code_of_width(width), a, b, bit])
+            out.extend_from_slice(&[
+                first,
+                2,
+                code_of_area(area),
+                code_of_width(width),
+                a,
+                b,
+                bit,
+            ])
         }
-        Operand::ByMemory { area, width, from, byte } => {
+        Operand::ByMemory {
+            area,
+            width,
+            from,
+            byte,
+        } => {
             let [a, b] = byte.to_be_bytes();
-            out.extend_from_slice(&[first, 3, code_of_area(area), code_of_width(width), code_of_area(from), a, b])
+            out.extend_from_slice(&[
+                first,
+                3,
+                code_of_area(area),
+                code_of_width(width),
+                code_of_area(from),
+                a,
+                b,
+            ])
         }
-        Operand::ByRegister { area, width, register, bits } => {
+        Operand::ByRegister {
+            area,
+            width,
+            register,
+            bits,
+        } => {
             let [a, b, c, d] = bits.to_be_bytes();
-            out.extend_from_slice(&[first, 4, code_of_crossing(area), code_of_width(width), register, a, b, c, d])
+            out.extend_from_slice(&[
+                first,
+                4,
+                code_of_crossing(area),
+                code_of_width(width),
+                register,
+                a,
+                b,
+                c,
+                d,
+            ])
         }
         Operand::Parameter { index, width } => {
             out.extend_from_slice(&[first, 5, index, code_of_width(width)])
@@ -91,7 +132,11 @@ fn put(out: &mut Vec<u8>, first: u8, operand: &Operand) -> Result<(), NoMemory>
             out.extend_from_slice(&[first, 10, a, b])
         }
         Operand::Pass { index, actual } => put_pass(out, first, index, actual),
-        Operand::Called { kind, number, instance } => {
+        Operand::Called {
+            kind,
+            number,
+            instance,
+        } => {
             let [a, b] = number.to_be_bytes();
             let [c, d] = instance.to_be_bytes();
             out.extend_from_slice(&[first, 13, kind, a, b, c, d])
@@ -100,7 +145,11 @@ fn put(out: &mut Vec<u8>, first: u8, operand: &Operand) -> Result<(), NoMemory>
             let [a, b] = number.to_be_bytes();
             out.extend_from_slice(&[first, 14, register, a, b])
         }
-        Operand::OpenBy { register, from, byte } => {
+        Operand::OpenBy {
+            register,
+            from,
+            byte,
+        } => {
             let [a, b] = byte.to_be_bytes();
             out.extend_from_slice(&[first, 15, register, code_of_area(from), a, b])
         }
@@ -117,17 +166,50 @@ fn put_pass(out: &mut Vec<u8>, first: u8, index: u8, actual: Passed) -> Result<(
             let [a, b, c, d] = value.to_be_bytes();
             out.extend_from_slice(&[first, 11, index, 1, a, b, c, d])
         }
-        Passed::Direct { area, width, byte, bit } => {
+        Passed::Direct {
+            area,
+            width,
+            byte,
+            bit,
+        } => {
             let [a, b] = byte.to_be_bytes();
-            out.extend_from_slice(&[first, 11, index, 2, code_of_area(area), code_of_width(width), a, b, bit])
+            out.extend_from_slice(&[
+                first,
+                11,
+                index,
+                2,
+                code_of_area(area),
+                code_of_width(width),
+                a,
+                b,
+                bit,
+            ])
         }
         Passed::Parameter { index: of, width } => {
             out.extend_from_slice(&[first, 11, index, 5, of, code_of_width(width)])
         }
-        Passed::InBlock { number, area, width, byte, bit } => {
+        Passed::InBlock {
+            number,
+            area,
+            width,
+            byte,
+            bit,
+        } => {
             let [c, d] = number.to_be_bytes();
             let [a, b] = byte.to_be_bytes();
-            out.extend_from_slice(&[first, 11, index, 12, c, d, code_of_area(area), code_of_width(width), a, b, bit])
+            out.extend_from_slice(&[
+                first,
+                11,
+                index,
+                12,
+                c,
+                d,
+                code_of_area(area),
+                code_of_width(width),
+                a,
+                b,
+                bit,
+            ])
         }
     }
 }

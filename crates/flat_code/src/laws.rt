@@ -5,5 +5,4 @@ ghost use Rattle.flat_code.specs.Laws.{OpsAreReadAgain, OpsAreSpelledSo};
 pub fn one_coding()
     ensures again { OpsAreReadAgain }
     ensures spelled { OpsAreSpelledSo }
-{
-}
+{}

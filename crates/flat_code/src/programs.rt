@@ -44,12 +44,12 @@ impl Model for CodeBlock {
     ghost Value = { CodeBlockData };
 
     ghost view = { λ b. record {
-        id = b.id;
-        local_len = b.local_len;
-        instance_len = b.instance_len;
-        params = b.params.items;
-        code = b.code.items;
-        lines = b.lines.items;
+      id = b.id;
+      local_len = b.local_len;
+      instance_len = b.instance_len;
+      params = b.params.items;
+      code = b.code.items;
+      lines = b.lines.items;
     } };
 }
 
@@ -83,8 +83,8 @@ impl Model for Program {
     ghost Value = { ProgramData };
 
     ghost view = { λ p. record {
-        code_blocks = p.code_blocks.items;
-        data_blocks = p.data_blocks.items;
-        names = p.names;
+      code_blocks = p.code_blocks.items;
+      data_blocks = p.data_blocks.items;
+      names = p.names;
     } };
 }
