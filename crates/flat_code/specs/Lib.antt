@@ -5,3 +5,11 @@ pub mod Forms
 pub mod Ops
 pub mod Laws
 pub mod Programs
+pub mod Records
+pub mod Layout
+pub mod Faults
+pub mod Codes
+pub mod Image
+pub mod Placed
+pub mod Blocks
+pub mod Loading

@@ -4,6 +4,7 @@
 mod decoding;
 mod encoding;
 mod fields;
+mod image_fields;
 pub mod laws;
 mod making;
 mod names;
@@ -17,6 +18,7 @@ mod words;
 
 pub use decoding::{BadOp, decode_op};
 pub use encoding::encode_op;
+pub use image_fields::{Field, ParameterRecord};
 pub use making::{assign, bare};
 pub use names::{NameEntry, Names};
 pub use operands::{Operand, Passed};
