@@ -1,0 +1,38 @@
+-- The bins of the pending requests, one for each priority class, and their bitmap.
+use Rattle.std.specs.Prelude.{◌≡◌, ℕ, ◌+◌, ◌*◌, ◌<◌, Bool, true, ◌&&◌, ◌==◌, List, [], ◌∷◌, ◌++◌, length, drop, slice_index_or, if◌then◌else◌}
+use Rattle.std.specs.List.{list_all}
+use Rattle.ob_sched.specs.OrganizationBlock.{class_of, can_wait}
+use Rattle.ob_sched.specs.Request.{Request}
+use Rattle.ob_sched.specs.declared.bin.Bin.{Bin}
+
+-- what waits in the bins, by rank: the bins stand from the lowest class to the highest
+abbrev pub ranked : List Bin → List Request
+ranked [] = []
+ranked (bin ∷ rest) = ranked rest ++ bin.waiting.items
+
+-- the number whose bit n is 1 exactly where bin n holds a request
+abbrev pub bitmap_of : List Bin → ℕ
+bitmap_of [] = 0
+bitmap_of (bin ∷ rest) = (if length bin.waiting.items == 0 then 0 else 1) + 2 * bitmap_of rest
+
+-- the requests of bin n and the following are those of OBs that can wait, of the bin's class
+abbrev pub are_of_class : ℕ → List Request → Bool
+are_of_class class waiting = list_all (λ request. can_wait request.0 && class_of request.0 == class) waiting
+
+abbrev pub are_placed_from : ℕ → List Bin → Bool
+are_placed_from class [] = true
+are_placed_from class (bin ∷ rest) = are_of_class class bin.waiting.items && are_placed_from (class + 1) rest
+
+-- an empty bin
+abbrev pub empty_bin : Bin
+empty_bin = record { waiting = record { items = [] } }
+
+-- what waits in the bin of a number
+abbrev pub waiting_in : List Bin → ℕ → List Request
+waiting_in bins n = (slice_index_or bins n empty_bin).waiting.items
+
+-- it is the highest bin that holds a request
+pub record IsHighest (bins : List Bin) (n : ℕ) : Type 0 where
+  pub within : n < 32
+  pub some : 0 < length (waiting_in bins n)
+  pub none_above : ranked (drop (n + 1) bins) ≡ []
