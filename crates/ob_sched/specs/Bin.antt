@@ -1,5 +1,5 @@
 -- The bins of the pending requests, one for each priority class, and their bitmap.
-use Rattle.std.specs.Prelude.{◌≡◌, ℕ, ◌+◌, ◌*◌, ◌<◌, Bool, true, ◌&&◌, ◌==◌, List, [], ◌∷◌, ◌++◌, length, drop, slice_index_or, if◌then◌else◌}
+use Rattle.std.specs.Prelude.{◌≡◌, ℕ, suc, ◌+◌, ◌*◌, ◌<◌, Bool, true, ◌&&◌, ◌==◌, List, [], ◌∷◌, ◌++◌, length, drop, slice_index_or}
 use Rattle.std.specs.List.{list_all}
 use Rattle.ob_sched.specs.OrganizationBlock.{class_of, can_wait}
 use Rattle.ob_sched.specs.Request.{Request}
@@ -10,10 +10,15 @@ abbrev pub ranked : List Bin → List Request
 ranked [] = []
 ranked (bin ∷ rest) = ranked rest ++ bin.waiting.items
 
+-- 1 where a request waits
+abbrev pub bit_of : List Request → ℕ
+bit_of [] = 0
+bit_of (first ∷ rest) = 1
+
 -- the number whose bit n is 1 exactly where bin n holds a request
 abbrev pub bitmap_of : List Bin → ℕ
 bitmap_of [] = 0
-bitmap_of (bin ∷ rest) = (if length bin.waiting.items == 0 then 0 else 1) + 2 * bitmap_of rest
+bitmap_of (bin ∷ rest) = bit_of bin.waiting.items + 2 * bitmap_of rest
 
 -- the requests of bin n and the following are those of OBs that can wait, of the bin's class
 abbrev pub are_of_class : ℕ → List Request → Bool
@@ -35,4 +40,4 @@ waiting_in bins n = (slice_index_or bins n empty_bin).waiting.items
 pub record IsHighest (bins : List Bin) (n : ℕ) : Type 0 where
   pub within : n < 32
   pub some : 0 < length (waiting_in bins n)
-  pub none_above : ranked (drop (n + 1) bins) ≡ []
+  pub none_above : ranked (drop (suc n) bins) ≡ []

@@ -1,4 +1,4 @@
-ghost use Rattle.std.specs.Prelude.{◌≡◌, ◌≤◌, ◌<◌, ◌^◌, [], ◌∷◌, ◌++◌, Some, None, drop, length, IsTrue, MatchOption, slice_get, slice_set, IfOk, false};
+ghost use Rattle.std.specs.Prelude.{◌≡◌, ◌≤◌, ◌<◌, ◌^◌, [], ◌∷◌, ◌++◌, Some, None, drop, length, IsTrue, MatchOption, slice_get, slice_set, IfOk, IfSome, false};
 ghost use Rattle.ob_sched.specs.Bin.{ranked, empty_bin, waiting_in, IsHighest};
 ghost use Rattle.ob_sched.specs.OrganizationBlock.{can_wait, class_of};
 ghost use Rattle.ob_sched.specs.Request.{waiting, is_full, queued, best_of};
@@ -77,13 +77,25 @@ impl Bins {
         }
     }
 
+    /// The best request.
+    fn first(&self) -> Option<(u16, StartInfo)>
+        ensures value { result ≡ slice_get (pending_of self.now) 0 }
+        ensures known { IfSome result (λ request. IsTrue (can_wait request.0)) }
+    {
+        match self.highest() {
+            None => None,
+            Some(n) => {
+                let bin = &self.bins[n];
+                Some(bin.waiting.as_slice()[0])
+            }
+        }
+    }
+
     /// The best request, with its class in the operating mode.
     pub(crate) fn best(&self, mode: Mode) -> Option<Pending>
         ensures { result ≡ best_of mode (pending_of self.now) }
     {
-        let n = self.highest()?;
-        let bin = &self.bins[n];
-        let (ob, info) = *bin.waiting.first()?;
+        let (ob, info) = self.first()?;
         Some(Pending {
             ob,
             class: class_in(mode, ob),

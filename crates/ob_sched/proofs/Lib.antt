@@ -1,0 +1,5 @@
+pub mod BinLemmas
+pub mod BitmapLemmas
+pub mod ChangeLemmas
+pub mod QueueLemmas
+pub mod RoomLemmas
