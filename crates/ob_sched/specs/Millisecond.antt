@@ -37,10 +37,12 @@ ending_from ob (delay ∷ rest) =
     if is_ending delay then ob ∷ ending_from (ob + 1) rest else ending_from (ob + 1) rest
 
 -- a period has one millisecond less, and begins anew after the last one
+abbrev pub period_counted : ℕ → ℕ → ℕ
+period_counted ob left = if nat_le left 1 then period_of ob else left - 1
+
 abbrev pub periods_counted_from : ℕ → List ℕ → List ℕ
 periods_counted_from ob [] = []
-periods_counted_from ob (left ∷ rest) =
-    (if nat_le left 1 then period_of ob else left - 1) ∷ periods_counted_from (ob + 1) rest
+periods_counted_from ob (left ∷ rest) = period_counted ob left ∷ periods_counted_from (ob + 1) rest
 
 -- the OBs, from a number on, whose periods end with this millisecond
 abbrev pub due_from : ℕ → List ℕ → List ℕ

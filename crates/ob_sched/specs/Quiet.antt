@@ -29,10 +29,13 @@ pub record Lasts (mode : Mode) (ms : ℕ) (s : Scheduler) : Type 0 where
 abbrev pub delays_shortened : ℕ → Countdowns → Countdowns
 delays_shortened ms c = record c { delays = map (option_map (λ left. left - ms)) c.delays }
 
+abbrev pub periods_shortened : ℕ → Countdowns → Countdowns
+periods_shortened ms c = record c { periods = map (λ left. left - ms) c.periods }
+
 abbrev pub run_shortened : ℕ → Scheduler → Scheduler
 run_shortened ms s =
     record s {
-      countdowns = record s.countdowns { periods = map (λ left. left - ms) s.countdowns.periods };
+      countdowns = periods_shortened ms s.countdowns;
       cycle = record s.cycle { counter = s.cycle.counter + ms };
     }
 

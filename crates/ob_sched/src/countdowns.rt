@@ -1,7 +1,7 @@
-ghost use Rattle.std.specs.Prelude.{◌≡◌, ◌≤◌, ◌-◌, IsTrue, All, Some, None, map, option_map};
-ghost use Rattle.ob_sched.specs.Millisecond.{delay_counted, is_ending, ending_from, periods_counted_from, due_from};
+ghost use Rattle.std.specs.Prelude.{◌≡◌, ◌≤◌, ◌-◌, IsTrue, All, Some, None, length, map, option_map};
+ghost use Rattle.ob_sched.specs.Millisecond.{delay_counted, is_ending, ending_from, period_counted, periods_counted_from, due_from};
 ghost use Rattle.ob_sched.specs.OrganizationBlock.{is_delay};
-ghost use Rattle.ob_sched.specs.Quiet.{DelayLasts};
+ghost use Rattle.ob_sched.specs.Quiet.{DelayLasts, delays_shortened, periods_shortened};
 ghost use Rattle.ob_sched.specs.Scheduler.{no_delays, whole_periods, delay_set, delay_of};
 
 use crate::organization_blocks::period_of;
@@ -59,6 +59,93 @@ fn delay_counted(delay: Option<u32>) -> Option<u32>
         Some(left) if left > 1 => Some(left - 1),
         _ => None,
     }
+}
+
+/// A delay after milliseconds in which it doesn't end.
+fn delay_shortened(delay: Option<u32>, ms: u32) -> Option<u32>
+    ensures { result ≡ option_map (λ left. left - ms) delay }
+{
+    match delay {
+        None => None,
+        Some(left) => Some(left.saturating_sub(ms)),
+    }
+}
+
+/// A millisecond of the delays.
+fn count_delays(delays: &mut [Option<u32>])
+    ensures { delays.new ≡ map delay_counted delays.old }
+{
+    for delay in delays.iter_mut() {
+        *delay = delay_counted(*delay);
+    }
+}
+
+/// Milliseconds of the delays, in which none ends.
+fn shorten_delays(delays: &mut [Option<u32>], ms: u32)
+    ensures { delays.new ≡ map (option_map (λ left. left - ms)) delays.old }
+{
+    for delay in delays.iter_mut() {
+        *delay = delay_shortened(*delay, ms);
+    }
+}
+
+/// A millisecond of the periods of the cyclic interrupts.
+fn count_periods(periods: &mut [u32])
+    requires { length periods.old ≤ 9 }
+    ensures { periods.new ≡ periods_counted_from 30 periods.old }
+{
+    for (i, left) in periods.iter_mut().enumerate() {
+        *left = period_counted(FIRST_CYCLIC + i as u16, *left);
+    }
+}
+
+/// A period after a millisecond.
+fn period_counted(ob: u16, left: u32) -> u32
+    ensures { result ≡ period_counted ob left }
+{
+    if left <= 1 { period_of(ob) } else { left - 1 }
+}
+
+/// Milliseconds of the periods, in which none ends.
+fn shorten_periods(periods: &mut [u32], ms: u32)
+    ensures { periods.new ≡ map (λ left. left - ms) periods.old }
+{
+    for left in periods.iter_mut() {
+        *left = left.saturating_sub(ms);
+    }
+}
+
+/// The lesser of a number and the milliseconds left of a delay that is started.
+fn lesser(least: u32, delay: Option<u32>) -> u32
+    ensures bound { result ≤ least }
+    ensures lasts { DelayLasts result delay }
+{
+    match delay {
+        None => least,
+        Some(left) => least.min(left),
+    }
+}
+
+/// No started delay has fewer milliseconds left than this.
+fn least_delay(delays: &[Option<u32>]) -> u32
+    ensures { All (DelayLasts result) delays.now }
+{
+    let mut least = u32::MAX;
+    for delay in delays {
+        least = lesser(least, *delay);
+    }
+    least
+}
+
+/// No period has fewer milliseconds left than this.
+fn least_period(periods: &[u32]) -> u32
+    ensures { All (λ left. result ≤ left) periods.now }
+{
+    let mut least = u32::MAX;
+    for left in periods {
+        least = least.min(*left);
+    }
+    least
 }
 
 impl Countdowns {
@@ -119,9 +206,7 @@ impl Countdowns {
     pub(crate) fn count_delays(&mut self)
         ensures { self.new ≡ record self.old { delays = map delay_counted self.old.delays } }
     {
-        for delay in self.delays.iter_mut() {
-            *delay = delay_counted(*delay);
-        }
+        count_delays(&mut self.delays);
     }
 
     /// The organization blocks whose periods end with the next millisecond, by number.
@@ -141,64 +226,34 @@ impl Countdowns {
     pub(crate) fn count_periods(&mut self)
         ensures { self.new ≡ record self.old { periods = periods_counted_from 30 self.old.periods } }
     {
-        for (i, left) in self.periods.iter_mut().enumerate() {
-            *left = if *left <= 1 {
-                period_of(FIRST_CYCLIC + i as u16)
-            } else {
-                *left - 1
-            };
-        }
+        count_periods(&mut self.periods);
     }
 
     /// No started delay has fewer milliseconds left than this.
     pub(crate) fn least_delay(&self) -> u32
         ensures { All (DelayLasts result) self.now.delays }
     {
-        let mut least = u32::MAX;
-        for delay in self.delays.iter() {
-            if let Some(left) = *delay {
-                least = least.min(left);
-            }
-        }
-        least
+        least_delay(&self.delays)
     }
 
     /// No period has fewer milliseconds left than this.
     pub(crate) fn least_period(&self) -> u32
         ensures { All (λ left. result ≤ left) self.now.periods }
     {
-        let mut least = u32::MAX;
-        for left in self.periods.iter() {
-            least = least.min(*left);
-        }
-        least
+        least_period(&self.periods)
     }
 
     /// Milliseconds of the delays, in which none ends.
     pub(crate) fn shorten_delays(&mut self, ms: u32)
-        ensures { self.new ≡ record self.old { delays = map (option_map (λ left. left - ms)) self.old.delays } }
+        ensures { self.new ≡ delays_shortened ms self.old }
     {
-        for delay in self.delays.iter_mut() {
-            *delay = shortened(*delay, ms);
-        }
+        shorten_delays(&mut self.delays, ms);
     }
 
     /// Milliseconds of the periods, in which none ends.
     pub(crate) fn shorten_periods(&mut self, ms: u32)
-        ensures { self.new ≡ record self.old { periods = map (λ left. left - ms) self.old.periods } }
+        ensures { self.new ≡ periods_shortened ms self.old }
     {
-        for left in self.periods.iter_mut() {
-            *left = left.saturating_sub(ms);
-        }
-    }
-}
-
-/// A delay after milliseconds in which it doesn't end.
-fn shortened(delay: Option<u32>, ms: u32) -> Option<u32>
-    ensures { result ≡ option_map (λ left. left - ms) delay }
-{
-    match delay {
-        None => None,
-        Some(left) => Some(left.saturating_sub(ms)),
+        shorten_periods(&mut self.periods, ms);
     }
 }

@@ -1,9 +1,10 @@
-ghost use Rattle.std.specs.Prelude.{◌≡◌, ◌+◌, ◌<◌, ◌≤◌, ◌^◌, IsTrue};
+ghost use Rattle.std.specs.Prelude.{◌≡◌, ℕ, ◌+◌, ◌<◌, ◌≤◌, ◌^◌, IsTrue, List, None};
+ghost use Rattle.std.specs.Fn.{iterate};
 ghost use Rattle.std.specs.List.{AllPass};
 ghost use Rattle.ob_sched.specs.Course.{Course};
-ghost use Rattle.ob_sched.specs.Millisecond.{each_of, delay_ended, period_ended, cycle_counted, time_counted, delays_passed, periods_passed, run_passed, one_ms, unless_stopped, ticked};
+ghost use Rattle.ob_sched.specs.Millisecond.{each_of, delay_ended, period_ended, cycle_counted, time_counted, delays_passed, periods_passed, run_passed, one_ms, unless_stopped, begun, ticked};
 ghost use Rattle.ob_sched.specs.OrganizationBlock.{is_delay, is_cyclic};
-ghost use Rattle.ob_sched.specs.Quiet.{Lasts, waited};
+ghost use Rattle.ob_sched.specs.Quiet.{Lasts, RunLastsIn, run_shortened_in};
 ghost use Rattle.ob_sched.specs.Views.{scheduler_of, course_of};
 
 use crate::organization_blocks::class_in;
@@ -157,28 +158,35 @@ impl Sched {
     /// Milliseconds in which nothing ends and nothing is due.
     fn wait(&mut self, mode: Mode, ms: u32, passed: &mut Passed)
         requires fits { passed.old.ms + ms < 2 ^ 32 }
-        requires quiet { Lasts mode (ms + 1) (scheduler_of self.old) }
-        ensures { course_of self.new passed.new ≡ waited mode ms (course_of self.old passed.old) }
+        requires running { passed.old.stop ≡ None }
+        requires quiet { 0 < ms → Lasts mode (ms + 1) (scheduler_of self.old) }
+        ensures { (active : List ℕ) → course_of self.new passed.new ≡ iterate (one_ms mode active) ms (course_of self.old passed.old) }
     {
+        if ms == 0 {
+            return;
+        }
         passed.ms += ms;
         self.clock.count(ms);
         self.countdowns.shorten_delays(ms);
+        self.wait_in_run(mode, ms);
+    }
+
+    /// What such milliseconds do to what moves in RUN alone.
+    fn wait_in_run(&mut self, mode: Mode, ms: u32)
+        requires { RunLastsIn mode (ms + 1) (scheduler_of self.old) }
+        ensures { scheduler_of self.new ≡ run_shortened_in mode ms (scheduler_of self.old) }
+    {
         if let Mode::Run = mode {
             self.countdowns.shorten_periods(ms);
             self.cycle.count(ms);
         }
     }
 
-    /// Passes `n` milliseconds in an operating mode, where the given organization blocks are active:
-    /// the clock, the started delays by number, and in RUN the cyclic interrupts by number and the
-    /// cycle counter. A stop ends it. In STOP nothing passes.
-    pub fn pass_ms(&mut self, n: u32, mode: Mode, active: &[u16]) -> Passed
-        ensures { course_of self.new result ≡ ticked mode active.now n (scheduler_of self.old) }
+    /// Milliseconds, from one moment at which something ends or is due to the next.
+    fn pass(&mut self, n: u32, mode: Mode, active: &[u16]) -> Passed
+        ensures { course_of self.new result ≡ iterate (one_ms mode active.now) n (begun (scheduler_of self.old)) }
     {
         let mut passed = Passed::new();
-        if let Mode::Stop { .. } = mode {
-            return passed;
-        }
         let mut left = n;
         while left > 0 {
             let quiet = self.ms_to_next(mode).min(left).saturating_sub(1);
@@ -190,5 +198,18 @@ impl Sched {
             left -= quiet + 1;
         }
         passed
+    }
+
+    /// Passes `n` milliseconds in an operating mode, where the given organization blocks are active:
+    /// the clock, the started delays by number, and in RUN the cyclic interrupts by number and the
+    /// cycle counter. A stop ends it. In STOP nothing passes.
+    pub fn pass_ms(&mut self, n: u32, mode: Mode, active: &[u16]) -> Passed
+        ensures { course_of self.new result ≡ ticked mode active.now n (scheduler_of self.old) }
+    {
+        match mode {
+            Mode::Run => self.pass(n, Mode::Run, active),
+            Mode::Startup => self.pass(n, Mode::Startup, active),
+            Mode::Stop { .. } => Passed::new(),
+        }
     }
 }
