@@ -1,6 +1,9 @@
 -- Delays and periods, one after another.
 use Rattle.std.proofs.Common.{◌≡◌, ℕ, suc, zero, ◌+◌, ◌-◌, ◌<◌, ◌≤◌, Bool, true, false, if◌then◌else◌, List, [], ◌∷◌, ◌++◌, length, take, drop, get_or, set, map, refl, sym, ◌∙◌, ap, subst, arith, append_assoc, length-append, below_more}
 use Rattle.std.specs.Prelude.{Option, Some, None, nat_le}
+use Rattle.std.specs.List.{list_all}
+use Rattle.std.proofs.lemmas.Bool.{and_from}
+use Rattle.ob_sched.specs.OrganizationBlock.{is_delay, is_cyclic}
 use Rattle.std.proofs.lemmas.Bool.Decides.{nat_tests}
 use Rattle.std.proofs.lemmas.List.{append-nil, drop_all, take_all}
 use Rattle.std.proofs.Math.Seq.{drop-cons}
@@ -139,3 +142,42 @@ pub mapped_more : {A : Type 0} (f : A → A) (xs ys : List A) (i : ℕ) (d : A) 
 mapped_more f xs ys i d lt same e =
     let within : i < length ys = omega (arith, same) in
     map_over_more f xs ys i (get_or ys i d) lt e (get_or_default ys i d (get_or ys i d) within)
+
+-- the OBs that are found are from the first number on, as many as there are
+pub ending_known : (p : ℕ → Bool) (ob : ℕ) (xs : List (Option ℕ)) → ((k : ℕ) → k < length xs → p (ob + k) ≡ true) → list_all p (ending_from ob xs) ≡ true
+ending_known p ob [] all = refl
+ending_known p ob (x ∷ xs) all =
+    by (is_ending x)
+    (ending_known p (ob + 1) xs (λ k h. subst (λ n. p n ≡ true) (next ob k) (all (suc k) (omega arith))))
+    (subst (λ n. p n ≡ true) (here ob) (all 0 (omega arith)))
+  where
+    next : (a b : ℕ) → a + suc b ≡ a + 1 + b
+    next a b = omega arith
+    here : (a : ℕ) → a + 0 ≡ a
+    here a = omega arith
+    by : (b : Bool) → list_all p (ending_from (ob + 1) xs) ≡ true → p ob ≡ true
+        → list_all p (if b then ob ∷ ending_from (ob + 1) xs else ending_from (ob + 1) xs) ≡ true
+    by true rest one = and_from (p ob) (list_all p (ending_from (ob + 1) xs)) one rest
+    by false rest one = rest
+
+pub due_known : (p : ℕ → Bool) (ob : ℕ) (xs : List ℕ) → ((k : ℕ) → k < length xs → p (ob + k) ≡ true) → list_all p (due_from ob xs) ≡ true
+due_known p ob [] all = refl
+due_known p ob (x ∷ xs) all =
+    by (nat_le x 1)
+    (due_known p (ob + 1) xs (λ k h. subst (λ n. p n ≡ true) (next ob k) (all (suc k) (omega arith))))
+    (subst (λ n. p n ≡ true) (here ob) (all 0 (omega arith)))
+  where
+    next : (a b : ℕ) → a + suc b ≡ a + 1 + b
+    next a b = omega arith
+    here : (a : ℕ) → a + 0 ≡ a
+    here a = omega arith
+    by : (b : Bool) → list_all p (due_from (ob + 1) xs) ≡ true → p ob ≡ true
+        → list_all p (if b then ob ∷ due_from (ob + 1) xs else due_from (ob + 1) xs) ≡ true
+    by true rest one = and_from (p ob) (list_all p (due_from (ob + 1) xs)) one rest
+    by false rest one = rest
+
+pub delay_number : (k : ℕ) → k < 4 → is_delay (20 + k) ≡ true
+delay_number k h = grind (arith, nat_tests)
+
+pub cyclic_number : (k : ℕ) → k < 9 → is_cyclic (30 + k) ≡ true
+cyclic_number k h = grind (arith, nat_tests)

@@ -1,9 +1,11 @@
 -- Milliseconds in which nothing ends and nothing is due, and what single milliseconds come to.
-use Rattle.std.proofs.Common.{◌≡◌, ℕ, suc, zero, ◌+◌, ◌-◌, ◌%◌, ◌^◌, ◌<◌, ◌≤◌, Bool, true, false, if◌then◌else◌, List, [], ◌∷◌, length, get_or, map, option_map, refl, sym, ◌∙◌, ap, subst, arith}
+use Rattle.std.proofs.Common.{◌≡◌, ℕ, suc, zero, ◌+◌, ◌-◌, ◌%◌, ◌^◌, ◌<◌, ◌≤◌, Bool, true, false, if◌then◌else◌, List, [], ◌∷◌, length, drop, get_or, map, option_map, refl, sym, ◌∙◌, ap, subst, arith}
 use Rattle.std.specs.Prelude.{Option, Some, None, is_some, nat_le, nat_lt}
 use Rattle.std.specs.List.{All}
 use Rattle.std.specs.Fn.{iterate}
 use Rattle.std.proofs.lemmas.Bool.Decides.{nat_tests}
+use Rattle.std.proofs.lemmas.List.{drop_all}
+use Rattle.std.proofs.Math.Seq.{drop-cons}
 use Rattle.plc_base.specs.declared.Mode.{Mode}
 use Rattle.plc_base.specs.declared.Mode.TheVariants.{Run, Startup, Stop}
 use Rattle.ob_sched.specs.Course.{Course, stopped_by, time_error}
@@ -258,3 +260,32 @@ iterate-split f (suc q) m x = ap (λ (n : ℕ). iterate f n x) (plain q m) ∙ i
   where
     plain : (q m : ℕ) → suc q + suc m ≡ suc (q + suc m)
     plain q m = omega arith
+
+pub iterate-waited : (mode : Mode) (active : List ℕ) (ms : ℕ) (c : Course) → (ms ≡ 0 → ⊥) → Lasts mode (ms + 1) c.sched → c.passed.stop ≡ None
+    → iterate (one_ms mode active) ms c ≡ waited mode ms c
+iterate-waited mode active zero c some lasts e = absurd (some refl)
+iterate-waited mode active (suc ms) c some lasts e =
+    iterate-quiet mode active ms c (Lasts-lower mode (suc (suc ms)) (suc ms + 1) c.sched (omega arith) lasts) e
+
+-- OBs one after another
+pub each_of-at : (next : ℕ → Course → Course) (obs : List ℕ) (i : ℕ) (c : Course) → i < length obs → c.passed.stop ≡ None
+    → each_of next (drop i obs) c ≡ each_of next (drop (i + 1) obs) (next (get_or obs i 0) c)
+each_of-at next obs i c lt e =
+    ap (λ (xs : List ℕ). each_of next xs c) (drop-cons obs i 0 lt)
+    ∙ ap (each_of next (drop (suc i) obs)) (running (next (get_or obs i 0)) c e)
+    ∙ ap (λ (n : ℕ). each_of next (drop n obs) (next (get_or obs i 0) c)) (plain i)
+  where
+    plain : (n : ℕ) → suc n ≡ n + 1
+    plain n = omega arith
+
+pub each_of-stopped : (next : ℕ → Course → Course) (obs : List ℕ) (c : Course) → is_some c.passed.stop ≡ true → each_of next obs c ≡ c
+each_of-stopped next [] c e = refl
+each_of-stopped next (ob ∷ rest) c e =
+    ap (λ (b : Bool). each_of next rest (if b then c else next ob c)) e ∙ each_of-stopped next rest c e
+
+pub each_of-end : (next : ℕ → Course → Course) (obs : List ℕ) (i : ℕ) (c : Course) → length obs ≤ i → each_of next (drop i obs) c ≡ c
+each_of-end next obs i c past = ap (λ (xs : List ℕ). each_of next xs c) (drop_all i obs past)
+
+pub not_some : {A : Type 0} (o : Option A) → is_some o ≡ false → o ≡ None
+not_some None e = refl
+not_some (Some x) e = absurd (cc)

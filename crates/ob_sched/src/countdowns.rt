@@ -1,6 +1,7 @@
 ghost use Rattle.std.specs.Prelude.{◌≡◌, ◌≤◌, ◌-◌, IsTrue, All, Some, None, length, map, option_map};
+ghost use Rattle.std.specs.List.{AllPass};
 ghost use Rattle.ob_sched.specs.Millisecond.{delay_counted, is_ending, ending_from, period_counted, periods_counted_from, due_from};
-ghost use Rattle.ob_sched.specs.OrganizationBlock.{is_delay};
+ghost use Rattle.ob_sched.specs.OrganizationBlock.{is_delay, is_cyclic};
 ghost use Rattle.ob_sched.specs.Quiet.{DelayLasts, delays_shortened, periods_shortened};
 ghost use Rattle.ob_sched.specs.Scheduler.{no_delays, whole_periods, delay_set, delay_of};
 
@@ -191,7 +192,8 @@ impl Countdowns {
 
     /// The organization blocks whose delays end with the next millisecond, by number.
     pub(crate) fn ending(&self) -> ArrayVec<u16, 4>
-        ensures { result.items ≡ ending_from 20 self.now.delays }
+        ensures ending { result.items ≡ ending_from 20 self.now.delays }
+        ensures known { AllPass is_delay result.items }
     {
         let mut obs = ArrayVec::new();
         for (i, delay) in self.delays.iter().enumerate() {
@@ -211,7 +213,8 @@ impl Countdowns {
 
     /// The organization blocks whose periods end with the next millisecond, by number.
     pub(crate) fn due(&self) -> ArrayVec<u16, 9>
-        ensures { result.items ≡ due_from 30 self.now.periods }
+        ensures due { result.items ≡ due_from 30 self.now.periods }
+        ensures known { AllPass is_cyclic result.items }
     {
         let mut obs = ArrayVec::new();
         for (i, left) in self.periods.iter().enumerate() {

@@ -1,7 +1,10 @@
 use Rattle.std.proofs.Common.{◌≡◌, ℕ, ◌∙◌, ◌≤◌, ◌<◌, ◌+◌, sym, ap, subst, length, List, arith}
 use Rattle.ob_sched.specs.Millisecond.{due_from}
 use Rattle.ob_sched.specs.Scheduler.{Countdowns}
-use Rattle.ob_sched.proofs.CountdownLemmas.{due_found, due_passed, due_all, length_found}
+use Rattle.ob_sched.proofs.CountdownLemmas.{due_found, due_passed, due_all, due_known, cyclic_number, length_found}
+use Rattle.std.specs.List.{list_all}
+use Rattle.std.proofs.lemmas.List.Sums.{AllPass-from_list_all}
+use Rattle.ob_sched.specs.OrganizationBlock.{is_cyclic}
 use Rattle.ob_sched.proofs.countdowns.Countdowns.due.Goals as goal
 use Rattle.ob_sched.proofs.countdowns.Countdowns.due.Goals.{then-left-le1, else-left-le1}
 
@@ -26,5 +29,10 @@ loop-i-preserved c =
 
 pub returns : goal.returns
 returns c =
-    due_all c.loop-i.obs.items _ 30 c.self.inside.periods c.loop-i.i (omega (arith, c.loop-i-test.false, c.self.invariant.1)) c.loop-i.invariant.1
-    ∙ ap (λ (v : Countdowns). due_from 30 v.periods) c.self.view_is
+    let all =
+    due_all c.loop-i.obs.items _ 30 c.self.inside.periods c.loop-i.i (omega (arith, c.loop-i-test.false, c.self.invariant.1)) c.loop-i.invariant.1 in
+    let each = due_known is_cyclic 30 c.self.inside.periods (λ k h. cyclic_number k (omega (arith, h, c.self.invariant.1))) in
+    record {
+      due = all ∙ ap (λ (v : Countdowns). due_from 30 v.periods) c.self.view_is;
+      known = AllPass-from_list_all is_cyclic c.loop-i.obs.items (ap (list_all is_cyclic) all ∙ each);
+    }

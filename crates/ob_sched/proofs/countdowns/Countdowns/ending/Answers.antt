@@ -1,7 +1,10 @@
 use Rattle.std.proofs.Common.{◌≡◌, ℕ, ◌∙◌, ◌≤◌, ◌<◌, ◌+◌, sym, ap, subst, length, List, arith}
 use Rattle.ob_sched.specs.Millisecond.{ending_from}
 use Rattle.ob_sched.specs.Scheduler.{Countdowns}
-use Rattle.ob_sched.proofs.CountdownLemmas.{ending_found, ending_passed, ending_all, length_found}
+use Rattle.ob_sched.proofs.CountdownLemmas.{ending_found, ending_passed, ending_all, ending_known, delay_number, length_found}
+use Rattle.std.specs.List.{list_all}
+use Rattle.std.proofs.lemmas.List.Sums.{AllPass-from_list_all}
+use Rattle.ob_sched.specs.OrganizationBlock.{is_delay}
 use Rattle.ob_sched.proofs.countdowns.Countdowns.ending.Goals as goal
 use Rattle.ob_sched.proofs.countdowns.Countdowns.ending.Goals.{then-is_ending, else-is_ending}
 
@@ -26,5 +29,10 @@ loop-i-preserved c =
 
 pub returns : goal.returns
 returns c =
-    ending_all c.loop-i.obs.items _ 20 c.self.inside.delays c.loop-i.i (omega (arith, c.loop-i-test.false, c.self.invariant.0)) c.loop-i.invariant.1
-    ∙ ap (λ (v : Countdowns). ending_from 20 v.delays) c.self.view_is
+    let all =
+    ending_all c.loop-i.obs.items _ 20 c.self.inside.delays c.loop-i.i (omega (arith, c.loop-i-test.false, c.self.invariant.0)) c.loop-i.invariant.1 in
+    let each = ending_known is_delay 20 c.self.inside.delays (λ k h. delay_number k (omega (arith, h, c.self.invariant.0))) in
+    record {
+      ending = all ∙ ap (λ (v : Countdowns). ending_from 20 v.delays) c.self.view_is;
+      known = AllPass-from_list_all is_delay c.loop-i.obs.items (ap (list_all is_delay) all ∙ each);
+    }
