@@ -1,8 +1,8 @@
 -- Bins after a request is queued, after the best one leaves, and without any.
-use Rattle.std.proofs.Common.{◌≡◌, ℕ, suc, zero, ◌+◌, ◌<◌, ◌≤◌, Bool, true, false, ◌&&◌, List, [], ◌∷◌, ◌++◌, length, take, drop, get_or, set, refl, sym, ◌∙◌, ap, subst, arith, length-set, length-append}
+use Rattle.std.proofs.Common.{◌≡◌, ℕ, suc, ◌+◌, ◌<◌, ◌≤◌, Bool, true, false, ◌&&◌, List, [], ◌∷◌, ◌++◌, length, take, drop, get_or, set, refl, sym, ◌∙◌, ap, subst, arith, length-set, length-append}
 use Rattle.std.proofs.Math.Seq.{take-suc-set}
 use Rattle.std.proofs.lemmas.List.{take_all}
-use Rattle.std.specs.Prelude.{◌==◌, nat_le, slice_get, Option, Some, None}
+use Rattle.std.specs.Prelude.{◌==◌, nat_le, slice_get, Some}
 use Rattle.std.proofs.lemmas.Bool.{and_from, and_parts}
 use Rattle.std.proofs.lemmas.Bool.Decides.{nat_tests}
 use Rattle.arrayvec.specs.ArrayVec.{ArrayVec}
@@ -10,7 +10,7 @@ use Rattle.ob_sched.specs.OrganizationBlock.{class_of, can_wait, queue_length}
 use Rattle.ob_sched.specs.Request.{Request, queued, waiting, is_full}
 use Rattle.ob_sched.specs.Bin.{ranked, bitmap_of, are_of_class, are_placed_from, waiting_in, empty_bin, IsHighest}
 use Rattle.ob_sched.specs.declared.bin.Bin.{Bin}
-use Rattle.ob_sched.proofs.QueueLemmas.{counts, one_if, waiting-queued, waiting-drop}
+use Rattle.ob_sched.proofs.QueueLemmas.{one_if, waiting-queued, waiting-drop}
 use Rattle.ob_sched.proofs.BinLemmas.{with_request, queued-ranked, ranked-set, ranked-split, placed-at, placed-set, of_class-push, of_class-drop, bin_found, waiting-found, waiting-part}
 use Rattle.ob_sched.proofs.RoomLemmas.{room}
 

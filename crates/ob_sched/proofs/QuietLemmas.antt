@@ -11,8 +11,8 @@ use Rattle.plc_base.specs.declared.Mode.TheVariants.{Run, Startup, Stop}
 use Rattle.ob_sched.specs.Course.{Course, stopped_by, time_error}
 use Rattle.ob_sched.specs.OrganizationBlock.{period_of}
 use Rattle.ob_sched.specs.declared.start_infos.StartEvent.TheVariants.{CycleTime}
-use Rattle.ob_sched.specs.Millisecond.{delay_counted, is_ending, ending_from, period_counted, periods_counted_from, due_from, delays_passed, periods_passed, cycle_counted, with_cycle, run_passed, time_counted, one_ms, unless_stopped, delay_ended, period_ended, each_of, clock_counted}
-use Rattle.ob_sched.specs.Quiet.{DelayLasts, RunLasts, RunLastsIn, Lasts, delays_shortened, periods_shortened, run_shortened, run_shortened_in, waited}
+use Rattle.ob_sched.specs.Millisecond.{delay_counted, is_ending, ending_from, periods_counted_from, due_from, delays_passed, periods_passed, cycle_counted, with_cycle, run_passed, time_counted, one_ms, unless_stopped, delay_ended, period_ended, each_of, clock_counted}
+use Rattle.ob_sched.specs.Quiet.{DelayLasts, RunLastsIn, Lasts, delays_shortened, periods_shortened, run_shortened_in, waited}
 use Rattle.ob_sched.specs.Scheduler.{Scheduler, Countdowns}
 
 abbrev shorter : ℕ → Option ℕ → Option ℕ
@@ -289,3 +289,10 @@ each_of-end next obs i c past = ap (λ (xs : List ℕ). each_of next xs c) (drop
 pub not_some : {A : Type 0} (o : Option A) → is_some o ≡ false → o ≡ None
 not_some None e = refl
 not_some (Some x) e = absurd (cc)
+
+pub iterate-step : {A : Type 0} (f : A → A) (q left : ℕ) (old wait new : A) → q < left → wait ≡ iterate f q old → new ≡ f wait
+    → iterate f (left - (q + 1)) new ≡ iterate f left old
+iterate-step f q left old wait new lt e g =
+    let m = left - (q + 1) in
+    let whole : q + suc m ≡ left = omega arith in
+    ap (iterate f m) (g ∙ ap f e) ∙ sym (iterate-split f q m old) ∙ ap (λ (n : ℕ). iterate f n old) whole

@@ -1,11 +1,11 @@
 -- A queue that isn't full leaves room in its bin.
-use Rattle.std.proofs.Common.{◌≡◌, ℕ, suc, zero, ◌+◌, ◌-◌, ◌<◌, ◌≤◌, Bool, true, false, ◌&&◌, ◌||◌, if◌then◌else◌, List, [], ◌∷◌, ◌++◌, length, refl, sym, ◌∙◌, ap, subst, arith}
-use Rattle.std.specs.Prelude.{◌==◌, nat_le, nat_lt}
+use Rattle.std.proofs.Common.{◌≡◌, ℕ, ◌+◌, ◌<◌, ◌≤◌, Bool, true, false, ◌&&◌, ◌||◌, if◌then◌else◌, List, [], ◌∷◌, length, refl, subst, arith}
+use Rattle.std.specs.Prelude.{◌==◌, nat_lt}
 use Rattle.std.specs.List.{list_all, list_any}
 use Rattle.std.proofs.lemmas.Bool.{and_parts, and_from}
 use Rattle.std.proofs.lemmas.Bool.Decides.{nat_tests}
-use Rattle.ob_sched.specs.OrganizationBlock.{class_of, can_wait, queue_length, is_hardware}
-use Rattle.ob_sched.specs.Request.{Request, waiting, is_full}
+use Rattle.ob_sched.specs.OrganizationBlock.{class_of, can_wait, queue_length}
+use Rattle.ob_sched.specs.Request.{Request, waiting}
 use Rattle.ob_sched.specs.Bin.{are_of_class}
 use Rattle.ob_sched.proofs.QueueLemmas.{counts, waiting-cons}
 

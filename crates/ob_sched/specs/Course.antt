@@ -1,5 +1,5 @@
 -- What requests lead to: records of diagnostics, error OBs and a stop cause.
-use Rattle.std.specs.Prelude.{ℕ, Bool, true, false, List, [], ◌∷◌, ◌++◌, Option, Some, None, length, drop, nat_lt, if◌then◌else◌}
+use Rattle.std.specs.Prelude.{ℕ, List, [], ◌∷◌, ◌++◌, Some, length, drop, nat_lt, if◌then◌else◌}
 use Rattle.plc_base.specs.declared.Mode.{Mode}
 use Rattle.ob_sched.specs.OrganizationBlock.{class_in, is_hardware}
 use Rattle.ob_sched.specs.Scheduler.{Scheduler, arrival, arrived}

@@ -1,15 +1,14 @@
 -- What passing time does: single milliseconds.
-use Rattle.std.specs.Prelude.{ℕ, ◌+◌, ◌-◌, ◌%◌, ◌^◌, ◌<◌, Bool, true, false, not, ◌||◌, ◌==◌, nat_le, nat_lt, List, [], ◌∷◌, Option, Some, None, is_some, map, fold, if◌then◌else◌}
+use Rattle.std.specs.Prelude.{ℕ, ◌+◌, ◌-◌, ◌%◌, ◌^◌, Bool, true, false, not, ◌||◌, ◌==◌, nat_le, nat_lt, List, [], ◌∷◌, Option, Some, None, is_some, map, if◌then◌else◌}
 use Rattle.std.specs.Fn.{iterate}
 use Rattle.std.specs.List.{list_any}
 use Rattle.plc_base.specs.declared.Mode.{Mode}
 use Rattle.plc_base.specs.declared.Mode.TheVariants.{Run, Startup, Stop}
 use Rattle.ob_sched.specs.OrganizationBlock.{class_in, period_of}
 use Rattle.ob_sched.specs.Request.{waiting, queued}
-use Rattle.ob_sched.specs.Scheduler.{Scheduler, Countdowns, CycleTime as CycleTimeOf, is_loaded, is_disabled}
+use Rattle.ob_sched.specs.Scheduler.{Scheduler, Countdowns, is_loaded, is_disabled}
 use Rattle.ob_sched.specs.StartInformation.{start_info}
 use Rattle.ob_sched.specs.Course.{Course, stopped_by, time_error, requested}
-use Rattle.ob_sched.specs.declared.passed.Passed.{Passed}
 use Rattle.ob_sched.specs.declared.start_infos.StartEvent.TheVariants.{Delay, Period, CycleTime, Missed}
 
 -- nothing more happens once there is a stop cause

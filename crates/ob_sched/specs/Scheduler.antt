@@ -1,7 +1,6 @@
 -- The state of the scheduler, and what single calls do to it.
-use Rattle.std.specs.Prelude.{◌≡◌, ℕ, ◌+◌, ◌-◌, ◌%◌, ◌^◌, Bool, true, false, List, [], ◌∷◌, Option, Some, None, replicate, slice_index_or, slice_set, if◌then◌else◌, not, ◌==◌, drop}
+use Rattle.std.specs.Prelude.{ℕ, ◌-◌, Bool, false, List, [], ◌∷◌, Option, Some, None, replicate, slice_index_or, slice_set, if◌then◌else◌, not, ◌==◌, drop}
 use Rattle.std.specs.List.{list_any}
-use Rattle.ob_sched.specs.OrganizationBlock.{period_of}
 use Rattle.ob_sched.specs.Request.{Request, queued, is_full}
 use Rattle.ob_sched.specs.declared.start_infos.StartInfo.{StartInfo}
 use Rattle.ob_sched.specs.declared.requests.Arrived.{Arrived}

@@ -1,5 +1,5 @@
 -- The start information of an organization block: its first 20 local bytes.
-use Rattle.std.specs.Prelude.{ℕ, ◌+◌, ◌-◌, ◌*◌, ◌/◌, ◌%◌, ◌^◌, Bool, true, false, ◌||◌, ◌==◌, nat_lt, IsTrue, List, [], ◌∷◌, ◌++◌, replicate, if◌then◌else◌}
+use Rattle.std.specs.Prelude.{ℕ, ◌+◌, ◌-◌, ◌/◌, ◌%◌, ◌||◌, ◌==◌, nat_lt, IsTrue, List, [], ◌∷◌, ◌++◌, replicate, if◌then◌else◌}
 use Rattle.ob_sched.specs.OrganizationBlock.{is_error, is_time_of_day, is_delay, is_cyclic, is_hardware}
 use Rattle.ob_sched.specs.declared.start_infos.StartInfo.{StartInfo}
 use Rattle.ob_sched.specs.declared.start_infos.StartEvent.{StartEvent}

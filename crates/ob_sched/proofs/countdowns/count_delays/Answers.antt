@@ -1,5 +1,5 @@
-use Rattle.std.proofs.Common.{◌≡◌, ◌-◌, ◌∙◌, ap, ℕ, map, option_map, set}
-use Rattle.std.specs.Prelude.{Option, None}
+use Rattle.std.proofs.Common.{◌∙◌, ap, set}
+use Rattle.std.specs.Prelude.{None}
 use Rattle.ob_sched.specs.Millisecond.{delay_counted}
 use Rattle.ob_sched.proofs.CountdownLemmas.{mapped_more, mapped_all}
 use Rattle.ob_sched.proofs.countdowns.count_delays.Goals as goal

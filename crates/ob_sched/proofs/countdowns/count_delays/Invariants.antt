@@ -1,4 +1,4 @@
-use Rattle.std.proofs.Common.{◌≡◌, ◌-◌, ◌++◌, ℕ, map, option_map, take, drop}
+use Rattle.std.proofs.Common.{◌≡◌, ◌++◌, map, take, drop}
 use Rattle.ob_sched.specs.Millisecond.{delay_counted}
 use Rattle.ob_sched.proofs.countdowns.count_delays.Given as goal
 

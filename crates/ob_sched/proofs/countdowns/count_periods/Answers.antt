@@ -1,6 +1,6 @@
-use Rattle.std.proofs.Common.{◌≡◌, ℕ, ◌+◌, ◌∙◌, ap, sym, set, get_or, List}
+use Rattle.std.proofs.Common.{ℕ, ◌+◌, ◌∙◌, ap, set, get_or, List}
 use Rattle.ob_sched.specs.Millisecond.{period_counted}
-use Rattle.ob_sched.proofs.CountdownLemmas.{counted_first, counted_first-more, counted_first-all}
+use Rattle.ob_sched.proofs.CountdownLemmas.{counted_first-more, counted_first-all}
 use Rattle.ob_sched.proofs.countdowns.count_periods.Goals as goal
 
 pub loop-i-preserved : goal.loop-i-preserved

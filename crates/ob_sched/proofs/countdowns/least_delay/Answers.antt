@@ -1,4 +1,4 @@
-use Rattle.std.proofs.Common.{◌≡◌, ℕ, ◌<◌, get_or, arith}
+use Rattle.std.proofs.Common.{get_or, arith}
 use Rattle.std.specs.Prelude.{None}
 use Rattle.ob_sched.specs.Quiet.{DelayLasts}
 use Rattle.ob_sched.proofs.CountdownLemmas.{DelayLasts-lower, all_more}

@@ -1,4 +1,4 @@
-use Rattle.std.proofs.Common.{◌≡◌, ℕ, ◌<◌, ◌≤◌, get_or, arith}
+use Rattle.std.proofs.Common.{ℕ, ◌≤◌, arith}
 use Rattle.ob_sched.proofs.CountdownLemmas.{all_more}
 use Rattle.ob_sched.proofs.countdowns.least_period.Goals as goal
 

@@ -1,5 +1,4 @@
 use Rattle.std.proofs.Common.{◌≡◌, ◌-◌, ◌++◌, ℕ, map, option_map, take, drop}
-use Rattle.ob_sched.specs.Millisecond.{delay_counted}
 use Rattle.ob_sched.proofs.countdowns.shorten_delays.Given as goal
 
 -- those below the index are done

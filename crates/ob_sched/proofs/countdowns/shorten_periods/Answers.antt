@@ -1,6 +1,4 @@
-use Rattle.std.proofs.Common.{◌≡◌, ◌-◌, ◌∙◌, ap, ℕ, map, option_map, set}
-use Rattle.std.specs.Prelude.{Option, None}
-use Rattle.ob_sched.specs.Millisecond.{delay_counted}
+use Rattle.std.proofs.Common.{◌-◌, ◌∙◌, ap, ℕ, set}
 use Rattle.ob_sched.proofs.CountdownLemmas.{mapped_more, mapped_all}
 use Rattle.ob_sched.proofs.countdowns.shorten_periods.Goals as goal
 

@@ -1,4 +1,4 @@
-use Rattle.std.proofs.Common.{◌≡◌, take, length}
+use Rattle.std.proofs.Common.{take}
 use Rattle.ob_sched.proofs.ChangeLemmas.{AreEmpty}
 use Rattle.ob_sched.proofs.bins.Bins.clear.Given as goal
 

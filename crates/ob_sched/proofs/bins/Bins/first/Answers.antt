@@ -1,4 +1,4 @@
-use Rattle.std.proofs.Common.{◌≡◌, ◌<◌, ◌∙◌, ap, sym, subst, length, get_or, arith, List}
+use Rattle.std.proofs.Common.{◌≡◌, ◌<◌, ◌∙◌, ap, sym, subst, length, List}
 use Rattle.std.specs.Prelude.{slice_get, true}
 use Rattle.ob_sched.specs.Bin.{are_of_class}
 use Rattle.ob_sched.specs.Request.{Request}

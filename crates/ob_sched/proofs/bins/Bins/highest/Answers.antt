@@ -1,4 +1,4 @@
-use Rattle.std.proofs.Common.{◌≡◌, ◌∙◌, ◌^◌, ◌*◌, ◌<◌, sym, suc, arith}
+use Rattle.std.proofs.Common.{◌≡◌, ◌∙◌, ◌^◌, ◌*◌, sym, suc, arith}
 use Rattle.std.proofs.Math.Nat.{pow-succ'}
 use Rattle.ob_sched.specs.Bin.{bitmap_of}
 use Rattle.ob_sched.proofs.BitmapLemmas.{ranked-above, waiting_at_top}

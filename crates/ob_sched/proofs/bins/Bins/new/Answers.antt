@@ -1,4 +1,4 @@
-use Rattle.std.proofs.Common.{◌≡◌, ◌+◌, ◌∙◌, ap, sym, subst, arith, length, List}
+use Rattle.std.proofs.Common.{◌∙◌, ap, sym, subst, arith, length, List}
 use Rattle.ob_sched.specs.declared.bin.Bin.{Bin}
 use Rattle.ob_sched.proofs.ChangeLemmas.{AreEmpty, AreEmpty-push, keeps-empty, bitmap_of-empty, ranked-empty, length-more}
 use Rattle.ob_sched.proofs.bins.Bins.new.Goals as goal

@@ -1,11 +1,8 @@
-use Rattle.std.proofs.Common.{◌≡◌, ◌<◌, ◌^◌, ◌∙◌, ap, sym, subst, length, arith, List}
-use Rattle.std.specs.Prelude.{true, bit_or}
-use Rattle.ob_sched.specs.Bin.{are_of_class}
+use Rattle.std.proofs.Common.{◌≡◌, ◌<◌, ◌^◌, ◌∙◌, ap, arith}
+use Rattle.std.specs.Prelude.{bit_or}
 use Rattle.ob_sched.specs.OrganizationBlock.{class_of}
-use Rattle.ob_sched.specs.Request.{Request, waiting}
-use Rattle.ob_sched.proofs.BinLemmas.{waiting-found}
 use Rattle.ob_sched.proofs.BitmapLemmas.{bitmap-or}
-use Rattle.ob_sched.proofs.ChangeLemmas.{KeepsBins, ranked-push, keeps-push, found_of_class, has_room, room_in_bin, some_pushed}
+use Rattle.ob_sched.proofs.ChangeLemmas.{KeepsBins, ranked-push, keeps-push, room_in_bin, some_pushed}
 use Rattle.ob_sched.proofs.bins.Bins.push.Goals as goal
 
 pub push-requires : goal.push-requires

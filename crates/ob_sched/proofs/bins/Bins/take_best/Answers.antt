@@ -1,5 +1,5 @@
-use Rattle.std.proofs.Common.{◌≡◌, ◌<◌, ◌^◌, ◌-◌, ◌∙◌, ap, sym, subst, length, arith, List}
-use Rattle.std.specs.Prelude.{true, bit_and}
+use Rattle.std.proofs.Common.{◌≡◌, ◌^◌, ◌-◌, ◌∙◌, ap, sym, arith}
+use Rattle.std.specs.Prelude.{bit_and}
 use Rattle.ob_sched.specs.Bin.{bitmap_of}
 use Rattle.ob_sched.proofs.BitmapLemmas.{bitmap-and, bitmap-same, below_two_powers}
 use Rattle.ob_sched.proofs.ChangeLemmas.{KeepsBins, ranked-take, keeps-take, length_zero, length_some}

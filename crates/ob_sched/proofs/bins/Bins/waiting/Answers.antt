@@ -1,7 +1,6 @@
-use Rattle.std.proofs.Common.{◌≡◌, ◌∙◌, ap, sym, subst, arith}
+use Rattle.std.proofs.Common.{◌∙◌, ap, sym, arith}
 use Rattle.ob_sched.specs.Request.{waiting}
 use Rattle.ob_sched.proofs.BinLemmas.{waiting-found}
-use Rattle.ob_sched.proofs.RoomLemmas.{room}
 use Rattle.ob_sched.proofs.bins.Bins.waiting.Goals as goal
 
 pub returns : goal.returns

@@ -1,4 +1,4 @@
-use Rattle.std.proofs.Common.{◌≡◌, ℕ, ◌∙◌, ◌≤◌, ◌<◌, ◌+◌, sym, ap, subst, length, List, arith}
+use Rattle.std.proofs.Common.{◌∙◌, ◌<◌, ◌+◌, ap, length, arith}
 use Rattle.ob_sched.specs.Millisecond.{due_from}
 use Rattle.ob_sched.specs.Scheduler.{Countdowns}
 use Rattle.ob_sched.proofs.CountdownLemmas.{due_found, due_passed, due_all, due_known, cyclic_number, length_found}

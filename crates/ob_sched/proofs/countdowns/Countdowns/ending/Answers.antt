@@ -1,4 +1,4 @@
-use Rattle.std.proofs.Common.{◌≡◌, ℕ, ◌∙◌, ◌≤◌, ◌<◌, ◌+◌, sym, ap, subst, length, List, arith}
+use Rattle.std.proofs.Common.{◌∙◌, ◌<◌, ◌+◌, sym, ap, length, arith}
 use Rattle.ob_sched.specs.Millisecond.{ending_from}
 use Rattle.ob_sched.specs.Scheduler.{Countdowns}
 use Rattle.ob_sched.proofs.CountdownLemmas.{ending_found, ending_passed, ending_all, ending_known, delay_number, length_found}

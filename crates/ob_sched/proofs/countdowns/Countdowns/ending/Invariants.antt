@@ -1,5 +1,5 @@
 use Rattle.std.proofs.Common.{◌≡◌, ◌+◌, ◌≤◌, ◌++◌, drop, length}
-use Rattle.ob_sched.specs.Millisecond.{ending_from, due_from}
+use Rattle.ob_sched.specs.Millisecond.{ending_from}
 use Rattle.ob_sched.proofs.countdowns.Countdowns.ending.Given as goal
 
 -- those found so far, and then what is left, are all

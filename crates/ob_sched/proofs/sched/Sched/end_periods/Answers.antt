@@ -1,4 +1,4 @@
-use Rattle.std.proofs.Common.{◌≡◌, ◌+◌, ◌∙◌, ap, sym, drop}
+use Rattle.std.proofs.Common.{◌+◌, ◌∙◌, ap, sym, drop}
 use Rattle.ob_sched.specs.Course.{Course}
 use Rattle.ob_sched.specs.Millisecond.{each_of, period_ended}
 use Rattle.ob_sched.specs.Views.{course_of}

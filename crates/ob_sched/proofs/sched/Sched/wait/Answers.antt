@@ -1,4 +1,4 @@
-use Rattle.std.proofs.Common.{◌≡◌, ℕ, ◌+◌, ◌∙◌, ap, sym, arith}
+use Rattle.std.proofs.Common.{ℕ, ◌+◌, ◌∙◌, ap, sym, arith}
 use Rattle.ob_sched.specs.Course.{Course}
 use Rattle.ob_sched.specs.Quiet.{run_shortened_in, delays_shortened}
 use Rattle.ob_sched.specs.Scheduler.{Scheduler, Countdowns}
