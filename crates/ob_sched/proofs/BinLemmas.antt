@@ -30,7 +30,7 @@ of_class-AtLeast class (x ∷ xs) h =
     at_least : (a b : ℕ) → b ≡ a → a ≤ b
     at_least a b e = omega arith
 
-of_class-Below : (class high : ℕ) (xs : List Request) → class < high → are_of_class class xs ≡ true → Below high xs
+pub of_class-Below : (class high : ℕ) (xs : List Request) → class < high → are_of_class class xs ≡ true → Below high xs
 of_class-Below class high [] lt h = tt
 of_class-Below class high (x ∷ xs) lt h =
     let parts = and_parts (can_wait x.0 && class_of x.0 == class) (are_of_class class xs) h in

@@ -23,7 +23,7 @@ pub bit_of-none : (xs : List Request) → length xs ≡ 0 → bit_of xs ≡ 0
 bit_of-none [] h = refl
 bit_of-none (x ∷ xs) h = absurd (omega arith)
 
-some-bit_of : (xs : List Request) → bit_of xs ≡ 1 → 0 < length xs
+pub some-bit_of : (xs : List Request) → bit_of xs ≡ 1 → 0 < length xs
 some-bit_of [] h = absurd (omega arith)
 some-bit_of (x ∷ xs) h = omega arith
 

@@ -3,6 +3,8 @@ pub mod BitmapLemmas
 pub mod ChangeLemmas
 pub mod CountLemmas
 pub mod CountdownLemmas
+pub mod ListedLemmas
 pub mod QueueLemmas
 pub mod QuietLemmas
+pub mod RankingLemmas
 pub mod RoomLemmas

@@ -1,5 +1,6 @@
 -- The bins of the pending requests, one for each priority class, and their bitmap.
-use Rattle.std.specs.Prelude.{◌≡◌, ℕ, suc, ◌+◌, ◌*◌, ◌<◌, Bool, true, ◌&&◌, ◌==◌, List, [], ◌∷◌, ◌++◌, length, drop, slice_index_or}
+use Rattle.std.specs.Prelude.{◌≡◌, ℕ, suc, ◌+◌, ◌*◌, ◌<◌, ◌↔◌, filter, Bool, true, ◌&&◌, ◌==◌, List, [], ◌∷◌, ◌++◌, length, drop, slice_index_or}
+use Rattle.std.specs.Int.{bit_at}
 use Rattle.std.specs.List.{list_all}
 use Rattle.ob_sched.specs.OrganizationBlock.{class_of, can_wait}
 use Rattle.ob_sched.specs.Request.{Request}
@@ -35,6 +36,15 @@ empty_bin = record { waiting = record { items = [] } }
 -- what waits in the bin of a number
 abbrev pub waiting_in : List Bin → ℕ → List Request
 waiting_in bins n = (slice_index_or bins n empty_bin).waiting.items
+
+-- bin n lists, in the order of their arrival, the pending requests of class n
+abbrev pub IsListedByClass : List Bin → List Request → Type 0
+IsListedByClass bins pending =
+    (n : ℕ) → n < 32 → waiting_in bins n ≡ filter (λ request. class_of request.0 == n) pending
+
+-- bit n is 1 exactly where bin n holds a request
+abbrev pub IsBitmapOf : ℕ → List Bin → Type 0
+IsBitmapOf map bins = (n : ℕ) → n < 32 → (bit_at map n ≡ 1) ↔ (0 < length (waiting_in bins n))
 
 -- it is the highest bin that holds a request
 pub record IsHighest (bins : List Bin) (n : ℕ) : Type 0 where

@@ -3,6 +3,7 @@ pub mod Course
 pub mod Millisecond
 pub mod OrganizationBlock
 pub mod Quiet
+pub mod Ranking
 pub mod Request
 pub mod Scheduler
 pub mod StartInformation

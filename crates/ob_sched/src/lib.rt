@@ -7,6 +7,7 @@ mod clocks;
 mod countdowns;
 mod cycle_times;
 mod errors;
+pub mod laws;
 mod ob_sets;
 mod organization_blocks;
 mod passed;

@@ -1,4 +1,5 @@
-ghost use Rattle.std.specs.Prelude.{◌≡◌, ◌≤◌, ◌<◌, ◌^◌, IsTrue, is_some, true, false, IfOk};
+ghost use Rattle.std.specs.Prelude.{◌≡◌, ◌≤◌, ◌<◌, ◌^◌, IsTrue, is_some, true, false, length, IfOk};
+ghost use Rattle.ob_sched.specs.Bin.{IsListedByClass, IsBitmapOf};
 ghost use Rattle.ob_sched.specs.OrganizationBlock.{can_wait, is_ob, is_delay};
 ghost use Rattle.ob_sched.specs.Request.{best_of, IsBest};
 ghost use Rattle.ob_sched.specs.Scheduler.{at_rest, is_loaded, is_disabled, arrival, arrived, started, disabled_as, delay_of, delay_started, delay_cancelled, retriggered, cycle_begun, run_begun, stopped, restarted};
@@ -182,9 +183,12 @@ impl Sched {
         self.cycle = CycleTime::new();
     }
 
-    /// The pending requests in their bins.
+    /// The pending requests in their bins: bin n lists, in the order of their arrival, those whose
+    /// priority class in RUN is n, and bit n of the bitmap is 1 exactly where it holds one.
     pub fn bins(&self) -> &Bins
-        ensures { pending_of result.now ≡ (scheduler_of self.now).pending }
+        ensures count { length result.now.bins.items ≡ 32 }
+        ensures waiting { IsListedByClass result.now.bins.items (scheduler_of self.now).pending }
+        ensures bitmap { IsBitmapOf result.now.map result.now.bins.items }
     {
         &self.pending
     }
