@@ -67,6 +67,7 @@ queued-ranked class (suc n) (bin ∷ rest) r h lt e =
   where
     above : (a b n : ℕ) → a ≡ b + suc n → b < a
     above a b n e = omega arith
+
     next : (a b n : ℕ) → a ≡ b + suc n → a ≡ b + 1 + n
     next a b n e = omega arith
 
@@ -105,6 +106,7 @@ waiting-ranked ob class zero (bin ∷ rest) h lt e =
   where
     plain : (a b : ℕ) → a ≡ b + 0 → suc a ≤ b + 1
     plain a b e = omega arith
+
     none : {a b : ℕ} → a ≡ 0 → a + b ≡ b
     none e = omega arith
 waiting-ranked ob class (suc n) (bin ∷ rest) h lt e =
@@ -116,8 +118,10 @@ waiting-ranked ob class (suc n) (bin ∷ rest) h lt e =
   where
     above : (a b n : ℕ) → a ≡ b + suc n → b < a
     above a b n e = omega arith
+
     next : (a b n : ℕ) → a ≡ b + suc n → a ≡ b + 1 + n
     next a b n e = omega arith
+
     none : {a b : ℕ} → b ≡ 0 → a + b ≡ a
     none e = omega arith
 

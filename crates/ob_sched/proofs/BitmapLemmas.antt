@@ -102,8 +102,10 @@ ranked-above zero (first ∷ rest) h = empty first.waiting.items (ranked-above z
   where
     below : (w rest : ℕ) → w + 2 * rest < 1 → rest < 1
     below w rest h = omega arith
+
     none : (w rest : ℕ) → w + 2 * rest < 1 → w ≡ 0
     none w rest h = omega arith
+
     empty : (xs : List Request) → ranked rest ≡ [] → bit_of xs ≡ 0 → ranked rest ++ xs ≡ []
     empty [] e h = ap (λ (front : List Request). front ++ []) e
     empty (x ∷ xs) e h = absurd (omega arith)
@@ -130,6 +132,7 @@ waiting_at_top (suc n) (first ∷ rest) low high =
   where
     least : (w rest p q : ℕ) → w ≤ 1 → q ≡ 2 * p → q ≤ w + 2 * rest → p ≤ rest
     least w rest p q s e h = omega arith
+
     most : (w rest p q : ℕ) → q ≡ 2 * p → w + 2 * rest < 2 * q → rest < 2 * p
     most w rest p q e h = omega arith
 

@@ -78,12 +78,12 @@ pub keeps-push : (n : ℕ) (bins : List Bin) (bin : Bin) (v : ArrayVec Request) 
 keeps-push n bins bin v r keeps lt class known room found e = record {
   count = length-set bins n (record { waiting = v }) ∙ keeps.count;
   placed =
-    let whole = of_class-push n bin.waiting.items r (found_of_class n bins bin keeps lt found) known (sym class) in
-    placed-set 0 n bins (record { waiting = v }) keeps.placed
-    (subst (λ c. are_of_class c v.items ≡ true) (plain n) (subst (λ xs. are_of_class n xs ≡ true) (sym e) whole));
+      let whole = of_class-push n bin.waiting.items r (found_of_class n bins bin keeps lt found) known (sym class) in
+      placed-set 0 n bins (record { waiting = v }) keeps.placed
+      (subst (λ c. are_of_class c v.items ≡ true) (plain n) (subst (λ xs. are_of_class n xs ≡ true) (sym e) whole));
   within = λ ob.
-    subst (λ pending. waiting ob pending ≤ queue_length ob) (sym (ranked-push n bins bin v r keeps lt class found e))
-    (within-queued ob r (ranked bins) (has_room r.0 (ranked bins) room) keeps.within);
+      subst (λ pending. waiting ob pending ≤ queue_length ob) (sym (ranked-push n bins bin v r keeps lt class found e))
+      (within-queued ob r (ranked bins) (has_room r.0 (ranked bins) room) keeps.within);
 }
   where
     plain : (n : ℕ) → n ≡ 0 + n
@@ -114,16 +114,17 @@ pub keeps-take : (n : ℕ) (bins : List Bin) (bin : Bin) (v : ArrayVec Request) 
 keeps-take n bins bin v keeps high found e = record {
   count = length-set bins n (record { waiting = v }) ∙ keeps.count;
   placed =
-    let whole = of_class-drop n bin.waiting.items (found_of_class n bins bin keeps high.within found) in
-    placed-set 0 n bins (record { waiting = v }) keeps.placed
-    (subst (λ c. are_of_class c v.items ≡ true) (plain n) (subst (λ xs. are_of_class n xs ≡ true) (sym e) whole));
+      let whole = of_class-drop n bin.waiting.items (found_of_class n bins bin keeps high.within found) in
+      placed-set 0 n bins (record { waiting = v }) keeps.placed
+      (subst (λ c. are_of_class c v.items ≡ true) (plain n) (subst (λ xs. are_of_class n xs ≡ true) (sym e) whole));
   within = λ ob.
-    subst (λ pending. waiting ob pending ≤ queue_length ob) (sym (ranked-take n bins bin v keeps high found e))
-    (through (waiting-drop ob (ranked bins)) (keeps.within ob));
+      subst (λ pending. waiting ob pending ≤ queue_length ob) (sym (ranked-take n bins bin v keeps high found e))
+      (through (waiting-drop ob (ranked bins)) (keeps.within ob));
 }
   where
     plain : (n : ℕ) → n ≡ 0 + n
     plain n = omega arith
+
     through : {a b c : ℕ} → a ≤ b → b ≤ c → a ≤ c
     through h k = omega arith
 

@@ -23,6 +23,7 @@ ending-at ob xs i lt =
   where
     plus : (a b : ℕ) → a + b + 1 ≡ a + (b + 1)
     plus a b = omega arith
+
     one : (n : ℕ) → suc n ≡ n + 1
     one n = omega arith
 
@@ -36,6 +37,7 @@ due-at ob xs i lt =
   where
     plus : (a b : ℕ) → a + b + 1 ≡ a + (b + 1)
     plus a b = omega arith
+
     one : (n : ℕ) → suc n ≡ n + 1
     one n = omega arith
 
@@ -56,6 +58,7 @@ counted_first-more zero ob (x ∷ xs) d lt = ap (λ (o : ℕ). period_counted o 
   where
     plain : (a : ℕ) → a + 0 ≡ a
     plain a = omega arith
+
     one : (n : ℕ) → suc n ≡ n + 1
     one n = omega arith
 counted_first-more (suc n) ob (x ∷ xs) d lt =
@@ -66,6 +69,7 @@ counted_first-more (suc n) ob (x ∷ xs) d lt =
   where
     plain : (a b : ℕ) → a + suc b ≡ a + 1 + b
     plain a b = omega arith
+
     one : (n : ℕ) → suc (n + 1) ≡ suc n + 1
     one n = omega arith
 
@@ -153,8 +157,10 @@ ending_known p ob (x ∷ xs) all =
   where
     next : (a b : ℕ) → a + suc b ≡ a + 1 + b
     next a b = omega arith
+
     here : (a : ℕ) → a + 0 ≡ a
     here a = omega arith
+
     by : (b : Bool) → list_all p (ending_from (ob + 1) xs) ≡ true → p ob ≡ true
         → list_all p (if b then ob ∷ ending_from (ob + 1) xs else ending_from (ob + 1) xs) ≡ true
     by true rest one = and_from (p ob) (list_all p (ending_from (ob + 1) xs)) one rest
@@ -169,8 +175,10 @@ due_known p ob (x ∷ xs) all =
   where
     next : (a b : ℕ) → a + suc b ≡ a + 1 + b
     next a b = omega arith
+
     here : (a : ℕ) → a + 0 ≡ a
     here a = omega arith
+
     by : (b : Bool) → list_all p (due_from (ob + 1) xs) ≡ true → p ob ≡ true
         → list_all p (if b then ob ∷ due_from (ob + 1) xs else due_from (ob + 1) xs) ≡ true
     by true rest one = and_from (p ob) (list_all p (due_from (ob + 1) xs)) one rest

@@ -50,19 +50,19 @@ listed class zero n (bin ∷ rest) h lt e =
     let above = ranked-AtLeast (class + 1) rest parts.1 in
     let next : class + 1 ≡ suc n = omega (arith, here) in
     sym (
-      filter-append (λ (request : Request). class_of request.0 == n) (ranked rest) bin.waiting.items
-      ∙ ap (λ (xs : List Request). xs ++ of_class n bin.waiting.items) (none-above n (ranked rest) (subst (λ c. AtLeast c (ranked rest)) next above))
-      ∙ all-of_class n bin.waiting.items (subst (λ c. are_of_class c bin.waiting.items ≡ true) here parts.0)
+    filter-append (λ (request : Request). class_of request.0 == n) (ranked rest) bin.waiting.items
+    ∙ ap (λ (xs : List Request). xs ++ of_class n bin.waiting.items) (none-above n (ranked rest) (subst (λ c. AtLeast c (ranked rest)) next above))
+    ∙ all-of_class n bin.waiting.items (subst (λ c. are_of_class c bin.waiting.items ≡ true) here parts.0)
     )
 listed class (suc k) n (bin ∷ rest) h lt e =
     let parts = and_parts (are_of_class class bin.waiting.items) (are_placed_from (class + 1) rest) h in
     let lower : class < n = omega (arith, e) in
     let next : n ≡ class + 1 + k = omega (arith, e) in
     sym (
-      filter-append (λ (request : Request). class_of request.0 == n) (ranked rest) bin.waiting.items
-      ∙ ap (λ (xs : List Request). of_class n (ranked rest) ++ xs) (none-below n bin.waiting.items (of_class-Below class n bin.waiting.items lower parts.0))
-      ∙ append-nil (of_class n (ranked rest))
-      ∙ sym (listed (class + 1) k n rest parts.1 (omega arith) next)
+    filter-append (λ (request : Request). class_of request.0 == n) (ranked rest) bin.waiting.items
+    ∙ ap (λ (xs : List Request). of_class n (ranked rest) ++ xs) (none-below n bin.waiting.items (of_class-Below class n bin.waiting.items lower parts.0))
+    ∙ append-nil (of_class n (ranked rest))
+    ∙ sym (listed (class + 1) k n rest parts.1 (omega arith) next)
     )
 
 pub listed_by_class : (bins : List Bin) → are_placed_from 0 bins ≡ true → length bins ≡ 32 → IsListedByClass bins (ranked bins)

@@ -1,10 +1,12 @@
 -- The pending requests by rank.
-use Rattle.std.proofs.Common.{◌≡◌, ℕ, suc, ◌+◌, ◌<◌, ◌≤◌, Bool, true, false, if◌then◌else◌, List, [], ◌∷◌, ◌++◌, drop, refl, ◌∙◌, ap, arith}
-use Rattle.std.specs.Prelude.{nat_lt, ◌==◌}
+use Rattle.std.proofs.Common.{◌≡◌, ℕ, suc, ◌+◌, ◌<◌, ◌≤◌, Bool, true, false, if◌then◌else◌, List, [], ◌∷◌, ◌++◌, drop, refl, sym, subst, ◌∙◌, ap, arith}
+use Rattle.std.specs.Prelude.{Option, IfSome, nat_lt, ◌==◌}
 use Rattle.std.proofs.lemmas.Bool.Decides.{nat_tests}
 use Rattle.std.proofs.lemmas.List.Sums.{sum_by-append, sum_by-cons}
 use Rattle.ob_sched.specs.OrganizationBlock.{class_of}
-use Rattle.ob_sched.specs.Request.{Request, queued, waiting}
+use Rattle.plc_base.specs.declared.Mode.{Mode}
+use Rattle.ob_sched.specs.Request.{Request, queued, waiting, best_of, IsBest}
+use Rattle.ob_sched.specs.declared.requests.Pending.{Pending}
 
 -- all requests have at least this class
 abbrev pub AtLeast : ℕ → List Request → Type 0
@@ -91,6 +93,7 @@ counts-other ob x other = by (x.0 == ob) (λ same. other (equal x.0 ob same))
   where
     equal : (a b : ℕ) → (a == b) ≡ true → a ≡ b
     equal a b h = grind (arith, nat_tests)
+
     by : (b : Bool) → ((b ≡ true) → ⊥) → one_if b ≡ 0
     by true h = absurd (h refl)
     by false h = refl
@@ -103,6 +106,7 @@ waiting-above ob (x ∷ xs) h =
   where
     strict : (a b : ℕ) → suc a ≤ b → b ≡ a → ⊥
     strict a b h e = omega arith
+
     both : {a b : ℕ} → a ≡ 0 → b ≡ 0 → a + b ≡ 0
     both e f = omega arith
 
@@ -114,5 +118,12 @@ waiting-below ob (x ∷ xs) h =
   where
     strict : (a b : ℕ) → b < a → b ≡ a → ⊥
     strict a b h e = omega arith
+
     both : {a b : ℕ} → a ≡ 0 → b ≡ 0 → a + b ≡ 0
     both e f = omega arith
+
+-- the best request is the first
+pub best_is_first : (mode : Mode) (pending : List Request) (answer : Option Pending) → answer ≡ best_of mode pending
+    → IfSome answer (λ best. IsBest best pending)
+best_is_first mode [] answer e = subst (λ (a : Option Pending). IfSome a (λ best. IsBest best [])) (sym e) tt
+best_is_first mode (first ∷ rest) answer e = subst (λ (a : Option Pending). IfSome a (λ best. IsBest best (first ∷ rest))) (sym e) refl

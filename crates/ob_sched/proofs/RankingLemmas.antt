@@ -1,15 +1,14 @@
 -- The set of requests with arrival numbers.
-use Rattle.std.proofs.Common.{◌≡◌, ℕ, suc, zero, ◌+◌, ◌<◌, ◌≤◌, ◌⊎◌, inl, inr, Bool, true, false, ◌&&◌, if◌then◌else◌, List, [], ◌∷◌, map, drop, insert, refl, sym, ◌∙◌, ap, subst, arith}
+use Rattle.std.proofs.Common.{◌≡◌, ℕ, suc, ◌<◌, ◌≤◌, inl, inr, Bool, true, false, if◌then◌else◌, List, [], ◌∷◌, map, drop, insert, refl, sym, ◌∙◌, ap, subst, arith}
 use Rattle.std.specs.Prelude.{nat_lt, Some, None}
 use Rattle.std.specs.List.{list_all}
-use Rattle.std.specs.List.Sorted.{IsPermutation}
 use Rattle.std.proofs.lemmas.Bool.{and_parts, and_from}
 use Rattle.std.proofs.lemmas.Bool.Decides.{nat_tests}
 use Rattle.std.proofs.lemmas.List.Sorted.{IsPermutation-insert}
 use Rattle.plc_base.specs.declared.Mode.{Mode}
 use Rattle.plc_base.specs.declared.Mode.TheVariants.{Run, Startup, Stop}
 use Rattle.ob_sched.specs.OrganizationBlock.{can_wait, is_error, class_of, class_in}
-use Rattle.ob_sched.specs.Ranking.{Numbered, rank_in, Outranks, OutranksAll, IsRanked, ArrivedBefore, StandsFor, QueuedJoins, BestOutranksAll, StartedLeaves}
+use Rattle.ob_sched.specs.Ranking.{Numbered, rank_in, Outranks, OutranksAll, IsRanked, ArrivedBefore, QueuedJoins, BestOutranksAll, StartedLeaves}
 use Rattle.ob_sched.specs.Request.{Request, queued, best_of}
 use Rattle.ob_sched.specs.declared.requests.Pending.{Pending}
 
@@ -171,12 +170,15 @@ known-queued request (first ∷ rest) k h =
 pub queued_joins : QueuedJoins
 queued_joins mode set pending number request stands before known =
     let one : Numbered = record { arrival = number; request = request } in
-    let all = all_wait set (ap (list_all (λ (r : Request). can_wait r.0)) stands.requests ∙ stands.known) in
-    (joined one set, IsPermutation-insert set (place one set) one, record {
-      ranked = ranked-joined mode one set all known before stands.ranked;
-      requests = requests-joined one set ∙ ap (queued request) stands.requests;
-      known = known-queued request pending known stands.known;
-    })
+    let all = all_wait set (ap (list_all (λ (r : Request). can_wait r.0)) stands.requests ∙ stands.known) in (
+      joined one set,
+      IsPermutation-insert set (place one set) one,
+      record {
+        ranked = ranked-joined mode one set all known before stands.ranked;
+        requests = requests-joined one set ∙ ap (queued request) stands.requests;
+        known = known-queued request pending known stands.known;
+      },
+    )
 
 pub best_outranks_all : BestOutranksAll
 best_outranks_all mode [] pending best stands e = absurd (none (sym (ap (best_of mode) stands.requests) ∙ refl))
@@ -194,7 +196,7 @@ started_leaves mode first rest pending stands = record {
   ranked = stands.ranked.1;
   requests = ap (drop 1) stands.requests;
   known =
-    let whole = ap (list_all (λ (r : Request). can_wait r.0)) stands.requests ∙ stands.known in
-    let parts = and_parts (can_wait first.request.0) (list_all (λ (r : Request). can_wait r.0) (requests_of rest)) whole in
-    ap (λ (xs : List Request). list_all (λ (r : Request). can_wait r.0) (drop 1 xs)) (sym stands.requests) ∙ parts.1;
+      let whole = ap (list_all (λ (r : Request). can_wait r.0)) stands.requests ∙ stands.known in
+      let parts = and_parts (can_wait first.request.0) (list_all (λ (r : Request). can_wait r.0) (requests_of rest)) whole in
+      ap (λ (xs : List Request). list_all (λ (r : Request). can_wait r.0) (drop 1 xs)) (sym stands.requests) ∙ parts.1;
 }

@@ -56,6 +56,7 @@ fewer (first ∷ obs) ob xs within room h = by (ob == first) refl h (fewer obs o
       where
         add : {a b c d : ℕ} → a ≤ b → c ≤ d → a + c ≤ b + d
         add h k = omega arith
+
     by : (b : Bool) → (ob == first) ≡ b → (b || is_one_of obs ob) ≡ true → (is_one_of obs ob ≡ true → waiting_of obs xs < queues_of obs)
         → waiting first xs + waiting_of obs xs < queue_length first + queues_of obs
     by true same h more =
@@ -64,6 +65,7 @@ fewer (first ∷ obs) ob xs within room h = by (ob == first) refl h (fewer obs o
       where
         equal : (a b : ℕ) → (a == b) ≡ true → a ≡ b
         equal a b h = grind (arith, nat_tests)
+
         add : {a b c d : ℕ} → a < b → c ≤ d → a + c < b + d
         add h k = omega arith
     by false other h more = add (within first) (more h)

@@ -67,8 +67,8 @@ abbrev pub period_queued : Mode → ℕ → Course → Course
 period_queued mode ob c =
     record c {
       sched = record c.sched {
-        pending = queued (ob, start_info (Period ob) (class_in mode ob)) c.sched.pending
-      }
+        pending = queued (ob, start_info (Period ob) (class_in mode ob)) c.sched.pending;
+      };
     }
 
 unfoldable pub period_ended : Mode → List ℕ → ℕ → Course → Course
@@ -105,8 +105,8 @@ delays_passed mode c =
     each_of (delay_ended mode) (ending_from 20 countdowns.delays)
     (record c {
       sched = record c.sched {
-        countdowns = record countdowns { delays = map delay_counted countdowns.delays }
-      }
+        countdowns = record countdowns { delays = map delay_counted countdowns.delays };
+      };
     })
 
 -- the cyclic OBs, by number
@@ -116,8 +116,8 @@ periods_passed mode active c =
     each_of (period_ended mode active) (due_from 30 countdowns.periods)
     (record c {
       sched = record c.sched {
-        countdowns = record countdowns { periods = periods_counted_from 30 countdowns.periods }
-      }
+        countdowns = record countdowns { periods = periods_counted_from 30 countdowns.periods };
+      };
     })
 
 -- in RUN also the cyclic OBs and the cycle counter move

@@ -47,10 +47,10 @@ run_shortened_in (Stop cause at) ms s = s
 abbrev pub waited : Mode → ℕ → Course → Course
 waited mode ms c = record {
   sched =
-    run_shortened_in mode ms
-    (record c.sched {
-      countdowns = delays_shortened ms c.sched.countdowns;
-      clock = (c.sched.clock + ms) % 2 ^ 31;
-    });
+      run_shortened_in mode ms
+      (record c.sched {
+        countdowns = delays_shortened ms c.sched.countdowns;
+        clock = (c.sched.clock + ms) % 2 ^ 31;
+      });
   passed = record c.passed { ms = c.passed.ms + ms };
 }

@@ -41,7 +41,14 @@ fn lost_event(ob: u16) -> StartEvent
 impl Sched {
     /// Requests OB 80 or OB 85. Without it the controller stops with the cause; a request that is
     /// lost is recorded.
-    fn request_error(&mut self, mode: Mode, ob: u16, cause: u8, event: StartEvent, passed: &mut Passed)
+    fn request_error(
+        &mut self,
+        mode: Mode,
+        ob: u16,
+        cause: u8,
+        event: StartEvent,
+        passed: &mut Passed,
+    )
         requires error { IsTrue (is_error ob) }
         requires event { IsEvent event }
         ensures { course_of self.new passed.new ≡ error_requested mode ob cause event (course_of self.old passed.old) }

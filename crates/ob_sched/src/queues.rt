@@ -28,7 +28,10 @@ fn bit(n: usize) -> u32
 fn count(waiting_requests: &[(u16, StartInfo)], ob: u16) -> usize
     ensures { result ≡ waiting ob waiting_requests.now }
 {
-    waiting_requests.iter().filter(|request| request.0 == ob).count()
+    waiting_requests
+        .iter()
+        .filter(|request| request.0 == ob)
+        .count()
 }
 
 impl Bins {

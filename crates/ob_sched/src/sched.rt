@@ -1,4 +1,4 @@
-ghost use Rattle.std.specs.Prelude.{◌≡◌, ◌≤◌, ◌<◌, ◌^◌, IsTrue, is_some, true, false, length, IfOk};
+ghost use Rattle.std.specs.Prelude.{◌≡◌, ◌≤◌, ◌<◌, ◌^◌, IsTrue, is_some, true, false, length, IfOk, IfSome};
 ghost use Rattle.ob_sched.specs.Bin.{IsListedByClass, IsBitmapOf};
 ghost use Rattle.ob_sched.specs.OrganizationBlock.{can_wait, is_ob, is_delay};
 ghost use Rattle.ob_sched.specs.Request.{best_of, IsBest};
@@ -83,8 +83,11 @@ impl Sched {
     }
 
     /// The pending request that outranks all others, with its priority class in the operating mode.
+    /// There is none exactly where nothing is pending.
+    #[tactic(auto, using(crate::proofs::QueueLemmas::best_is_first))]
     pub fn best(&self, mode: Mode) -> Option<Pending>
-        ensures { result ≡ best_of mode (scheduler_of self.now).pending }
+        ensures value { result ≡ best_of mode (scheduler_of self.now).pending }
+        ensures best { IfSome result (λ best. IsBest best (scheduler_of self.now).pending) }
     {
         self.pending.best(mode)
     }

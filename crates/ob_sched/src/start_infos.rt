@@ -14,23 +14,38 @@ pub struct StartInfo {
 #[derive(Clone, Copy, Debug, PartialEq, Eq)]
 pub enum StartEvent {
     /// OB 1: the program cycle, the first one after a start or a later one.
-    Cycle { first: bool },
+    Cycle {
+        first: bool,
+    },
     /// OB 100: a start of the controller.
     Startup,
     /// OB 10 to 17 and 40 to 47: an interrupt from outside, with its value.
-    Arrival { ob: u16, value: u32 },
+    Arrival {
+        ob: u16,
+        value: u32,
+    },
     /// OB 20 to 23: a delay has ended.
-    Delay { ob: u16 },
+    Delay {
+        ob: u16,
+    },
     /// OB 30 to 38: a period has ended.
-    Period { ob: u16 },
+    Period {
+        ob: u16,
+    },
     /// OB 80: the cycle time was exceeded.
     CycleTime,
     /// OB 80: a request of this OB came while it was still pending or active.
-    Missed { ob: u16 },
+    Missed {
+        ob: u16,
+    },
     /// OB 80: a request of this hardware interrupt found its queue full.
-    QueueFull { ob: u16 },
+    QueueFull {
+        ob: u16,
+    },
     /// OB 85: this OB isn't loaded.
-    NotLoaded { ob: u16 },
+    NotLoaded {
+        ob: u16,
+    },
     /// OB 121 and 122: a synchronous error with its code, in the block of this kind and number, at a
     /// source line. The kinds are 1 OB, 2 FC and 3 FB.
     Synchronous {
@@ -45,7 +60,11 @@ pub enum StartEvent {
 fn ob_of_error(code: u8) -> u16
     ensures { result ≡ ob_of_error code }
 {
-    if code == 0x42 || code == 0x43 { 122 } else { 121 }
+    if code == 0x42 || code == 0x43 {
+        122
+    } else {
+        121
+    }
 }
 
 /// The event class of an organization block.
@@ -84,12 +103,9 @@ impl StartEvent {
         match self {
             StartEvent::Cycle { .. } => 1,
             StartEvent::Startup => 100,
-            StartEvent::Arrival { ob, .. }
-            | StartEvent::Delay { ob }
-            | StartEvent::Period { ob } => ob,
-            StartEvent::CycleTime
-            | StartEvent::Missed { .. }
-            | StartEvent::QueueFull { .. } => 80,
+            StartEvent::Arrival { ob, .. } | StartEvent::Delay { ob } | StartEvent::Period { ob } =>
+                ob,
+            StartEvent::CycleTime | StartEvent::Missed { .. } | StartEvent::QueueFull { .. } => 80,
             StartEvent::NotLoaded { .. } => 85,
             StartEvent::Synchronous { code, .. } => ob_of_error(code),
         }
@@ -102,9 +118,8 @@ impl StartEvent {
         match self {
             StartEvent::Cycle { first } => if first { 0x01 } else { 0x03 },
             StartEvent::Startup => 0x81,
-            StartEvent::Arrival { ob, .. }
-            | StartEvent::Delay { ob }
-            | StartEvent::Period { ob } => interrupt_code(ob),
+            StartEvent::Arrival { ob, .. } | StartEvent::Delay { ob } | StartEvent::Period { ob } =>
+                interrupt_code(ob),
             StartEvent::CycleTime => 0x01,
             StartEvent::Missed { .. } => 0x02,
             StartEvent::QueueFull { .. } => 0x07,

@@ -17,7 +17,7 @@ returns-in-Some c =
     record {
       value = first ∙ ap (λ (xs : List Request). slice_get xs 0) same ∙ sym (ranked-first c.in-Some.n bins bin keeps c.in-Some.ensures c.index-bin.ensures);
       known =
-        first_known c.in-Some.n here _
-        (subst (λ (xs : List Request). are_of_class c.in-Some.n xs ≡ true) (sym same) (found_of_class c.in-Some.n bins bin keeps c.in-Some.ensures.within c.index-bin.ensures))
-        (sym first);
+          first_known c.in-Some.n here _
+          (subst (λ (xs : List Request). are_of_class c.in-Some.n xs ≡ true) (sym same) (found_of_class c.in-Some.n bins bin keeps c.in-Some.ensures.within c.index-bin.ensures))
+          (sym first);
     }

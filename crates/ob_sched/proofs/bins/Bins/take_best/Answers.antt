@@ -15,11 +15,11 @@ invariant_of-self c =
     record {
       count = after.count;
       bitmap =
-        ap (λ b. bit_and c.args.self.now.map (4294967295 - b)) c.bit.ensures
-        ∙ ap (λ m. bit_and m (4294967295 - 2 ^ n)) bitmap
-        ∙ bitmap-and n bins (record { waiting = c.remove.new.self }) (omega (arith, keeps.count, c.in-Some.ensures.within))
-            (omega (arith, bitmap)) (below_two_powers n 32 c.in-Some.ensures.within) c.in-Some.ensures.some
-            (length_zero c.remove.new.self.items (sym c.is_empty.ensures ∙ c.if-is_empty.true));
+          ap (λ b. bit_and c.args.self.now.map (4294967295 - b)) c.bit.ensures
+          ∙ ap (λ m. bit_and m (4294967295 - 2 ^ n)) bitmap
+          ∙ bitmap-and n bins (record { waiting = c.remove.new.self }) (omega (arith, keeps.count, c.in-Some.ensures.within))
+          (omega (arith, bitmap)) (below_two_powers n 32 c.in-Some.ensures.within) c.in-Some.ensures.some
+          (length_zero c.remove.new.self.items (sym c.is_empty.ensures ∙ c.if-is_empty.true));
       placed = after.placed;
       within = after.within;
     }
@@ -33,9 +33,9 @@ invariant_of-self-else-is_empty c =
     record {
       count = after.count;
       bitmap =
-        c.args.self.now.bitmap
-        ∙ bitmap-same n bins (record { waiting = c.remove.new.self }) (omega (arith, keeps.count, c.in-Some.ensures.within)) c.in-Some.ensures.some
-            (length_some c.remove.new.self.items (sym c.is_empty.ensures ∙ c.if-is_empty.false));
+          c.args.self.now.bitmap
+          ∙ bitmap-same n bins (record { waiting = c.remove.new.self }) (omega (arith, keeps.count, c.in-Some.ensures.within)) c.in-Some.ensures.some
+          (length_some c.remove.new.self.items (sym c.is_empty.ensures ∙ c.if-is_empty.false));
       placed = after.placed;
       within = after.within;
     }
