@@ -21,7 +21,8 @@ use Rattle.stl_parser.specs.declared.clauses.Clause.TheVariants as clause
 use Rattle.stl_parser.specs.declared.places.Place.{Place}
 use Rattle.stl_parser.specs.declared.places.Place.TheVariants as place
 use Rattle.stl_parser.specs.Clauses.{Read, level_at, block_rank, clause_at}
-use Rattle.stl_parser.specs.Frame.{follow, follow_outside, follow_head, follow_section, follow_between, follow_shape, follow_shaped, follow_body, follow_settings, may_have, may_declare, has_body, has_shape, is_date_and_time}
+use Rattle.stl_parser.specs.Frame.{follow, follow_outside, follow_head, follow_section, follow_between, follow_shape, follow_shaped, follow_body, follow_settings}
+use Rattle.stl_ast.specs.Blocks.{may_have, may_declare, has_body, has_shape, is_date_and_time}
 use Rattle.stl_parser.specs.Spelling.{is_kept, is_udt, nowhere, spelled_part, spelled_shape, spelled_block}
 use Rattle.stl_parser.specs.Source.{ArePartsOutlined, AreBlocksOutlined, Step, step_of, judged, placed, Reads, ClausesHaveTree}
 use Rattle.stl_parser.proofs.TreeLemmas.{append_parts, block_is_spelled}

@@ -56,7 +56,7 @@ separate_rest : {X : Type 0} (table : List (List ℕ × X)) (source text : List 
 unfolding separate_at
 separate_rest table source text rest r h = grind arith
 
-numbered_rest : {X : Type 0} (table : List (List ℕ × X)) (source : List ℕ) (tokens : List Token) (r : X × ℕ × List Token) →
+pub numbered_rest : {X : Type 0} (table : List (List ℕ × X)) (source : List ℕ) (tokens : List Token) (r : X × ℕ × List Token) →
     numbered_at table source tokens ≡ Some r → length r.2 < length tokens
 unfolding numbered_at
 numbered_rest table source tokens r h = grind (arith, glued_rest, separate_rest)

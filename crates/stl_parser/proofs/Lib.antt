@@ -9,3 +9,9 @@ pub mod FrameLemmas
 pub mod LevelLemmas
 pub mod LengthLemmas
 pub mod TotalLemmas
+pub mod OptionLemmas
+pub mod RangeLemmas
+pub mod LiteralLemmas
+pub mod AddressLemmas
+pub mod OperandLemmas
+pub mod TypeLemmas

@@ -11,7 +11,6 @@ use Rattle.stl_lexer.specs.declared.kinds.Token.{Token}
 use Rattle.stl_parser.specs.declared.clauses.Clause.{Clause}
 use Rattle.stl_parser.specs.declared.places.Place.{Place}
 use Rattle.stl_parser.specs.declared.places.Place.TheVariants as place
-use Rattle.stl_parser.specs.declared.sources.TheConstants.{NO_CLAUSE, MISPLACED, LONG_LABEL, OPEN_BLOCK}
 use Rattle.stl_parser.specs.declared.sources.Step as Sources
 use Rattle.stl_parser.specs.declared.sources.Step.TheVariants as step
 use Rattle.stl_parser.specs.declared.sources.Outcome.{Outcome}
@@ -26,13 +25,13 @@ Step = Clause × List Token × Place
 
 -- a clause in the grammar: it breaks rule 11 where its kind may not stand here, else rule 12 where a label is too long
 abbrev pub placed : Clause → List Token → Bool → Option Place → Result Step ℕ
-placed c rest long None = Err MISPLACED
-placed c rest true (Some next) = Err LONG_LABEL
+placed c rest long None = Err 11
+placed c rest true (Some next) = Err 12
 placed c rest false (Some next) = Ok (c, rest, next)
 
 -- a clause that isn't in the grammar breaks rule 10, whatever else it breaks
 abbrev pub judged : Place → Read → Result Step ℕ
-judged p None = Err NO_CLAUSE
+judged p None = Err 10
 judged p (Some r) = placed r.0 r.1 r.2 (follow p r.0)
 
 -- the clause at the front of the tokens, or the rule that it breaks
@@ -63,7 +62,7 @@ is_outside _ = false
 
 -- at this place the clause at the front breaks the rule; where no token is left, the source ends inside a block
 abbrev pub Breaks : List ℕ → Place → List Token → ℕ → ℕ → ℕ → Type 0
-Breaks source p [] last line rule = (is_outside p ≡ false) × (line ≡ last) × (rule ≡ OPEN_BLOCK)
+Breaks source p [] last line rule = (is_outside p ≡ false) × (line ≡ last) × (rule ≡ 13)
 Breaks source p (t ∷ ts) last line rule = (line ≡ t.line) × (step_of source p (t ∷ ts) ≡ Err rule)
 
 -- the first violation of a source by its clauses: all the clauses before it are right

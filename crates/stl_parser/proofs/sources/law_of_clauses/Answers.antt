@@ -1,3 +1,4 @@
+use Rattle.stl_parser.proofs.OperandLemmas.{operand_holds}
 use Rattle.stl_parser.proofs.LawLemmas.{one_list, list_or_violation, one_violation}
 use Rattle.stl_parser.proofs.FrameLemmas.{tree_there}
 use Rattle.stl_parser.proofs.TotalLemmas.{total}
