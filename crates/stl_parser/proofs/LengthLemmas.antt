@@ -71,7 +71,7 @@ quoted_rest : (source : List ℕ) (tokens : List Token) (r : BlockName × List T
 unfolding quoted_at
 quoted_rest source tokens r h = grind arith
 
-block_rest : (source : List ℕ) (tokens : List Token) (r : BlockName × List Token) → block_at source tokens ≡ Some r →
+pub block_rest : (source : List ℕ) (tokens : List Token) (r : BlockName × List Token) → block_at source tokens ≡ Some r →
     length r.1 < length tokens
 unfolding block_at
 block_rest source tokens r h = grind (arith, block_number_rest, quoted_rest)

@@ -15,3 +15,4 @@ pub mod LiteralLemmas
 pub mod AddressLemmas
 pub mod OperandLemmas
 pub mod TypeLemmas
+pub mod StatementLemmas

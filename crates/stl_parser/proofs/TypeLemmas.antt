@@ -166,13 +166,13 @@ abbrev FitInits : List Bounds → ElementType → List Init → Type 0
 FitInits arrays e init = AreInits init × FitsType arrays e init
 
 single_fits : (arrays : List Bounds) (e : ElementType) (init : List Init) → is_structure e ≡ false → IsSingle init → FitsType arrays e init
-single_fits arrays element.Structure init no h = cc
-single_fits [] (element.Plain k) init no h = h
-single_fits (b ∷ []) (element.Plain k) init no h = tt
-single_fits (b ∷ c ∷ bs) (element.Plain k) init no h = h
-single_fits [] _ init no h = h
-single_fits (b ∷ []) _ init no h = h
-single_fits (b ∷ c ∷ bs) _ init no h = h
+single_fits arrays element.Structure init other h = cc
+single_fits [] (element.Plain k) init other h = h
+single_fits (b ∷ []) (element.Plain k) init other h = tt
+single_fits (b ∷ c ∷ bs) (element.Plain k) init other h = h
+single_fits [] _ init other h = h
+single_fits (b ∷ []) _ init other h = h
+single_fits (b ∷ c ∷ bs) _ init other h = h
 
 none_fits : (arrays : List Bounds) (e : ElementType) → FitsType arrays e []
 none_fits [] element.Structure = refl
@@ -184,27 +184,27 @@ none_fits (b ∷ c ∷ bs) _ = tt
 
 single_of : (source : List ℕ) (arrays : List Bounds) (e : ElementType) (tokens : List Token) → is_structure e ≡ false →
     IfSome (spec.single_init source tokens) (FitInits arrays e)
-single_of source arrays e tokens no =
+single_of source arrays e tokens other =
     weakened (spec.single_init source tokens) (λ init. AreInits init × IsSingle init) (FitInits arrays e) (single_init_holds source tokens)
-    (λ init h. (h.0, single_fits arrays e init no h.1))
+    (λ init h. (h.0, single_fits arrays e init other h.1))
 
 init_of_holds : (source : List ℕ) (arrays : List Bounds) (e : ElementType) (tokens : List Token) → is_structure e ≡ false →
     IfSome (spec.init_of source arrays e tokens) (FitInits arrays e)
 unfolding spec.init_of
-init_of_holds source (b ∷ []) (element.Plain k) tokens no =
+init_of_holds source (b ∷ []) (element.Plain k) tokens other =
     weakened (spec.init_list source tokens) AreInits (FitInits (b ∷ []) (element.Plain k)) (init_list_holds source tokens) (λ init h. (h, tt))
-init_of_holds source [] e tokens no = single_of source [] e tokens no
-init_of_holds source (b ∷ []) element.Structure tokens no = single_of source (b ∷ []) element.Structure tokens no
-init_of_holds source (b ∷ []) (element.Udt name) tokens no = single_of source (b ∷ []) (element.Udt name) tokens no
-init_of_holds source (b ∷ []) element.DateAndTime tokens no = single_of source (b ∷ []) element.DateAndTime tokens no
-init_of_holds source (b ∷ c ∷ bs) e tokens no = single_of source (b ∷ c ∷ bs) e tokens no
+init_of_holds source [] e tokens other = single_of source [] e tokens other
+init_of_holds source (b ∷ []) element.Structure tokens other = single_of source (b ∷ []) element.Structure tokens other
+init_of_holds source (b ∷ []) (element.Udt name) tokens other = single_of source (b ∷ []) (element.Udt name) tokens other
+init_of_holds source (b ∷ []) element.DateAndTime tokens other = single_of source (b ∷ []) element.DateAndTime tokens other
+init_of_holds source (b ∷ c ∷ bs) e tokens other = single_of source (b ∷ c ∷ bs) e tokens other
 
 init_behind_holds : (source : List ℕ) (arrays : List Bounds) (e : ElementType) (tokens : List Token) → is_structure e ≡ false →
     IfSome (read.init_behind source arrays e tokens) (FitInits arrays e)
 unfolding read.init_behind
-init_behind_holds source arrays e [] no = (tt, none_fits arrays e)
-init_behind_holds source arrays e (t ∷ rest) no =
-    passed (is_mark source t mark.Assign) _ (FitInits arrays e) (λ test. init_of_holds source arrays e rest no)
+init_behind_holds source arrays e [] other = (tt, none_fits arrays e)
+init_behind_holds source arrays e (t ∷ rest) other =
+    passed (is_mark source t mark.Assign) _ (FitInits arrays e) (λ test. init_of_holds source arrays e rest other)
 
 -- a declaration that opens a structure
 pub structure_holds : (source : List ℕ) (level : ℕ) (tokens : List Token) →
