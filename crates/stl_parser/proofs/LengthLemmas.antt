@@ -96,7 +96,7 @@ function_result_rest source tokens r h =
     chain (after_colon source tokens) (λ rest. result_type source rest) length (λ y. length y.1) (length tokens) r h
     (colon_rest source tokens) (type_rest source)
 
-result_rest : (source : List ℕ) (k : BlockKind) (tokens : List Token) (r : Option Simple × List Token) → result_at source k tokens ≡ Some r →
+pub result_rest : (source : List ℕ) (k : BlockKind) (tokens : List Token) (r : Option Simple × List Token) → result_at source k tokens ≡ Some r →
     length r.1 ≤ length tokens
 unfolding result_at
 result_rest source k tokens r h = grind (arith, function_result_rest)

@@ -16,3 +16,4 @@ pub mod AddressLemmas
 pub mod OperandLemmas
 pub mod TypeLemmas
 pub mod StatementLemmas
+pub mod ClauseLemmas

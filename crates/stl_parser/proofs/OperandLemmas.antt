@@ -79,7 +79,7 @@ begins_push [] x h = absurd h
 begins_push (step.Named name ∷ xs) x h = tt
 begins_push (step.Index at ∷ xs) x h = absurd h
 
-abbrev IsNamedPath : List PathStep → Type 0
+abbrev pub IsNamedPath : List PathStep → Type 0
 IsNamedPath steps = BeginsByName steps × AreSteps steps
 
 -- a path that begins with a name keeps to begin with it

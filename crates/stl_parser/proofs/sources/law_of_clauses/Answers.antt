@@ -1,5 +1,3 @@
-use Rattle.stl_parser.proofs.TypeLemmas.{declaration_holds}
-use Rattle.stl_parser.proofs.StatementLemmas.{statement_holds}
 use Rattle.stl_parser.proofs.LawLemmas.{one_list, list_or_violation, one_violation}
 use Rattle.stl_parser.proofs.FrameLemmas.{tree_there}
 use Rattle.stl_parser.proofs.TotalLemmas.{total}
