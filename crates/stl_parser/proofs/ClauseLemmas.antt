@@ -119,14 +119,14 @@ return_fits kinds.Fb left n h = omega (arith, h)
 return_fits _ left n h = omega (arith, h)
 
 head_holds : (source : List ℕ) (p : Place) (line : ℕ) (k : BlockKind) (tokens : List Token) →
-    IfSome (spec.head_of source line k tokens) (IsReadAt p (1 + length tokens))
+    IfSome (spec.head_of source line k tokens) (IsReadAt p (suc (length tokens)))
 unfolding spec.head_of
 head_holds source p line k tokens =
-    chained (spec.named_at source k tokens) _ (IsHeadRest k (length tokens)) (IsReadAt p (1 + length tokens)) (named_holds source k tokens)
-    (λ b h. mapped (spec.result_at source k b.1) _ (λ r. MayReturn k r.0 × (length r.1 ≤ length b.1)) (IsReadAt p (1 + length tokens))
+    chained (spec.named_at source k tokens) _ (IsHeadRest k (length tokens)) (IsReadAt p (suc (length tokens))) (named_holds source k tokens)
+    (λ b h. mapped (spec.result_at source k b.1) _ (λ r. MayReturn k r.0 × (length r.1 ≤ length b.1)) (IsReadAt p (suc (length tokens)))
     (also (spec.result_at source k b.1) (λ r. MayReturn k r.0) (λ r. length r.1 ≤ length b.1) (result_holds source k b.1)
     (result_rest source k b.1))
-    (λ r l. (λ test. (h.0, l.0), return_fits k (length r.1) (1 + length tokens) (omega (arith, h.1, l.1)))))
+    (λ r l. (λ test. (h.0, l.0), return_fits k (length r.1) (suc (length tokens)) (omega (arith, h.1, l.1)))))
 
 inner_end_holds : (source : List ℕ) (p : Place) (n : ℕ) (tokens : List Token) → IfSome (spec.inner_end source tokens) (IsReadAt p n)
 unfolding spec.inner_end
@@ -139,10 +139,10 @@ structure_end_holds source p n tokens =
     both (nat_lt 0 (spec.level_at p)) _ _ (IsReadAt p n) (inner_end_holds source p n tokens) (λ short. tt, tt)
 
 keyword_holds : (source : List ℕ) (p : Place) (line : ℕ) (k : Keyword) (rest : List Token) →
-    IfSome (spec.keyword_clause source p line k rest) (IsReadAt p (1 + length rest))
+    IfSome (spec.keyword_clause source p line k rest) (IsReadAt p (suc (length rest)))
 unfolding spec.keyword_clause
 keyword_holds source p line (keyword.Opens k) rest = head_holds source p line k rest
-keyword_holds source p line keyword.EndStructure rest = structure_end_holds source p (1 + length rest) rest
+keyword_holds source p line keyword.EndStructure rest = structure_end_holds source p (suc (length rest)) rest
 keyword_holds source p line _ rest = (λ short. tt, tt)
 
 head_word_holds : (source : List ℕ) (p : Place) (w : HeadWord) (n : ℕ) (rest : List Token) →
@@ -297,13 +297,13 @@ free_word_holds source p t rest tokens (Some w) =
 free_word_holds source p t rest tokens None = other_holds source p t.line tokens
 
 word_holds : (source : List ℕ) (p : Place) (t : Token) (rest : List Token) (k : Option Keyword) →
-    IfSome (spec.word_clause source p t rest (t ∷ rest) k) (IsReadAt p (1 + length rest))
+    IfSome (spec.word_clause source p t rest (t ∷ rest) k) (IsReadAt p (suc (length rest)))
 unfolding spec.word_clause
 word_holds source p t rest (Some k) = keyword_holds source p t.line k rest
 word_holds source p t rest None = free_word_holds source p t rest (t ∷ rest) (look_up head_words (text_of source t))
 
 kind_holds : (source : List ℕ) (p : Place) (t : Token) (rest : List Token) (k : TokenKind) →
-    IfSome (spec.clause_by_kind source p t rest (t ∷ rest) k) (IsReadAt p (1 + length rest))
+    IfSome (spec.clause_by_kind source p t rest (t ∷ rest) k) (IsReadAt p (suc (length rest)))
 unfolding spec.clause_by_kind
 kind_holds source p t rest kind.Word = word_holds source p t rest (look_up keywords (text_of source t))
 kind_holds source p t rest kind.Attribute = (λ short. tt, tt)

@@ -1,10 +1,8 @@
 -- The clauses of a source, and its first violation.
 use Rattle.std.specs.Prelude.{◌≡◌, ◌⊎◌, ℕ, Bool, true, false, List, [], ◌∷◌, filter, Option, Some, None, Result, Ok, Err}
-use Rattle.std.specs.List.{flat_map, AllByRecursion}
-use Rattle.stl_ast.specs.declared.blocks.Block.{Block}
-use Rattle.stl_ast.specs.declared.blocks.Part.{Part}
+use Rattle.std.specs.List.{flat_map}
 use Rattle.stl_ast.specs.declared.blocks.Tree.{Tree}
-use Rattle.stl_ast.specs.Outline.{IsOutline}
+use Rattle.stl_ast.specs.WellFormed.{IsWellFormed}
 use Rattle.plc_base.specs.declared.refusals.SourceFault.{SourceFault}
 use Rattle.plc_base.specs.declared.refusals.SourceFault.TheVariants as fault
 use Rattle.stl_lexer.specs.declared.kinds.Token.{Token}
@@ -117,23 +115,16 @@ IsViolationUnique =
     (source : List ℕ) (tokens : List Token) (line rule line' rule' : ℕ) → IsViolation source tokens line rule →
     IsViolation source tokens line' rule' → (line ≡ line') × (rule ≡ rule')
 
--- each section, and each structure of a block, is an outline
-abbrev pub ArePartsOutlined : List Part → Type 0
-ArePartsOutlined ps = AllByRecursion (λ p. IsOutline 0 p.items) ps
-
-abbrev pub AreBlocksOutlined : List Block → Type 0
-AreBlocksOutlined bs = AllByRecursion (λ b. ArePartsOutlined b.parts × IsOutline 0 b.components) bs
-
--- there is a tree where all clauses are right, and its declarations are outlines
+-- there is a tree where all clauses are right, and it is well-formed
 abbrev pub ClausesHaveTree : Type 0
 ClausesHaveTree =
     (source : List ℕ) (tokens : List Token) (cs : List Clause) → AreClauses source tokens cs →
-    (t : Tree) × IsTree source tokens t × AreBlocksOutlined t.blocks
+    (t : Tree) × IsTree source tokens t × IsWellFormed t
 
--- the tokens have a tree, of outlines, or a violation; and so has each source
+-- the tokens have a tree, which is well-formed, or a violation; and so has each source
 abbrev pub HasTreeOrViolation : List ℕ → List Token → Type 0
 HasTreeOrViolation source tokens =
-    ((t : Tree) × IsTree source tokens t × AreBlocksOutlined t.blocks) ⊎ ((line : ℕ) × (rule : ℕ) × IsViolation source tokens line rule)
+    ((t : Tree) × IsTree source tokens t × IsWellFormed t) ⊎ ((line : ℕ) × (rule : ℕ) × IsViolation source tokens line rule)
 
 abbrev pub IsTotal : Type 0
 IsTotal = (source : List ℕ) (tokens : List Token) → HasTreeOrViolation source tokens
