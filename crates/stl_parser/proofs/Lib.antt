@@ -17,3 +17,4 @@ pub mod OperandLemmas
 pub mod TypeLemmas
 pub mod StatementLemmas
 pub mod ClauseLemmas
+pub mod SizeLemmas

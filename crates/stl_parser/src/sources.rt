@@ -1,5 +1,7 @@
-ghost use Rattle.std.specs.Prelude.{◌≡◌, ◌++◌, ◌∷◌, [], filter, IfOk, IfErr};
+ghost use Rattle.std.specs.Prelude.{◌≡◌, ◌≤◌, ◌*◌, ◌++◌, ◌∷◌, [], filter, length, IfOk, IfErr};
 ghost use Rattle.std.specs.List.{flat_map};
+ghost use Rattle.stl_ast.specs.Sizes.{tree_size};
+ghost use Rattle.stl_ast.specs.WellFormed.{IsWellFormed};
 ghost use Rattle.stl_parser.specs.Source.{
   seen,
   step_of,
@@ -212,6 +214,8 @@ pub fn law_of_clauses()
 pub fn parse(alloc: Global, t: &Tokens) -> Result<Tree, SourceFault>
     ensures tree { IfOk result (IsTree t.now.source.items t.now.list.items) }
     ensures refused { IfErr result (IsRefusedBy t.now.source.items t.now.list.items) }
+    ensures well_formed { IfOk result IsWellFormed }
+    ensures bounded { IfOk result (λ tree. tree_size tree ≤ 4 * length t.now.source.items) }
 {
     match judged_source(alloc, t.source.as_slice(), t.list.as_slice()) {
         Err(_) => Err(SourceFault::NoMemory),
