@@ -22,6 +22,9 @@ use Rattle.stl_parser.proofs.FrameLemmas.{right_clause, read_holds, tree_there}
 use Rattle.stl_parser.proofs.LengthLemmas.{read_rest}
 use Rattle.stl_parser.proofs.SpellingLemmas.{one_tree}
 
+sum_cons : {X : Type 0} (f : X → ℕ) (x : X) (xs : List X) → sum_by f (x ∷ xs) ≡ f x + sum_by f xs
+sum_cons f x xs = let h : sum_by f (x ∷ xs) ≡ (0 + f x) + sum_by f xs = sum_by-append f (x ∷ []) xs in omega (arith, h)
+
 -- the most bytes of the code of a clause
 abbrev clause_size : Clause → ℕ
 clause_size (clause.Head line k name result) = return_size k
@@ -47,19 +50,20 @@ clauses_fit source p ts (c ∷ cs) q rest reads =
     let right = right_clause source p ts c reads.0 reads.1 reads.2 in
     let fits = sized (length ts) (length reads.0) c (fewer_behind source p ts c reads.0 right.0)
     (read_holds source p ts c reads.0 right.0).1 in
-    omega (arith, fits, clauses_fit source reads.1 reads.0 cs q rest reads.3)
+    omega (arith, fits, sum_cons clause_size c cs, clauses_fit source reads.1 reads.0 cs q rest reads.3)
 
 one_kept : (b : Bool) (c : Clause) (cs : List Clause) → sum_by clause_size (cond b (c ∷ cs) cs) ≤ clause_size c + sum_by clause_size cs
-one_kept true c cs = omega arith
+one_kept true c cs = omega (arith, sum_cons clause_size c cs)
 one_kept false c cs = omega arith
 
 kept_fit : (cs : List Clause) → sum_by clause_size (filter is_kept cs) ≤ sum_by clause_size cs
 kept_fit [] = omega arith
-kept_fit (c ∷ cs) = omega (arith, one_kept (is_kept c) c (filter is_kept cs), kept_fit cs)
+kept_fit (c ∷ cs) = omega (arith, sum_cons clause_size c cs, one_kept (is_kept c) c (filter is_kept cs), kept_fit cs)
 
 statements_spelled : (body : List Statement) → sum_by clause_size (map clause.Runs body) ≡ sum_by statement_size body
 statements_spelled [] = refl
-statements_spelled (s ∷ body) = ap (λ n. statement_size s + n) (statements_spelled body)
+statements_spelled (s ∷ body) =
+    omega (arith, sum_cons clause_size (clause.Runs s) (map clause.Runs body), sum_cons statement_size s body, statements_spelled body)
 
 behind_more : (xs ys : List Clause) (n : ℕ) → n ≤ sum_by clause_size ys → n ≤ sum_by clause_size (xs ++ ys)
 behind_more xs ys n h = omega (arith, h, sum_by-append clause_size xs ys)
@@ -76,12 +80,12 @@ block_spelled b =
     behind_more (flat_map spelled_part b.parts) shaped (sum_by statement_size b.body)
     (behind_more (spelled_shape b.shape b.instance_of b.components) sets (sum_by statement_size b.body)
     (behind_more (map clause.Sets b.settings) runs (sum_by statement_size b.body) in_body)) in
-    omega (arith, inside)
+    omega (arith, inside, sum_cons clause_size (clause.Head b.line b.kind b.name b.result) (flat_map spelled_part b.parts ++ shaped))
 
 blocks_spelled : (bs : List Block) → sum_by body_size bs ≤ sum_by clause_size (flat_map spelled_block bs)
 blocks_spelled [] = omega arith
 blocks_spelled (b ∷ bs) =
-    omega (arith, block_spelled b, blocks_spelled bs, sum_by-append clause_size (spelled_block b) (flat_map spelled_block bs))
+    omega (arith, block_spelled b, blocks_spelled bs, sum_cons body_size b bs, sum_by-append clause_size (spelled_block b) (flat_map spelled_block bs))
 
 -- by its tokens
 pub bounded_by_tokens : (source : List ℕ) (tokens : List Token) (t : Tree) → IsTree source tokens t → tree_size t ≤ 4 * length tokens
