@@ -1,26 +1,14 @@
 -- The number at a place.
 use Rattle.std.specs.Prelude.{ℕ, zero, suc, ◌<◌, IsSome, ◌+◌, ◌-◌, ◌/◌, ◌%◌, ◌^◌, Option, Some, None, Bool, option_and_then, nat_eq, if◌then◌else◌}
 use Rattle.plc_base.specs.declared.Width.{Width}
-use Rattle.plc_base.specs.declared.Width.TheVariants.{Bit, Byte, Word, Dword}
+use Rattle.plc_base.specs.declared.Width.TheVariants.{Bit}
+use Rattle.plc_base.specs.Widths.{byte_count, bit_count}
 use Rattle.plc_base.specs.declared.Area.{Area}
 use Rattle.plc_base.specs.declared.Area.TheVariants.{P, I, Q, M, Db, Di, L}
 use Rattle.plc_base.specs.declared.Place.{Place}
 use Rattle.plc_mem.specs.Areas.{Areas}
 use Rattle.plc_mem.specs.BitPlace.{BitPlace, Region, Inputs, Outputs, BitMemory, PeripheralInputs, PeripheralOutputs, DataBlock}
 use Rattle.plc_mem.specs.Bits.{bit_at}
-
--- How many bytes, and how many bits, an operand has.
-abbrev pub byte_count : Width → ℕ
-byte_count Bit = 1
-byte_count Byte = 1
-byte_count Word = 2
-byte_count Dword = 4
-
-abbrev pub bit_count : Width → ℕ
-bit_count Bit = 1
-bit_count Byte = 8
-bit_count Word = 16
-bit_count Dword = 32
 
 -- The region in which an operand lies, given the region of the peripheral area. DI and L lie in no
 -- memory, and a number stands with data blocks alone.

@@ -1,5 +1,5 @@
 -- Peripheral inputs and outputs, byte by byte.
-use Rattle.std.specs.Prelude.{◌≡◌, ◌≢◌, ◌⊎◌, ℕ, ◌<◌, ◌≤◌, Option, Some, false}
+use Rattle.std.specs.Prelude.{◌≡◌, ◌≢◌, ℕ, ◌<◌, Option, Some, false}
 use Rattle.std.specs.Option.{option_map}
 use Rattle.plc_base.specs.declared.Width.TheVariants.{Byte}
 use Rattle.plc_mem.specs.Areas.{Areas}
@@ -8,10 +8,6 @@ use Rattle.plc_mem.specs.Bits.{byte_at, bit_at, bit_of}
 use Rattle.plc_mem.specs.Places.{SameBlocks}
 use Rattle.plc_mem.specs.Writing.{written_in}
 use Rattle.plc_mem.specs.Fresh.{clear_peripheral}
-
--- The numbers of the peripheral bytes: 0 to 127, and 256 to 767.
-abbrev pub IsPeripheralByte : ℕ → Type 0
-IsPeripheralByte byte = (byte < 128) ⊎ ((256 ≤ byte) × (byte < 768))
 
 -- The memory with another peripheral input byte, if that byte exists.
 unfoldable pub with_input : Areas → ℕ → ℕ → Option Areas

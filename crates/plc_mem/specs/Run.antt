@@ -4,7 +4,8 @@ use Rattle.std.specs.Int as int
 use Rattle.plc_base.specs.declared.Width.{Width}
 use Rattle.plc_base.specs.declared.Width.TheVariants.{Bit, Byte, Word, Dword}
 use Rattle.plc_mem.specs.Bits.{bit_in}
-use Rattle.plc_mem.specs.Number.{bit_count, byte_count, weights_of}
+use Rattle.plc_base.specs.Widths.{bit_count, byte_count}
+use Rattle.plc_mem.specs.Number.{weights_of}
 
 -- The number in an operand that lies within a run of bytes, the highest byte first.
 abbrev pub number_of_bytes : List ℕ → (at bit : ℕ) → Width → ℕ

@@ -7,7 +7,8 @@ use Rattle.plc_base.specs.declared.Place.{Place}
 use Rattle.plc_mem.specs.Areas.{Areas}
 use Rattle.plc_mem.specs.BitPlace.{BitPlace, Region, Inputs, Outputs, BitMemory, PeripheralInputs, PeripheralOutputs, DataBlock}
 use Rattle.plc_mem.specs.Bits.{bit_at, bit_of}
-use Rattle.plc_mem.specs.Number.{byte_count, number_of, region_written}
+use Rattle.plc_base.specs.Widths.{byte_count}
+use Rattle.plc_mem.specs.Number.{number_of, region_written}
 use Rattle.plc_mem.specs.Places.{SameBlocks}
 
 -- Which power of 2 a bit weighs in an operand from byte `at`, if the bit is one of the operand's:

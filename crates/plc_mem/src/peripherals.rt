@@ -1,10 +1,11 @@
 // Peripheral inputs, or peripheral outputs: bytes 0 to 127, and bytes 256 to 767.
-ghost use Rattle.std.specs.Prelude.{◌≡◌, ◌^◌, ◌<◌, Some, None, IsSome, MatchResult, ◌↔◌};
+ghost use Rattle.std.specs.Prelude.{◌≡◌, ◌^◌, ◌<◌, Some, None, IsSome, IsTrue, ◌↔◌};
 ghost use Rattle.plc_mem.specs.Bits.{peripheral_byte};
 ghost use Rattle.plc_mem.specs.Changes.{IsFirstChange, IsFirstHighChange};
 ghost use Rattle.plc_mem.specs.Fresh.{clear_peripheral};
-ghost use Rattle.plc_mem.specs.Number.{bit_count};
-ghost use Rattle.plc_mem.specs.Peripherals.{IsPeripheralByte};
+ghost use Rattle.plc_base.specs.Changes.{ChangesOrStays};
+ghost use Rattle.plc_base.specs.Widths.{bit_count};
+ghost use Rattle.plc_base.specs.AreaBytes.{is_peripheral_byte};
 ghost use Rattle.plc_mem.specs.Places.{HasParts};
 ghost use Rattle.plc_mem.specs.Run.{number_over};
 ghost use Rattle.plc_mem.specs.Writing.{put_peripheral};
@@ -57,7 +58,7 @@ impl PeripheralArea {
     /// The byte of this number, if it exists.
     pub fn byte(&self, number: u16) -> Option<u8>
         ensures value { result ≡ peripheral_byte self.now number }
-        ensures exists { IsSome result ↔ IsPeripheralByte number }
+        ensures exists { IsSome result ↔ IsTrue (is_peripheral_byte number) }
     {
         let number = usize::from(number);
         if number < HIGH_START {
@@ -111,7 +112,8 @@ impl PeripheralArea {
         requires near { at < 2 ^ 16 }
         requires fits { value < 2 ^ bit_count width }
         ensures sizes { HasParts self.old }
-        ensures cases { MatchResult result (λ _. put_peripheral self.old at bit width value ≡ Some self.new) (λ _. (put_peripheral self.old at bit width value ≡ None) × (self.new ≡ self.old)) }
+        ensures cases { ChangesOrStays (put_peripheral self.old at bit width value)
+            self.old self.new result }
     {
         if at < HIGH_START {
             operands::put(&mut self.low, at, bit, width, value)

@@ -5,7 +5,7 @@ use Rattle.std.specs.Str.Lines.{lines}
 use Rattle.std.proofs.lemmas.Grind.{common_steps}
 use Rattle.std.proofs.lemmas.List.Elements.{All-nil, All-cons, All-append, All-replicate}
 use Rattle.s7_cli.specs.Decimal.{decimal_value}
-use Rattle.var_access.specs.Entry.{IsValid, IsPeripheralByte}
+use Rattle.var_access.specs.Entry.{IsValid}
 use Rattle.var_access.specs.declared.entries.Entry.{Entry}
 use Rattle.s7_cli.specs.History.{hex_byte, one_step, steps_of, entries_of_step, is_peripheral, input_of, entries_of_in, arrival_of, entries_of_arrive, words_of, entries_of_words, is_skipped, entries_of_line, entries_of_lines, with_few_steps, history_of}
 
@@ -38,12 +38,9 @@ entries_of_step-valid [] = one-valid one_step step-valid
 entries_of_step-valid (number ∷ []) = and-then-valid (decimal_value number) steps_of steps-valid
 entries_of_step-valid (number ∷ word ∷ words) = tt
 
-peripheral : (byte : ℕ) → is_peripheral byte ≡ true → IsPeripheralByte byte
-peripheral byte is = grind (arith, common_steps)
-
 input-valid : (byte value : ℕ) → AreValid (input_of byte value)
 input-valid byte value =
-    cond-valid (is_peripheral byte) _ None (λ right. one-valid _ (omega arith, peripheral byte right)) tt
+    cond-valid (is_peripheral byte) _ None (λ right. one-valid _ (omega arith, right)) tt
 
 entries_of_in-valid : (words : List (List ℕ)) → AreValid (entries_of_in words)
 unfolding entries_of_in

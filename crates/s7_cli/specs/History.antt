@@ -5,6 +5,7 @@ use Rattle.std.specs.Char.{is_ascii_hexdigit}
 use Rattle.std.specs.List.{slice_split, list_all, starts_with}
 use Rattle.std.specs.Str.Lines.{lines}
 use Rattle.std.specs.Str.Parse.{digits_value}
+use Rattle.plc_base.specs.AreaBytes.{is_peripheral_byte}
 use Rattle.s7_cli.specs.Decimal.{decimal_value}
 use Rattle.var_access.specs.declared.entries.Entry.{Entry}
 use Rattle.var_access.specs.declared.entries.What.{What}
@@ -52,7 +53,7 @@ entries_of_step words = None
 
 -- the peripheral input bytes that exist
 abbrev pub is_peripheral : ℕ → Bool
-is_peripheral byte = nat_lt byte 128 || (nat_le 256 byte && nat_lt byte 768)
+is_peripheral byte = is_peripheral_byte byte
 
 abbrev pub input_of : ℕ → ℕ → Option (List Entry)
 input_of byte value = if is_peripheral byte then Some (record { who = feeder; what = Input byte value } ∷ []) else None

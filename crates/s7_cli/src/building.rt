@@ -72,8 +72,7 @@ fn is_image_byte(area: Area, byte: u16) -> bool
     ensures { result ≡ is_image_byte area byte }
 {
     match area {
-        Area::I | Area::Q => byte < 128,
-        Area::M => byte < 256,
+        Area::I | Area::Q | Area::M => area.has_byte(byte),
         _ => false,
     }
 }

@@ -5,7 +5,6 @@ ghost use Rattle.s7_cli.specs.Faults.{ends_source_fault, ends_history_fault};
 use crate::answers::{Answer, NOT_BUILT};
 use crate::histories::HistoryFault;
 use plc_base::SourceFault;
-use plc_mem::NoMemory;
 use std::alloc::AllocError;
 
 /// How a call ends.
@@ -25,16 +24,6 @@ impl From<AllocError> for Ending {
     ghost from_gives = { λ _ ending. ending ≡ NoMemory };
 
     fn from(_error: AllocError) -> Ending {
-        Ending::NoMemory
-    }
-}
-
-impl From<NoMemory> for Ending {
-    ghost use Rattle.s7_cli.specs.declared.endings.Ending.TheVariants.{NoMemory as no_memory};
-
-    ghost from_gives = { λ _ ending. ending ≡ no_memory };
-
-    fn from(_fault: NoMemory) -> Ending {
         Ending::NoMemory
     }
 }

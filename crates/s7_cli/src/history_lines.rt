@@ -16,6 +16,7 @@ ghost use Rattle.s7_cli.specs.History.{
 };
 
 use crate::decimals::read_number;
+use plc_base::Area;
 
 /// The most steps of a line, and of a history.
 pub const MOST_STEPS: u32 = 1_000_000;
@@ -104,7 +105,7 @@ fn read_hex_byte(word: &[u8]) -> Option<u8>
 fn is_peripheral(byte: u16) -> bool
     ensures { result ≡ is_peripheral byte }
 {
-    byte < 128 || (byte >= 256 && byte < 768)
+    Area::P.has_byte(byte)
 }
 
 /// The entries of the words behind `step`: one step, or as many as the number says.
