@@ -1,6 +1,6 @@
 -- The code of a tree is bounded by its source.
-use Rattle.std.proofs.Common.{arith, ℕ, ◌+◌, ◌*◌, ◌≡◌, ◌≤◌, ◌<◌, Bool, true, false, List, [], ◌∷◌, ◌++◌, length, map, filter, cond, Option, Some, None, refl, sym, ◌∙◌, ap, subst}
-use Rattle.std.specs.Prelude.{sum_by}
+use Rattle.std.proofs.Common.{arith, ℕ, ◌+◌, ◌*◌, ◌≡◌, ◌≤◌, ◌<◌, Bool, true, false, List, [], ◌∷◌, ◌++◌, length, map, filter, cond, Option, Some, None, Result, Ok, Err, refl, sym, ◌∙◌, ap, subst}
+use Rattle.std.specs.Prelude.{sum_by, IfOk}
 use Rattle.std.specs.List.{flat_map}
 use Rattle.std.proofs.lemmas.List.Sums.{sum_by-append}
 use Rattle.stl_lexer.specs.declared.kinds.Token.{Token}
@@ -104,13 +104,27 @@ pub fewer_tokens : (source : List ℕ) (tokens : List Token) → AreTokens sourc
 unfolding AreTokens
 fewer_tokens source tokens are = omega (arith, tokens_fit source 0 false tokens are (omega arith))
 
--- by its bytes
-pub bounded : (source : List ℕ) (tokens : List Token) (t : Tree) → AreTokens source tokens → IsTree source tokens t →
-    tree_size t ≤ 4 * length source
-bounded source tokens t are is = omega (arith, fewer_tokens source tokens are, bounded_by_tokens source tokens t is)
-
 -- the one tree of a source is well-formed
 pub well_formed : (source : List ℕ) (tokens : List Token) (t : Tree) → IsTree source tokens t → IsWellFormed t
 well_formed source tokens t is =
     let there = tree_there source tokens is.clauses is.right in
     subst IsWellFormed (one_tree source tokens there.0 t there.1 is) there.2
+
+-- the tree that is built of the kept clauses
+pub kept_well_formed : {E : Type 0} (source : List ℕ) (tokens : List Token) (kept : List Clause) (r : Result Tree E) →
+    AreKept source tokens kept → IfOk r (λ t. flat_map spelled_block t.blocks ≡ kept) → IfOk r IsWellFormed
+kept_well_formed source tokens kept (Err e) are spelled = tt
+kept_well_formed source tokens kept (Ok t) are spelled = well_formed source tokens t (subst (AreKept source tokens) (sym spelled) are)
+
+-- its code is bounded by the bytes of the source
+pub kept_bounded : {E : Type 0} (source : List ℕ) (tokens : List Token) (kept : List Clause) (r : Result Tree E) →
+    length tokens ≤ length source → AreKept source tokens kept → IfOk r (λ t. flat_map spelled_block t.blocks ≡ kept) →
+    IfOk r (λ t. tree_size t ≤ 4 * length source)
+kept_bounded source tokens kept (Err e) fewer are spelled = tt
+kept_bounded source tokens kept (Ok t) fewer are spelled =
+    omega (arith, fewer, bounded_by_tokens source tokens t (subst (AreKept source tokens) (sym spelled) are))
+
+pub kept_is_tree : {E : Type 0} (source : List ℕ) (tokens : List Token) (kept : List Clause) (r : Result Tree E) →
+    AreKept source tokens kept → IfOk r (λ t. flat_map spelled_block t.blocks ≡ kept) → IfOk r (IsTree source tokens)
+kept_is_tree source tokens kept (Err e) are spelled = tt
+kept_is_tree source tokens kept (Ok t) are spelled = subst (AreKept source tokens) (sym spelled) are
