@@ -76,7 +76,13 @@ impl Frame {
 
 /// A clause and the tree that it gives.
 pub(crate) type Row = (Frame, &'static str, &'static str);
-pub(crate) fn joined(alloc: Global, first: &str, second: &str, third: &str) -> Result<String, AllocError> {
+
+pub(crate) fn joined(
+    alloc: Global,
+    first: &str,
+    second: &str,
+    third: &str,
+) -> Result<String, AllocError> {
     let mut text = String::new(alloc);
     text.push_str(first)?;
     text.push_str(second)?;
