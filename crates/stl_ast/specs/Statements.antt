@@ -64,7 +64,7 @@ abbrev pub has_instance : Operand → Bool
 has_instance (operand.Called name (Some instance)) = true
 has_instance _ = false
 
--- a label has one to four characters
+-- a label has at most four characters
 abbrev pub IsLabel : List ℕ → Type 0
 IsLabel name = length name ≤ 4
 
@@ -96,7 +96,8 @@ pub record IsStatement (s : Statement) : Type 0 where
   -- a label is the target of a jump alone
   pub target : IsTarget s.operand
   pub jumps : is_label s.operand ≡ true → is_jump s.code ≡ true
-  -- the empty statement has no operand
+  -- the empty statement has no operand and no label
   pub empty : is_empty s.code ≡ true → s.operand ≡ operand.Nothing
+  pub unlabelled : is_empty s.code ≡ true → s.label ≡ None
   pub actuals : AreActuals s.actuals
   pub no_actuals : has_actuals s.code ≡ false → s.actuals ≡ []

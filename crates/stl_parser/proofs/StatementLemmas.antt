@@ -404,6 +404,7 @@ of_instruction line more label i h short named =
       target = h.target short;
       jumps = h.jumps;
       empty = λ is. true_is_no_false (is_empty i.code) h.some is;
+      unlabelled = λ is. true_is_no_false (is_empty i.code) h.some is;
       actuals = h.actuals;
       no_actuals = h.no_actuals;
     }
@@ -452,6 +453,7 @@ statement_holds source line [] =
       target = tt;
       jumps = λ is. true_is_no_false false refl is;
       empty = λ is. refl;
+      unlabelled = λ is. refl;
       actuals = tt;
       no_actuals = λ lacks. refl;
     }, omega arith)
