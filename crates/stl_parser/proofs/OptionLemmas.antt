@@ -106,7 +106,6 @@ entry_passes (e ∷ es) word test all =
     entry_or (str_eq_ignore_ascii_case word e.0) e (find (λ f. str_eq_ignore_ascii_case word f.0) es) test
     (and_left (test e.1) _ all) (entry_passes es word test (and_right (test e.1) _ all))
 
-
 -- where a test fails
 pub failed : {A : Type 0} (b : Bool) (x : Option A) (P : A → Type 0) → (b ≡ false → IfSome x P) → IfSome (if b then None else x) P
 failed true x P h = tt

@@ -24,7 +24,6 @@ negated_range : (source : List ℕ) (t : Token) (n : ℕ) → negated_of source 
 unfolding negated_of
 negated_range source t n found = grind (arith, nat_tests)
 
-
 -- a number with its sign, by whichever test
 signed : (b : Bool) (low high m n : ℕ) → m < low → n ≤ high → IsBetween low high (if b then negsuc m else pos n)
 signed true low high m n h k = h

@@ -106,6 +106,7 @@ plain_instruction code o more call some value called label size =
     no_instance : (o : Operand) → is_called o ≡ false → has_instance o ≡ false
     no_instance (operand.Called name instance) h = cc
     no_instance _ h = refl
+
     no_target : (o : Operand) → is_label o ≡ false → IsTarget o
     no_target (operand.Label name) h = cc
     no_target _ h = tt
@@ -257,8 +258,10 @@ actual_holds source (w ∷ assign ∷ rest) =
     (λ test. mapped (spec.value_of source (take (spec.value_length source rest) rest)) _
     (λ o. IsValue o × (1 ≤ length (take (spec.value_length source rest) rest))) (FirstIsActual (length (w ∷ assign ∷ rest)))
     (value_holds source (take (spec.value_length source rest) rest))
-    (λ o h. (record { value = h.0.0; no_block = h.0.1; no_label = h.0.2; something = h.0.3 },
-    omega (arith, some_taken (spec.value_length source rest) rest h.1))))
+    (λ o h. (
+      record { value = h.0.0; no_block = h.0.1; no_label = h.0.2; something = h.0.3 },
+      omega (arith, some_taken (spec.value_length source rest) rest h.1),
+    )))
 actual_holds source _ = tt
 
 next_actual_holds : (source : List ℕ) (tokens : List Token) →
@@ -417,8 +420,10 @@ unlabelled_holds source line [] =
 unlabelled_holds source line (t ∷ rest) =
     mapped (spec.instruction_of source (t ∷ rest)) _ (IsInstruction (length rest)) (IsReadStatement (length (t ∷ rest)))
     (instruction_holds source (t ∷ rest))
-    (λ i h. (λ short. of_instruction line (length rest) None i h short tt,
-    omega (arith, h.size, most_size i.code i.operand (length i.actuals))))
+    (λ i h. (
+      λ short. of_instruction line (length rest) None i h short tt,
+      omega (arith, h.size, most_size i.code i.operand (length i.actuals)),
+    ))
 
 or_left : (a b : Bool) → a || b ≡ false → a ≡ false
 or_left true b h = cc
@@ -436,27 +441,31 @@ labelled_holds source line w [] =
 labelled_holds source line w (t ∷ rest) =
     mapped (spec.instruction_of source (t ∷ rest)) _ (IsInstruction (length rest)) (IsReadStatement (length (t ∷ rest)))
     (instruction_holds source (t ∷ rest))
-    (λ i h. (λ test. of_instruction line (length rest) (Some (text_of source w)) i h (or_left i.long _ test)
-    (short (length (text_of source w)) (or_right i.long _ test)),
-    omega (arith, h.size, most_size i.code i.operand (length i.actuals))))
+    (λ i h. (
+      λ test. of_instruction line (length rest) (Some (text_of source w)) i h (or_left i.long _ test)
+          (short (length (text_of source w)) (or_right i.long _ test)),
+      omega (arith, h.size, most_size i.code i.operand (length i.actuals)),
+    ))
 
 -- a statement before its `;`
 pub statement_holds : (source : List ℕ) (line : ℕ) (tokens : List Token) →
     IfSome (spec.statement_of source line tokens) (IsReadStatement (length tokens))
 unfolding spec.statement_of
-statement_holds source line [] =
-    (λ test. record {
-      label = tt;
-      value = tt;
-      called = refl;
-      instance = λ lacks. refl;
-      target = tt;
-      jumps = λ is. true_is_no_false false refl is;
-      empty = λ is. refl;
-      unlabelled = λ is. refl;
-      actuals = tt;
-      no_actuals = λ lacks. refl;
-    }, omega arith)
+statement_holds source line [] = (
+  λ test. record {
+    label = tt;
+    value = tt;
+    called = refl;
+    instance = λ lacks. refl;
+    target = tt;
+    jumps = λ is. true_is_no_false false refl is;
+    empty = λ is. refl;
+    unlabelled = λ is. refl;
+    actuals = tt;
+    no_actuals = λ lacks. refl;
+  },
+  omega arith,
+)
 statement_holds source line (w ∷ []) = unlabelled_holds source line (w ∷ [])
 statement_holds source line (w ∷ colon ∷ rest) =
     both (has_kind w kind.Word && is_mark source colon mark.Colon) _ _ (IsReadStatement (length (w ∷ colon ∷ rest)))
