@@ -1,5 +1,5 @@
 -- A source is judged in one way.
-use Rattle.std.proofs.Common.{◌≡◌, refl, sym, ◌∙◌, ap, ℕ, List, Option, Some, None, Result, Ok, Err, ◌⊎◌, inl, inr}
+use Rattle.std.proofs.Common.{◌≡◌, refl, sym, ◌∙◌, ℕ, List, Option, Some, None, Result, Ok, Err, ◌⊎◌, inl, inr}
 use Rattle.plc_base.specs.declared.Refusal.{Refusal}
 use Rattle.stl_lexer.specs.declared.Token.{Token}
 use Rattle.stl_lexer.specs.Tokens.{AreTokensUnique, ExcludesViolation as TokensExclude, IsViolationUnique as OneTokenViolation, HasTokensOrViolation, IsTotal as EachHasTokens}
