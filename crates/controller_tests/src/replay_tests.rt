@@ -1,7 +1,7 @@
 ghost use Rattle.std.specs.Prelude.{◌≡◌, ◌+◌, ◌^◌, ◌<◌, ◌≤◌, length, IsTrue, IfOk};
 ghost use Rattle.controller.specs.Program.{is_thin};
 
-use crate::{Controller, Statements, Thin, ThinCode, ThinOb, ThinStatement};
+use controller::{Controller, Statements, Thin, ThinCode, ThinOb, ThinStatement, law_of_replay};
 use plc_base::{Area, BlockId, BlockKind, Mode, Place, Spot};
 use std::alloc::{AllocError, Global};
 use std::process::Abort;
@@ -49,7 +49,7 @@ fn program(
     })
 }
 
-#[tactic(auto, unfolding(crate::specs::Program::is_thin))]
+#[tactic(auto, unfolding(controller::specs::Program::is_thin))]
 fn and_before_or(alloc: Global) -> Result<Thin, AllocError>
     ensures { IfOk result (λ t. IsTrue (is_thin t)) }
 {
@@ -66,7 +66,7 @@ fn and_before_or(alloc: Global) -> Result<Thin, AllocError>
     Ok(Thin::new(obs))
 }
 
-#[tactic(auto, unfolding(crate::specs::Program::is_thin))]
+#[tactic(auto, unfolding(controller::specs::Program::is_thin))]
 fn with_interrupt(alloc: Global) -> Result<Thin, AllocError>
     ensures { IfOk result (λ t. IsTrue (is_thin t)) }
 {
@@ -84,7 +84,7 @@ fn with_interrupt(alloc: Global) -> Result<Thin, AllocError>
     Ok(Thin::new(obs))
 }
 
-#[tactic(auto, unfolding(crate::specs::Program::is_thin))]
+#[tactic(auto, unfolding(controller::specs::Program::is_thin))]
 fn cycle_alone(alloc: Global) -> Result<Thin, AllocError>
     ensures { IfOk result (λ t. IsTrue (is_thin t)) }
 {
@@ -98,7 +98,7 @@ fn cycle_alone(alloc: Global) -> Result<Thin, AllocError>
     Ok(Thin::new(obs))
 }
 
-#[tactic(auto, unfolding(crate::specs::Program::is_thin))]
+#[tactic(auto, unfolding(controller::specs::Program::is_thin))]
 fn interrupt_alone(alloc: Global) -> Result<Thin, AllocError>
     ensures { IfOk result (λ t. IsTrue (is_thin t)) }
 {
@@ -168,6 +168,7 @@ fn play(rt: &impl Abort, controller: &mut Controller, events: &[What])
 // statement of OB 1. Then ten arrivals, of which the first runs, eight wait and the tenth is lost.
 #[test]
 fn worked_examples(rt: HostRuntime) -> Result<(), Fail> {
+    law_of_replay();
     let alloc = rt.alloc();
     let events = [
         INPUT_0E, STEP, STEP, STEP, STEP, STEP, STEP, STEP, STEP, STEP,
