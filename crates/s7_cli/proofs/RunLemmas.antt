@@ -13,8 +13,10 @@ use Rattle.controller.specs.Recorded.{Recorded}
 use Rattle.controller.specs.ThinCode.{thin_code}
 use Rattle.sem_kept.specs.Tree.{tree_code}
 use Rattle.sem_kept.specs.Agreement.{Agree}
-use Rattle.s7_cli.specs.declared.endings.Ending.{Ending}
-use Rattle.s7_cli.specs.Ends.{SinkAt}
+use Rattle.s7_cli.specs.declared.failures.Failure.{Failure}
+use Rattle.s7_cli.specs.Answer.{Outcome}
+use Rattle.plc_io.specs.Moments.{SinkAt}
+use Rattle.s7_cli.specs.Ends.{taking}
 use Rattle.s7_cli.specs.Inner.{TextWritten}
 use Rattle.s7_cli.specs.LineText.{end_text}
 use Rattle.s7_cli.specs.RunText.{entry_text, lines_after, run_text}
@@ -109,15 +111,15 @@ text-is s0 s1 s2 es i n e seen before one count shows =
     p : s2.program ≡ s0.program
     p = program-is s0 s1 s2 es i e before one
 
-pub lines-cut : (s0 s1 s2 : Recorded) (es : List Entry) (i n : ℕ) (e : Entry) (seen : Observed) (a b c : SinkAt) (x : Ending) (r : Result Unit Ending)
+pub lines-cut : (s0 s1 s2 : Recorded) (es : List Entry) (i n : ℕ) (e : Entry) (seen : Observed) (a b c : SinkAt) (x : Failure) (r : Outcome)
     → Applied s0 es i s1 → Applies s1 e s2 → n ≡ length s2.history → seen ≡ last_seen (thin_code s2.program) s2.history
     → Wrote (lines_after (thin_code s0.program) s0.history (take i es)) a b
-    → TextWritten (entry_text n seen) (record { before = b; after = c }) (Err x) → r ≡ Err x
+    → TextWritten (entry_text n seen) (taking b c) (Err x) → r ≡ Err x
     → i < length es → e ≡ get_or es i e
-    → TextWritten (lines_after (thin_code s0.program) s0.history es) (record { before = a; after = c }) r
+    → TextWritten (lines_after (thin_code s0.program) s0.history es) (taking a c) r
 lines-cut s0 s1 s2 es i n e seen a b c x r before one count shows first second is within at =
     subst
-    (λ (t : List ℕ). TextWritten t (record { before = a; after = c }) r)
+    (λ (t : List ℕ). TextWritten t (taking a c) r)
     (sym (lines-split (thin_code s0.program) s0.history es i e within at))
     (hands-on
     (lines_after (thin_code s0.program) s0.history (take i es))
@@ -130,7 +132,7 @@ lines-cut s0 s1 s2 es i n e seen a b c x r before one count shows first second i
     is
     first
     (text-stops (text_at (thin_code s0.program) s0.history es i e) rest b c x
-    (subst (λ (t : List ℕ). TextWritten t (record { before = b; after = c }) (Err x)) (text-is s0 s1 s2 es i n e seen before one count shows) second)))
+    (subst (λ (t : List ℕ). TextWritten t (taking b c) (Err x)) (text-is s0 s1 s2 es i n e seen before one count shows) second)))
   where
     rest : List ℕ
     rest = lines_after (thin_code s0.program) ((s0.history ++ take i es) ++ e ∷ []) (drop (i + 1) es)
@@ -138,7 +140,7 @@ lines-cut s0 s1 s2 es i n e seen a b c x r before one count shows first second i
 pub lines-on : (s0 s1 s2 : Recorded) (es : List Entry) (i n : ℕ) (e : Entry) (seen : Observed) (a b c : SinkAt) (u : Unit)
     → Applied s0 es i s1 → Applies s1 e s2 → n ≡ length s2.history → seen ≡ last_seen (thin_code s2.program) s2.history
     → Wrote (lines_after (thin_code s0.program) s0.history (take i es)) a b
-    → TextWritten (entry_text n seen) (record { before = b; after = c }) (Ok u)
+    → TextWritten (entry_text n seen) (taking b c) (Ok u)
     → i < length es → e ≡ get_or es i e
     → Applied s0 es (i + 1) s2 × Wrote (lines_after (thin_code s0.program) s0.history (take (i + 1) es)) a c
 lines-on s0 s1 s2 es i n e seen a b c u before one count shows first second within at = (
@@ -148,13 +150,13 @@ lines-on s0 s1 s2 es i n e seen a b c u before one count shows first second with
       (sym (lines-next (thin_code s0.program) s0.history es i e within at))
       (record {
         took = took-++
-            a.taken
-            b.taken
-            c.taken
+            a
+            b
+            c
             (lines_after (thin_code s0.program) s0.history (take i es))
             (text_at (thin_code s0.program) s0.history es i e)
             first.took
-            (subst (Took b.taken c.taken) (text-is s0 s1 s2 es i n e seen before one count shows) second.0);
+            (subst (λ (v : List ℕ). Took b c v) (text-is s0 s1 s2 es i n e seen before one count shows) second.0);
         faults = second.1 ∙ first.faults;
       }),
 )
@@ -181,14 +183,14 @@ lines-begin program s es begins agree =
     ∙ ap (λ (h : List Entry). lines_after (thin_code program) h es) begins.1
     ∙ sym (lines-agree (tree_code program) (thin_code program) agree [] es)
 
-pub run-cut : (program : List ThinOb) (s : Recorded) (es : List Entry) (a b : SinkAt) (x : Ending) (r : Result Unit Ending)
+pub run-cut : (program : List ThinOb) (s : Recorded) (es : List Entry) (a b : SinkAt) (x : Failure) (r : Outcome)
     → Begins program s → Agree (tree_code program) (thin_code program)
-    → TextWritten (lines_after (thin_code s.program) s.history es) (record { before = a; after = b }) (Err x) → r ≡ Err x
-    → TextWritten (run_text (tree_code program) es) (record { before = a; after = b }) r
+    → TextWritten (lines_after (thin_code s.program) s.history es) (taking a b) (Err x) → r ≡ Err x
+    → TextWritten (run_text (tree_code program) es) (taking a b) r
 unfolding run_text
 run-cut program s es a b x r begins agree cut is =
     subst
-    (TextWritten (run_text (tree_code program) es) (record { before = a; after = b }))
+    (TextWritten (run_text (tree_code program) es) (taking a b))
     (sym is)
     (text-stops
     (lines_after (tree_code program) [] es)
@@ -196,15 +198,15 @@ run-cut program s es a b x r begins agree cut is =
     a
     b
     x
-    (subst (λ (t : List ℕ). TextWritten t (record { before = a; after = b }) (Err x)) (lines-begin program s es begins agree) cut))
+    (subst (λ (t : List ℕ). TextWritten t (taking a b) (Err x)) (lines-begin program s es begins agree) cut))
 
-pub run-ends : (program : List ThinOb) (s s' : Recorded) (es : List Entry) (n : ℕ) (mode : Mode) (text : List ℕ) (a b c : SinkAt) (u : Unit) (r : Result Unit Ending)
+pub run-ends : (program : List ThinOb) (s s' : Recorded) (es : List Entry) (n : ℕ) (mode : Mode) (text : List ℕ) (a b c : SinkAt) (u : Unit) (r : Outcome)
     → Begins program s → Agree (tree_code program) (thin_code program)
     → s' ≡ record s { history = s.history ++ es; spare = s.spare - length es }
-    → TextWritten (lines_after (thin_code s.program) s.history es) (record { before = a; after = b }) (Ok u)
+    → TextWritten (lines_after (thin_code s.program) s.history es) (taking a b) (Ok u)
     → n ≡ length s'.history → mode ≡ (replay (thin_code s'.program) s'.history).mode
-    → text ≡ end_text n mode → TextWritten text (record { before = b; after = c }) r
-    → TextWritten (run_text (tree_code program) es) (record { before = a; after = c }) r
+    → text ≡ end_text n mode → TextWritten text (taking b c) r
+    → TextWritten (run_text (tree_code program) es) (taking a c) r
 unfolding run_text
 run-ends program s s' es n mode text a b c u r begins agree applied written count stands is last =
     text-then
@@ -214,8 +216,8 @@ run-ends program s s' es n mode text a b c u r begins agree applied written coun
     b
     c
     r
-    (record { took = subst (Took a.taken b.taken) (lines-begin program s es begins agree) written.0; faults = written.1 })
-    (subst (λ (t : List ℕ). TextWritten t (record { before = b; after = c }) r) (is ∙ texts) last)
+    (record { took = subst (λ (v : List ℕ). Took a b v) (lines-begin program s es begins agree) written.0; faults = written.1 })
+    (subst (λ (t : List ℕ). TextWritten t (taking b c) r) (is ∙ texts) last)
   where
     h : s'.history ≡ es
     h = ap (λ (t : Recorded). t.history) applied ∙ ap (λ (d : List Entry). d ++ es) begins.1

@@ -1,6 +1,6 @@
-use crate::read_source;
 use controller::{Thin, ThinOb};
 use plc_base::SourceFault;
+use s7_cli::read_source;
 use std::alloc::{AllocError, Global};
 use std::test::Fail;
 use stl_lexer::SOURCE_LIMIT;

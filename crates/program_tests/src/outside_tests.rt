@@ -1,12 +1,12 @@
-use crate::{
+use arrayvec::ArrayVec;
+use plc_io::{
     Bytes, Files, Gate, IoFault, MemFiles, MemSink, NamedFiles, OpenGate, RealFiles, RealSink,
     Sink, SureFiles, SureSink, push_all, read_to_limit,
 };
-use arrayvec::ArrayVec;
 use std::test::Fail;
 
 /// A file of the test's own, in the folder where the tests run.
-const SCRATCH: &str = "plc_io_tests_scratch";
+const SCRATCH: &str = "outside_tests_scratch";
 
 #[test]
 fn real_files(rt: HostRuntime) -> Result<(), Fail> {

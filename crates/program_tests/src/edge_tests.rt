@@ -1,7 +1,7 @@
-use crate::{
-    Answer, File, HistoryFault, Line, answer_line, end_line, mode_line, output_line, read_history,
-};
 use plc_base::{BlockId, BlockKind, Mode, Refusal, Spot};
+use s7_cli::{
+    Failure, File, HistoryFault, Line, end_line, failure_line, mode_line, output_line, read_history,
+};
 use std::test::Fail;
 use var_access::{Entry, What};
 
@@ -53,9 +53,10 @@ fn wrong_histories(rt: HostRuntime) -> Result<(), Fail> {
         b"arrive 40 00000000\n",
         b"tick 1\n",
     ];
+    let refusal = Refusal { line: 0, rule: 99 };
     for text in wrong {
         let fault = read_history(rt.alloc(), text).err();
-        assert_eq!(rt; fault, Some(HistoryFault::Refused));
+        assert_eq!(rt; fault, Some(HistoryFault::Refused { refusal }));
     }
     Ok(())
 }
@@ -93,10 +94,9 @@ fn lines_of_a_run(rt: HostRuntime) {
         },
         line: 3,
     });
-    let refusal = Refusal { line: 4, rule: 20 };
     let stopped = Mode::Stop { cause: 8, at };
     let unplaced = Mode::Stop { cause: 9, at: None };
-    let lines: [(Line, &[u8]); 13] = [
+    let lines: [(Line, &[u8]); 9] = [
         (output_line(7, (4, 1)), b"@7 PQ 4 = 01\n"),
         (output_line(10, (767, 175)), b"@10 PQ 767 = AF\n"),
         (mode_line(3, Mode::Run), b"@3 MODE RUN\n"),
@@ -106,18 +106,30 @@ fn lines_of_a_run(rt: HostRuntime) {
         (end_line(7, Mode::Run), b"END 7 RUN\n"),
         (end_line(8, Mode::Startup), b"END 8 STARTUP\n"),
         (end_line(9, stopped), b"END 9 STOP 8\n"),
-        (answer_line(Answer::WordsRefused), b"words refused\n"),
-        (answer_line(Answer::ReadFault), b"read fault\n"),
-        (
-            answer_line(Answer::SourceRefused { refusal }),
-            b"source refused: line 4 rule 20\n",
-        ),
-        (
-            answer_line(Answer::TooLong { file: File::Source }),
-            b"too long: source\n",
-        ),
     ];
     for (line, text) in lines {
         assert_eq!(rt; line.as_slice(), text);
+    }
+}
+
+// A failed write and want of memory have no line.
+#[test]
+fn lines_of_failures(rt: HostRuntime) {
+    let refusal = Refusal { line: 4, rule: 20 };
+    let source = File::Source;
+    let history = File::History;
+    let lines: [(Failure, &[u8]); 8] = [
+        (Failure::WordsRefused, b"words refused\n"),
+        (Failure::ReadFault, b"read fault\n"),
+        (Failure::Refused { file: source, refusal }, b"source refused: line 4 rule 20\n"),
+        (Failure::Refused { file: history, refusal }, b"history refused: line 4 rule 20\n"),
+        (Failure::TooLong { file: source }, b"too long: source\n"),
+        (Failure::TooLong { file: history }, b"too long: history\n"),
+        (Failure::WriteFault, b""),
+        (Failure::NoMemory, b""),
+    ];
+    for (failure, text) in lines {
+        let line = failure_line(failure);
+        assert_eq!(rt; line.as_ref().map_or(b"".as_slice(), |line| line.as_slice()), text);
     }
 }

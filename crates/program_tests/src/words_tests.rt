@@ -1,6 +1,6 @@
-use crate::law_of_words;
-use crate::program_tests::{ONE_RUN, RUNG, call, two_files};
+use crate::calls::{ONE_RUN, RUNG, call, two_files};
 use plc_io::MemSink;
+use s7_cli::law_of_words;
 use std::alloc::Global;
 use std::process::Abort;
 use std::sync::Wait;

@@ -1,6 +1,6 @@
-use crate::s7_main;
 use arrayvec::ArrayVec;
 use plc_io::{MemFiles, MemSink, OpenGate};
+use s7_cli::s7_main;
 use std::alloc::Global;
 use std::sync::Wait;
 use std::test::Fail;
