@@ -27,6 +27,10 @@ words-refused command files out is =
 words-unread : (command : Option Command) (files : FilesAt) (out : SinkAt) → Comes command (disk files files) (taking out out) (Err NoMemory)
 words-unread command files out = wanting command (disk files files) out (only-reads files files (unchanged files))
 
+pub returns-in-Ok-None-clause-ends : goal.returns-in-Ok-None-clause-ends
+returns-in-Ok-None-clause-ends g c =
+    c.end_command.ensures.ends _ _ _ (words-refused _ _ _ (sym (ap (option_map command_value) c.in-Ok-None.field-0-is) ∙ c.in-Ok-None.ensures))
+
 pub returns-in-Ok-None-clause-table : goal.returns-in-Ok-None-clause-table
 returns-in-Ok-None-clause-table g c =
     c.end_command.ensures.table _ _ _ (words-refused _ _ _ (sym (ap (option_map command_value) c.in-Ok-None.field-0-is) ∙ c.in-Ok-None.ensures))
