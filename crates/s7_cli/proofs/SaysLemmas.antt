@@ -1,8 +1,9 @@
 -- What commands say of the contents of their files.
-use Rattle.std.proofs.Common.{◌≡◌, ◌⊎◌, inl, inr, sym, ◌∙◌, ap, ℕ, List, [], ◌∷◌, Ok, Err, Result}
+use Rattle.std.proofs.Common.{◌≡◌, ◌⊎◌, inl, inr, sym, ◌∙◌, ap, ℕ, List, [], ◌∷◌, None, Ok, Err, Result}
 use Rattle.plc_base.specs.declared.Refusal.{Refusal}
 use Rattle.var_access.specs.declared.Entry.{Entry}
 use Rattle.controller.specs.Code.{Code}
+use Rattle.sem_kept.specs.Meaning.{IsJudged, IsMeaningUnique, ExcludesRefusal, IsRefusalUnique}
 use Rattle.s7_cli.specs.declared.failures.File.{File}
 use Rattle.s7_cli.specs.declared.failures.File.TheVariants.{Source, History}
 use Rattle.s7_cli.specs.Answer.{Answer, done, refused}
@@ -10,12 +11,18 @@ use Rattle.s7_cli.specs.Command.{Command, Go, Check}
 use Rattle.s7_cli.specs.History.{history_of}
 use Rattle.s7_cli.specs.Lines.{ok_line}
 use Rattle.s7_cli.specs.RunText.{run_text}
-use Rattle.s7_cli.specs.Says.{Means, go_answer, check_answer, Says}
+use Rattle.s7_cli.specs.Says.{go_answer, check_answer, Says}
 use Rattle.s7_cli.proofs.ReadingLemmas.{SaysOne}
 
 -- a source means one code, or is refused by one refusal
 abbrev pub MeansOne : Type 0
-MeansOne = (source : List ℕ) (v w : Result Code Refusal) → Means source v → Means source w → v ≡ w
+MeansOne = (source : List ℕ) (v w : Result Code Refusal) → IsJudged source None v → IsJudged source None w → v ≡ w
+
+pub means-one : IsMeaningUnique → ExcludesRefusal → IsRefusalUnique → MeansOne
+means-one meaning excludes refusal source (Ok c) (Ok d) p q = ap Ok (meaning source None c d p q)
+means-one meaning excludes refusal source (Ok c) (Err r) p q = absurd (excludes source None c r p q)
+means-one meaning excludes refusal source (Err r) (Ok c) p q = absurd (excludes source None c r q p)
+means-one meaning excludes refusal source (Err r) (Err s) p q = ap Err (refusal source None r s p q)
 
 -- a command says one thing of any contents
 pub says-one : MeansOne → (k : Command) → SaysOne (Says k)

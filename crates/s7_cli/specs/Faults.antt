@@ -6,7 +6,7 @@ use Rattle.stl_ast.specs.declared.Tree.{Tree}
 use Rattle.sem_kept.specs.Built.{program_of}
 use Rattle.s7_cli.specs.declared.histories.HistoryFault.{HistoryFault}
 use Rattle.s7_cli.specs.declared.histories.HistoryFault.TheVariants as history
-use Rattle.s7_cli.specs.Sources.{IsRefusedSource}
+use Rattle.sem_kept.specs.Meaning.{IsRefusedSource}
 use Rattle.s7_cli.specs.Unbuilt.{IsUnbuilt}
 use Rattle.s7_cli.specs.declared.failures.File.TheVariants.{Source, History}
 use Rattle.s7_cli.specs.declared.failures.Failure.{Failure}

@@ -6,7 +6,6 @@ pub mod History
 pub mod LineEntries
 pub mod HistoryFault
 pub mod RunText
-pub mod Sources
 pub mod Answer
 pub mod Says
 pub mod Reading

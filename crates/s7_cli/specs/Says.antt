@@ -3,18 +3,13 @@ use Rattle.std.specs.Prelude.{◌≡◌, ℕ, List, [], ◌∷◌, None, Result,
 use Rattle.plc_base.specs.declared.Refusal.{Refusal}
 use Rattle.var_access.specs.declared.Entry.{Entry}
 use Rattle.controller.specs.Code.{Code}
-use Rattle.s7_cli.specs.Sources.{MeansCode, IsRefusedSource}
+use Rattle.sem_kept.specs.Meaning.{IsJudged}
 use Rattle.s7_cli.specs.declared.failures.File.TheVariants.{Source, History}
 use Rattle.s7_cli.specs.Answer.{Answer, done, refused}
 use Rattle.s7_cli.specs.Command.{Command, Go, Check}
 use Rattle.s7_cli.specs.History.{history_of}
 use Rattle.s7_cli.specs.Lines.{ok_line}
 use Rattle.s7_cli.specs.RunText.{run_text}
-
--- a source without symbols means this code, or is refused by this
-abbrev pub Means : List ℕ → Result Code Refusal → Type 0
-Means source (Ok code) = MeansCode source None code
-Means source (Err refusal) = IsRefusedSource source None refusal
 
 -- `go`: the source is judged first, then the history; else the text of the run is told
 abbrev pub go_answer : Result Code Refusal → Result (List Entry) Refusal → Answer
@@ -27,11 +22,13 @@ abbrev pub check_answer : Result Code Refusal → Answer
 check_answer (Err refusal) = refused Source refusal
 check_answer (Ok code) = done ok_line
 
+-- over the contents of its files; a source has no symbols yet
 abbrev pub GoSays : (source history : List ℕ) → Answer → Type 0
-GoSays source history answer = (meaning : Result Code Refusal) × Means source meaning × (answer ≡ go_answer meaning (history_of history))
+GoSays source history answer =
+    (judged : Result Code Refusal) × IsJudged source None judged × (answer ≡ go_answer judged (history_of history))
 
 abbrev pub CheckSays : (source : List ℕ) → Answer → Type 0
-CheckSays source answer = (meaning : Result Code Refusal) × Means source meaning × (answer ≡ check_answer meaning)
+CheckSays source answer = (judged : Result Code Refusal) × IsJudged source None judged × (answer ≡ check_answer judged)
 
 -- over the contents of the command's input files, in the order of reading
 abbrev pub Says : Command → List (List ℕ) → Answer → Type 0

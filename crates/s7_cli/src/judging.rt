@@ -5,7 +5,7 @@ ghost use Rattle.sem_kept.specs.Tree.{tree_code};
 ghost use Rattle.s7_cli.specs.History.{history_of};
 ghost use Rattle.s7_cli.specs.Inner.{RefusedBy};
 ghost use Rattle.s7_cli.specs.Says.{CheckSays, GoSays};
-ghost use Rattle.s7_cli.specs.Sources.{MeansCode};
+ghost use Rattle.sem_kept.specs.Meaning.{MeansCode};
 
 use crate::failures::Failure;
 use crate::histories::read_history;

@@ -2,7 +2,7 @@ ghost use Rattle.std.specs.Prelude.{◌≤◌, length, IfOk, IfErr, IsTrue, None
 ghost use Rattle.controller.specs.Program.{is_thin};
 ghost use Rattle.sem_kept.specs.Tree.{tree_code};
 ghost use Rattle.s7_cli.specs.Faults.{RefusesSource};
-ghost use Rattle.s7_cli.specs.Sources.{MeansCode};
+ghost use Rattle.sem_kept.specs.Meaning.{MeansCode};
 
 use crate::building::built;
 use controller::Thin;

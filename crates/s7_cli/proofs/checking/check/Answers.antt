@@ -4,7 +4,7 @@ use Rattle.controller.specs.declared.ThinOb.{ThinOb}
 use Rattle.sem_kept.specs.Tree.{tree_code}
 use Rattle.s7_cli.specs.Command.{Check}
 use Rattle.s7_cli.specs.Lines.{ok_line}
-use Rattle.s7_cli.specs.Sources.{MeansCode}
+use Rattle.sem_kept.specs.Meaning.{MeansCode}
 use Rattle.s7_cli.proofs.ComesLemmas.{comes-unread, comes-refused, comes-written, read-none, one-read}
 use Rattle.s7_cli.proofs.checking.check.Goals as goal
 

@@ -1,5 +1,5 @@
 use Rattle.s7_cli.proofs.TableLemmas.{table}
-use Rattle.s7_cli.proofs.SourceLemmas.{means-one}
+use Rattle.s7_cli.proofs.SaysLemmas.{means-one}
 use Rattle.s7_cli.proofs.finish.end_command.Goals as goal
 
 pub returns-clause-ends : goal.returns-clause-ends
@@ -8,5 +8,5 @@ returns-clause-ends g c = λ command d start comes. (c.finish.result, c.of.ensur
 pub returns-clause-table : goal.returns-clause-table
 returns-clause-table g c = λ command d start comes.
     table
-    (means-one c.law_of_sources.ensures.one_program c.law_of_sources.ensures.program_or_refusal c.law_of_sources.ensures.one_refusal)
+    (means-one c.law_of_sources.ensures.one_meaning c.law_of_sources.ensures.meaning_or_refusal c.law_of_sources.ensures.one_refusal)
     command d _ _ (c.finish.result, c.of.ensures, c.finish.ensures command d start comes)

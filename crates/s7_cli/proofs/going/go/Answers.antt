@@ -7,7 +7,7 @@ use Rattle.s7_cli.specs.Command.{Go}
 use Rattle.s7_cli.specs.History.{history_of}
 use Rattle.s7_cli.specs.RunText.{run_text}
 use Rattle.s7_cli.specs.Says.{go_answer}
-use Rattle.s7_cli.specs.Sources.{MeansCode}
+use Rattle.sem_kept.specs.Meaning.{MeansCode}
 use Rattle.s7_cli.proofs.ComesLemmas.{comes-unread, comes-refused, comes-written, read-none, one-read, two-read}
 use Rattle.s7_cli.proofs.going.go.Goals as goal
 
