@@ -21,15 +21,16 @@ upper_size = 512
 
 -- whether a peripheral byte of this number exists: 0 to 127, and 256 to 767
 abbrev pub is_peripheral_byte : ℕ → Bool
-is_peripheral_byte byte = nat_lt byte 128 || (nat_le 256 byte && nat_lt byte 768)
+is_peripheral_byte byte =
+    nat_lt byte image_size || (nat_le upper_start byte && nat_lt byte (upper_start + upper_size))
 
 -- whether an area has a byte of this number. How many bytes data blocks and local data have is known
 -- of each block alone
 abbrev pub has_byte : Area → ℕ → Bool
 has_byte P byte = is_peripheral_byte byte
-has_byte I byte = nat_lt byte 128
-has_byte Q byte = nat_lt byte 128
-has_byte M byte = nat_lt byte 256
+has_byte I byte = nat_lt byte image_size
+has_byte Q byte = nat_lt byte image_size
+has_byte M byte = nat_lt byte bit_memory_size
 has_byte Db byte = false
 has_byte Di byte = false
 has_byte L byte = false

@@ -66,7 +66,9 @@ fn signed_number(word: u32, count: u32) -> Option<i32>
 ///
 /// `BadBcd` exactly where a digit is above 9, or the sign digit is neither 0 nor 15.
 pub fn bcd_to_int(word: u16) -> Result<i16, BadBcd>
-    ensures { MatchResult result (λ n. signed_of_bcd 3 word ≡ Some n) (λ _. signed_of_bcd 3 word ≡ None) }
+    ensures { MatchResult result
+        (λ n. signed_of_bcd 3 word ≡ Some n)
+        (λ _. signed_of_bcd 3 word ≡ None) }
 {
     match signed_number(u32::from(word), 3) {
         Some(number) => Ok(number as i16),
@@ -80,7 +82,9 @@ pub fn bcd_to_int(word: u16) -> Result<i16, BadBcd>
 ///
 /// `BadBcd` exactly where a digit is above 9, or the sign digit is neither 0 nor 15.
 pub fn bcd7_to_dint(word: u32) -> Result<i32, BadBcd>
-    ensures { MatchResult result (λ n. signed_of_bcd 7 word ≡ Some n) (λ _. signed_of_bcd 7 word ≡ None) }
+    ensures { MatchResult result
+        (λ n. signed_of_bcd 7 word ≡ Some n)
+        (λ _. signed_of_bcd 7 word ≡ None) }
 {
     signed_number(word, 7).ok_or(BadBcd)
 }

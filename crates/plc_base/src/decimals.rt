@@ -33,8 +33,8 @@ fn is_decimal(word: &[u8]) -> bool
     }
 }
 
-/// The number that a word writes in decimal digits, with no sign. `None` where it is above `most`, or
-/// the word is another.
+/// The number that a word writes in decimal digits, with no sign. `None` exactly where it is above
+/// `most`, or the word is something else.
 #[tactic(auto, unfolding(crate::specs::Decimal::decimal_up_to))]
 pub fn decimal_up_to(word: &[u8], most: u32) -> Option<u32>
     ensures { result ≡ decimal_up_to most word.now }

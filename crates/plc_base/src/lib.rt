@@ -12,8 +12,6 @@ mod places;
 mod pointers;
 mod refusals;
 mod s5times;
-#[cfg(test)]
-mod tests;
 
 pub use bcd::{
     BadBcd, MOST_OF_3_DIGITS, MOST_OF_7_DIGITS, bcd_to_int, bcd_to_unsigned, bcd7_to_dint,

@@ -69,7 +69,9 @@ impl TimeBase {
 /// `TooLong` exactly above 9,990,000.
 #[tactic(auto, unfolding(crate::specs::S5Time::s5time_of, crate::specs::S5Time::smallest_base))]
 pub fn s5time_of_ms(ms: u32) -> Result<u16, TooLong>
-    ensures value { MatchResult result (λ word. s5time_of ms ≡ Some word) (λ _. s5time_of ms ≡ None) }
+    ensures value { MatchResult result
+        (λ word. s5time_of ms ≡ Some word)
+        (λ _. s5time_of ms ≡ None) }
     ensures refused { IsErr result ↔ (9990000 < ms) }
 {
     let base = match ms {

@@ -1,5 +1,6 @@
 -- Which peripheral outputs changed.
 use Rattle.std.specs.Prelude.{◌≡◌, ◌≢◌, ℕ, ◌-◌, ◌<◌, ◌≤◌, Option, Some, None, List, length, slice_get}
+use Rattle.plc_base.specs.AreaBytes.{upper_start}
 use Rattle.plc_mem.specs.Areas.{PeripheralBytes}
 use Rattle.plc_mem.specs.Bits.{peripheral_byte}
 
@@ -18,4 +19,4 @@ IsFirstDifference old new from (Some i) =
 -- The number of the first byte of the upper part, of which some bytes are passed over, that differs.
 abbrev pub IsFirstHighChange : (old new : PeripheralBytes) (skip : ℕ) → Option ℕ → Type 0
 IsFirstHighChange old new skip None = IsFirstDifference old.high new.high skip None
-IsFirstHighChange old new skip (Some byte) = (256 ≤ byte) × IsFirstDifference old.high new.high skip (Some (byte - 256))
+IsFirstHighChange old new skip (Some byte) = (upper_start ≤ byte) × IsFirstDifference old.high new.high skip (Some (byte - upper_start))

@@ -7,6 +7,7 @@ use Rattle.std.specs.Ordering.{nat_cmp}
 use Rattle.plc_base.specs.declared.Width.{Width}
 use Rattle.plc_base.specs.declared.Width.TheVariants.{Bit, Byte, Word, Dword}
 use Rattle.plc_base.specs.declared.Place.{Place}
+use Rattle.plc_base.specs.AreaBytes.{upper_start}
 use Rattle.plc_mem.specs.Areas.{Areas, PeripheralBytes}
 use Rattle.plc_mem.specs.BitPlace.{Region, Inputs, Outputs, BitMemory, PeripheralInputs, PeripheralOutputs, DataBlock}
 use Rattle.plc_base.specs.Widths.{byte_count}
@@ -36,9 +37,9 @@ put bytes at bit width value = if is_within bytes at bit width then Some (stored
 -- A peripheral area with a number in the operand, if the operand lies within one of its parts.
 unfoldable pub put_peripheral : PeripheralBytes → (byte bit : ℕ) → Width → ℕ → Option PeripheralBytes
 put_peripheral p byte bit width value =
-    if nat_lt byte 256
+    if nat_lt byte upper_start
     then option_map (λ bytes. record p { low = bytes }) (put p.low byte bit width value)
-    else option_map (λ bytes. record p { high = bytes }) (put p.high (byte - 256) bit width value)
+    else option_map (λ bytes. record p { high = bytes }) (put p.high (byte - upper_start) bit width value)
 
 -- Data blocks with a number in the operand.
 unfoldable pub put_in_block : map.FinMap nat_cmp (List ℕ) → (number byte bit : ℕ) → Width → ℕ → Option (map.FinMap nat_cmp (List ℕ))

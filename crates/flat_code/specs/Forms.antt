@@ -1,0 +1,249 @@
+-- The forms of operands: the payload of each, as the table of forms has it.
+use Rattle.std.specs.Prelude.{ℕ, ◌==◌, Bool, true, false, ◌||◌, if◌then◌else◌, List, [], ◌∷◌, Option, Some, None}
+use Rattle.std.specs.Option.{option_map}
+use Rattle.plc_base.specs.declared.places.Area.{Area}
+use Rattle.plc_base.specs.declared.places.Area.TheVariants as area
+use Rattle.plc_base.specs.declared.places.Width.{Width}
+use Rattle.plc_base.specs.declared.places.Width.TheVariants as width
+use Rattle.flat_code.specs.declared.operands.Operand.{Operand}
+use Rattle.flat_code.specs.declared.operands.Operand.TheVariants as operand
+use Rattle.flat_code.specs.declared.operands.Passed.{Passed}
+use Rattle.flat_code.specs.declared.operands.Passed.TheVariants as passed
+use Rattle.flat_code.specs.Coding.{Coding, u8, u16, u32, named, such_that, within, then_coding}
+
+abbrev pub area_code : Area → ℕ
+area_code area.P = 128
+area_code area.I = 129
+area_code area.Q = 130
+area_code area.M = 131
+area_code area.Db = 132
+area_code area.Di = 133
+area_code area.L = 134
+
+abbrev pub area_of_code : ℕ → Option Area
+area_of_code n =
+    if n == 128 then Some area.P
+    else if n == 129 then Some area.I
+    else if n == 130 then Some area.Q
+    else if n == 131 then Some area.M
+    else if n == 132 then Some area.Db
+    else if n == 133 then Some area.Di
+    else if n == 134 then Some area.L
+    else None
+
+abbrev pub width_code : Width → ℕ
+width_code width.Bit = 1
+width_code width.Byte = 2
+width_code width.Word = 3
+width_code width.Dword = 4
+
+abbrev pub width_of_code : ℕ → Option Width
+width_of_code n =
+    if n == 1 then Some width.Bit
+    else if n == 2 then Some width.Byte
+    else if n == 3 then Some width.Word
+    else if n == 4 then Some width.Dword
+    else None
+
+-- areas, and those of them that a form takes
+abbrev pub any_area : Coding Area
+any_area = named area_code area_of_code
+
+-- all but peripherals
+abbrev pub in_memory : Area → Bool
+in_memory area.P = false
+in_memory _ = true
+
+-- where a pointer may stand
+abbrev pub holds_pointers : Area → Bool
+holds_pointers area.M = true
+holds_pointers area.Db = true
+holds_pointers area.Di = true
+holds_pointers area.L = true
+holds_pointers _ = false
+
+-- 0 for area-crossing, or an area but peripherals
+abbrev pub crossing_code : Option Area → ℕ
+crossing_code None = 0
+crossing_code (Some a) = area_code a
+
+abbrev pub crossing_of_code : ℕ → Option (Option Area)
+crossing_of_code n = if n == 0 then Some None else option_map Some (area_of_code n)
+
+abbrev pub crosses : Option Area → Bool
+crosses None = true
+crosses (Some a) = in_memory a
+
+abbrev pub crossing : Coding (Option Area)
+crossing = such_that crosses (named crossing_code crossing_of_code)
+
+abbrev pub a_width : Coding Width
+a_width = named width_code width_of_code
+
+-- 2 FC, 3 FB, 5 SFC
+abbrev pub is_callable : ℕ → Bool
+is_callable n = n == 2 || n == 3 || n == 5
+
+abbrev pub callable : Coding ℕ
+callable = such_that is_callable u8
+
+-- the payloads, in the order of the table of forms
+abbrev pub literal : Coding ℕ
+literal = u32
+
+unfoldable pub direct : Coding (Area × (Width × (ℕ × ℕ)))
+direct = then_coding any_area (then_coding a_width (then_coding u16 (within 0 7)))
+
+abbrev pub memory_area : Coding Area
+memory_area = such_that in_memory any_area
+
+abbrev pub pointer_area : Coding Area
+pointer_area = such_that holds_pointers any_area
+
+abbrev pub by_memory : Coding (Area × (Width × (Area × ℕ)))
+by_memory = then_coding memory_area (then_coding a_width (then_coding pointer_area u16))
+
+abbrev pub by_register : Coding (Option Area × (Width × (ℕ × ℕ)))
+by_register = then_coding crossing (then_coding a_width (then_coding (within 1 2) u32))
+
+abbrev pub parameter : Coding (ℕ × Width)
+parameter = then_coding u8 a_width
+
+abbrev pub numbered : Coding (ℕ × ℕ)
+numbered = then_coding (within 1 2) u16
+
+abbrev pub numbered_by : Coding (ℕ × (Area × ℕ))
+numbered_by = then_coding (within 1 2) (then_coding pointer_area u16)
+
+abbrev pub jump : Coding (ℕ × ℕ)
+jump = then_coding (within 0 17) u32
+
+abbrev pub of_status : Coding ℕ
+of_status = within 1 10
+
+abbrev pub use_db : Coding ℕ
+use_db = u16
+
+abbrev pub called : Coding (ℕ × (ℕ × ℕ))
+called = then_coding callable (then_coding u16 u16)
+
+abbrev pub open_block : Coding (ℕ × ℕ)
+open_block = then_coding (within 1 2) u16
+
+abbrev pub open_by : Coding (ℕ × (Area × ℕ))
+open_by = then_coding (within 1 2) (then_coding pointer_area u16)
+
+abbrev pub in_block : Coding (ℕ × (Area × (Width × (ℕ × ℕ))))
+in_block = then_coding u16 direct
+
+-- what a payload reads as
+abbrev pub read_as : {A B : Type 0} → (A → B) → Coding A → List ℕ → Option (B × List ℕ)
+read_as make c bytes = option_map (λ r. (make r.0, r.1)) (c.read bytes)
+
+-- what a CALL passes: a form byte and its payload
+abbrev pub actual_fits : Passed → Bool
+actual_fits (passed.Literal value) = literal.fits value
+actual_fits (passed.Direct area width byte bit) = direct.fits (area, (width, (byte, bit)))
+actual_fits (passed.Parameter index width) = parameter.fits (index, width)
+actual_fits (passed.InBlock number area width byte bit) =
+    in_block.fits (number, (area, (width, (byte, bit))))
+
+abbrev pub actual_spelled : Passed → List ℕ
+actual_spelled (passed.Literal value) = 1 ∷ literal.spell value
+actual_spelled (passed.Direct area width byte bit) = 2 ∷ direct.spell (area, (width, (byte, bit)))
+actual_spelled (passed.Parameter index width) = 5 ∷ parameter.spell (index, width)
+actual_spelled (passed.InBlock number area width byte bit) =
+    12 ∷ in_block.spell (number, (area, (width, (byte, bit))))
+
+abbrev pub actual_in : ℕ → List ℕ → Option (Passed × List ℕ)
+actual_in n bytes =
+    if n == 1 then read_as passed.Literal literal bytes
+    else if n == 2 then read_as (λ x. passed.Direct x.0 x.1.0 x.1.1.0 x.1.1.1) direct bytes
+    else if n == 5 then read_as (λ x. passed.Parameter x.0 x.1) parameter bytes
+    else if n == 12 then
+    read_as (λ x. passed.InBlock x.0 x.1.0 x.1.1.0 x.1.1.1.0 x.1.1.1.1) in_block bytes
+    else None
+
+abbrev pub actual_at : List ℕ → Option (Passed × List ℕ)
+actual_at [] = None
+actual_at (n ∷ rest) = actual_in n rest
+
+unfoldable pub actual : Coding Passed
+actual = record { fits = actual_fits; spell = actual_spelled; read = actual_at }
+
+abbrev pub pass : Coding (ℕ × Passed)
+pass = then_coding u8 actual
+
+-- the form of an operand, and its byte
+abbrev pub form_of_operand : Operand → ℕ
+form_of_operand operand.Nothing = 0
+form_of_operand (operand.Literal value) = 1
+form_of_operand (operand.Direct area width byte bit) = 2
+form_of_operand (operand.ByMemory area width from byte) = 3
+form_of_operand (operand.ByRegister area width register bits) = 4
+form_of_operand (operand.Parameter index width) = 5
+form_of_operand (operand.Numbered kind number) = 6
+form_of_operand (operand.NumberedBy kind from byte) = 7
+form_of_operand (operand.Jump kind target) = 8
+form_of_operand (operand.OfStatus condition) = 9
+form_of_operand (operand.UseDb number) = 10
+form_of_operand (operand.Pass index passed) = 11
+form_of_operand (operand.Called kind number instance) = 13
+form_of_operand (operand.OpenBlock register number) = 14
+form_of_operand (operand.OpenBy register from byte) = 15
+
+abbrev pub payload_fits : Operand → Bool
+payload_fits operand.Nothing = true
+payload_fits (operand.Literal value) = literal.fits value
+payload_fits (operand.Direct area width byte bit) = direct.fits (area, (width, (byte, bit)))
+payload_fits (operand.ByMemory area width from byte) = by_memory.fits (area, (width, (from, byte)))
+payload_fits (operand.ByRegister area width register bits) =
+    by_register.fits (area, (width, (register, bits)))
+payload_fits (operand.Parameter index width) = parameter.fits (index, width)
+payload_fits (operand.Numbered kind number) = numbered.fits (kind, number)
+payload_fits (operand.NumberedBy kind from byte) = numbered_by.fits (kind, (from, byte))
+payload_fits (operand.Jump kind target) = jump.fits (kind, target)
+payload_fits (operand.OfStatus condition) = of_status.fits condition
+payload_fits (operand.UseDb number) = use_db.fits number
+payload_fits (operand.Pass index actual) = pass.fits (index, actual)
+payload_fits (operand.Called kind number instance) = called.fits (kind, (number, instance))
+payload_fits (operand.OpenBlock register number) = open_block.fits (register, number)
+payload_fits (operand.OpenBy register from byte) = open_by.fits (register, (from, byte))
+
+abbrev pub payload : Operand → List ℕ
+payload operand.Nothing = []
+payload (operand.Literal value) = literal.spell value
+payload (operand.Direct area width byte bit) = direct.spell (area, (width, (byte, bit)))
+payload (operand.ByMemory area width from byte) = by_memory.spell (area, (width, (from, byte)))
+payload (operand.ByRegister area width register bits) =
+    by_register.spell (area, (width, (register, bits)))
+payload (operand.Parameter index width) = parameter.spell (index, width)
+payload (operand.Numbered kind number) = numbered.spell (kind, number)
+payload (operand.NumberedBy kind from byte) = numbered_by.spell (kind, (from, byte))
+payload (operand.Jump kind target) = jump.spell (kind, target)
+payload (operand.OfStatus condition) = of_status.spell condition
+payload (operand.UseDb number) = use_db.spell number
+payload (operand.Pass index actual) = pass.spell (index, actual)
+payload (operand.Called kind number instance) = called.spell (kind, (number, instance))
+payload (operand.OpenBlock register number) = open_block.spell (register, number)
+payload (operand.OpenBy register from byte) = open_by.spell (register, (from, byte))
+
+unfoldable pub payload_in : ℕ → List ℕ → Option (Operand × List ℕ)
+payload_in n bytes =
+    if n == 0 then Some (operand.Nothing, bytes)
+    else if n == 1 then read_as operand.Literal literal bytes
+    else if n == 2 then read_as (λ x. operand.Direct x.0 x.1.0 x.1.1.0 x.1.1.1) direct bytes
+    else if n == 3 then read_as (λ x. operand.ByMemory x.0 x.1.0 x.1.1.0 x.1.1.1) by_memory bytes
+    else if n == 4 then
+    read_as (λ x. operand.ByRegister x.0 x.1.0 x.1.1.0 x.1.1.1) by_register bytes
+    else if n == 5 then read_as (λ x. operand.Parameter x.0 x.1) parameter bytes
+    else if n == 6 then read_as (λ x. operand.Numbered x.0 x.1) numbered bytes
+    else if n == 7 then read_as (λ x. operand.NumberedBy x.0 x.1.0 x.1.1) numbered_by bytes
+    else if n == 8 then read_as (λ x. operand.Jump x.0 x.1) jump bytes
+    else if n == 9 then read_as operand.OfStatus of_status bytes
+    else if n == 10 then read_as operand.UseDb use_db bytes
+    else if n == 11 then read_as (λ x. operand.Pass x.0 x.1) pass bytes
+    else if n == 13 then read_as (λ x. operand.Called x.0 x.1.0 x.1.1) called bytes
+    else if n == 14 then read_as (λ x. operand.OpenBlock x.0 x.1) open_block bytes
+    else if n == 15 then read_as (λ x. operand.OpenBy x.0 x.1.0 x.1.1) open_by bytes
+    else None

@@ -1,0 +1,48 @@
+-- Ops: what is one, its bytes, and what bytes begin with one.
+use Rattle.flat_code.specs.declared.decoding.BadOp.{BadOp}
+use Rattle.std.specs.Prelude.{◌≡◌, ◌<◌, ◌≤◌, length, drop, Result, Ok, Err, ℕ, ◌+◌, ◌%◌, nat_lt, nat_le, Bool, true, ◌&&◌, if◌then◌else◌, List, ◌∷◌, Option, Some, None}
+use Rattle.std.specs.Option.{option_and_then}
+use Rattle.flat_code.specs.declared.operands.Operand.{Operand}
+use Rattle.flat_code.specs.declared.words.Word.{Word}
+use Rattle.flat_code.specs.Table.{takes_of, takes_of_word, admits}
+use Rattle.flat_code.specs.Forms.{form_of_operand, payload_fits, payload, payload_in}
+
+-- an op: the code of its instruction, whether it ends its statement, its operand
+pub record OpData : Type 0 where
+  pub code : ℕ
+  pub last : Bool
+  pub operand : Operand
+
+-- whether it is an op of the table
+unfoldable pub is_op : ℕ → Operand → Bool
+is_op code operand = nat_lt code 128 && admits (takes_of code) operand && payload_fits operand
+
+-- whether a word takes the operand, so that the two make an op
+unfoldable pub is_instruction : Word → Operand → Bool
+is_instruction word operand = admits (takes_of_word word) operand && payload_fits operand
+
+abbrev pub IsOp : OpData → Type 0
+IsOp op = is_op op.code op.operand ≡ true
+
+-- the first byte, whose highest bit is the end mark
+abbrev pub code_byte : ℕ → Bool → ℕ
+code_byte code last = if last then code + 128 else code
+
+-- the bytes of an op
+unfoldable pub op_bytes : OpData → List ℕ
+op_bytes op = code_byte op.code op.last ∷ form_of_operand op.operand ∷ payload op.operand
+
+-- the op that bytes begin with, and the bytes after it
+unfoldable pub op_at : List ℕ → Option (OpData × List ℕ)
+op_at (b ∷ n ∷ rest) =
+    option_and_then (λ r. if admits (takes_of (b % 128)) r.0
+    then Some (record { code = b % 128; last = nat_le 128 b; operand = r.0 }, r.1) else None)
+    (payload_in n rest)
+op_at _ = None
+
+-- what decoding at an offset answers: the op that the bytes from there begin with and the offset
+-- after it, or that they begin with none
+abbrev pub Decodes : List ℕ → ℕ → Result (OpData × ℕ) BadOp → Type 0
+Decodes bytes at (Ok r) =
+    (op_at (drop at bytes) ≡ Some (r.0, drop r.1 bytes)) × (at < r.1) × (r.1 ≤ length bytes)
+Decodes bytes at (Err e) = op_at (drop at bytes) ≡ None

@@ -1,0 +1,16 @@
+//! Laws of the coding of ops: each function does nothing, and its contract is the law.
+ghost use Rattle.flat_code.specs.Laws.{OpsAreReadAgain, OpsAreSpelledSo, WordsHaveTheirCodes, JumpsHaveTheirKinds, ConditionsHaveTheirNumbers};
+
+/// What is spelled is read again, whatever follows; what is read is an op, and is spelled so.
+pub fn one_coding()
+    ensures again { OpsAreReadAgain }
+    ensures spelled { OpsAreSpelledSo }
+{}
+
+/// Each word stands in the table of words at its op code, each jump at its kind and each condition
+/// at its number: no two share one.
+pub fn one_number_each()
+    ensures words { WordsHaveTheirCodes }
+    ensures jumps { JumpsHaveTheirKinds }
+    ensures conditions { ConditionsHaveTheirNumbers }
+{}

@@ -1,0 +1,30 @@
+//! Ops, programs and their names: the code that the compiler makes and the controller runs.
+#![tactic(auto)]
+
+mod decoding;
+mod encoding;
+mod fields;
+mod kinds;
+pub mod laws;
+mod names;
+mod op_codes;
+mod operands;
+mod ops;
+mod programs;
+mod table;
+#[cfg(test)]
+mod tests;
+mod words;
+
+pub use decoding::{BadOp, decode_op};
+pub use encoding::encode_op;
+pub use kinds::{CONDITIONS, JUMPS, JumpWord, condition_of, flag_of, jump_of};
+pub use names::{NameEntry, Names};
+pub use operands::{Operand, Passed};
+pub use ops::Op;
+pub use programs::{CodeBlock, DataBlock, Param, Program};
+pub use table::{Takes, taken_by, taken_by_word};
+pub use words::{
+    Adding, CallWord, Comparison, EndWord, Joined, Logic, Number, PointerWord, Shift, StartWord,
+    WORDS, Word, word_of,
+};
