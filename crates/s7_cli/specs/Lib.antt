@@ -6,6 +6,7 @@ pub mod History
 pub mod LineEntries
 pub mod HistoryFault
 pub mod RunText
+pub mod LinesAfter
 pub mod Answer
 pub mod Says
 pub mod Reading

@@ -7,12 +7,13 @@ ghost use Rattle.sem_kept.specs.Tree.{tree_code};
 ghost use Rattle.s7_cli.specs.Ends.{taking};
 ghost use Rattle.s7_cli.specs.Inner.{TextWritten};
 ghost use Rattle.s7_cli.specs.LineText.{output_text};
-ghost use Rattle.s7_cli.specs.RunText.{changed_mode_text, entry_text, lines_after, run_text};
+ghost use Rattle.s7_cli.specs.LinesAfter.{lines_after};
+ghost use Rattle.s7_cli.specs.RunText.{changed_mode_text, run_text, shown_text};
 
 use crate::failures::Failure;
 use crate::finish::write_text;
 use crate::texts::{end_line, mode_line, output_line};
-use controller::{Controller, Observed, Thin};
+use controller::{Controller, Observed, Thin, law_of_replay};
 use plc_base::Mode;
 use plc_io::Sink;
 use sem_kept::laws;
@@ -40,9 +41,9 @@ fn write_mode<K: Sink>(out: &mut K, n: u64, mode: Option<Mode>) -> Result<(), Fa
 }
 
 /// Writes what entry `n` showed.
-#[tactic(auto, unfolding(crate::specs::RunText::entry_text))]
+#[tactic(auto, unfolding(crate::specs::RunText::shown_text))]
 fn write_entry<K: Sink>(out: &mut K, n: u64, seen: &Observed) -> Result<(), Failure>
-    ensures { TextWritten (entry_text n seen.now) (taking (K.shown out.old) (K.shown out.new)) result }
+    ensures { TextWritten (shown_text n seen.now) (taking (K.shown out.old) (K.shown out.new)) result }
 {
     write_outputs(out, n, seen.outputs.as_slice())?;
     write_mode(out, n, seen.mode)
@@ -78,7 +79,9 @@ pub fn run<K: Sink>(
     requires valid { All IsValid entries.now }
     ensures { TextWritten (run_text (tree_code program) entries.now) (taking (K.shown out.old) (K.shown out.new)) result }
 {
+    // the controller's program shows what the source's statements do, entry by entry
     laws::runs_as_source(&program);
+    law_of_replay();
     let mut controller = Controller::new(alloc, program)?;
     controller.reserve(entries.len() as u64)?;
     write_entries(&mut controller, entries, out)?;

@@ -1,6 +1,6 @@
 use Rattle.std.proofs.Common.{take}
 use Rattle.controller.specs.ThinCode.{thin_code}
-use Rattle.s7_cli.specs.RunText.{lines_after}
+use Rattle.s7_cli.specs.LinesAfter.{lines_after}
 use Rattle.s7_cli.proofs.RunLemmas.{Applied}
 use Rattle.s7_cli.proofs.TextLemmas.{Wrote}
 use Rattle.s7_cli.proofs.running.write_entries.Given as goal
