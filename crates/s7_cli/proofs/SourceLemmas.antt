@@ -32,7 +32,7 @@ unbuilt : (source : List ℕ) (tokens : List Token) (tree : Tree) (fault : Sourc
     → RefusesTree tree fault → RefusesSource source fault
 unfolding IsJudged
 unbuilt source tokens tree (Refused refusal) are is_tree breaks =
-    inr (tokens, are, inr (tree, is_tree, ap told (sym breaks.1) ∙ sym (ap built_code breaks.0)))
+    inr (tokens, are, inr (tree, is_tree, ap told breaks.1 ∙ sym (ap built_code breaks.0)))
   where
     told : ℕ → Result Code Refusal
     told rule = Err (record { line = refusal.line; rule = rule })
