@@ -121,8 +121,20 @@ fn lines_of_failures(rt: HostRuntime) {
     let lines: [(Failure, &[u8]); 8] = [
         (Failure::WordsRefused, b"words refused\n"),
         (Failure::ReadFault, b"read fault\n"),
-        (Failure::Refused { file: source, refusal }, b"source refused: line 4 rule 20\n"),
-        (Failure::Refused { file: history, refusal }, b"history refused: line 4 rule 20\n"),
+        (
+            Failure::Refused {
+                file: source,
+                refusal,
+            },
+            b"source refused: line 4 rule 20\n",
+        ),
+        (
+            Failure::Refused {
+                file: history,
+                refusal,
+            },
+            b"history refused: line 4 rule 20\n",
+        ),
         (Failure::TooLong { file: source }, b"too long: source\n"),
         (Failure::TooLong { file: history }, b"too long: history\n"),
         (Failure::WriteFault, b""),
@@ -130,6 +142,9 @@ fn lines_of_failures(rt: HostRuntime) {
     ];
     for (failure, text) in lines {
         let line = failure_line(failure);
-        assert_eq!(rt; line.as_ref().map_or(b"".as_slice(), |line| line.as_slice()), text);
+        assert_eq!(rt;
+            line.as_ref().map_or(b"".as_slice(), |line| line.as_slice()),
+            text
+        );
     }
 }

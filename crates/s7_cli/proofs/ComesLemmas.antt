@@ -184,14 +184,17 @@ no-outputs c d none = λ k is_k name within.
 
 writes : (c : Command) (start now : FilesAt) (s : Taking) (text : List ℕ) (came : Outcome) → Unchanged start now → outputs_of c ≡ []
     → Answers (Some c) (disk start now) (done text) → TextWritten text s came → Comes (Some c) (disk start now) s came
-writes c start now s text (Ok ok) same none answers took = (text, record {
-  answers = answers;
-  took = took.0;
-  faults = took.1;
-  reads = same.reads;
-  writes = same.writes;
-  files = (same-files (Some c) (disk start now) same.contents, no-outputs c (disk start now) none);
-})
+writes c start now s text (Ok ok) same none answers took = (
+  text,
+  record {
+    answers = answers;
+    took = took.0;
+    faults = took.1;
+    reads = same.reads;
+    writes = same.writes;
+    files = (same-files (Some c) (disk start now) same.contents, no-outputs c (disk start now) none);
+  },
+)
 writes c start now s text (Err WriteFault) same none answers took = record {
   cut = record {
     cut = inr (done text, answers, same.reads, took.0);

@@ -20,14 +20,17 @@ record Told (c : Option Command) (d : Disk) (a b z : SinkAt) (failure : Failure)
 
 said : (c : Option Command) (d : Disk) (a b z : SinkAt) (failure : Failure) → Told c d a b z failure
     → (text : List ℕ) × IsSaid c d (taking a z) (record { outcome = Err failure; text = text })
-said c d a b z failure told = (told.fails.line, record {
-  answers = told.fails.answers;
-  took = told.written.0;
-  faults = told.written.1;
-  reads = told.fails.counts;
-  writes = told.fails.only_reads.writes;
-  files = told.fails.only_reads.files;
-})
+said c d a b z failure told = (
+  told.fails.line,
+  record {
+    answers = told.fails.answers;
+    took = told.written.0;
+    faults = told.written.1;
+    reads = told.fails.counts;
+    writes = told.fails.only_reads.writes;
+    files = told.fails.only_reads.files;
+  },
+)
 
 -- the ending is the failure
 as-told : (c : Option Command) (d : Disk) (a b z : SinkAt) (failure ended : Failure) (fails : Fails c d (taking a b) failure)

@@ -180,9 +180,9 @@ lines-states continues c done [] = refl
 lines-states continues c done (e ∷ es) =
     ap (λ (h : Happened). entry_text (length done + 1) h ++ lines_after c (done ++ e ∷ []) es) next
     ∙ ap (λ (t : List ℕ). entry_text (length done + 1) (happens c (replay c done) e.what) ++ t) (
-      lines-states continues c (done ++ e ∷ []) es
-      ∙ ap (λ (n : ℕ). lines_from c n (replay c (done ++ e ∷ [])) es) (length-append done (e ∷ []))
-      ∙ ap (λ (h : Happened). lines_from c (length done + 1) h.state es) next)
+    lines-states continues c (done ++ e ∷ []) es
+    ∙ ap (λ (n : ℕ). lines_from c n (replay c (done ++ e ∷ [])) es) (length-append done (e ∷ []))
+    ∙ ap (λ (h : Happened). lines_from c (length done + 1) h.state es) next)
   where
     next : happened c (done ++ e ∷ []) ≡ happens c (replay c done) e.what
     next = continues c done e

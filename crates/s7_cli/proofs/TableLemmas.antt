@@ -132,12 +132,12 @@ decided-command one k d s a told reads took =
     elim (reads-told d (inputs_of k) (Says k) a told reads) [
       | inl fails ↦ inl (ap (λ (b : Answer). code_of b.outcome) fails.0, fails.1)
       | inr allowed ↦ inr (inr (record {
-          answer = a;
-          allowed = allowed;
-          only = λ other also. allows-one d.before.contents (inputs_of k) (Says k) (says-one one k) other a also allowed;
-          status = refl;
-          took = took;
-        }))
+        answer = a;
+        allowed = allowed;
+        only = λ other also. allows-one d.before.contents (inputs_of k) (Says k) (says-one one k) other a also allowed;
+        status = refl;
+        took = took;
+      }))
     ]
 
 decided : MeansOne → (c : Option Command) (d : Disk) (s : Taking) (a : Answer) → Answers c d a → Took s.before s.after a.text

@@ -22,10 +22,8 @@ fn check<F: Files, K: Sink>(
     files: &mut F,
     out: &mut K,
 ) -> Result<(), Failure>
-    ensures {
-        let files_went = disk (F.shown files.old) (F.shown files.new) in
-        Comes (Some (Check src.now)) files_went (taking (K.shown out.old) (K.shown out.new)) result
-    }
+    ensures { let files_went = disk (F.shown files.old) (F.shown files.new) in
+        Comes (Some (Check src.now)) files_went (taking (K.shown out.old) (K.shown out.new)) result }
 {
     let source = read_file(alloc, files, File::Source, src)?;
     judge_source(alloc, &source)?;
@@ -42,15 +40,11 @@ pub fn cmd_check<F: Files, K: Sink>(
     out: &mut K,
 ) -> Status
     requires { symbols ≡ None }
-    ensures ends {
-        let went = disk (F.shown files.old) (F.shown files.new) in
-        Ended (Some (Check src.now)) went (taking (K.shown out.old) (K.shown out.new)) result.code
-    }
-    ensures table {
-        let went = disk (F.shown files.old) (F.shown files.new) in
+    ensures ends { let went = disk (F.shown files.old) (F.shown files.new) in
+        Ended (Some (Check src.now)) went (taking (K.shown out.old) (K.shown out.new)) result.code }
+    ensures table { let went = disk (F.shown files.old) (F.shown files.new) in
         let took = taking (K.shown out.old) (K.shown out.new) in
-        StatusTable (Some (Check src.now)) went took result.code
-    }
+        StatusTable (Some (Check src.now)) went took result.code }
 {
     let came = check(alloc, src, files, out);
     end_command(out, came)

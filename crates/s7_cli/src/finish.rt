@@ -24,9 +24,7 @@ pub fn write_text<K: Sink>(out: &mut K, text: &[u8]) -> Result<(), Failure>
 
 /// Writes the line of a failure, if it has one, and answers the failure, or that of the writing.
 fn say<K: Sink>(out: &mut K, failure: Failure) -> Failure
-    ensures {
-        LineWritten (line_of failure) failure (taking (K.shown out.old) (K.shown out.new)) result
-    }
+    ensures { LineWritten (line_of failure) failure (taking (K.shown out.old) (K.shown out.new)) result }
 {
     let Some(line) = failure_line(failure) else {
         return failure;
@@ -39,11 +37,9 @@ fn say<K: Sink>(out: &mut K, failure: Failure) -> Failure
 
 /// Writes the line of a command's failure, where it came out with one.
 fn finish<K: Sink>(out: &mut K, came: Result<(), Failure>) -> Result<(), Failure>
-    ensures {
-        (c : Option Command) (d : Disk) (start : SinkAt)
+    ensures { (c : Option Command) (d : Disk) (start : SinkAt)
         → Comes c d (taking start (K.shown out.old)) came
-        → Ends c d (taking start (K.shown out.new)) result
-    }
+        → Ends c d (taking start (K.shown out.new)) result }
 {
     match came {
         Ok(()) => Ok(()),
@@ -53,16 +49,12 @@ fn finish<K: Sink>(out: &mut K, came: Result<(), Failure>) -> Result<(), Failure
 
 /// Ends a command, whose failure isn't written yet.
 pub fn end_command<K: Sink>(out: &mut K, came: Result<(), Failure>) -> Status
-    ensures ends {
-        (c : Option Command) (d : Disk) (start : SinkAt)
+    ensures ends { (c : Option Command) (d : Disk) (start : SinkAt)
         → Comes c d (taking start (K.shown out.old)) came
-        → Ended c d (taking start (K.shown out.new)) result.code
-    }
-    ensures table {
-        (c : Option Command) (d : Disk) (start : SinkAt)
+        → Ended c d (taking start (K.shown out.new)) result.code }
+    ensures table { (c : Option Command) (d : Disk) (start : SinkAt)
         → Comes c d (taking start (K.shown out.old)) came
-        → StatusTable c d (taking start (K.shown out.new)) result.code
-    }
+        → StatusTable c d (taking start (K.shown out.new)) result.code }
 {
     // a source has one meaning or one refusal
     sem_kept::laws::law_of_sources();

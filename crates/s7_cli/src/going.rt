@@ -21,11 +21,9 @@ fn go<F: Files, K: Sink>(
     files: &mut F,
     out: &mut K,
 ) -> Result<(), Failure>
-    ensures {
-        let went = disk (F.shown files.old) (F.shown files.new) in
+    ensures { let went = disk (F.shown files.old) (F.shown files.new) in
         let took = taking (K.shown out.old) (K.shown out.new) in
-        Comes (Some (Go src.now hist.now)) went took result
-    }
+        Comes (Some (Go src.now hist.now)) went took result }
 {
     let source = read_file(alloc, files, File::Source, src)?;
     let history = read_file(alloc, files, File::History, hist)?;
@@ -44,16 +42,12 @@ pub fn cmd_go<F: Files, K: Sink>(
     out: &mut K,
 ) -> Status
     requires { symbols ≡ None }
-    ensures ends {
-        let went = disk (F.shown files.old) (F.shown files.new) in
+    ensures ends { let went = disk (F.shown files.old) (F.shown files.new) in
         let took = taking (K.shown out.old) (K.shown out.new) in
-        Ended (Some (Go src.now hist.now)) went took result.code
-    }
-    ensures table {
-        let went = disk (F.shown files.old) (F.shown files.new) in
+        Ended (Some (Go src.now hist.now)) went took result.code }
+    ensures table { let went = disk (F.shown files.old) (F.shown files.new) in
         let took = taking (K.shown out.old) (K.shown out.new) in
-        StatusTable (Some (Go src.now hist.now)) went took result.code
-    }
+        StatusTable (Some (Go src.now hist.now)) went took result.code }
 {
     let came = go(alloc, src, hist, files, out);
     end_command(out, came)

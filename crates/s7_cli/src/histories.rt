@@ -77,10 +77,8 @@ impl Reading {
     /// Takes the entries of one more line.
     fn add(&mut self, line: LineEntries) -> Result<(), HistoryFault>
         ensures ok { OnOk result (self.new.entries.items ≡ self.old.entries.items ++ entries_of line) }
-        ensures refused {
-            let entries = self.old.entries.items ++ entries_of line in
-            IfErr result (λ fault. AddFault entries fault)
-        }
+        ensures refused { let entries = self.old.entries.items ++ entries_of line in
+            IfErr result (λ fault. AddFault entries fault) }
     {
         match line {
             LineEntries::Nothing => {}

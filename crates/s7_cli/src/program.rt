@@ -35,16 +35,12 @@ pub fn s7_main<R: Threads + Wait + Sync, F: Files, K: Sink, G: Gate + Sync>(
     out: &mut K,
     gate: &G,
 ) -> Status
-    ensures ends {
-        let went = disk (F.shown files.old) (F.shown files.new) in
+    ensures ends { let went = disk (F.shown files.old) (F.shown files.new) in
         let took = taking (K.shown out.old) (K.shown out.new) in
-        Ended (command_of (map string_bytes words.now)) went took result.code
-    }
-    ensures table {
-        let went = disk (F.shown files.old) (F.shown files.new) in
+        Ended (command_of (map string_bytes words.now)) went took result.code }
+    ensures table { let went = disk (F.shown files.old) (F.shown files.new) in
         let took = taking (K.shown out.old) (K.shown out.new) in
-        StatusTable (command_of (map string_bytes words.now)) went took result.code
-    }
+        StatusTable (command_of (map string_bytes words.now)) went took result.code }
 {
     match read_words(alloc, words) {
         Ok(Some(Asked::Go { source, history })) => cmd_go(alloc, source, history, None, files, out),
