@@ -57,6 +57,7 @@ pub fn resumes_source(
 {
     // the source means one program
     law_of_sources();
+    controller::law_of_replay();
 }
 
 /// The law of resumption over the controller's own program.
@@ -64,4 +65,6 @@ pub fn resumes_program(program: &Thin, entries: &[Entry], place: u8, from: u64, 
     requires valid { All IsValid entries.now }
     requires suspended { IsSuspended (thin_code program.now) entries.now place from to }
     ensures { Resumes (thin_code program.now) entries.now place from to }
-{}
+{
+    controller::law_of_replay();
+}
