@@ -2,6 +2,7 @@
 use Rattle.std.proofs.Common.{◌≡◌, ℕ, zero, suc, ◌<◌, ◌≤◌, Bool, true, false, not, ◌&&◌, List, [], ◌∷◌, length, get_or, ltb, Some, None, refl, sym, ap, ◌∙◌, arith}
 use Rattle.std.specs.Char.{to_ascii_uppercase, is_ascii_lowercase}
 use Rattle.std.specs.Cmp.Lexicographic.{slice_cmp}
+use Rattle.std.specs.List.{list_all}
 use Rattle.std.specs.List.Sorted.{IsNonDecreasingBy, IsPartitionPoint}
 use Rattle.std.specs.Ordering.{is_lt, is_eq, nat_cmp, ordering_index}
 use Rattle.std.specs.Str.{bytes_eq}
@@ -9,41 +10,53 @@ use Rattle.std.specs.declared.cmp.Ordering.{Ordering}
 use Rattle.std.specs.declared.cmp.Ordering.TheVariants.{Less, Equal, Greater}
 use Rattle.std.proofs.lemmas.Bool.{and_parts}
 use Rattle.std.proofs.lemmas.Bool.Decides.{nat_tests}
-use Rattle.std.proofs.lemmas.Cmp.{nat_list_cmp_total, alike_right}
+use Rattle.std.proofs.lemmas.Cmp.{nat_list_cmp_total, alike_right, same_from_slice_cmp}
 use Rattle.std.proofs.lemmas.Map.Text.{is_eq-slice_cmp}
 use Rattle.plc_base.specs.declared.places.Place.{Place}
 use Rattle.plc_base.specs.declared.places.Width.{Width}
 use Rattle.flat_code.specs.Programs.{NameEntry}
-use Rattle.flat_code.specs.Names.{upper_case, is_upper_case, is_after, names_rise, is_same_name, find}
+use Rattle.flat_code.specs.Names.{upper_case, names_rise, is_same_name, find}
+use Rattle.flat_code.specs.Faults.{is_before, is_upper}
+
+-- a name stands before another where it compares as less
+pub before_is_less : (a b : List ℕ) (o : Ordering) → o ≡ slice_cmp nat_cmp a b → is_lt o ≡ is_before a b
+before_is_less = same_from_slice_cmp nat_cmp is_lt is_before refl (λ _ _. refl) (λ _ _. refl) (λ x y xs ys o h. grind (arith, nat_tests))
 
 is_less : (o : Ordering) → is_lt o ≡ true → o ≡ Less
 is_less Less h = refl
 is_less Equal h = absurd cc
 is_less Greater h = absurd cc
 
+less : (a b : List ℕ) → is_before a b ≡ true → slice_cmp nat_cmp a b ≡ Less
+less a b h = is_less (slice_cmp nat_cmp a b) (before_is_less a b (slice_cmp nat_cmp a b) refl ∙ h)
+
+pub upper_is_all : (name : List ℕ) → list_all (λ b. not (is_ascii_lowercase b)) name ≡ is_upper name
+upper_is_all [] = refl
+upper_is_all (b ∷ bs) = ap (λ (t : Bool). not (is_ascii_lowercase b) && t) (upper_is_all bs)
+
 upper_byte : (b : ℕ) → not (is_ascii_lowercase b) ≡ true → to_ascii_uppercase b ≡ b
 upper_byte b h = grind (arith, nat_tests)
 
 -- a name in upper case is its own upper case
-upper_kept : (name : List ℕ) → is_upper_case name ≡ true → upper_case name ≡ name
+upper_kept : (name : List ℕ) → is_upper name ≡ true → upper_case name ≡ name
 upper_kept [] h = refl
 upper_kept (b ∷ bs) h =
-    let p = and_parts (not (is_ascii_lowercase b)) (is_upper_case bs) h in
+    let p = and_parts (not (is_ascii_lowercase b)) (is_upper bs) h in
     rw (upper_byte b p.0, upper_kept bs p.1) refl
 
-same_is : (a name : List ℕ) → is_upper_case a ≡ true → is_same_name a name ≡ is_eq (slice_cmp nat_cmp a (upper_case name))
+same_is : (a name : List ℕ) → is_upper a ≡ true → is_same_name a name ≡ is_eq (slice_cmp nat_cmp a (upper_case name))
 same_is a name h = ap (λ (z : List ℕ). bytes_eq z (upper_case name)) (upper_kept a h) ∙ sym (is_eq-slice_cmp a (upper_case name))
 
 record Rises (before : List ℕ) (entry : NameEntry) (entries : List NameEntry) : Type 0 where
   after : slice_cmp nat_cmp before entry.name ≡ Less
-  upper : is_upper_case entry.name ≡ true
+  upper : is_upper entry.name ≡ true
   more : names_rise entry.name entries ≡ true
 
 parts_of : (before : List ℕ) (entry : NameEntry) (entries : List NameEntry) → names_rise before (entry ∷ entries) ≡ true → Rises before entry entries
 parts_of before entry entries h =
-    let p = and_parts (is_after before entry.name && is_upper_case entry.name) (names_rise entry.name entries) h in
-    let q = and_parts (is_after before entry.name) (is_upper_case entry.name) p.0 in
-    record { after = is_less (slice_cmp nat_cmp before entry.name) q.0; upper = q.1; more = p.1 }
+    let p = and_parts (is_before before entry.name && is_upper entry.name) (names_rise entry.name entries) h in
+    let q = and_parts (is_before before entry.name) (is_upper entry.name) p.0 in
+    record { after = less before entry.name q.0; upper = q.1; more = p.1 }
 
 -- every name stands after what they rise from
 later : (before : List ℕ) (es : List NameEntry) → names_rise before es ≡ true → (k : ℕ) (d : NameEntry) → k < length es → slice_cmp nat_cmp before (get_or es k d).name ≡ Less

@@ -174,6 +174,10 @@ actual = record { fits = actual_fits; spell = actual_spelled; read = actual_at }
 abbrev pub pass : Coding (ℕ × Passed)
 pass = then_coding u8 actual
 
+-- an op of form 0B behind its first byte
+abbrev pub passes : ℕ → Passed → List ℕ
+passes index passed = 11 ∷ pass.spell (index, passed)
+
 -- the form of an operand, and its byte
 abbrev pub form_of_operand : Operand → ℕ
 form_of_operand operand.Nothing = 0

@@ -9,3 +9,11 @@ pub mod Laws
 pub mod Programs
 pub mod Instr
 pub mod Names
+pub mod Records
+pub mod Layout
+pub mod Faults
+pub mod Codes
+pub mod Image
+pub mod Placed
+pub mod Blocks
+pub mod Loading

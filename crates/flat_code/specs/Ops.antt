@@ -13,6 +13,9 @@ pub record OpData : Type 0 where
   pub last : Bool
   pub operand : Operand
 
+abbrev pub op_of : ℕ → Bool → Operand → OpData
+op_of code last operand = record { code = code; last = last; operand = operand }
+
 -- whether it is an op of the table
 unfoldable pub is_op : ℕ → Operand → Bool
 is_op code operand = nat_lt code 128 && admits (takes_of code) operand && payload_fits operand

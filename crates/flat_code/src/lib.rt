@@ -4,6 +4,7 @@
 mod decoding;
 mod encoding;
 mod fields;
+mod image_fields;
 mod kinds;
 pub mod laws;
 mod names;
@@ -18,8 +19,9 @@ mod words;
 
 pub use decoding::{BadOp, decode_op};
 pub use encoding::encode_op;
+pub use image_fields::{Field, ParameterRecord};
 pub use kinds::{CONDITIONS, JUMPS, JumpWord, condition_of, flag_of, jump_of};
-pub use names::{NameEntry, Names};
+pub use names::{NameEntry, Names, is_name_before, is_upper_case};
 pub use operands::{Operand, Passed};
 pub use ops::Op;
 pub use programs::{CodeBlock, DataBlock, Param, Program};

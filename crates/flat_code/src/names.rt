@@ -1,7 +1,8 @@
 ghost use Rattle.std.specs.Prelude.{◌≡◌};
 ghost use Rattle.std.specs.Cmp.Lexicographic.{slice_cmp};
 ghost use Rattle.std.specs.Ordering.{nat_cmp};
-ghost use Rattle.flat_code.specs.Names.{upper_case, is_upper_case, IsNames, find as found_among};
+ghost use Rattle.flat_code.specs.Faults.{is_before, is_upper};
+ghost use Rattle.flat_code.specs.Names.{upper_case, IsNames, find as found_among};
 
 use plc_base::{Place, Width};
 use std::cmp::Ordering;
@@ -25,14 +26,14 @@ impl Model for NameEntry {
 
 impl NameEntry {
     ghost use Rattle.std.specs.Prelude.{◌≡◌, ◌&&◌};
-    ghost use Rattle.flat_code.specs.Names.{is_after, is_upper_case};
+    ghost use Rattle.flat_code.specs.Faults.{is_before, is_upper};
 
     /// Whether the name is in upper case and stands after another in the order of bytes.
     fn stands_after(&self, before: &[u8]) -> bool
-        ensures { result ≡ (is_after before.now self.now.name && is_upper_case self.now.name) }
+        ensures { result ≡ (is_before before.now self.now.name && is_upper self.now.name) }
     {
         let name = self.name.as_slice();
-        before.cmp(name).is_lt() && has_no_lower_case(name)
+        is_name_before(before, name) && is_upper_case(name)
     }
 
     /// The place and width of the variable.
@@ -43,9 +44,18 @@ impl NameEntry {
     }
 }
 
+/// Whether a name stands before another in the order of their bytes; a name stands before those
+/// that it begins.
+#[tactic(auto, using(crate::proofs::NameLemmas::before_is_less))]
+pub fn is_name_before(before: &[u8], name: &[u8]) -> bool
+    ensures { result ≡ is_before before.now name.now }
+{
+    before.cmp(name).is_lt()
+}
+
 /// Whether no byte of a name is a letter a to z.
-fn has_no_lower_case(name: &[u8]) -> bool
-    ensures { result ≡ is_upper_case name.now }
+pub fn is_upper_case(name: &[u8]) -> bool
+    ensures { result ≡ is_upper name.now }
 {
     name.iter().all(|byte: &u8| !byte.is_ascii_lowercase())
 }

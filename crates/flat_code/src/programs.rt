@@ -73,7 +73,9 @@ impl Model for DataBlock {
     } };
 }
 
-/// A program: its code blocks, its data blocks, and the names of its variables.
+/// A program: its code blocks, its data blocks, and the names of its variables. Every number fits its
+/// field of an image, no record has a fault 4, and the image has at most 8,388,608 bytes: so every
+/// program has an image. That it verifies isn't kept.
 #[derive(Drop)]
 pub struct Program {
     pub code_blocks: Vec<CodeBlock>,
@@ -91,4 +93,12 @@ impl Model for Program {
       data_blocks = p.data_blocks.items;
       names = p.names;
     } };
+
+    ghost use Rattle.flat_code.specs.Image.{IsProgram};
+
+    ghost invariant = { λ p. IsProgram (record {
+      code_blocks = p.code_blocks.items;
+      data_blocks = p.data_blocks.items;
+      names = p.names;
+    }) };
 }

@@ -1,0 +1,322 @@
+-- The faults that are judged over whole blocks, op by op: 6 jump targets, 7 operands, 8 brackets.
+use Rattle.std.specs.Prelude.{ℕ, zero, suc, ◌+◌, nat_le, nat_lt, ◌==◌, Bool, true, false, ◌&&◌, ◌||◌, not, is_some, if◌then◌else◌, List, [], ◌∷◌, ◌++◌, length, map, slice_get, Option, Some, None}
+use Rattle.std.specs.Option.{option_map, option_and_then}
+use Rattle.plc_base.specs.declared.places.Area.{Area}
+use Rattle.plc_base.specs.declared.places.Area.TheVariants as area
+use Rattle.plc_base.specs.declared.places.Width.{Width}
+use Rattle.plc_base.specs.declared.places.Width.TheVariants as width
+use Rattle.flat_code.specs.declared.image_fields.ParameterRecord.{ParameterRecord}
+use Rattle.flat_code.specs.declared.operands.Operand.{Operand}
+use Rattle.flat_code.specs.declared.operands.Operand.TheVariants as operand
+use Rattle.flat_code.specs.declared.operands.Passed.{Passed}
+use Rattle.flat_code.specs.declared.operands.Passed.TheVariants as passed
+use Rattle.flat_code.specs.Forms.{width_code}
+use Rattle.flat_code.specs.Ops.{OpData}
+use Rattle.flat_code.specs.Programs.{DataBlock}
+use Rattle.flat_code.specs.Records.{BlockRecord}
+use Rattle.flat_code.specs.Faults.{size_of_width}
+use Rattle.flat_code.specs.Codes.{size, first_of, is_nowhere}
+use Rattle.flat_code.specs.Placed.{OpenBracket, Placed, places, begins, is_empty, statement_at, ending, last_op, opens, open_behind}
+use Rattle.flat_code.specs.Table.{takes_of, has_width}
+
+-- what a CALL sees of a block: kind and number, the bytes of an instance, the parameters
+pub record Signature : Type 0 where
+  pub kind : ℕ
+  pub number : ℕ
+  pub instance_len : ℕ
+  pub params : List ParameterRecord
+
+abbrev pub signature_of : BlockRecord → Signature
+signature_of b = record { kind = b.kind; number = b.number; instance_len = b.instance_len; params = b.params }
+
+-- what the faults of a block depend on besides its ops: its kind, local bytes and parameters; the code
+-- blocks; the numbers and lengths of the data blocks, if all blocks were read, so that calls are judged
+pub record Around : Type 0 where
+  pub kind : ℕ
+  pub local_len : ℕ
+  pub params : List ParameterRecord
+  pub blocks : List Signature
+  pub data_lens : Option (List (ℕ × ℕ))
+
+-- ---- what is called
+
+-- the parameters of the system functions: IN and OUT by width, RET_VAL last
+abbrev pub input : ℕ → ParameterRecord
+input width = record { section = 1; width = width; byte = 0; bit = 0 }
+
+abbrev pub output : ℕ → ParameterRecord
+output width = record { section = 2; width = width; byte = 0; bit = 0 }
+
+abbrev pub system_params : ℕ → Option (List ParameterRecord)
+system_params n =
+    -- SET_TINT: OB_NR, DTIME, SIGN, RET_VAL
+    if n == 32 then Some (input 3 ∷ input 4 ∷ input 3 ∷ output 3 ∷ [])
+    -- CAN_DINT: OB_NR, RET_VAL
+    else if n == 33 then Some (input 3 ∷ output 3 ∷ [])
+    -- DIS_IRT, EN_IRT: MODE, OB_NR, RET_VAL
+    else if n == 39 || n == 40 then Some (input 2 ∷ input 3 ∷ output 3 ∷ [])
+    -- DIS_AIRT, EN_AIRT: RET_VAL
+    else if n == 41 || n == 42 then Some (output 3 ∷ [])
+    -- RE_TRIGR, STP
+    else if n == 43 || n == 46 then Some []
+    -- TIME_TCK: RET_VAL
+    else if n == 64 then Some (output 4 ∷ [])
+    else None
+
+-- the first block of a kind and number
+abbrev pub block_with : ℕ → ℕ → List Signature → Option Signature
+block_with kind number [] = None
+block_with kind number (b ∷ bs) = if b.kind == kind && b.number == number then Some b else block_with kind number bs
+
+abbrev pub system_function : ℕ → List ParameterRecord → Signature
+system_function number params = record { kind = 5; number = number; instance_len = 0; params = params }
+
+-- the block that is called: a system function (kind 5), or one of the program
+unfoldable pub callee : List Signature → ℕ → ℕ → Option Signature
+callee blocks kind number = if kind == 5 then option_map (system_function number) (system_params number) else block_with kind number blocks
+
+-- the length of the first data block of a number
+abbrev pub data_len : ℕ → List (ℕ × ℕ) → Option ℕ
+data_len number [] = None
+data_len number (d ∷ ds) = if d.0 == number then Some d.1 else data_len number ds
+
+-- ---- operands
+
+-- a bit number where no bit is meant
+abbrev pub is_odd_bit : Width → ℕ → Bool
+is_odd_bit width.Bit bit = false
+is_odd_bit w bit = not (bit == 0)
+
+-- a local byte past those of the block
+abbrev pub is_past_locals : Around → Area → Width → ℕ → Bool
+is_past_locals around area.L w byte = nat_lt around.local_len (byte + size_of_width (width_code w))
+is_past_locals around a w byte = false
+
+-- a direct place that isn't allowed with any instruction
+abbrev pub is_bad_place : Around → Area → Width → ℕ → ℕ → Bool
+is_bad_place around a w byte bit = is_odd_bit w bit || is_past_locals around a w byte
+
+-- a width that the instruction doesn't have
+abbrev pub lacks_width : OpData → Width → Bool
+lacks_width op w = not (has_width (takes_of op.code) w)
+
+-- the instructions that write their operand: T, =, S, R, FP, FN
+abbrev pub writes : ℕ → Bool
+writes code = nat_le 0x21 code && nat_le code 0x26
+
+-- the parameter of the block that an operand of form 05 means: only a function has such
+abbrev pub own_parameter : Around → ℕ → Option ParameterRecord
+own_parameter around index = if around.kind == 2 then slice_get around.params index else None
+
+abbrev pub lacks_own : Option ParameterRecord → Width → Bool
+lacks_own None w = true
+lacks_own (Some p) w = not (p.width == width_code w)
+
+abbrev pub is_input : Option ParameterRecord → Bool
+is_input None = false
+is_input (Some p) = p.section == 1
+
+-- ---- USEDB and PASS
+
+-- USEDB opens the block of a direct operand in DB
+abbrev pub is_in_db : Operand → Bool
+is_in_db (operand.Direct area.Db w byte bit) = true
+is_in_db _ = false
+
+-- a USEDB that isn't first, or whose statement has no such operand
+abbrev pub is_stray_use_db : Placed → Bool
+is_stray_use_db p = not (begins p) || not (is_in_db (last_op p).operand)
+
+-- the index of a PASS
+abbrev pub pass_index : Operand → Option ℕ
+pass_index (operand.Pass index actual) = Some index
+pass_index _ = None
+
+-- the index of the PASS next before, behind an index found so far
+abbrev pub pass_before : Option ℕ → List OpData → Option ℕ
+pass_before found [] = found
+pass_before found (op ∷ ops) = pass_before (first_of (pass_index op.operand) found) ops
+
+abbrev pub is_above : ℕ → Option ℕ → Bool
+is_above index None = true
+is_above index (Some other) = nat_lt other index
+
+-- a PASS without a CALL, or whose index doesn't rise
+abbrev pub is_stray_pass : Placed → ℕ → Bool
+is_stray_pass p index = not ((last_op p).code == 0x78) || not (is_above index (pass_before None p.before))
+
+-- what is passed, by itself: as operands are
+abbrev pub is_bad_actual : Around → Passed → Bool
+is_bad_actual around (passed.Literal value) = false
+is_bad_actual around (passed.Direct a w byte bit) = is_bad_place around a w byte bit
+is_bad_actual around (passed.Parameter index w) = lacks_own (own_parameter around index) w
+is_bad_actual around (passed.InBlock number area.Db w byte bit) = is_odd_bit w bit
+is_bad_actual around (passed.InBlock number a w byte bit) = true
+
+-- whether a literal fits a width
+abbrev pub literal_fits : ℕ → ℕ → Bool
+literal_fits width value =
+    if width == 1 then nat_le value 1
+    else if width == 2 then nat_le value 0xFF
+    else if width == 3 then nat_le value 0xFFFF
+    else width == 4
+
+-- what is passed doesn't fit its parameter: another width, a literal for OUT or IN_OUT or too wide, an
+-- input of a function for OUT or IN_OUT
+abbrev pub misfits_parameter : Around → ParameterRecord → Passed → Bool
+misfits_parameter around q (passed.Literal value) = not (q.section == 1) || not (literal_fits q.width value)
+misfits_parameter around q (passed.Direct a w byte bit) = not (q.width == width_code w)
+misfits_parameter around q (passed.Parameter index w) = not (q.width == width_code w) || not (q.section == 1) && is_input (own_parameter around index)
+misfits_parameter around q (passed.InBlock number a w byte bit) = not (q.width == width_code w)
+
+abbrev pub misfits_index : Around → Option ParameterRecord → Passed → Bool
+misfits_index around None actual = true
+misfits_index around (Some q) actual = misfits_parameter around q actual
+
+-- a block that is absent is a fault of the CALL, not of its PASS
+abbrev pub misfits_signature : Around → Option Signature → ℕ → Passed → Bool
+misfits_signature around None index actual = false
+misfits_signature around (Some s) index actual = misfits_index around (slice_get s.params index) actual
+
+-- what is passed to the block that a CALL calls
+abbrev pub misfits_call : Around → Operand → ℕ → Passed → Bool
+misfits_call around (operand.Called kind number instance) index actual = misfits_signature around (callee around.blocks kind number) index actual
+misfits_call around _ index actual = false
+
+-- ---- CALL, UC, CC
+
+-- whether a PASS of an index is among ops
+abbrev pub is_passed : ℕ → List OpData → Bool
+is_passed index [] = false
+is_passed index (op ∷ ops) = pass_is index (pass_index op.operand) || is_passed index ops
+  where
+    pass_is : ℕ → Option ℕ → Bool
+    pass_is index None = false
+    pass_is index (Some other) = other == index
+
+-- whether each parameter from an index on is passed
+abbrev pub are_passed : ℕ → List ParameterRecord → List OpData → Bool
+are_passed index [] ops = true
+are_passed index (p ∷ ps) ops = is_passed index ops && are_passed (suc index) ps ops
+
+-- an instance that is absent or shorter than the function block's
+abbrev pub is_short : ℕ → Option ℕ → Bool
+is_short needed None = true
+is_short needed (Some len) = nat_lt len needed
+
+-- no instance (0) is right where the block has no parameters; one is given to function blocks alone
+abbrev pub is_bad_instance : List (ℕ × ℕ) → Signature → ℕ → Bool
+is_bad_instance data_lens s instance =
+    if s.kind == 3 then (if instance == 0 then not (is_empty s.params) else is_short s.instance_len (data_len instance data_lens))
+    else not (instance == 0)
+
+-- absent; a function or system function whose parameters aren't all passed; the instance
+abbrev pub is_bad_call : List (ℕ × ℕ) → Option Signature → ℕ → List OpData → Bool
+is_bad_call data_lens None instance before = true
+is_bad_call data_lens (Some s) instance before = not (s.kind == 3) && not (are_passed 0 s.params before) || is_bad_instance data_lens s instance
+
+-- ---- jumps
+
+abbrev pub bracket_codes : List OpenBracket → List ℕ
+bracket_codes [] = []
+bracket_codes (b ∷ bs) = b.code ∷ bracket_codes bs
+
+abbrev pub same_codes : List ℕ → List ℕ → Bool
+same_codes [] [] = true
+same_codes [] (y ∷ ys) = false
+same_codes (x ∷ xs) [] = false
+same_codes (x ∷ xs) (y ∷ ys) = x == y && same_codes xs ys
+
+-- more than seven open brackets
+abbrev pub is_deep : List OpenBracket → Bool
+is_deep brackets = nat_lt 7 (length brackets)
+
+-- JU, which alone stands in the list of a JL
+abbrev pub is_ju : Operand → Bool
+is_ju (operand.Jump zero target) = true
+is_ju _ = false
+
+-- whether from an offset on at most so many JU stand before a target
+abbrev pub leads : ℕ → ℕ → ℕ → List OpData → Bool
+leads most target from [] = from == target
+leads zero target from (op ∷ ops) = from == target
+leads (suc most) target from (op ∷ ops) = from == target || is_ju op.operand && leads most target (from + size op) ops
+
+-- JL (kind 1): its target stands behind it, and between are at most 255 JU alone
+abbrev pub is_bad_list : Placed → ℕ → ℕ → Bool
+is_bad_list p kind target = kind == 1 && not (leads 255 target (p.at + size p.op) p.rest)
+
+-- 6: no statement begins at the target, or a JL's list. 8: the target has other open brackets. (With
+-- more than seven open brackets an earlier op has fault 8, so these aren't compared.)
+abbrev pub target_fault : Placed → Option Placed → Option ℕ
+target_fault p None = Some 6
+target_fault p (Some t) = if not (is_deep p.brackets) && not (same_codes (bracket_codes p.brackets) (bracket_codes t.brackets)) then Some 8 else None
+
+abbrev pub jump_fault : List Placed → Placed → ℕ → ℕ → Option ℕ
+jump_fault ps p kind target = if is_bad_list p kind target then Some 6 else target_fault p (statement_at ps target)
+
+-- ---- ops
+
+-- 7
+abbrev pub seven_if : Bool → Option ℕ
+seven_if b = if b then Some 7 else None
+
+-- what only needs the own block
+abbrev pub operand_fault : Around → List Placed → Placed → Operand → Option ℕ
+operand_fault around ps p (operand.Direct a w byte bit) = seven_if (lacks_width p.op w || is_bad_place around a w byte bit)
+operand_fault around ps p (operand.ByMemory a w from byte) = seven_if (lacks_width p.op w)
+operand_fault around ps p (operand.ByRegister a w register bits) = seven_if (lacks_width p.op w)
+operand_fault around ps p (operand.Parameter index w) = seven_if (lacks_width p.op w || lacks_own (own_parameter around index) w || writes p.op.code && is_input (own_parameter around index))
+operand_fault around ps p (operand.Jump kind target) = jump_fault ps p kind target
+operand_fault around ps p (operand.UseDb number) = seven_if (is_stray_use_db p)
+operand_fault around ps p (operand.Pass index actual) = seven_if (is_stray_pass p index || is_bad_actual around actual)
+operand_fault around ps p _ = None
+
+-- what needs the other blocks
+abbrev pub call_fault_among : Around → List (ℕ × ℕ) → Placed → Operand → Option ℕ
+call_fault_among around data_lens p (operand.Called kind number instance) = seven_if (is_bad_call data_lens (callee around.blocks kind number) instance p.before)
+call_fault_among around data_lens p (operand.Pass index actual) = seven_if ((last_op p).code == 0x78 && misfits_call around (last_op p).operand index actual)
+call_fault_among around data_lens p _ = None
+
+abbrev pub call_fault : Around → Option (List (ℕ × ℕ)) → Placed → Option ℕ
+call_fault around None p = None
+call_fault around (Some data_lens) p = call_fault_among around data_lens p p.op.operand
+
+-- 7: USEDB and PASS prepare, and have no end mark; every other op has it
+abbrev pub prepares : ℕ → Bool
+prepares code = code == 2 || code == 4
+
+abbrev pub mark_fault : OpData → Option ℕ
+mark_fault op = seven_if (if prepares op.code then op.last else not op.last)
+
+-- 8: `)` without open bracket, an eighth bracket
+abbrev pub bracket_fault : ℕ → List OpenBracket → Option ℕ
+bracket_fault code brackets =
+    if opens code then (if nat_le 7 (length brackets) then Some 8 else None)
+    else if code == 0x1E then (if is_empty brackets then Some 8 else None)
+    else None
+
+-- at an offset
+abbrev pub at_offset : ℕ → Option ℕ → List (ℕ × ℕ)
+at_offset at None = []
+at_offset at (Some code) = (at, code) ∷ []
+
+unfoldable pub op_faults : Around → List Placed → ℕ → Placed → List (ℕ × ℕ)
+op_faults around ps start p =
+    at_offset (start + p.at) (operand_fault around ps p p.op.operand)
+    ++ at_offset (start + p.at) (call_fault around around.data_lens p)
+    ++ at_offset (start + p.at) (mark_fault p.op)
+    ++ at_offset (start + p.at) (bracket_fault p.op.code p.brackets)
+
+abbrev pub faults_over : Around → List Placed → ℕ → List Placed → List (ℕ × ℕ)
+faults_over around ps start [] = []
+faults_over around ps start (p ∷ rest) = op_faults around ps start p ++ faults_over around ps start rest
+
+-- 8: a bracket that is open at the last statement, at its own op
+abbrev pub open_faults : ℕ → List OpenBracket → List (ℕ × ℕ)
+open_faults start [] = []
+open_faults start (b ∷ bs) = (start + b.at, 8) ∷ open_faults start bs
+
+-- the faults of a block whose code begins at an offset
+unfoldable pub block_faults : Around → ℕ → List OpData → List (ℕ × ℕ)
+block_faults around start ops = faults_over around (places ops) start (places ops) ++ open_faults start (open_behind 0 [] ops)

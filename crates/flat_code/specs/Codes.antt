@@ -1,0 +1,88 @@
+-- The code of a block: its ops to the end, the last of them BE with the end mark.
+use Rattle.std.specs.Prelude.{ℕ, zero, suc, ◌+◌, nat_lt, ◌==◌, Bool, true, false, ◌&&◌, ◌||◌, not, is_some, if◌then◌else◌, List, [], ◌∷◌, ◌++◌, length, take, drop, Option, Some, None}
+use Rattle.flat_code.specs.Ops.{OpData, is_op, op_bytes, op_at}
+use Rattle.flat_code.specs.Layout.{Note, Cursor, Read, Layout, ended, given}
+
+-- the ops that bytes begin with, one behind the other, and what is left; each op takes a byte at least
+abbrev pub cons_op : OpData → List OpData × List ℕ → List OpData × List ℕ
+cons_op op r = (op ∷ r.0, r.1)
+
+abbrev pub ops_next : Option (OpData × List ℕ) → List ℕ → (List ℕ → List OpData × List ℕ) → List OpData × List ℕ
+ops_next None bytes more = ([], bytes)
+ops_next (Some r) bytes more = cons_op r.0 (more r.1)
+
+abbrev pub ops_from : ℕ → List ℕ → List OpData × List ℕ
+ops_from zero bytes = ([], bytes)
+ops_from (suc n) bytes = ops_next (op_at bytes) bytes (λ rest. ops_from n rest)
+
+abbrev pub are_ops : List OpData → Bool
+are_ops [] = true
+are_ops (op ∷ ops) = is_op op.code op.operand && are_ops ops
+
+-- how many bytes an op takes
+unfoldable pub size : OpData → ℕ
+size op = length (op_bytes op)
+
+abbrev pub code_bytes : List OpData → List ℕ
+code_bytes [] = []
+code_bytes (op ∷ ops) = op_bytes op ++ code_bytes ops
+
+-- whether the last op is BE with the end mark
+abbrev pub ends : List OpData → Bool
+ends [] = false
+ends (op ∷ []) = op.code == 0x7B && op.last
+ends (op ∷ others) = ends others
+
+-- the offset of the last op, behind ops that end at an offset
+abbrev pub last_place : ℕ → List OpData → ℕ
+last_place at [] = at
+last_place at (op ∷ []) = at
+last_place at (op ∷ others) = last_place (at + size op) others
+
+-- the offset of the first op that is the 65th of its statement, behind so many ops of the statement
+abbrev pub overlong : ℕ → ℕ → List OpData → Option ℕ
+overlong count at [] = None
+overlong count at (op ∷ ops) = if count == 64 then Some at else overlong (if op.last then 0 else suc count) (at + size op) ops
+
+abbrev pub first_of : Option ℕ → Option ℕ → Option ℕ
+first_of None other = other
+first_of (Some at) other = Some at
+
+-- something where it is judged
+abbrev pub only : Bool → Option ℕ → Option ℕ
+only true found = found
+only false found = None
+
+-- 5: the 65th op of a statement; bytes that begin no op; ops of which the last isn't BE with the end
+-- mark (where there is none, the place where it would begin)
+abbrev pub stop_at : Bool → List OpData → List ℕ → Option ℕ
+stop_at judged ops [] = first_of (only judged (overlong 0 0 ops)) (only judged (if ends ops then None else Some (last_place 0 ops)))
+stop_at judged ops (byte ∷ left) = first_of (only judged (overlong 0 0 ops)) (Some (length (code_bytes ops)))
+
+-- the fault 5 of the code of a block
+abbrev pub code_fault : List OpData → Option ℕ
+code_fault ops = stop_at true ops []
+
+-- the code field: ops of these many bytes
+abbrev pub read_ops : Option ℕ → ℕ → List OpData → Cursor → Read (List OpData)
+read_ops None at ops end = given ops end
+read_ops (Some offset) at ops end = ended (at + offset) 5
+
+abbrev pub placed_ops : Bool → ℕ → List OpData × List ℕ → Cursor → Read (List OpData)
+placed_ops judged at r end = read_ops (stop_at judged r.0 r.1) at r.0 end
+
+abbrev pub read_code : Bool → ℕ → Cursor → Read (List OpData)
+read_code judged n cur =
+    if nat_lt (length cur.rest) n then ended cur.at 3
+    else placed_ops judged cur.at (ops_from n (take n cur.rest)) (record { at = cur.at + n; rest = drop n cur.rest })
+
+abbrev pub is_nowhere : Option ℕ → Bool
+is_nowhere None = true
+is_nowhere (Some at) = false
+
+unfoldable pub code_of : Bool → ℕ → Layout (List OpData)
+code_of judged n = record {
+  spell = code_bytes;
+  good = λ ops. are_ops ops && is_nowhere (stop_at judged ops []) && length (code_bytes ops) == n;
+  read = read_code judged n;
+}

@@ -1,0 +1,78 @@
+-- The faults of an image's fields, each by its code: 1 magic, 2 version, 4 a value beyond its limit or
+-- out of order, 9 statement count and lines.
+use Rattle.std.specs.Prelude.{ℕ, nat_le, nat_lt, ◌+◌, ◌==◌, Bool, true, false, ◌&&◌, ◌||◌, not, if◌then◌else◌, List, [], ◌∷◌, Option, Some, None}
+use Rattle.flat_code.specs.declared.image_fields.Field.{Field}
+use Rattle.flat_code.specs.declared.image_fields.Field.TheVariants as field
+
+-- a fault unless a test is met
+abbrev pub unless : Bool → ℕ → Option ℕ
+unless fine code = if fine then None else Some code
+
+abbrev pub lies_within : ℕ → ℕ → ℕ → Bool
+lies_within low high n = nat_le low n && nat_le n high
+
+-- the organization blocks that there are
+abbrev pub is_ob_number : ℕ → Bool
+is_ob_number n = n == 1 || lies_within 10 17 n || lies_within 20 23 n || lies_within 30 38 n || lies_within 40 47 n || n == 80 || n == 85 || n == 100 || n == 121 || n == 122
+
+-- the numbers of the code blocks of a kind (1 OB, 2 FC, 3 FB)
+abbrev pub has_number : ℕ → ℕ → Bool
+has_number kind n = if kind == 1 then is_ob_number n else nat_le n 2047
+
+-- how many bytes a width takes (1 bit, 2 byte, 3 word, 4 double word); a bit stands in one
+abbrev pub size_of_width : ℕ → ℕ
+size_of_width width = if width == 3 then 2 else if width == 4 then 4 else 1
+
+-- a parameter of a function block lies within the instance, one of another block has no place
+abbrev pub holds_parameter : ℕ → ℕ → ℕ → ℕ → Bool
+holds_parameter kind instance width byte = if kind == 3 then nat_le (byte + size_of_width width) instance else byte == 0
+
+unfoldable pub fault_of : Field → Option ℕ
+-- 1: the magic is `S7FB`
+fault_of (field.Magic number) = unless (number == 0x53374642) 1
+-- 2: the version is 1
+fault_of (field.Version number) = unless (number == 1) 2
+-- 4: a reserved field is 0
+fault_of (field.Reserved number) = unless (number == 0) 4
+-- sizes, counts, kinds and numbers are within their limits, and records rise
+fault_of (field.Total bytes) = unless (nat_le bytes 8388608) 4
+fault_of (field.DataBlockCount count) = unless (nat_le count 256) 4
+fault_of (field.Kind before kind) = unless (lies_within 1 3 kind && nat_le before kind) 4
+fault_of (field.ParameterCount kind count) = unless (nat_le count 60 && (not (kind == 1) || count == 0)) 4
+fault_of (field.Number kind_before before kind number) = unless (has_number kind number && (not (kind == kind_before) || nat_lt before number)) 4
+fault_of (field.LocalBytes kind bytes) = unless (nat_le bytes 1024 && (not (kind == 1) || nat_le 20 bytes)) 4
+fault_of (field.InstanceBytes kind bytes) = unless (if kind == 3 then nat_le bytes 16384 else bytes == 0) 4
+fault_of (field.Section section) = unless (lies_within 1 3 section) 4
+fault_of (field.Width width) = unless (lies_within 1 4 width) 4
+fault_of (field.ParameterByte kind instance width byte) = unless (holds_parameter kind instance width byte) 4
+fault_of (field.ParameterBit kind bit) = unless (nat_le bit 7 && (kind == 3 || bit == 0)) 4
+fault_of (field.DataNumber before number) = unless (lies_within 1 2047 number && nat_lt before number) 4
+fault_of (field.InstanceOf number) = unless (nat_le number 2048) 4
+fault_of (field.DataBytes before bytes) = unless (nat_le bytes 16384 && nat_le (before + bytes) 2097152) 4
+fault_of (field.NameLength bytes) = unless (lies_within 1 24 bytes) 4
+fault_of (field.NameArea area) = unless (lies_within 129 131 area) 4
+fault_of (field.NameBit width bit) = unless (nat_le bit 7 && (width == 1 || bit == 0)) 4
+-- 9: as many statements as end marks; a line isn't 0, and none falls
+fault_of (field.StatementCount end_marks count) = unless (end_marks == count) 9
+fault_of (field.Line before line) = unless (not (line == 0) && nat_le before line) 9
+
+-- the order of names: by bytes, a name before those that it begins
+abbrev pub is_before : List ℕ → List ℕ → Bool
+is_before _ [] = false
+is_before [] (y ∷ ys) = true
+is_before (x ∷ xs) (y ∷ ys) = nat_lt x y || x == y && is_before xs ys
+
+-- no lower-case letter of ASCII
+abbrev pub is_upper : List ℕ → Bool
+is_upper [] = true
+is_upper (x ∷ xs) = not (lies_within 97 122 x) && is_upper xs
+
+-- whether the last byte is a blank
+abbrev pub ends_blank : List ℕ → Bool
+ends_blank [] = false
+ends_blank (x ∷ []) = x == 32
+ends_blank (x ∷ xs) = ends_blank xs
+
+-- 4: a name rises from the name before it, has no lower-case letter, and no blank at its end
+unfoldable pub name_fault : List ℕ → List ℕ → Option ℕ
+name_fault before name = unless (is_before before name && is_upper name && not (ends_blank name)) 4

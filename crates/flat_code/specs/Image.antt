@@ -1,0 +1,398 @@
+-- THE IMAGE of a program, version 1, and what reading bytes as one notes and finds.
+use Rattle.std.specs.Prelude.{◌≡◌, ℕ, zero, suc, ◌+◌, ◌-◌, ◌*◌, ◌≤◌, nat_lt, nat_le, ◌==◌, Bool, true, false, ◌&&◌, ◌||◌, not, if◌then◌else◌, List, [], ◌∷◌, ◌++◌, length, map, take, drop, Option, Some, None}
+use Rattle.plc_base.specs.declared.blocks.BlockId.{BlockId}
+use Rattle.plc_base.specs.declared.blocks.BlockKind.{BlockKind}
+use Rattle.plc_base.specs.declared.blocks.BlockKind.TheVariants as kind
+use Rattle.plc_base.specs.declared.places.Area.{Area}
+use Rattle.plc_base.specs.declared.places.Area.TheVariants as area
+use Rattle.plc_base.specs.declared.places.Place.{Place}
+use Rattle.plc_base.specs.declared.places.Width.{Width}
+use Rattle.plc_base.specs.declared.places.Width.TheVariants as width
+use Rattle.flat_code.specs.declared.programs.Param.{Param}
+use Rattle.flat_code.specs.declared.image_fields.ParameterRecord.{ParameterRecord}
+use Rattle.flat_code.specs.declared.image_fields.Field.TheVariants as field_of
+use Rattle.flat_code.specs.Coding.{Coding, u8, u16, u32}
+use Rattle.flat_code.specs.Forms.{width_code}
+use Rattle.flat_code.specs.Ops.{OpData}
+use Rattle.flat_code.specs.Programs.{CodeBlock, DataBlock, NameEntry, Program}
+use Rattle.flat_code.specs.Records.{BlockRecord, NameRecord, Records}
+use Rattle.flat_code.specs.Faults.{fault_of, name_fault}
+use Rattle.flat_code.specs.Layout.{Note, Faulty, Whole, AllBlocks, Cursor, Read, Layout, ended, given, bind, field, chain, checked, located, many, seen_as, remembered}
+use Rattle.flat_code.specs.Codes.{code_bytes, code_of, only}
+
+-- a field that is judged later, or not at all
+abbrev pub plain : ℕ → Option ℕ
+plain n = None
+
+unfoldable pub plain_u16 : Layout ℕ
+plain_u16 = field u16 plain
+
+unfoldable pub plain_u32 : Layout ℕ
+plain_u32 = field u32 plain
+
+unfoldable pub zero_u8 : Layout ℕ
+zero_u8 = field u8 (λ n. fault_of (field_of.Reserved n))
+
+unfoldable pub zero_u16 : Layout ℕ
+zero_u16 = field u16 (λ n. fault_of (field_of.Reserved n))
+
+unfoldable pub width_field : Layout ℕ
+width_field = field u8 (λ n. fault_of (field_of.Width n))
+
+-- n bytes
+abbrev pub bytes_fit : List ℕ → Bool
+bytes_fit [] = true
+bytes_fit (b ∷ bs) = nat_lt b 256 && bytes_fit bs
+
+abbrev pub bytes : ℕ → Coding (List ℕ)
+bytes n = record { fits = λ bs. length bs == n && bytes_fit bs; spell = λ bs. bs; read = λ text. if nat_lt (length text) n then None else Some (take n text, drop n text) }
+
+-- PARAMETER: section u8, width u8, byte u16, bit u8, zero u8
+unfoldable pub section_field : Layout ℕ
+section_field = field u8 (λ n. fault_of (field_of.Section n))
+
+unfoldable pub parameter_byte : ℕ → ℕ → ℕ → Layout ℕ
+parameter_byte kind instance w = field u16 (λ n. fault_of (field_of.ParameterByte kind instance w n))
+
+unfoldable pub parameter_bit : ℕ → Layout ℕ
+parameter_bit kind = field u8 (λ n. fault_of (field_of.ParameterBit kind n))
+
+abbrev pub RawParameter : Type 0
+RawParameter = ℕ × (ℕ × (ℕ × (ℕ × ℕ)))
+
+unfoldable pub raw_parameter : ℕ → ℕ → Layout RawParameter
+raw_parameter kind instance =
+    chain section_field (λ s.
+    chain width_field (λ w.
+    chain (parameter_byte kind instance w) (λ byte.
+    chain (parameter_bit kind) (λ bit. zero_u8))))
+
+abbrev pub parameter_of_raw : RawParameter → ParameterRecord
+parameter_of_raw r = record { section = r.0; width = r.1.0; byte = r.1.1.0; bit = r.1.1.1.0 }
+
+abbrev pub raw_of_parameter : ParameterRecord → RawParameter
+raw_of_parameter p = (p.section, (p.width, (p.byte, (p.bit, 0))))
+
+unfoldable pub parameter : ℕ → ℕ → Layout ParameterRecord
+parameter kind instance = seen_as parameter_of_raw raw_of_parameter (raw_parameter kind instance)
+
+-- HEAD OF A CODE BLOCK: kind u8, parameter count u8, number u16, local bytes u16, instance bytes u16,
+-- statement count u16, zero u16, code length u32. `before` has kind and number of the block before, 0 and 0 for none
+unfoldable pub kind_field : ℕ → Layout ℕ
+kind_field before = field u8 (λ n. fault_of (field_of.Kind before n))
+
+unfoldable pub parameter_count : ℕ → Layout ℕ
+parameter_count kind = field u8 (λ n. fault_of (field_of.ParameterCount kind n))
+
+unfoldable pub block_number : ℕ → ℕ → ℕ → Layout ℕ
+block_number kind_before before kind = field u16 (λ n. fault_of (field_of.Number kind_before before kind n))
+
+unfoldable pub local_bytes : ℕ → Layout ℕ
+local_bytes kind = field u16 (λ n. fault_of (field_of.LocalBytes kind n))
+
+unfoldable pub instance_bytes : ℕ → Layout ℕ
+instance_bytes kind = field u16 (λ n. fault_of (field_of.InstanceBytes kind n))
+
+-- kind, parameter count, number, local bytes, instance bytes, statement count, zero, code length
+abbrev pub Head : Type 0
+Head = ℕ × (ℕ × (ℕ × (ℕ × (ℕ × (ℕ × (ℕ × ℕ))))))
+
+unfoldable pub head : ℕ × ℕ → Layout Head
+head before =
+    chain (kind_field before.0) (λ kind.
+    chain (parameter_count kind) (λ params.
+    chain (block_number before.0 before.1 kind) (λ number.
+    chain (local_bytes kind) (λ locals.
+    chain (instance_bytes kind) (λ instance.
+    chain plain_u16 (λ statements.
+    chain zero_u16 (λ zero. plain_u32)))))))
+
+abbrev pub params_in : Head → ℕ
+params_in h = h.1.0
+
+abbrev pub instance_in : Head → ℕ
+instance_in h = h.1.1.1.1.0
+
+abbrev pub statements_in : Head → ℕ
+statements_in h = h.1.1.1.1.1.0
+
+abbrev pub code_len_in : Head → ℕ
+code_len_in h = h.1.1.1.1.1.1.1
+
+-- PARAMETERS
+abbrev pub same_state : ℕ → ParameterRecord → ℕ
+same_state s p = s
+
+unfoldable pub parameters : Head → Layout (List ParameterRecord)
+parameters h = many (λ s. parameter h.0 (instance_in h)) same_state 0 (params_in h)
+
+-- LINES, u32 each; the statement count at `start` + 8 is judged now, as the code is known
+abbrev pub end_marks : List OpData → ℕ
+end_marks [] = 0
+end_marks (op ∷ ops) = (if op.last then 1 else 0) + end_marks ops
+
+abbrev pub line_after : ℕ → ℕ → ℕ
+line_after before line = line
+
+unfoldable pub line_field : Bool → ℕ → Layout ℕ
+line_field judged before = field u32 (λ n. only judged (fault_of (field_of.Line before n)))
+
+unfoldable pub lines_of : Bool → ℕ → Head → List OpData → Layout (List ℕ)
+lines_of judged start h ops =
+    checked (start + 8) (only judged (fault_of (field_of.StatementCount (end_marks ops) (statements_in h))))
+    (many (line_field judged) line_after 0 (statements_in h))
+
+-- CODE BLOCK: head, parameters, code, lines
+unfoldable pub code_and_lines : Bool → ℕ → Head → Layout (List OpData × List ℕ)
+code_and_lines judged start h = chain (code_of judged (code_len_in h)) (lines_of judged start h)
+
+abbrev pub RawBlock : Type 0
+RawBlock = Head × (List ParameterRecord × (List OpData × List ℕ))
+
+unfoldable pub raw_block : Bool → ℕ × ℕ → ℕ → Layout RawBlock
+raw_block judged before start = chain (head before) (λ h. chain (parameters h) (λ params. code_and_lines judged start h))
+
+abbrev pub block_of_raw : RawBlock → BlockRecord
+block_of_raw r = record { kind = r.0.0; number = r.0.1.1.0; local_len = r.0.1.1.1.0; instance_len = r.0.1.1.1.1.0; params = r.1.0; code = r.1.1.0; lines = r.1.1.1 }
+
+abbrev pub raw_of_block : BlockRecord → RawBlock
+raw_of_block b = ((b.kind, (length b.params, (b.number, (b.local_len, (b.instance_len, (length b.lines, (0, length (code_bytes b.code)))))))), (b.params, (b.code, b.lines)))
+
+unfoldable pub plain_block : Bool → ℕ × ℕ → ℕ → Layout BlockRecord
+plain_block judged before start = seen_as block_of_raw raw_of_block (raw_block judged before start)
+
+-- a block that was read whole is noted, with the offset at which its code begins
+abbrev pub whole_at : ℕ → BlockRecord → Note
+whole_at start b = Whole (start + 16 + 6 * length b.params) b
+
+abbrev pub code_block_at : Bool → ℕ × ℕ → ℕ → Layout BlockRecord
+code_block_at judged before start = remembered (whole_at start) (plain_block judged before start)
+
+unfoldable pub code_block : Bool → ℕ × ℕ → Layout BlockRecord
+code_block judged before = located (code_block_at judged before)
+
+abbrev pub after_block : ℕ × ℕ → BlockRecord → ℕ × ℕ
+after_block before b = (b.kind, b.number)
+
+-- DATA BLOCK: number u16, FB number of an instance plus 1 or 0 u16, length u16, zero u16, bytes.
+-- `before` has the number of the block before, 0 for none, and the bytes of all before together
+unfoldable pub data_number : ℕ → Layout ℕ
+data_number before = field u16 (λ n. fault_of (field_of.DataNumber before n))
+
+unfoldable pub instance_field : Layout ℕ
+instance_field = field u16 (λ n. fault_of (field_of.InstanceOf n))
+
+unfoldable pub data_len : ℕ → Layout ℕ
+data_len before = field u16 (λ n. fault_of (field_of.DataBytes before n))
+
+unfoldable pub contents : ℕ → Layout (List ℕ)
+contents n = field (bytes n) (λ bs. None)
+
+abbrev pub RawData : Type 0
+RawData = ℕ × (ℕ × (ℕ × (ℕ × List ℕ)))
+
+unfoldable pub raw_data : ℕ × ℕ → Layout RawData
+raw_data before =
+    chain (data_number before.0) (λ number.
+    chain instance_field (λ instance.
+    chain (data_len before.1) (λ n.
+    chain zero_u16 (λ zero. contents n))))
+
+abbrev pub instance_of_number : ℕ → Option ℕ
+instance_of_number zero = None
+instance_of_number (suc n) = Some n
+
+abbrev pub number_of_instance : Option ℕ → ℕ
+number_of_instance None = 0
+number_of_instance (Some n) = suc n
+
+abbrev pub data_of_raw : RawData → DataBlock
+data_of_raw r = record { number = r.0; instance_of = instance_of_number r.1.0; bytes = r.1.1.1.1 }
+
+abbrev pub raw_of_data : DataBlock → RawData
+raw_of_data d = (d.number, (number_of_instance d.instance_of, (length d.bytes, (0, d.bytes))))
+
+unfoldable pub data_block : ℕ × ℕ → Layout DataBlock
+data_block before = seen_as data_of_raw raw_of_data (raw_data before)
+
+abbrev pub after_data : ℕ × ℕ → DataBlock → ℕ × ℕ
+after_data before d = (d.number, before.1 + length d.bytes)
+
+-- NAME: length u8, bytes, area u8, width u8, byte u16, bit u8. `before` is the name before, empty for none
+unfoldable pub name_len : Layout ℕ
+name_len = field u8 (λ n. fault_of (field_of.NameLength n))
+
+unfoldable pub name_bytes : List ℕ → ℕ → Layout (List ℕ)
+name_bytes before n = field (bytes n) (name_fault before)
+
+unfoldable pub name_area : Layout ℕ
+name_area = field u8 (λ n. fault_of (field_of.NameArea n))
+
+unfoldable pub name_bit : ℕ → Layout ℕ
+name_bit w = field u8 (λ n. fault_of (field_of.NameBit w n))
+
+abbrev pub RawName : Type 0
+RawName = ℕ × (List ℕ × (ℕ × (ℕ × (ℕ × ℕ))))
+
+unfoldable pub raw_name : List ℕ → Layout RawName
+raw_name before =
+    chain name_len (λ n.
+    chain (name_bytes before n) (λ name.
+    chain name_area (λ area.
+    chain width_field (λ w.
+    chain plain_u16 (λ byte. name_bit w)))))
+
+abbrev pub name_of_raw : RawName → NameRecord
+name_of_raw r = record { name = r.1.0; area = r.1.1.0; width = r.1.1.1.0; byte = r.1.1.1.1.0; bit = r.1.1.1.1.1 }
+
+abbrev pub raw_of_name : NameRecord → RawName
+raw_of_name n = (length n.name, (n.name, (n.area, (n.width, (n.byte, n.bit)))))
+
+unfoldable pub name_record : List ℕ → Layout NameRecord
+name_record before = seen_as name_of_raw raw_of_name (raw_name before)
+
+abbrev pub after_name : List ℕ → NameRecord → List ℕ
+after_name before n = n.name
+
+-- ALL BEHIND THE TOTAL LENGTH: count of code blocks u16, of data blocks u16, of names u16, zero u16; the records
+unfoldable pub data_count : Layout ℕ
+data_count = field u16 (λ n. fault_of (field_of.DataBlockCount n))
+
+abbrev pub Counts : Type 0
+Counts = ℕ × (ℕ × (ℕ × ℕ))
+
+unfoldable pub counts : Layout Counts
+counts = chain plain_u16 (λ codes. chain data_count (λ datas. chain plain_u16 (λ names. zero_u16)))
+
+unfoldable pub code_blocks : Bool → ℕ → Layout (List BlockRecord)
+code_blocks judged n = many (code_block judged) after_block (0, 0) n
+
+abbrev pub plain_data_blocks : ℕ → Layout (List DataBlock)
+plain_data_blocks n = many data_block after_data (0, 0) n
+
+-- that all blocks were read is noted
+unfoldable pub data_blocks : ℕ → Layout (List DataBlock)
+data_blocks n = remembered AllBlocks (plain_data_blocks n)
+
+unfoldable pub names : ℕ → Layout (List NameRecord)
+names n = many name_record after_name [] n
+
+abbrev pub RawRecords : Type 0
+RawRecords = Counts × (List BlockRecord × (List DataBlock × List NameRecord))
+
+-- judged: the faults of code and lines (5 and 9) too
+unfoldable pub raw_records : Bool → Layout RawRecords
+raw_records judged = chain counts (λ c. chain (code_blocks judged c.0) (λ blocks. chain (data_blocks c.1.0) (λ datas. names c.1.1.0)))
+
+abbrev pub records_of_raw : RawRecords → Records
+records_of_raw r = record { code_blocks = r.1.0; data_blocks = r.1.1.0; names = r.1.1.1 }
+
+abbrev pub raw_of_records : Records → RawRecords
+raw_of_records r = ((length r.code_blocks, (length r.data_blocks, (length r.names, 0))), (r.code_blocks, (r.data_blocks, r.names)))
+
+unfoldable pub records : Bool → Layout Records
+records judged = seen_as records_of_raw raw_of_records (raw_records judged)
+
+-- A PROGRAM of these records, and back: kinds, widths and areas by their numbers
+abbrev pub kind_of_number : ℕ → BlockKind
+kind_of_number n = if n == 1 then kind.Ob else if n == 2 then kind.Fc else if n == 3 then kind.Fb else kind.Udt
+
+abbrev pub number_of_kind : BlockKind → ℕ
+number_of_kind kind.Ob = 1
+number_of_kind kind.Fc = 2
+number_of_kind kind.Fb = 3
+number_of_kind kind.Sfc = 5
+number_of_kind _ = 0
+
+abbrev pub width_of_number : ℕ → Width
+width_of_number n = if n == 2 then width.Byte else if n == 3 then width.Word else if n == 4 then width.Dword else width.Bit
+
+abbrev pub area_of_number : ℕ → Area
+area_of_number n = if n == 129 then area.I else if n == 130 then area.Q else area.M
+
+-- only a place of no data block, in I, Q or M, has a number
+abbrev pub number_of_area : ℕ → Area → ℕ
+number_of_area zero area.I = 129
+number_of_area zero area.Q = 130
+number_of_area zero area.M = 131
+number_of_area _ _ = 0
+
+abbrev pub param_of : ParameterRecord → Param
+param_of p = record { section = p.section; width = width_of_number p.width; byte = p.byte; bit = p.bit }
+
+abbrev pub record_of_param : Param → ParameterRecord
+record_of_param p = record { section = p.section; width = width_code p.width; byte = p.byte; bit = p.bit }
+
+abbrev pub block_of_record : BlockRecord → CodeBlock
+block_of_record b = record { id = record { kind = kind_of_number b.kind; number = b.number }; local_len = b.local_len; instance_len = b.instance_len; params = map param_of b.params; code = b.code; lines = b.lines }
+
+abbrev pub record_of_block : CodeBlock → BlockRecord
+record_of_block b = record { kind = number_of_kind b.id.kind; number = b.id.number; local_len = b.local_len; instance_len = b.instance_len; params = map record_of_param b.params; code = b.code; lines = b.lines }
+
+abbrev pub entry_of_name : NameRecord → NameEntry
+entry_of_name n = record { name = n.name; place = record { area = area_of_number n.area; number = 0; byte = n.byte; bit = n.bit }; width = width_of_number n.width }
+
+abbrev pub name_of_entry : NameEntry → NameRecord
+name_of_entry e = record { name = e.name; area = number_of_area e.place.number e.place.area; width = width_code e.width; byte = e.place.byte; bit = e.place.bit }
+
+abbrev pub program_of : Records → Program
+program_of r = record { code_blocks = map block_of_record r.code_blocks; data_blocks = r.data_blocks; names = map entry_of_name r.names }
+
+abbrev pub records_of : Program → Records
+records_of p = record { code_blocks = map record_of_block p.code_blocks; data_blocks = p.data_blocks; names = map name_of_entry p.names }
+
+unfoldable pub body : Bool → Layout Program
+body judged = seen_as program_of records_of (records judged)
+
+-- HEADER up to the total length: magic u32, version u16, zero u16, total length u32
+unfoldable pub magic_field : Layout ℕ
+magic_field = field u32 (λ n. fault_of (field_of.Magic n))
+
+unfoldable pub version_field : Layout ℕ
+version_field = field u16 (λ n. fault_of (field_of.Version n))
+
+unfoldable pub total_field : Layout ℕ
+total_field = field u32 (λ n. fault_of (field_of.Total n))
+
+abbrev pub Front : Type 0
+Front = ℕ × (ℕ × (ℕ × ℕ))
+
+unfoldable pub front : Layout Front
+front = chain magic_field (λ magic. chain version_field (λ version. chain zero_u16 (λ zero. total_field)))
+
+abbrev pub front_size : ℕ
+front_size = 12
+
+abbrev pub front_of : ℕ → Front
+front_of total = (0x53374642, (1, (0, total)))
+
+unfoldable pub image : Program → List ℕ
+image p = front.spell (front_of (front_size + length ((body false).spell p))) ++ (body false).spell p
+
+-- A PROGRAM: every number fits its field, nothing in it is fault 4, and its image has at most 8,388,608 bytes
+pub record IsProgram (p : Program) : Type 0 where
+  pub good : (body false).good p ≡ true
+  pub short : front_size + length ((body false).spell p) ≤ 8388608
+
+-- no field of it has a fault
+abbrev pub IsRight : Program → Type 0
+IsRight p = (body true).good p ≡ true
+
+-- 10: bytes behind the last record
+abbrev pub at_end : Program → Cursor → Read Program
+at_end p end = record { notes = if length end.rest == 0 then [] else Faulty end.at 10 ∷ []; found = Some (p, end) }
+
+-- 3: a total length above the bytes there, or below 20. 10: bytes behind the total length, which are cut off
+abbrev pub cut : Bool → ℕ → ℕ → Cursor → Read Program
+cut judged size total cur =
+    if nat_lt total 20 || nat_lt size total then ended 8 3
+    else record {
+      notes = (if size == total then [] else Faulty total 10 ∷ []) ++ (bind ((body judged).read (record { at = cur.at; rest = take (total - front_size) cur.rest })) at_end).notes;
+      found = (bind ((body judged).read (record { at = cur.at; rest = take (total - front_size) cur.rest })) at_end).found;
+    }
+
+unfoldable pub read_by : Bool → List ℕ → Read Program
+read_by judged text = bind (front.read (record { at = 0; rest = text })) (λ f cur. cut judged (length text) f.1.1.1 cur)
+
+abbrev pub read_image : List ℕ → Read Program
+read_image text = read_by true text

@@ -1,0 +1,112 @@
+-- A layout of values: their bytes, which of them are without fault, and what reading them from left
+-- to right notes and finds.
+use Rattle.std.specs.Prelude.{ℕ, zero, suc, ◌+◌, ◌-◌, nat_lt, ◌==◌, Bool, true, false, ◌&&◌, not, if◌then◌else◌, List, [], ◌∷◌, ◌++◌, length, Option, Some, None}
+use Rattle.flat_code.specs.Coding.{Coding}
+use Rattle.flat_code.specs.Programs.{DataBlock}
+use Rattle.flat_code.specs.Records.{BlockRecord}
+
+-- what reading notes: a fault at an offset, by its code; a code block that was read whole, with the
+-- offset at which its code begins; and that all code and data blocks were read
+pub data Note : Type 0 where
+  Faulty : (at : ℕ) (code : ℕ) → Note
+  Whole : (start : ℕ) (block : BlockRecord) → Note
+  AllBlocks : (blocks : List DataBlock) → Note
+
+-- a place in the bytes: its offset, and what is left from there
+pub record Cursor : Type 0 where
+  pub at : ℕ
+  pub rest : List ℕ
+
+pub record Read (A : Type 0) : Type 0 where
+  pub notes : List Note
+  pub found : Option (A × Cursor)
+
+pub record Layout (A : Type 0) : Type 0 where
+  pub spell : A → List ℕ
+  pub good : A → Bool
+  pub read : Cursor → Read A
+
+-- reading ends at a fault
+abbrev pub ended : {A : Type 0} → ℕ → ℕ → Read A
+ended at code = record { notes = Faulty at code ∷ []; found = None }
+
+abbrev pub given : {A : Type 0} → A → Cursor → Read A
+given x cur = record { notes = []; found = Some (x, cur) }
+
+-- goes on with what was found
+abbrev pub go_on : {A B : Type 0} → List Note → Option (A × Cursor) → (A → Cursor → Read B) → Read B
+go_on notes None f = record { notes = notes; found = None }
+go_on notes (Some x) f = record { notes = notes ++ (f x.0 x.1).notes; found = (f x.0 x.1).found }
+
+abbrev pub bind : {A B : Type 0} → Read A → (A → Cursor → Read B) → Read B
+bind r f = go_on r.notes r.found f
+
+-- the note of a fault, if there is one
+abbrev pub noted : ℕ → Option ℕ → List Note
+noted at None = []
+noted at (Some code) = Faulty at code ∷ []
+
+abbrev pub is_fine : Option ℕ → Bool
+is_fine None = true
+is_fine (Some code) = false
+
+-- a field by its coding, and the fault of a value; one that can't be read is fault 3
+abbrev pub field_of : {A : Type 0} → (A → Option ℕ) → Cursor → Option (A × List ℕ) → Read A
+field_of judge cur None = ended cur.at 3
+field_of judge cur (Some r) = record { notes = noted cur.at (judge r.0); found = Some (r.0, record { at = cur.at + (length cur.rest - length r.1); rest = r.1 }) }
+
+abbrev pub field : {A : Type 0} → Coding A → (A → Option ℕ) → Layout A
+field c judge = record { spell = c.spell; good = λ x. c.fits x && is_fine (judge x); read = λ cur. field_of judge cur (c.read cur.rest) }
+
+-- one behind the other; what comes second may depend on what came first
+abbrev pub chain : {A B : Type 0} → Layout A → (A → Layout B) → Layout (A × B)
+chain l m = record {
+  spell = λ x. l.spell x.0 ++ (m x.0).spell x.1;
+  good = λ x. l.good x.0 && (m x.0).good x.1;
+  read = λ cur. bind (l.read cur) (λ x next. bind ((m x).read next) (λ y end. given (x, y) end));
+}
+
+-- a fault at an earlier place, found only now
+abbrev pub checked : {A : Type 0} → ℕ → Option ℕ → Layout A → Layout A
+checked at fault l = record {
+  spell = l.spell;
+  good = λ x. is_fine fault && l.good x;
+  read = λ cur. record { notes = noted at fault ++ (l.read cur).notes; found = (l.read cur).found };
+}
+
+-- a layout that knows where it begins
+abbrev pub located : {A : Type 0} → (ℕ → Layout A) → Layout A
+located l = record { spell = (l 0).spell; good = (l 0).good; read = λ cur. (l cur.at).read cur }
+
+-- n values, each judged by what came before it
+abbrev pub spell_many : {S A : Type 0} → (S → Layout A) → (S → A → S) → S → List A → List ℕ
+spell_many l next s [] = []
+spell_many l next s (x ∷ xs) = (l s).spell x ++ spell_many l next (next s x) xs
+
+abbrev pub good_many : {S A : Type 0} → (S → Layout A) → (S → A → S) → S → ℕ → List A → Bool
+good_many l next s zero [] = true
+good_many l next s zero (x ∷ xs) = false
+good_many l next s (suc n) [] = false
+good_many l next s (suc n) (x ∷ xs) = (l s).good x && good_many l next (next s x) n xs
+
+abbrev pub read_many : {S A : Type 0} → (S → Layout A) → (S → A → S) → S → ℕ → Cursor → Read (List A)
+read_many l next s zero cur = given [] cur
+read_many l next s (suc n) cur = bind ((l s).read cur) (λ x after. bind (read_many l next (next s x) n after) (λ xs end. given (x ∷ xs) end))
+
+abbrev pub many : {S A : Type 0} → (S → Layout A) → (S → A → S) → S → ℕ → Layout (List A)
+many l next s n = record { spell = spell_many l next s; good = good_many l next s n; read = read_many l next s n }
+
+-- the same bytes for another type of values
+abbrev pub seen_as : {A B : Type 0} → (A → B) → (B → A) → Layout A → Layout B
+seen_as to from l = record { spell = λ y. l.spell (from y); good = λ y. l.good (from y); read = λ cur. bind (l.read cur) (λ x end. given (to x) end) }
+
+-- a value that was read whole is noted
+abbrev pub remembered : {A : Type 0} → (A → Note) → Layout A → Layout A
+remembered note l = record { spell = l.spell; good = l.good; read = λ cur. bind (l.read cur) (λ x end. record { notes = note x ∷ []; found = Some (x, end) }) }
+
+-- the faults among notes
+abbrev pub faults_in : List Note → List (ℕ × ℕ)
+faults_in [] = []
+faults_in (Faulty at code ∷ notes) = (at, code) ∷ faults_in notes
+faults_in (Whole start block ∷ notes) = faults_in notes
+faults_in (AllBlocks blocks ∷ notes) = faults_in notes

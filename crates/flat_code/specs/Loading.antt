@@ -1,0 +1,72 @@
+-- WHEN A PROGRAM VERIFIES, and what the faults of bytes and of a program are.
+use Rattle.std.specs.Prelude.{◌≡◌, ◌<◌, ℕ, ◌==◌, Bool, true, false, ◌&&◌, not, if◌then◌else◌, List, [], ◌∷◌, ◌++◌, length, map, get_or, Option, Some, None}
+use Rattle.flat_code.specs.declared.image_fields.Field.TheVariants.{StatementCount, Line}
+use Rattle.flat_code.specs.Ops.{OpData}
+use Rattle.flat_code.specs.Programs.{DataBlock, Program}
+use Rattle.flat_code.specs.Records.{BlockRecord}
+use Rattle.flat_code.specs.Faults.{fault_of}
+use Rattle.flat_code.specs.Layout.{Note, Faulty, Whole, AllBlocks, Cursor, Read, faults_in}
+use Rattle.flat_code.specs.Codes.{code_fault, is_nowhere}
+use Rattle.flat_code.specs.Image.{image, IsProgram, IsRight, read_image, record_of_block, end_marks}
+use Rattle.flat_code.specs.Blocks.{Signature, signature_of, Around, block_faults}
+
+-- the numbers and lengths of data blocks
+abbrev pub lens_of : List DataBlock → List (ℕ × ℕ)
+lens_of [] = []
+lens_of (d ∷ ds) = (d.number, length d.bytes) ∷ lens_of ds
+
+-- what surrounds a block among code blocks, and data blocks, if all were read
+abbrev pub around : Option (List (ℕ × ℕ)) → List BlockRecord → BlockRecord → Around
+around data_lens all b = record { kind = b.kind; local_len = b.local_len; params = b.params; blocks = map signature_of all; data_lens = data_lens }
+
+-- THE FAULTS OF BYTES, as offset and code: those of the fields, and those of the ops of each block that
+-- was read whole
+
+-- the blocks that were read whole, and where the code of each begins
+abbrev pub wholes : List Note → List (ℕ × BlockRecord)
+wholes [] = []
+wholes (Faulty at code ∷ notes) = wholes notes
+wholes (Whole start block ∷ notes) = (start, block) ∷ wholes notes
+wholes (AllBlocks blocks ∷ notes) = wholes notes
+
+-- the data blocks, if all blocks were read
+abbrev pub all_blocks : List Note → Option (List (ℕ × ℕ))
+all_blocks [] = None
+all_blocks (Faulty at code ∷ notes) = all_blocks notes
+all_blocks (Whole start block ∷ notes) = all_blocks notes
+all_blocks (AllBlocks blocks ∷ notes) = Some (lens_of blocks)
+
+abbrev pub blocks_of : List (ℕ × BlockRecord) → List BlockRecord
+blocks_of [] = []
+blocks_of (b ∷ bs) = b.1 ∷ blocks_of bs
+
+abbrev pub judged_blocks : Option (List (ℕ × ℕ)) → List BlockRecord → List (ℕ × BlockRecord) → List (ℕ × ℕ)
+judged_blocks data_lens all [] = []
+judged_blocks data_lens all (b ∷ bs) = block_faults (around data_lens all b.1) b.0 b.1.code ++ judged_blocks data_lens all bs
+
+abbrev pub faults_in_notes : List Note → List (ℕ × ℕ)
+faults_in_notes notes = faults_in notes ++ judged_blocks (all_blocks notes) (blocks_of (wholes notes)) (wholes notes)
+
+unfoldable pub faults_of : List ℕ → List (ℕ × ℕ)
+faults_of text = faults_in_notes (read_image text).notes
+
+-- bytes have no fault and give a program
+pub record Gives (text : List ℕ) (p : Program) : Type 0 where
+  pub end : Cursor
+  pub found : (read_image text).found ≡ Some (p, end)
+  pub clean : faults_of text ≡ []
+
+-- A PROGRAM VERIFIES where no field, and no op of any block, has a fault
+abbrev pub AreVerified : List (ℕ × ℕ) → List BlockRecord → List BlockRecord → Type 0
+AreVerified data_lens all [] = Unit {0}
+AreVerified data_lens all (b ∷ bs) = (block_faults (around (Some data_lens) all b) 0 b.code ≡ []) × AreVerified data_lens all bs
+
+pub record Verifies (p : Program) : Type 0 where
+  pub right : IsRight p
+  pub blocks : AreVerified (lens_of p.data_blocks) (map record_of_block p.code_blocks) (map record_of_block p.code_blocks)
+
+-- bytes give a program exactly where they are its image and it verifies
+pub record IsLoadable (text : List ℕ) (p : Program) : Type 0 where
+  pub spelled : text ≡ image p
+  pub program : IsProgram p
+  pub verifies : Verifies p

@@ -1,0 +1,85 @@
+-- Ops at their places in the code of a block.
+use Rattle.std.specs.Prelude.{ℕ, ◌+◌, nat_le, ◌==◌, Bool, true, false, ◌&&◌, if◌then◌else◌, List, [], ◌∷◌, ◌++◌, length, drop, slice_get, Option, Some, None}
+use Rattle.flat_code.specs.Ops.{OpData}
+use Rattle.flat_code.specs.Codes.{size}
+
+-- the op at an offset and the offset after it, of ops that begin at an offset; none where no op begins there
+abbrev pub op_placed : ℕ → List OpData → ℕ → Option (OpData × ℕ)
+op_placed from [] at = None
+op_placed from (op ∷ ops) at = if from == at then Some (op, from + size op) else op_placed (from + size op) ops at
+
+-- the line of the statement that begins at an offset, of ops that begin at an offset; `begins`: whether
+-- a statement begins with the first of them. None where no statement begins there
+abbrev pub line_placed : ℕ → Bool → List OpData → List ℕ → ℕ → Option ℕ
+line_placed from begins [] lines at = None
+line_placed from begins (op ∷ ops) lines at =
+    if from == at then (if begins then slice_get lines 0 else None)
+    else line_placed (from + size op) op.last ops (if op.last then drop 1 lines else lines) at
+
+-- a nesting bracket that stands open: its offset and the code of its op
+pub record OpenBracket : Type 0 where
+  pub at : ℕ
+  pub code : ℕ
+
+-- an op in its code: its offset, the brackets that stand open before it in the text (the innermost
+-- first), the ops of its statement before it, the op, and the ops behind it
+pub record Placed : Type 0 where
+  pub at : ℕ
+  pub brackets : List OpenBracket
+  pub before : List OpData
+  pub op : OpData
+  pub rest : List OpData
+
+-- the open brackets behind an op: 18 to 1D open one, 1E is `)`
+abbrev pub opens : ℕ → Bool
+opens code = nat_le 0x18 code && nat_le code 0x1D
+
+abbrev pub inner : List OpenBracket → List OpenBracket
+inner [] = []
+inner (b ∷ bs) = bs
+
+abbrev pub opened : ℕ → ℕ → List OpenBracket → List OpenBracket
+opened at code brackets =
+    if opens code then record { at = at; code = code } ∷ brackets
+    else if code == 0x1E then inner brackets
+    else brackets
+
+-- the ops of the statement before the next op
+abbrev pub before_next : OpData → List OpData → List OpData
+before_next op before = if op.last then [] else before ++ op ∷ []
+
+abbrev pub placed : ℕ → List OpenBracket → List OpData → List OpData → List Placed
+placed at brackets before [] = []
+placed at brackets before (op ∷ ops) =
+    record { at = at; brackets = brackets; before = before; op = op; rest = ops }
+    ∷ placed (at + size op) (opened at op.code brackets) (before_next op before) ops
+
+-- the ops of a block
+abbrev pub places : List OpData → List Placed
+places ops = placed 0 [] [] ops
+
+abbrev pub is_empty : {A : Type 0} → List A → Bool
+is_empty [] = true
+is_empty (x ∷ xs) = false
+
+-- whether a statement begins with the op
+abbrev pub begins : Placed → Bool
+begins p = is_empty p.before
+
+-- the statement that begins at an offset
+abbrev pub statement_at : List Placed → ℕ → Option Placed
+statement_at [] at = None
+statement_at (p ∷ ps) at = if begins p && p.at == at then Some p else statement_at ps at
+
+-- the op that ends the statement of an op
+abbrev pub ending : OpData → List OpData → OpData
+ending op [] = op
+ending op (next ∷ ops) = if op.last then op else ending next ops
+
+abbrev pub last_op : Placed → OpData
+last_op p = ending p.op p.rest
+
+-- the brackets that stand open behind all ops
+abbrev pub open_behind : ℕ → List OpenBracket → List OpData → List OpenBracket
+open_behind at brackets [] = brackets
+open_behind at brackets (op ∷ ops) = open_behind (at + size op) (opened at op.code brackets) ops

@@ -1,0 +1,167 @@
+-- The code of a block is laid out exactly.
+use Rattle.std.proofs.Common.{◌≡◌, ℕ, zero, suc, ◌+◌, ◌-◌, ◌*◌, ◌<◌, ◌≤◌, Bool, true, false, cond, eqb, ltb, not, ◌&&◌, ◌||◌, List, [], ◌∷◌, ◌++◌, length, take, drop, get_or, Option, Some, None, refl, sym, ap, subst, ◌∙◌, append_assoc, length-append, length-drop, arith, inl, inr}
+use Rattle.std.proofs.lemmas.Bool.{ne_eqb, cases_lt, eq-eqb, and_parts, and_from, eqb-true, ltb-false, le-ltb, lt-ltb}
+use Rattle.std.proofs.lemmas.List.{append-nil, take_at, drop_at, take-append-drop, nil_from_length, get_or-drop, get_or-take, get_or_past, length-take}
+use Rattle.std.proofs.lemmas.Option.{same_Some}
+use Rattle.flat_code.specs.Ops.{OpData, is_op, IsOp, op_bytes, op_at}
+use Rattle.flat_code.proofs.CodingLemmas.{IsBytes, Takes}
+use Rattle.flat_code.proofs.OpLemmas.{op_again, op_takes, long_enough}
+use Rattle.flat_code.specs.Layout.{Note, Cursor, Read, Layout, ended, given, faults_in}
+use Rattle.flat_code.specs.Codes.{cons_op, ops_next, ops_from, ends, are_ops, code_bytes, only, overlong, first_of, stop_at, read_ops, placed_ops, read_code, is_nowhere, code_of}
+use Rattle.image_file.specs.Walking.{ops_behind_front}
+use Rattle.image_file.proofs.LayoutLemmas.{at_place, Finds, Spells, IsLaidOut, given_finds}
+
+-- ---- runs of ops
+
+abbrev TakesOps : List ℕ → List OpData × List ℕ → Type 0
+TakesOps bytes r = Takes bytes (code_bytes r.0) r.1 × (are_ops r.0 ≡ true)
+
+ops_next_take : (bytes : List ℕ) (o : Option (OpData × List ℕ)) → op_at bytes ≡ o → (more : List ℕ → List OpData × List ℕ) → IsBytes bytes → ((rest : List ℕ) → IsBytes rest → TakesOps rest (more rest)) → TakesOps bytes (ops_next o bytes more)
+ops_next_take bytes None e more are inner = (record { parts = refl; rest_fits = are }, refl)
+ops_next_take bytes (Some r) e more are inner =
+    let t = op_takes bytes r.0 r.1 are e in
+    let u = inner r.1 t.0.rest_fits in
+    (record { parts = t.0.parts ∙ ap (λ (z : List ℕ). op_bytes r.0 ++ z) u.0.parts ∙ sym (append_assoc (op_bytes r.0) (code_bytes (more r.1).0) (more r.1).1); rest_fits = u.0.rest_fits }, and_from _ _ t.1 u.1)
+
+pub ops_take : (n : ℕ) (bytes : List ℕ) → IsBytes bytes → TakesOps bytes (ops_from n bytes)
+ops_take zero bytes are = (record { parts = refl; rest_fits = are }, refl)
+ops_take (suc n) bytes are = ops_next_take bytes (op_at bytes) refl (λ rest. ops_from n rest) are (λ rest h. ops_take n rest h)
+
+none_at_nil : op_at [] ≡ None
+unfolding op_at
+none_at_nil = refl
+
+pub ops_again : (n : ℕ) (ops : List OpData) → are_ops ops ≡ true → length (code_bytes ops) ≤ n → ops_from n (code_bytes ops) ≡ (ops, [])
+ops_again zero [] good long = refl
+ops_again (suc n) [] good long = ap (λ (o : Option (OpData × List ℕ)). ops_next o [] (λ rest. ops_from n rest)) none_at_nil
+ops_again zero (op ∷ ops) good long = let some = long_enough op in absurd (omega (arith, some.1, long, length-append (op_bytes op) (code_bytes ops)))
+ops_again (suc n) (op ∷ ops) good long =
+    let g = and_parts (is_op op.code op.operand) (are_ops ops) good in
+    let some = long_enough op in
+    let inner = ops_again n ops g.1 (omega (arith, some.1, long, length-append (op_bytes op) (code_bytes ops))) in
+    ap (λ (o : Option (OpData × List ℕ)). ops_next o (op_bytes op ++ code_bytes ops) (λ rest. ops_from n rest)) (op_again op (code_bytes ops) g.0)
+    ∙ ap (cons_op op) inner
+
+-- ---- the code field
+
+pub cond_finds : {A : Type 0} (b : Bool) (x y : Read A) (v : A) (end : Cursor) (P : Type 0) → Finds A (cond b x y) v end → (b ≡ true → Finds A x v end → P) → (b ≡ false → Finds A y v end → P) → P
+cond_finds true x y v end P h f g = f refl h
+cond_finds false x y v end P h f g = g refl h
+
+pub ended_finds : {A : Type 0} (at code : ℕ) (v : A) (end : Cursor) → Finds A (ended at code) v end → ⊥
+ended_finds at code v end h = let e = h.found in cc
+
+bytes_taken : (n : ℕ) (bytes : List ℕ) → IsBytes bytes → IsBytes (take n bytes)
+bytes_taken n bytes h i =
+    elim (cases_lt i n) [
+      | inl lt ↦ rw (get_or-take n bytes i 0 lt) (h i)
+      | inr le ↦ rw (get_or_past (take n bytes) i 0 (omega (arith, length-take n bytes))) (omega arith)
+    ]
+
+bytes_dropped : (n : ℕ) (bytes : List ℕ) → IsBytes bytes → IsBytes (drop n bytes)
+bytes_dropped n bytes h i = rw get_or-drop (h (n + i))
+
+read_finds : (o : Option ℕ) (at : ℕ) (ops : List OpData) (next : Cursor) (v : List OpData) (end : Cursor) → Finds (List OpData) (read_ops o at ops next) v end → (o ≡ None) × Finds (List OpData) (given ops next) v end
+read_finds None at ops next v end h = (refl, h)
+read_finds (Some offset) at ops next v end h = absurd (ended_finds (at + offset) 5 v end h)
+
+first_some : (o : Option ℕ) (n : ℕ) → first_of o (Some n) ≡ None → ⊥
+first_some None n h = cc
+first_some (Some at) n h = cc
+
+-- nothing is left where the code has no fault
+nothing_left : (judged : Bool) (ops : List OpData) (left : List ℕ) → stop_at judged ops left ≡ None → left ≡ []
+nothing_left judged ops [] h = refl
+nothing_left judged ops (byte ∷ left) h = absurd (first_some (only judged (overlong 0 0 ops)) (length (code_bytes ops)) h)
+
+is_none : (o : Option ℕ) → is_nowhere o ≡ true → o ≡ None
+is_none None h = refl
+is_none (Some at) h = absurd cc
+
+code_takes : (judged : Bool) (n : ℕ) (cur : Cursor) (ops : List OpData) (end : Cursor) → IsBytes cur.rest → Finds (List OpData) (read_code judged n cur) ops end → Spells (List OpData) (code_of judged n) cur ops end
+unfolding code_of
+code_takes judged n cur ops end are h =
+    cond_finds (ltb (length cur.rest) n) (ended cur.at 3) _ ops end _ h (λ _ k. absurd (ended_finds cur.at 3 ops end k)) (λ long h.
+    let r = ops_from n (take n cur.rest) in
+    let next : Cursor = record { at = cur.at + n; rest = drop n cur.rest } in
+    let f = read_finds (stop_at judged r.0 r.1) cur.at r.0 next ops end h in
+    let made = given_finds r.0 ops next end f.1 in
+    let within : n ≤ length cur.rest = ltb-false _ _ long in
+    let nothing : r.1 ≡ [] = nothing_left judged r.0 r.1 f.0 in
+    let t = ops_take n (take n cur.rest) (bytes_taken n cur.rest are) in
+    let text : take n cur.rest ≡ code_bytes r.0 = t.0.parts ∙ ap (λ (z : List ℕ). code_bytes r.0 ++ z) nothing ∙ append-nil (code_bytes r.0) in
+    let size : length (code_bytes r.0) ≡ n = ap length (sym text) ∙ omega (arith, length-take n cur.rest) in
+    let whole : cur.rest ≡ code_bytes r.0 ++ drop n cur.rest = sym (take-append-drop n cur.rest) ∙ ap (λ (z : List ℕ). z ++ drop n cur.rest) text in
+    let fine : is_nowhere (stop_at judged r.0 []) ≡ true = ap (λ (z : List ℕ). is_nowhere (stop_at judged r.0 z)) (sym nothing) ∙ ap is_nowhere f.0 in
+    let here : Spells (List OpData) (code_of judged n) cur r.0 next =
+        record { text = record { parts = whole; rest_fits = bytes_dropped n cur.rest are }; good = and_from (are_ops r.0 && is_nowhere (stop_at judged r.0 [])) _ (and_from (are_ops r.0) _ t.1 fine) (eq-eqb _ _ size) } in
+    subst (λ (z : List OpData). Spells (List OpData) (code_of judged n) cur z end) made.0 (subst (λ (z : Cursor). Spells (List OpData) (code_of judged n) cur r.0 z) made.1 here))
+
+code_again : (judged : Bool) (n : ℕ) (ops : List OpData) (at : ℕ) (rest : List ℕ) → (are_ops ops && is_nowhere (stop_at judged ops []) && eqb (length (code_bytes ops)) n) ≡ true → Finds (List OpData) (read_code judged n (at_place at (code_bytes ops ++ rest))) ops (at_place (at + length (code_bytes ops)) rest)
+code_again judged n ops at rest good =
+    let g = and_parts (are_ops ops && is_nowhere (stop_at judged ops [])) (eqb (length (code_bytes ops)) n) good in
+    let f = and_parts (are_ops ops) (is_nowhere (stop_at judged ops [])) g.0 in
+    let size : length (code_bytes ops) ≡ n = eqb-true _ _ g.1 in
+    let bytes = code_bytes ops ++ rest in
+    let long : ltb (length bytes) n ≡ false = le-ltb _ _ (omega (arith, size, length-append (code_bytes ops) rest)) in
+    let read : ops_from n (take n bytes) ≡ (ops, []) = ap (ops_from n) (take_at (code_bytes ops) rest n size) ∙ ops_again n ops f.0 (omega (arith, size)) in
+    let left : drop n bytes ≡ rest = drop_at (code_bytes ops) rest n size in
+    let none : stop_at judged ops [] ≡ None = is_none (stop_at judged ops []) f.1 in
+    let shape : read_code judged n (at_place at bytes) ≡ given ops (at_place (at + n) rest) = rw (long, read, left, none) refl in
+    subst (λ (z : Read (List OpData)). Finds (List OpData) z ops (at_place (at + length (code_bytes ops)) rest)) (sym shape)
+    (record { found = ap (λ (k : ℕ). Some (ops, at_place (at + k) rest)) (sym size); clean = refl })
+
+pub code_laid : (judged : Bool) (n : ℕ) → IsLaidOut (List OpData) (code_of judged n)
+unfolding code_of
+code_laid judged n = record { again = code_again judged n; takes = code_takes judged n }
+
+-- fuel that is enough is as good as any
+shorter : (bytes : List ℕ) (op : OpData) (rest : List ℕ) → IsBytes bytes → op_at bytes ≡ Some (op, rest) → length rest < length bytes
+shorter bytes op rest are e =
+    let t = op_takes bytes op rest are e in
+    let some = long_enough op in
+    let lengths : length bytes ≡ length (op_bytes op) + length rest = ap length t.0.parts ∙ length-append (op_bytes op) rest in
+    omega (arith, lengths, some.1)
+
+fuel_next : (bytes : List ℕ) (o : Option (OpData × List ℕ)) → op_at bytes ≡ o → IsBytes bytes → (f g : List ℕ → List OpData × List ℕ) → ((rest : List ℕ) → IsBytes rest → length rest < length bytes → f rest ≡ g rest) → ops_next o bytes f ≡ ops_next o bytes g
+fuel_next bytes None e are f g same = refl
+fuel_next bytes (Some r) e are f g same = ap (cons_op r.0) (same r.1 (op_takes bytes r.0 r.1 are e).0.rest_fits (shorter bytes r.0 r.1 are e))
+
+at_nil : (n : ℕ) → ops_from n [] ≡ ([], [])
+at_nil zero = refl
+at_nil (suc n) = ap (λ (o : Option (OpData × List ℕ)). ops_next o [] (λ rest. ops_from n rest)) none_at_nil
+
+fuel : (n m : ℕ) (bytes : List ℕ) → IsBytes bytes → length bytes ≤ n → length bytes ≤ m → ops_from n bytes ≡ ops_from m bytes
+fuel zero m bytes are p q = let e : bytes ≡ [] = nil_from_length bytes (omega (arith, p)) in ap (ops_from zero) e ∙ sym (at_nil m) ∙ sym (ap (ops_from m) e)
+fuel (suc n) zero bytes are p q = let e : bytes ≡ [] = nil_from_length bytes (omega (arith, q)) in ap (ops_from (suc n)) e ∙ at_nil (suc n) ∙ sym (ap (ops_from zero) e)
+fuel (suc n) (suc m) bytes are p q = fuel_next bytes (op_at bytes) refl are (λ rest. ops_from n rest) (λ rest. ops_from m rest) (λ rest h lt. fuel n m rest h (omega (arith, lt, p)) (omega (arith, lt, q)))
+
+more_at : (n : ℕ) (code : List ℕ) (front : List OpData) (at next : ℕ) (op : OpData) (all : List OpData × List ℕ) → n ≡ length code → IsBytes code → op_at (drop at code) ≡ Some (op, drop next code) → at < next → next ≤ length code
+    → ops_behind_front front (length code) code at ≡ all → ops_behind_front (front ++ op ∷ []) (length code) code next ≡ all
+more_at zero code front at next op all e are found lt within so_far = absurd (omega (arith, e, lt, within))
+more_at (suc n) code front at next op all e are found lt within so_far =
+    let tail = ops_from n (drop next code) in
+    let enough : ops_from (length code) (drop next code) ≡ tail = fuel (length code) n (drop next code) (bytes_dropped next code are) (omega (arith, length-drop next code)) (omega (arith, e, lt, length-drop next code)) in
+    let here : ops_from (length code) (drop at code) ≡ cons_op op tail = ap (λ (k : ℕ). ops_from k (drop at code)) (sym e) ∙ ap (λ (o : Option (OpData × List ℕ)). ops_next o (drop at code) (λ rest. ops_from n rest)) found in
+    ap (λ (r : List OpData × List ℕ). let y : List OpData × List ℕ = ((front ++ op ∷ []) ++ r.0, r.1) in y) enough
+    ∙ ap (λ (z : List OpData). let y : List OpData × List ℕ = (z, tail.1) in y) (append_assoc front (op ∷ []) tail.0)
+    ∙ sym (ap (λ (r : List OpData × List ℕ). let y : List OpData × List ℕ = (front ++ r.0, r.1) in y) here) ∙ so_far
+
+pub ops_more : (code : List ℕ) (front : List OpData) (at next : ℕ) (op : OpData) (all : List OpData × List ℕ) → IsBytes code → op_at (drop at code) ≡ Some (op, drop next code) → at < next → next ≤ length code
+    → ops_behind_front front (length code) code at ≡ all → ops_behind_front (front ++ op ∷ []) (length code) code next ≡ all
+ops_more code front at next op all are found lt within so_far = more_at (length code) code front at next op all refl are found lt within so_far
+
+nothing_more : (n : ℕ) (bytes : List ℕ) → op_at bytes ≡ None → ops_from n bytes ≡ ([], bytes)
+nothing_more zero bytes none = refl
+nothing_more (suc n) bytes none = ap (λ (o : Option (OpData × List ℕ)). ops_next o bytes (λ rest. ops_from n rest)) none
+
+pub ops_stop : (code : List ℕ) (front : List OpData) (at : ℕ) (all : List OpData × List ℕ) → op_at (drop at code) ≡ None → ops_behind_front front (length code) code at ≡ all → (front ≡ all.0) × (drop at code ≡ all.1)
+ops_stop code front at all none so_far =
+    let k = nothing_more (length code) (drop at code) none in
+    let done : ◌≡◌ {A = List OpData × List ℕ} (front ++ [], drop at code) all = sym (ap (λ (r : List OpData × List ℕ). let y : List OpData × List ℕ = (front ++ r.0, r.1) in y) k) ∙ so_far in
+    (sym (append-nil front) ∙ ap (λ (r : List OpData × List ℕ). r.0) done, ap (λ (r : List OpData × List ℕ). r.1) done)
+
+-- at the start nothing stands in front
+pub ops_start : (code : List ℕ) → ops_behind_front [] (length code) code 0 ≡ ops_from (length code) code
+ops_start code = refl
+

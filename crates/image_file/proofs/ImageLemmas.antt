@@ -1,0 +1,801 @@
+-- The image is laid out exactly.
+use Rattle.std.proofs.Common.{◌≡◌, ℕ, zero, suc, ◌+◌, ◌-◌, ◌*◌, ◌^◌, ◌<◌, ◌≤◌, Bool, true, false, cond, eqb, ltb, leb, not, ◌&&◌, ◌||◌, List, [], ◌∷◌, ◌++◌, map, length, take, drop, get_or, Option, Some, None, refl, sym, ap, subst, ◌∙◌, append_assoc, length-append, arith, inl, inr}
+use Rattle.std.proofs.lemmas.Bool.{cases_lt, eq-eqb, and_parts, and_from, eqb-true, eqb-false, leb-true, ltb-false, ltb-true, le-ltb, lt-ltb, le-leb}
+use Rattle.std.proofs.lemmas.List.{append-nil, take_at, drop_at, take-append-drop, nil_from_length, get_or-drop, get_or-take, get_or_past, length-take}
+use Rattle.std.proofs.lemmas.Option.{same_Some}
+use Rattle.plc_base.specs.declared.blocks.BlockKind.{BlockKind}
+use Rattle.plc_base.specs.declared.blocks.BlockKind.TheVariants as kind
+use Rattle.plc_base.specs.declared.places.Area.{Area}
+use Rattle.plc_base.specs.declared.places.Area.TheVariants as area
+use Rattle.plc_base.specs.declared.places.Place.{Place}
+use Rattle.plc_base.specs.declared.places.Width.{Width}
+use Rattle.plc_base.specs.declared.places.Width.TheVariants as width
+use Rattle.flat_code.specs.declared.programs.Param.{Param}
+use Rattle.flat_code.specs.declared.image_fields.ParameterRecord.{ParameterRecord}
+use Rattle.flat_code.specs.declared.image_fields.Field.TheVariants.{StatementCount, Line}
+use Rattle.flat_code.specs.Coding.{Coding, u8, u16, u32}
+use Rattle.flat_code.specs.Forms.{width_code}
+use Rattle.flat_code.specs.Ops.{OpData}
+use Rattle.flat_code.specs.Programs.{CodeBlock, DataBlock, NameEntry, Program}
+use Rattle.flat_code.specs.Records.{BlockRecord, NameRecord, Records}
+use Rattle.flat_code.specs.Faults.{fault_of, name_fault, unless, lies_within}
+use Rattle.flat_code.specs.Layout.{Note, Faulty, Whole, AllBlocks, Cursor, Read, Layout, ended, given, bind, noted, is_fine, field, chain, checked, located, spell_many, many, good_many, seen_as, remembered, faults_in}
+use Rattle.flat_code.specs.Codes.{are_ops, code_bytes, stop_at, is_nowhere, code_of, only}
+use Rattle.flat_code.specs.Image.{plain, plain_u16, plain_u32, zero_u8, zero_u16, width_field, bytes_fit, bytes, section_field, parameter_byte, parameter_bit, RawParameter, raw_parameter, parameter_of_raw, raw_of_parameter, parameter, kind_field, parameter_count, block_number, local_bytes, instance_bytes, Head, head, params_in, instance_in, statements_in, code_len_in, same_state, parameters, end_marks, line_after, line_field, lines_of, code_and_lines, RawBlock, raw_block, block_of_raw, raw_of_block, plain_block, whole_at, code_block_at, code_block, after_block, data_number, instance_field, data_len, contents, RawData, raw_data, instance_of_number, number_of_instance, data_of_raw, raw_of_data, data_block, after_data, name_len, name_bytes, name_area, name_bit, RawName, raw_name, name_of_raw, raw_of_name, name_record, after_name, data_count, Counts, counts, code_blocks, plain_data_blocks, data_blocks, names, RawRecords, raw_records, records_of_raw, raw_of_records, records, kind_of_number, number_of_kind, width_of_number, area_of_number, number_of_area, param_of, record_of_param, block_of_record, record_of_block, entry_of_name, name_of_entry, program_of, records_of, body, magic_field, version_field, total_field, Front, front, front_size, front_of, image, IsProgram, IsRight, at_end, cut, read_by, read_image}
+use Rattle.flat_code.proofs.CodingLemmas.{IsBytes, Takes, IsExact, pair_is, u8_exact, u16_exact, u32_exact}
+use Rattle.image_file.proofs.LayoutLemmas.{at_place, Finds, Spells, IsLaidOut, Parts, bind_parts, bind_finds, given_finds, field_laid, chain_laid, checked_laid, seen_laid, remembered_laid, many_laid, located_laid, no_faults, no_faults_join}
+use Rattle.image_file.proofs.CodeLemmas.{code_laid, cond_finds, ended_finds}
+
+-- ---- runs of bytes
+
+bytes_taken : (n : ℕ) (text : List ℕ) → IsBytes text → IsBytes (take n text)
+bytes_taken n text h i =
+    elim (cases_lt i n) [
+      | inl lt ↦ rw (get_or-take n text i 0 lt) (h i)
+      | inr le ↦ rw (get_or_past (take n text) i 0 (omega (arith, length-take n text))) (omega arith)
+    ]
+
+bytes_dropped : (n : ℕ) (text : List ℕ) → IsBytes text → IsBytes (drop n text)
+bytes_dropped n text h i = rw get_or-drop (h (n + i))
+
+fit : (bs : List ℕ) → IsBytes bs → bytes_fit bs ≡ true
+fit [] are = refl
+fit (b ∷ bs) are = and_from _ _ (lt-ltb b 256 (are 0)) (fit bs (λ i. are (suc i)))
+
+run_takes : (n : ℕ) (text bs rest : List ℕ) → IsBytes text → (b : Bool) → ltb (length text) n ≡ b → cond {A = Option (List ℕ × List ℕ)} b None (Some (take n text, drop n text)) ≡ Some (bs, rest) → Takes text bs rest × ((eqb (length bs) n && bytes_fit bs) ≡ true)
+run_takes n text bs rest are true t e = absurd cc
+run_takes n text bs rest are false t e =
+    let p = pair_is (take n text) bs (drop n text) rest e in
+    let size : length (take n text) ≡ n = let le = ltb-false _ _ t in omega (arith, length-take n text) in
+    subst (λ (z : List ℕ). Takes text z rest × ((eqb (length z) n && bytes_fit z) ≡ true)) p.0
+    (subst (λ (z : List ℕ). Takes text (take n text) z × ((eqb (length (take n text)) n && bytes_fit (take n text)) ≡ true)) p.1
+    (record { parts = sym (take-append-drop n text); rest_fits = bytes_dropped n text are }, and_from _ _ (eq-eqb _ _ size) (fit (take n text) (bytes_taken n text are))))
+
+run_exact : (n : ℕ) → IsExact (List ℕ) (bytes n)
+run_exact n = record {
+  again = λ bs rest fits.
+    let g = and_parts (eqb (length bs) n) (bytes_fit bs) fits in
+    let size : length bs ≡ n = eqb-true _ _ g.0 in
+    let long : ltb (length (bs ++ rest)) n ≡ false = le-ltb _ _ (omega (arith, size, length-append bs rest)) in
+    rw (long, take_at bs rest n size, drop_at bs rest n size) refl;
+  takes = λ text bs rest are e. run_takes n text bs rest are (ltb (length text) n) refl e;
+}
+
+-- ---- what no fault says
+
+unless_fine : (b : Bool) (code : ℕ) → is_fine (unless b code) ≡ true → b ≡ true
+unless_fine true code h = refl
+unless_fine false code h = absurd cc
+
+zero_u8_is : (n : ℕ) → zero_u8.good n ≡ true → n ≡ 0
+unfolding zero_u8 fault_of
+zero_u8_is n good = eqb-true n 0 (unless_fine (eqb n 0) 4 (and_parts (ltb n 256) (is_fine (unless (eqb n 0) 4)) good).1)
+
+zero_u16_is : (n : ℕ) → zero_u16.good n ≡ true → n ≡ 0
+unfolding zero_u16 fault_of
+zero_u16_is n good = eqb-true n 0 (unless_fine (eqb n 0) 4 (and_parts (ltb n 65536) (is_fine (unless (eqb n 0) 4)) good).1)
+
+bytes_len : (n : ℕ) (bs : List ℕ) → (contents n).good bs ≡ true → length bs ≡ n
+unfolding contents
+bytes_len n bs good = let c = and_parts ((bytes n).fits bs) true good in eqb-true (length bs) n (and_parts (eqb (length bs) n) (bytes_fit bs) c.0).0
+
+name_len_is : (before : List ℕ) (n : ℕ) (bs : List ℕ) → (name_bytes before n).good bs ≡ true → length bs ≡ n
+unfolding name_bytes
+name_len_is before n bs good = let c = and_parts ((bytes n).fits bs) (is_fine (name_fault before bs)) good in eqb-true (length bs) n (and_parts (eqb (length bs) n) (bytes_fit bs) c.0).0
+
+many_count : {S A : Type 0} (l : S → Layout A) (next : S → A → S) (s : S) (n : ℕ) (xs : List A) → good_many l next s n xs ≡ true → n ≡ length xs
+many_count l next s zero [] h = refl
+many_count l next s zero (x ∷ xs) h = absurd cc
+many_count l next s (suc n) [] h = absurd cc
+many_count l next s (suc n) (x ∷ xs) h = ap suc (many_count l next (next s x) n xs (and_parts ((l s).good x) (good_many l next (next s x) n xs) h).1)
+
+chain_parts : {A B : Type 0} (l : Layout A) (m : A → Layout B) (x : A × B) → (chain l m).good x ≡ true → (l.good x.0 ≡ true) × ((m x.0).good x.1 ≡ true)
+chain_parts l m x h = and_parts (l.good x.0) ((m x.0).good x.1) h
+
+-- ---- parameters
+
+raw_parameter_laid : (kind instance : ℕ) → IsLaidOut RawParameter (raw_parameter kind instance)
+unfolding raw_parameter section_field width_field parameter_byte parameter_bit zero_u8
+raw_parameter_laid kind instance =
+    chain_laid section_field _ (field_laid u8 _ u8_exact) (λ s.
+    chain_laid width_field _ (field_laid u8 _ u8_exact) (λ w.
+    chain_laid (parameter_byte kind instance w) _ (field_laid u16 _ u16_exact) (λ byte.
+    chain_laid (parameter_bit kind) _ (field_laid u8 _ u8_exact) (λ bit. field_laid u8 _ u8_exact))))
+
+raw_parameter_is : (kind instance : ℕ) (x : RawParameter) → (raw_parameter kind instance).good x ≡ true → raw_of_parameter (parameter_of_raw x) ≡ x
+unfolding raw_parameter
+raw_parameter_is kind instance x good =
+    let a = chain_parts section_field (λ s. chain width_field (λ w. chain (parameter_byte kind instance w) (λ byte. chain (parameter_bit kind) (λ bit. zero_u8)))) x good in
+    let b = chain_parts width_field (λ w. chain (parameter_byte kind instance w) (λ byte. chain (parameter_bit kind) (λ bit. zero_u8))) x.1 a.1 in
+    let c = chain_parts (parameter_byte kind instance x.1.0) (λ byte. chain (parameter_bit kind) (λ bit. zero_u8)) x.1.1 b.1 in
+    let d = chain_parts (parameter_bit kind) (λ bit. zero_u8) x.1.1.1 c.1 in
+    ap (λ (z : ℕ). let r : RawParameter = (x.0, (x.1.0, (x.1.1.0, (x.1.1.1.0, z)))) in r) (sym (zero_u8_is x.1.1.1.1 d.1))
+
+parameter_laid : (kind instance : ℕ) → IsLaidOut ParameterRecord (parameter kind instance)
+unfolding parameter
+parameter_laid kind instance = seen_laid parameter_of_raw raw_of_parameter (raw_parameter kind instance) (raw_parameter_is kind instance) (λ p good. refl) (raw_parameter_laid kind instance)
+
+parameters_laid : (h : Head) → IsLaidOut (List ParameterRecord) (parameters h)
+unfolding parameters
+parameters_laid h = many_laid (λ s. parameter h.0 (instance_in h)) same_state (λ s. parameter_laid h.0 (instance_in h)) 0 (params_in h)
+
+-- ---- code blocks
+
+abbrev from_size : Layout ℕ
+from_size = plain_u32
+
+abbrev from_zero : Layout (ℕ × ℕ)
+from_zero = chain zero_u16 (λ zero. from_size)
+
+abbrev from_statements : Layout (ℕ × (ℕ × ℕ))
+from_statements = chain plain_u16 (λ statements. from_zero)
+
+abbrev from_instance : ℕ → Layout (ℕ × (ℕ × (ℕ × ℕ)))
+from_instance kind = chain (instance_bytes kind) (λ instance. from_statements)
+
+abbrev from_locals : ℕ → Layout (ℕ × (ℕ × (ℕ × (ℕ × ℕ))))
+from_locals kind = chain (local_bytes kind) (λ locals. from_instance kind)
+
+abbrev from_number : ℕ × ℕ → ℕ → Layout (ℕ × (ℕ × (ℕ × (ℕ × (ℕ × ℕ)))))
+from_number before kind = chain (block_number before.0 before.1 kind) (λ number. from_locals kind)
+
+abbrev from_params : ℕ × ℕ → ℕ → Layout (ℕ × (ℕ × (ℕ × (ℕ × (ℕ × (ℕ × ℕ))))))
+from_params before kind = chain (parameter_count kind) (λ params. from_number before kind)
+
+head_laid : (before : ℕ × ℕ) → IsLaidOut Head (head before)
+unfolding head kind_field parameter_count block_number local_bytes instance_bytes zero_u16 plain_u16 plain_u32
+head_laid before =
+    chain_laid (kind_field before.0) (from_params before) (field_laid u8 _ u8_exact) (λ kind.
+    chain_laid (parameter_count kind) _ (field_laid u8 _ u8_exact) (λ params.
+    chain_laid (block_number before.0 before.1 kind) _ (field_laid u16 _ u16_exact) (λ number.
+    chain_laid (local_bytes kind) _ (field_laid u16 _ u16_exact) (λ locals.
+    chain_laid (instance_bytes kind) _ (field_laid u16 _ u16_exact) (λ instance.
+    chain_laid plain_u16 _ (field_laid u16 plain u16_exact) (λ statements.
+    chain_laid zero_u16 _ (field_laid u16 _ u16_exact) (λ zero.
+    field_laid u32 plain u32_exact)))))))
+
+head_zero : (before : ℕ × ℕ) (h : Head) → (head before).good h ≡ true → h.1.1.1.1.1.1.0 ≡ 0
+unfolding head
+head_zero before h good =
+    let a = chain_parts (kind_field before.0) (from_params before) h good in
+    let b = chain_parts (parameter_count h.0) (λ params. from_number before h.0) h.1 a.1 in
+    let c = chain_parts (block_number before.0 before.1 h.0) (λ number. from_locals h.0) h.1.1 b.1 in
+    let d = chain_parts (local_bytes h.0) (λ locals. from_instance h.0) h.1.1.1 c.1 in
+    let e = chain_parts (instance_bytes h.0) (λ instance. from_statements) h.1.1.1.1 d.1 in
+    let f = chain_parts plain_u16 (λ statements. from_zero) h.1.1.1.1.1 e.1 in
+    let g = chain_parts zero_u16 (λ zero. from_size) h.1.1.1.1.1.1 f.1 in
+    zero_u16_is h.1.1.1.1.1.1.0 g.0
+
+head_kind : (before : ℕ × ℕ) (h : Head) → (head before).good h ≡ true → lies_within 1 3 h.0 ≡ true
+unfolding head kind_field fault_of
+head_kind before h good =
+    let a = chain_parts (kind_field before.0) (from_params before) h good in
+    let b = and_parts (ltb h.0 256) (is_fine (unless (lies_within 1 3 h.0 && leb before.0 h.0) 4)) a.0 in
+    (and_parts (lies_within 1 3 h.0) (leb before.0 h.0) (unless_fine _ 4 b.1)).0
+
+lines_laid : (judged : Bool) (start : ℕ) (h : Head) (ops : List OpData) → IsLaidOut (List ℕ) (lines_of judged start h ops)
+unfolding lines_of line_field
+lines_laid judged start h ops = checked_laid (start + 8) (only judged (fault_of (StatementCount (end_marks ops) (statements_in h)))) _ (many_laid (line_field judged) line_after (λ s. field_laid u32 _ u32_exact) 0 (statements_in h))
+
+code_and_lines_laid : (judged : Bool) (start : ℕ) (h : Head) → IsLaidOut (List OpData × List ℕ) (code_and_lines judged start h)
+unfolding code_and_lines
+code_and_lines_laid judged start h = chain_laid (code_of judged (code_len_in h)) (lines_of judged start h) (code_laid judged (code_len_in h)) (lines_laid judged start h)
+
+abbrev behind_head : Bool → ℕ → Head → Layout (List ParameterRecord × (List OpData × List ℕ))
+behind_head judged start h = chain (parameters h) (λ params. code_and_lines judged start h)
+
+raw_block_laid : (judged : Bool) (before : ℕ × ℕ) (start : ℕ) → IsLaidOut RawBlock (raw_block judged before start)
+unfolding raw_block
+raw_block_laid judged before start =
+    chain_laid (head before) (behind_head judged start) (head_laid before) (λ h.
+    chain_laid (parameters h) (λ params. code_and_lines judged start h) (parameters_laid h) (λ params. code_and_lines_laid judged start h))
+
+quad : {a b c d x y z w : ℕ} → a ≡ x → b ≡ y → c ≡ z → d ≡ w → ◌≡◌ {A = ℕ × (ℕ × (ℕ × ℕ))} (a, (b, (c, d))) (x, (y, (z, w)))
+quad p q r s = rw (p, q, r, s) refl
+
+params_count : (h : Head) (ps : List ParameterRecord) → (parameters h).good ps ≡ true → params_in h ≡ length ps
+unfolding parameters
+params_count h ps good = many_count (λ s. parameter h.0 (instance_in h)) same_state 0 (params_in h) ps good
+
+lines_count : (judged : Bool) (start : ℕ) (h : Head) (ops : List OpData) (lines : List ℕ) → (lines_of judged start h ops).good lines ≡ true → statements_in h ≡ length lines
+unfolding lines_of
+lines_count judged start h ops lines good =
+    let c = and_parts (is_fine (only judged (fault_of (StatementCount (end_marks ops) (statements_in h))))) (good_many (line_field judged) line_after 0 (statements_in h) lines) good in
+    many_count (line_field judged) line_after 0 (statements_in h) lines c.1
+
+code_size : (judged : Bool) (n : ℕ) (ops : List OpData) → (code_of judged n).good ops ≡ true → length (code_bytes ops) ≡ n
+unfolding code_of
+code_size judged n ops good = eqb-true (length (code_bytes ops)) n (and_parts (are_ops ops && is_nowhere (stop_at judged ops [])) (eqb (length (code_bytes ops)) n) good).1
+
+-- the parts of a block without fault
+record BlockParts (judged : Bool) (before : ℕ × ℕ) (start : ℕ) (x : RawBlock) : Type 0 where
+  head_good : (head before).good x.0 ≡ true
+  params_good : (parameters x.0).good x.1.0 ≡ true
+  code_good : (code_of judged (code_len_in x.0)).good x.1.1.0 ≡ true
+  lines_good : (lines_of judged start x.0 x.1.1.0).good x.1.1.1 ≡ true
+
+block_parts : (judged : Bool) (before : ℕ × ℕ) (start : ℕ) (x : RawBlock) → (raw_block judged before start).good x ≡ true → BlockParts judged before start x
+unfolding raw_block code_and_lines
+block_parts judged before start x good =
+    let a = chain_parts (head before) (behind_head judged start) x good in
+    let b = chain_parts (parameters x.0) (λ params. code_and_lines judged start x.0) x.1 a.1 in
+    let c = chain_parts (code_of judged (code_len_in x.0)) (lines_of judged start x.0) x.1.1 b.1 in
+    record { head_good = a.0; params_good = b.0; code_good = c.0; lines_good = c.1 }
+
+-- a block without fault has the counts of its lists
+raw_is : (judged : Bool) (before : ℕ × ℕ) (start : ℕ) (x : RawBlock) → (raw_block judged before start).good x ≡ true → raw_of_block (block_of_raw x) ≡ x
+raw_is judged before start x good =
+    let p = block_parts judged before start x good in
+    ap (λ (z : ℕ × (ℕ × (ℕ × ℕ))). let r : RawBlock = ((x.0.0, (z.0, (x.0.1.1.0, (x.0.1.1.1.0, (x.0.1.1.1.1.0, (z.1.0, (z.1.1.0, z.1.1.1))))))), x.1) in r)
+    (quad (sym (params_count x.0 x.1.0 p.params_good)) (sym (lines_count judged start x.0 x.1.1.0 x.1.1.1 p.lines_good)) (sym (head_zero before x.0 p.head_good)) (code_size judged (code_len_in x.0) x.1.1.0 p.code_good))
+
+same_spell : (judged : Bool) (before : ℕ × ℕ) (at : ℕ) (x : RawBlock) → (raw_block judged before at).spell x ≡ (raw_block judged before 0).spell x
+unfolding raw_block code_and_lines lines_of
+same_spell judged before at x = refl
+
+same_good : (judged : Bool) (before : ℕ × ℕ) (at : ℕ) (x : RawBlock) → (raw_block judged before at).good x ≡ (raw_block judged before 0).good x
+unfolding raw_block code_and_lines lines_of
+same_good judged before at x = refl
+
+code_block_laid : (judged : Bool) (before : ℕ × ℕ) → IsLaidOut BlockRecord (code_block judged before)
+unfolding code_block plain_block
+code_block_laid judged before =
+    located_laid (code_block_at judged before) (λ at b. same_spell judged before at (raw_of_block b)) (λ at b. same_good judged before at (raw_of_block b))
+    (λ at. remembered_laid (whole_at at) (plain_block judged before at) (λ b. refl) (seen_laid block_of_raw raw_of_block (raw_block judged before at) (raw_is judged before at) (λ b good. refl) (raw_block_laid judged before at)))
+
+code_blocks_laid : (judged : Bool) (n : ℕ) → IsLaidOut (List BlockRecord) (code_blocks judged n)
+unfolding code_blocks
+code_blocks_laid judged n = many_laid (code_block judged) after_block (code_block_laid judged) (0, 0) n
+
+-- ---- data blocks
+
+abbrev data_from_zero : ℕ → Layout (ℕ × List ℕ)
+data_from_zero n = chain zero_u16 (λ zero. contents n)
+
+abbrev data_from_len : ℕ → Layout (ℕ × (ℕ × List ℕ))
+data_from_len sum = chain (data_len sum) data_from_zero
+
+abbrev data_from_instance : ℕ → Layout (ℕ × (ℕ × (ℕ × List ℕ)))
+data_from_instance sum = chain instance_field (λ instance. data_from_len sum)
+
+raw_data_laid : (before : ℕ × ℕ) → IsLaidOut RawData (raw_data before)
+unfolding raw_data data_number instance_field data_len zero_u16 contents
+raw_data_laid before =
+    chain_laid (data_number before.0) (λ number. data_from_instance before.1) (field_laid u16 _ u16_exact) (λ number.
+    chain_laid instance_field (λ instance. data_from_len before.1) (field_laid u16 _ u16_exact) (λ instance.
+    chain_laid (data_len before.1) data_from_zero (field_laid u16 _ u16_exact) (λ n.
+    chain_laid zero_u16 (λ zero. contents n) (field_laid u16 _ u16_exact) (λ zero. field_laid (bytes n) (λ bs. None) (run_exact n)))))
+
+instance_is : (n : ℕ) → number_of_instance (instance_of_number n) ≡ n
+instance_is zero = refl
+instance_is (suc n) = refl
+
+instance_again : (o : Option ℕ) → instance_of_number (number_of_instance o) ≡ o
+instance_again None = refl
+instance_again (Some n) = refl
+
+triple : {a b c x y z : ℕ} → a ≡ x → b ≡ y → c ≡ z → ◌≡◌ {A = ℕ × (ℕ × ℕ)} (a, (b, c)) (x, (y, z))
+triple p q r = rw (p, q, r) refl
+
+raw_data_is : (before : ℕ × ℕ) (x : RawData) → (raw_data before).good x ≡ true → raw_of_data (data_of_raw x) ≡ x
+unfolding raw_data
+raw_data_is before x good =
+    let a = chain_parts (data_number before.0) (λ number. data_from_instance before.1) x good in
+    let b = chain_parts instance_field (λ instance. data_from_len before.1) x.1 a.1 in
+    let c = chain_parts (data_len before.1) data_from_zero x.1.1 b.1 in
+    let d = chain_parts zero_u16 (λ zero. contents x.1.1.0) x.1.1.1 c.1 in
+    ap (λ (z : ℕ × (ℕ × ℕ)). let r : RawData = (x.0, (z.0, (z.1.0, (z.1.1, x.1.1.1.1)))) in r)
+    (triple (instance_is x.1.0) (bytes_len x.1.1.0 x.1.1.1.1 d.1) (sym (zero_u16_is x.1.1.1.0 d.0)))
+
+data_again : (d : DataBlock) → data_of_raw (raw_of_data d) ≡ d
+data_again d = ap (λ (o : Option ℕ). let y : DataBlock = record { number = d.number; instance_of = o; bytes = d.bytes } in y) (instance_again d.instance_of)
+
+data_block_laid : (before : ℕ × ℕ) → IsLaidOut DataBlock (data_block before)
+unfolding data_block
+data_block_laid before = seen_laid data_of_raw raw_of_data (raw_data before) (raw_data_is before) (λ d good. data_again d) (raw_data_laid before)
+
+data_blocks_laid : (n : ℕ) → IsLaidOut (List DataBlock) (data_blocks n)
+unfolding data_blocks
+data_blocks_laid n = remembered_laid AllBlocks (plain_data_blocks n) (λ ds. refl) (many_laid data_block after_data data_block_laid (0, 0) n)
+
+-- ---- names
+
+abbrev name_from_byte : ℕ → Layout (ℕ × ℕ)
+name_from_byte w = chain plain_u16 (λ byte. name_bit w)
+
+abbrev name_from_width : Layout (ℕ × (ℕ × ℕ))
+name_from_width = chain width_field name_from_byte
+
+abbrev name_from_area : Layout (ℕ × (ℕ × (ℕ × ℕ)))
+name_from_area = chain name_area (λ area. name_from_width)
+
+abbrev name_from_bytes : List ℕ → ℕ → Layout (List ℕ × (ℕ × (ℕ × (ℕ × ℕ))))
+name_from_bytes before n = chain (name_bytes before n) (λ name. name_from_area)
+
+raw_name_laid : (before : List ℕ) → IsLaidOut RawName (raw_name before)
+unfolding raw_name name_len name_bytes name_area width_field plain_u16 name_bit
+raw_name_laid before =
+    chain_laid name_len (name_from_bytes before) (field_laid u8 _ u8_exact) (λ n.
+    chain_laid (name_bytes before n) (λ name. name_from_area) (field_laid (bytes n) _ (run_exact n)) (λ name.
+    chain_laid name_area (λ area. name_from_width) (field_laid u8 _ u8_exact) (λ area.
+    chain_laid width_field name_from_byte (field_laid u8 _ u8_exact) (λ w.
+    chain_laid plain_u16 (λ byte. name_bit w) (field_laid u16 plain u16_exact) (λ byte. field_laid u8 _ u8_exact)))))
+
+record NameParts (before : List ℕ) (x : RawName) : Type 0 where
+  len_is : length x.1.0 ≡ x.0
+  area_good : lies_within 129 131 x.1.1.0 ≡ true
+  width_good : lies_within 1 4 x.1.1.1.0 ≡ true
+
+within_width : (w : ℕ) → width_field.good w ≡ true → lies_within 1 4 w ≡ true
+unfolding width_field fault_of
+within_width w good = unless_fine (lies_within 1 4 w) 4 (and_parts (ltb w 256) (is_fine (unless (lies_within 1 4 w) 4)) good).1
+
+within_area : (a : ℕ) → name_area.good a ≡ true → lies_within 129 131 a ≡ true
+unfolding name_area fault_of
+within_area a good = unless_fine (lies_within 129 131 a) 4 (and_parts (ltb a 256) (is_fine (unless (lies_within 129 131 a) 4)) good).1
+
+name_parts : (before : List ℕ) (x : RawName) → (raw_name before).good x ≡ true → NameParts before x
+unfolding raw_name
+name_parts before x good =
+    let a = chain_parts name_len (name_from_bytes before) x good in
+    let b = chain_parts (name_bytes before x.0) (λ name. name_from_area) x.1 a.1 in
+    let c = chain_parts name_area (λ area. name_from_width) x.1.1 b.1 in
+    let d = chain_parts width_field name_from_byte x.1.1.1 c.1 in
+    record { len_is = name_len_is before x.0 x.1.0 b.0; area_good = within_area x.1.1.0 c.0; width_good = within_width x.1.1.1.0 d.0 }
+
+raw_name_is : (before : List ℕ) (x : RawName) → (raw_name before).good x ≡ true → raw_of_name (name_of_raw x) ≡ x
+raw_name_is before x good = ap (λ (n : ℕ). let r : RawName = (n, x.1) in r) (name_parts before x good).len_is
+
+name_record_laid : (before : List ℕ) → IsLaidOut NameRecord (name_record before)
+unfolding name_record
+name_record_laid before = seen_laid name_of_raw raw_of_name (raw_name before) (raw_name_is before) (λ n good. refl) (raw_name_laid before)
+
+names_laid : (n : ℕ) → IsLaidOut (List NameRecord) (names n)
+unfolding names
+names_laid n = many_laid name_record after_name name_record_laid [] n
+
+-- ---- all records
+
+abbrev counts_from_names : Layout (ℕ × ℕ)
+counts_from_names = chain plain_u16 (λ names. zero_u16)
+
+abbrev counts_from_datas : Layout (ℕ × (ℕ × ℕ))
+counts_from_datas = chain data_count (λ datas. counts_from_names)
+
+counts_laid : IsLaidOut Counts counts
+unfolding counts plain_u16 data_count zero_u16
+counts_laid =
+    chain_laid plain_u16 (λ codes. counts_from_datas) (field_laid u16 plain u16_exact) (λ codes.
+    chain_laid data_count (λ datas. counts_from_names) (field_laid u16 _ u16_exact) (λ datas.
+    chain_laid plain_u16 (λ names. zero_u16) (field_laid u16 plain u16_exact) (λ names. field_laid u16 _ u16_exact)))
+
+counts_zero : (c : Counts) → counts.good c ≡ true → c.1.1.1 ≡ 0
+unfolding counts
+counts_zero c good =
+    let a = chain_parts plain_u16 (λ codes. counts_from_datas) c good in
+    let b = chain_parts data_count (λ datas. counts_from_names) c.1 a.1 in
+    let d = chain_parts plain_u16 (λ names. zero_u16) c.1.1 b.1 in
+    zero_u16_is c.1.1.1 d.1
+
+abbrev blocks_and_names : Bool → Counts → Layout (List BlockRecord × (List DataBlock × List NameRecord))
+blocks_and_names judged c = chain (code_blocks judged c.0) (λ blocks. chain (data_blocks c.1.0) (λ datas. names c.1.1.0))
+
+raw_records_laid : (judged : Bool) → IsLaidOut RawRecords (raw_records judged)
+unfolding raw_records
+raw_records_laid judged =
+    chain_laid counts (blocks_and_names judged) counts_laid (λ c.
+    chain_laid (code_blocks judged c.0) (λ blocks. chain (data_blocks c.1.0) (λ datas. names c.1.1.0)) (code_blocks_laid judged c.0) (λ blocks.
+    chain_laid (data_blocks c.1.0) (λ datas. names c.1.1.0) (data_blocks_laid c.1.0) (λ datas. names_laid c.1.1.0)))
+
+-- the parts of records without fault
+record RecordParts (judged : Bool) (x : RawRecords) : Type 0 where
+  counts_good : counts.good x.0 ≡ true
+  codes_good : (code_blocks judged x.0.0).good x.1.0 ≡ true
+  datas_good : (data_blocks x.0.1.0).good x.1.1.0 ≡ true
+  names_good : (names x.0.1.1.0).good x.1.1.1 ≡ true
+
+record_parts : (judged : Bool) (x : RawRecords) → (raw_records judged).good x ≡ true → RecordParts judged x
+unfolding raw_records
+record_parts judged x good =
+    let a = chain_parts counts (blocks_and_names judged) x good in
+    let b = chain_parts (code_blocks judged x.0.0) (λ blocks. chain (data_blocks x.0.1.0) (λ datas. names x.0.1.1.0)) x.1 a.1 in
+    let c = chain_parts (data_blocks x.0.1.0) (λ datas. names x.0.1.1.0) x.1.1 b.1 in
+    record { counts_good = a.0; codes_good = b.0; datas_good = c.0; names_good = c.1 }
+
+codes_count : (judged : Bool) (n : ℕ) (bs : List BlockRecord) → (code_blocks judged n).good bs ≡ true → n ≡ length bs
+unfolding code_blocks
+codes_count judged n bs good = many_count (code_block judged) after_block (0, 0) n bs good
+
+datas_count : (n : ℕ) (ds : List DataBlock) → (data_blocks n).good ds ≡ true → n ≡ length ds
+unfolding data_blocks
+datas_count n ds good = many_count data_block after_data (0, 0) n ds good
+
+names_count : (n : ℕ) (ns : List NameRecord) → (names n).good ns ≡ true → n ≡ length ns
+unfolding names
+names_count n ns good = many_count name_record after_name [] n ns good
+
+raw_records_is : (judged : Bool) (x : RawRecords) → (raw_records judged).good x ≡ true → raw_of_records (records_of_raw x) ≡ x
+raw_records_is judged x good =
+    let p = record_parts judged x good in
+    ap (λ (z : Counts). let r : RawRecords = (z, x.1) in r)
+    (quad (sym (codes_count judged x.0.0 x.1.0 p.codes_good)) (sym (datas_count x.0.1.0 x.1.1.0 p.datas_good)) (sym (names_count x.0.1.1.0 x.1.1.1 p.names_good)) (sym (counts_zero x.0 p.counts_good)))
+
+records_laid : (judged : Bool) → IsLaidOut Records (records judged)
+unfolding records
+records_laid judged = seen_laid records_of_raw raw_of_records (raw_records judged) (raw_records_is judged) (λ r good. refl) (raw_records_laid judged)
+
+-- ---- programs: kinds, widths and areas by their numbers
+
+kind_back : (n : ℕ) → lies_within 1 3 n ≡ true → number_of_kind (kind_of_number n) ≡ n
+kind_back zero h = absurd cc
+kind_back (suc zero) h = refl
+kind_back (suc (suc zero)) h = refl
+kind_back (suc (suc (suc zero))) h = refl
+kind_back (suc (suc (suc (suc n)))) h = absurd (let le = leb-true (suc (suc (suc (suc n)))) 3 (and_parts (leb 1 (suc (suc (suc (suc n))))) (leb (suc (suc (suc (suc n)))) 3) h).1 in omega arith)
+
+kind_there : (k : BlockKind) → lies_within 1 3 (number_of_kind k) ≡ true → kind_of_number (number_of_kind k) ≡ k
+kind_there kind.Ob h = refl
+kind_there kind.Fc h = refl
+kind_there kind.Fb h = refl
+kind_there kind.Db h = absurd cc
+kind_there kind.Sfc h = absurd cc
+kind_there kind.Udt h = refl
+
+width_back : (n : ℕ) → lies_within 1 4 n ≡ true → width_code (width_of_number n) ≡ n
+width_back zero h = absurd cc
+width_back (suc zero) h = refl
+width_back (suc (suc zero)) h = refl
+width_back (suc (suc (suc zero))) h = refl
+width_back (suc (suc (suc (suc zero)))) h = refl
+width_back (suc (suc (suc (suc (suc n))))) h = absurd (let le = leb-true (suc (suc (suc (suc (suc n))))) 4 (and_parts (leb 1 (suc (suc (suc (suc (suc n)))))) (leb (suc (suc (suc (suc (suc n))))) 4) h).1 in omega arith)
+
+width_there : (w : Width) → width_of_number (width_code w) ≡ w
+width_there width.Bit = refl
+width_there width.Byte = refl
+width_there width.Word = refl
+width_there width.Dword = refl
+
+area_there : (number : ℕ) (a : Area) → lies_within 129 131 (number_of_area number a) ≡ true → (number ≡ 0) × (area_of_number (number_of_area number a) ≡ a)
+area_there zero area.I h = (refl, refl)
+area_there zero area.Q h = (refl, refl)
+area_there zero area.M h = (refl, refl)
+area_there zero area.P h = absurd cc
+area_there zero area.Db h = absurd cc
+area_there zero area.Di h = absurd cc
+area_there zero area.L h = absurd cc
+area_there (suc n) a h = absurd cc
+
+area_shape : (n : ℕ) → lies_within 129 131 n ≡ true → (e : Bool) → eqb n 129 ≡ e → (f : Bool) → eqb n 130 ≡ f → number_of_area 0 (cond e area.I (cond f area.Q area.M)) ≡ n
+area_shape n h true p f q = sym (eqb-true n 129 p)
+area_shape n h false p true q = sym (eqb-true n 130 q)
+area_shape n h false p false q =
+    let b = and_parts (leb 129 n) (leb n 131) h in
+    let low = leb-true 129 n b.0 in
+    let high = leb-true n 131 b.1 in
+    let not_i = eqb-false n 129 p in
+    let not_q = eqb-false n 130 q in
+    grind (arith, low, high, not_i, not_q)
+
+area_back : (n : ℕ) → lies_within 129 131 n ≡ true → number_of_area 0 (area_of_number n) ≡ n
+area_back n h = area_shape n h (eqb n 129) refl (eqb n 130) refl
+
+there_many : {S A B : Type 0} (l : S → Layout A) (next : S → A → S) (to : A → B) (from : B → A) → ((s : S) (x : A) → (l s).good x ≡ true → from (to x) ≡ x) → (s : S) (n : ℕ) (xs : List A) → good_many l next s n xs ≡ true → map from (map to xs) ≡ xs
+there_many l next to from h s zero [] good = refl
+there_many l next to from h s zero (x ∷ xs) good = absurd cc
+there_many l next to from h s (suc n) [] good = absurd cc
+there_many l next to from h s (suc n) (x ∷ xs) good =
+    let g = and_parts ((l s).good x) (good_many l next (next s x) n xs) good in
+    rw (h s x g.0, there_many l next to from h (next s x) n xs g.1) refl
+
+back_many : {S A B : Type 0} (l : S → Layout A) (next : S → A → S) (to : A → B) (from : B → A) → ((s : S) (y : B) → (l s).good (from y) ≡ true → to (from y) ≡ y) → (s : S) (n : ℕ) (ys : List B) → good_many l next s n (map from ys) ≡ true → map to (map from ys) ≡ ys
+back_many l next to from h s zero [] good = refl
+back_many l next to from h s zero (y ∷ ys) good = absurd cc
+back_many l next to from h s (suc n) [] good = absurd cc
+back_many l next to from h s (suc n) (y ∷ ys) good =
+    let g = and_parts ((l s).good (from y)) (good_many l next (next s (from y)) n (map from ys)) good in
+    rw (h s y g.0, back_many l next to from h (next s (from y)) n ys g.1) refl
+
+param_back : (kind instance : ℕ) (p : ParameterRecord) → (parameter kind instance).good p ≡ true → record_of_param (param_of p) ≡ p
+unfolding parameter raw_parameter
+param_back kind instance p good =
+    let a = chain_parts section_field (λ s. chain width_field (λ w. chain (parameter_byte kind instance w) (λ byte. chain (parameter_bit kind) (λ bit. zero_u8)))) (raw_of_parameter p) good in
+    let b = chain_parts width_field (λ w. chain (parameter_byte kind instance w) (λ byte. chain (parameter_bit kind) (λ bit. zero_u8))) (raw_of_parameter p).1 a.1 in
+    ap (λ (w : ℕ). let r : ParameterRecord = record { section = p.section; width = w; byte = p.byte; bit = p.bit } in r) (width_back p.width (within_width p.width b.0))
+
+params_back : (h : Head) (ps : List ParameterRecord) → (parameters h).good ps ≡ true → map record_of_param (map param_of ps) ≡ ps
+unfolding parameters
+params_back h ps good = there_many (λ s. parameter h.0 (instance_in h)) same_state param_of record_of_param (λ s p g. param_back h.0 (instance_in h) p g) 0 (params_in h) ps good
+
+params_there : (ps : List Param) → map param_of (map record_of_param ps) ≡ ps
+params_there [] = refl
+params_there (p ∷ ps) = rw (width_there p.width, params_there ps) refl
+
+-- the parts of a block record without fault
+record_parts_of : (judged : Bool) (before : ℕ × ℕ) (b : BlockRecord) → (code_block judged before).good b ≡ true → BlockParts judged before 0 (raw_of_block b)
+unfolding code_block plain_block
+record_parts_of judged before b good = block_parts judged before 0 (raw_of_block b) good
+
+block_back : (judged : Bool) (before : ℕ × ℕ) (b : BlockRecord) → (code_block judged before).good b ≡ true → record_of_block (block_of_record b) ≡ b
+block_back judged before b good =
+    let p = record_parts_of judged before b good in
+    ap (λ (k : ℕ). let r : BlockRecord = record { kind = k; number = b.number; local_len = b.local_len; instance_len = b.instance_len; params = map record_of_param (map param_of b.params); code = b.code; lines = b.lines } in r) (kind_back b.kind (head_kind before (raw_of_block b).0 p.head_good))
+    ∙ ap (λ (ps : List ParameterRecord). let r : BlockRecord = record { kind = b.kind; number = b.number; local_len = b.local_len; instance_len = b.instance_len; params = ps; code = b.code; lines = b.lines } in r) (params_back (raw_of_block b).0 b.params p.params_good)
+
+block_there : (judged : Bool) (before : ℕ × ℕ) (b : CodeBlock) → (code_block judged before).good (record_of_block b) ≡ true → block_of_record (record_of_block b) ≡ b
+block_there judged before b good =
+    let p = record_parts_of judged before (record_of_block b) good in
+    ap (λ (k : BlockKind). let r : CodeBlock = record { id = record { kind = k; number = b.id.number }; local_len = b.local_len; instance_len = b.instance_len; params = map param_of (map record_of_param b.params); code = b.code; lines = b.lines } in r) (kind_there b.id.kind (head_kind before (raw_of_block (record_of_block b)).0 p.head_good))
+    ∙ ap (λ (ps : List Param). let r : CodeBlock = record { id = b.id; local_len = b.local_len; instance_len = b.instance_len; params = ps; code = b.code; lines = b.lines } in r) (params_there b.params)
+
+name_parts_of : (before : List ℕ) (n : NameRecord) → (name_record before).good n ≡ true → NameParts before (raw_of_name n)
+unfolding name_record
+name_parts_of before n good = name_parts before (raw_of_name n) good
+
+name_back : (before : List ℕ) (n : NameRecord) → (name_record before).good n ≡ true → name_of_entry (entry_of_name n) ≡ n
+name_back before n good = let p = name_parts_of before n good in rw (area_back n.area p.area_good, width_back n.width p.width_good) refl
+
+name_there : (before : List ℕ) (e : NameEntry) → (name_record before).good (name_of_entry e) ≡ true → entry_of_name (name_of_entry e) ≡ e
+name_there before e good =
+    let p = name_parts_of before (name_of_entry e) good in
+    let a = area_there e.place.number e.place.area p.area_good in
+    ap (λ (z : Area). let r : NameEntry = record { name = e.name; place = record { area = z; number = 0; byte = e.place.byte; bit = e.place.bit }; width = width_of_number (width_code e.width) } in r) a.1
+    ∙ ap (λ (n : ℕ). let r : NameEntry = record { name = e.name; place = record { area = e.place.area; number = n; byte = e.place.byte; bit = e.place.bit }; width = width_of_number (width_code e.width) } in r) (sym a.0)
+    ∙ ap (λ (w : Width). let r : NameEntry = record { name = e.name; place = e.place; width = w } in r) (width_there e.width)
+
+codes_back : (judged : Bool) (n : ℕ) (bs : List BlockRecord) → (code_blocks judged n).good bs ≡ true → map record_of_block (map block_of_record bs) ≡ bs
+unfolding code_blocks
+codes_back judged n bs good = there_many (code_block judged) after_block block_of_record record_of_block (block_back judged) (0, 0) n bs good
+
+codes_there : (judged : Bool) (n : ℕ) (bs : List CodeBlock) → (code_blocks judged n).good (map record_of_block bs) ≡ true → map block_of_record (map record_of_block bs) ≡ bs
+unfolding code_blocks
+codes_there judged n bs good = back_many (code_block judged) after_block block_of_record record_of_block (block_there judged) (0, 0) n bs good
+
+names_back : (n : ℕ) (ns : List NameRecord) → (names n).good ns ≡ true → map name_of_entry (map entry_of_name ns) ≡ ns
+unfolding names
+names_back n ns good = there_many name_record after_name entry_of_name name_of_entry name_back [] n ns good
+
+names_there : (n : ℕ) (es : List NameEntry) → (names n).good (map name_of_entry es) ≡ true → map entry_of_name (map name_of_entry es) ≡ es
+unfolding names
+names_there n es good = back_many name_record after_name entry_of_name name_of_entry name_there [] n es good
+
+records_parts : (judged : Bool) (r : Records) → (records judged).good r ≡ true → RecordParts judged (raw_of_records r)
+unfolding records
+records_parts judged r good = record_parts judged (raw_of_records r) good
+
+pub records_back : (judged : Bool) (r : Records) → (records judged).good r ≡ true → records_of (program_of r) ≡ r
+records_back judged r good =
+    let p = records_parts judged r good in
+    ap (λ (z : List BlockRecord). let y : Records = record { code_blocks = z; data_blocks = r.data_blocks; names = map name_of_entry (map entry_of_name r.names) } in y) (codes_back judged (length r.code_blocks) r.code_blocks p.codes_good)
+    ∙ ap (λ (z : List NameRecord). let y : Records = record { code_blocks = r.code_blocks; data_blocks = r.data_blocks; names = z } in y) (names_back (length r.names) r.names p.names_good)
+
+records_there : (judged : Bool) (p : Program) → (records judged).good (records_of p) ≡ true → program_of (records_of p) ≡ p
+records_there judged p good =
+    let q = records_parts judged (records_of p) good in
+    ap (λ (z : List CodeBlock). let y : Program = record { code_blocks = z; data_blocks = p.data_blocks; names = map entry_of_name (map name_of_entry p.names) } in y) (codes_there judged (length (map record_of_block p.code_blocks)) p.code_blocks q.codes_good)
+    ∙ ap (λ (z : List NameEntry). let y : Program = record { code_blocks = p.code_blocks; data_blocks = p.data_blocks; names = z } in y) (names_there (length (map name_of_entry p.names)) p.names q.names_good)
+
+pub body_laid : (judged : Bool) → IsLaidOut Program (body judged)
+unfolding body
+body_laid judged = seen_laid program_of records_of (records judged) (records_back judged) (records_there judged) (records_laid judged)
+
+-- ---- what is judged changes no byte, and is right where it isn't judged
+
+many_text : {S A : Type 0} (l m : S → Layout A) (next : S → A → S) → ((s : S) (x : A) → (l s).spell x ≡ (m s).spell x) → (s : S) (xs : List A) → spell_many l next s xs ≡ spell_many m next s xs
+many_text l m next same s [] = refl
+many_text l m next same s (x ∷ xs) = rw (same s x, many_text l m next same (next s x) xs) refl
+
+line_text : (s x : ℕ) → (line_field true s).spell x ≡ (line_field false s).spell x
+unfolding line_field
+line_text s x = refl
+
+code_text : (n : ℕ) (ops : List OpData) → (code_of true n).spell ops ≡ (code_of false n).spell ops
+unfolding code_of
+code_text n ops = refl
+
+block_text : (before : ℕ × ℕ) (b : BlockRecord) → (code_block true before).spell b ≡ (code_block false before).spell b
+unfolding code_block plain_block raw_block code_and_lines lines_of
+block_text before b =
+    let x = raw_of_block b in
+    ap (λ (z : List ℕ). (head before).spell x.0 ++ ((parameters x.0).spell x.1.0 ++ (z ++ spell_many (line_field true) line_after 0 b.lines))) (code_text (code_len_in x.0) b.code)
+    ∙ ap (λ (z : List ℕ). (head before).spell x.0 ++ ((parameters x.0).spell x.1.0 ++ ((code_of false (code_len_in x.0)).spell b.code ++ z))) (many_text (line_field true) (line_field false) line_after line_text 0 b.lines)
+
+pub true_text : (p : Program) → (body true).spell p ≡ (body false).spell p
+unfolding body records raw_records code_blocks
+true_text p =
+    let r = raw_of_records (records_of p) in
+    ap (λ (z : List ℕ). counts.spell r.0 ++ (z ++ ((data_blocks r.0.1.0).spell r.1.1.0 ++ (names r.0.1.1.0).spell r.1.1.1))) (many_text (code_block true) (code_block false) after_block block_text (0, 0) r.1.0)
+
+pub same_text : (judged : Bool) (p : Program) → (body judged).spell p ≡ (body false).spell p
+same_text true p = true_text p
+same_text false p = refl
+
+many_weaker : {S A : Type 0} (l m : S → Layout A) (next : S → A → S) → ((s : S) (x : A) → (l s).good x ≡ true → (m s).good x ≡ true) → (s : S) (n : ℕ) (xs : List A) → good_many l next s n xs ≡ true → good_many m next s n xs ≡ true
+many_weaker l m next weaker s zero [] h = refl
+many_weaker l m next weaker s zero (x ∷ xs) h = absurd cc
+many_weaker l m next weaker s (suc n) [] h = absurd cc
+many_weaker l m next weaker s (suc n) (x ∷ xs) h =
+    let g = and_parts ((l s).good x) (good_many l next (next s x) n xs) h in
+    and_from _ _ (weaker s x g.0) (many_weaker l m next weaker (next s x) n xs g.1)
+
+line_weaker : (s x : ℕ) → (line_field true s).good x ≡ true → (line_field false s).good x ≡ true
+unfolding line_field
+line_weaker s x h = let g = and_parts (ltb x 4294967296) (is_fine (fault_of (Line s x))) h in and_from _ _ g.0 refl
+
+code_weaker : (n : ℕ) (ops : List OpData) → (code_of true n).good ops ≡ true → (code_of false n).good ops ≡ true
+unfolding code_of
+code_weaker n ops h =
+    let a = and_parts (are_ops ops && is_nowhere (stop_at true ops [])) (eqb (length (code_bytes ops)) n) h in
+    let b = and_parts (are_ops ops) (is_nowhere (stop_at true ops [])) a.0 in
+    and_from (are_ops ops && true) (eqb (length (code_bytes ops)) n) (and_from (are_ops ops) true b.0 refl) a.1
+
+lines_weaker : (h : Head) (ops : List OpData) (lines : List ℕ) → (lines_of true 0 h ops).good lines ≡ true → (lines_of false 0 h ops).good lines ≡ true
+unfolding lines_of
+lines_weaker h ops lines good =
+    let c = and_parts (is_fine (only true (fault_of (StatementCount (end_marks ops) (statements_in h))))) (good_many (line_field true) line_after 0 (statements_in h) lines) good in
+    and_from true _ refl (many_weaker (line_field true) (line_field false) line_after line_weaker 0 (statements_in h) lines c.1)
+
+parts_good : (before : ℕ × ℕ) (b : BlockRecord) → BlockParts true before 0 (raw_of_block b) → (code_block false before).good b ≡ true
+unfolding code_block plain_block raw_block code_and_lines
+parts_good before b p =
+    let x = raw_of_block b in
+    and_from ((head before).good x.0) _ p.head_good (and_from ((parameters x.0).good x.1.0) _ p.params_good (and_from ((code_of false (code_len_in x.0)).good x.1.1.0) _ (code_weaker (code_len_in x.0) x.1.1.0 p.code_good) (lines_weaker x.0 x.1.1.0 x.1.1.1 p.lines_good)))
+
+block_weaker : (before : ℕ × ℕ) (b : BlockRecord) → (code_block true before).good b ≡ true → (code_block false before).good b ≡ true
+block_weaker before b h = parts_good before b (record_parts_of true before b h)
+
+codes_weaker : (n : ℕ) (bs : List BlockRecord) → (code_blocks true n).good bs ≡ true → (code_blocks false n).good bs ≡ true
+unfolding code_blocks
+codes_weaker n bs h = many_weaker (code_block true) (code_block false) after_block block_weaker (0, 0) n bs h
+
+all_good : (x : RawRecords) → RecordParts true x → (raw_records false).good x ≡ true
+unfolding raw_records
+all_good x p =
+    and_from (counts.good x.0) _ p.counts_good (and_from ((code_blocks false x.0.0).good x.1.0) _ (codes_weaker x.0.0 x.1.0 p.codes_good) (and_from ((data_blocks x.0.1.0).good x.1.1.0) _ p.datas_good p.names_good))
+
+pub good_weaker : (p : Program) → (body true).good p ≡ true → (body false).good p ≡ true
+unfolding body records
+good_weaker p h = all_good (raw_of_records (records_of p)) (record_parts true (raw_of_records (records_of p)) h)
+
+-- ---- the header
+
+abbrev front_from_zero : Layout (ℕ × ℕ)
+front_from_zero = chain zero_u16 (λ zero. total_field)
+
+abbrev front_from_version : Layout (ℕ × (ℕ × ℕ))
+front_from_version = chain version_field (λ version. front_from_zero)
+
+pub front_laid : IsLaidOut Front front
+unfolding front magic_field version_field zero_u16 total_field
+front_laid =
+    chain_laid magic_field (λ magic. front_from_version) (field_laid u32 _ u32_exact) (λ magic.
+    chain_laid version_field (λ version. front_from_zero) (field_laid u16 _ u16_exact) (λ version.
+    chain_laid zero_u16 (λ zero. total_field) (field_laid u16 _ u16_exact) (λ zero. field_laid u32 _ u32_exact)))
+
+or_false : (a b : Bool) → a ≡ false → b ≡ false → (a || b) ≡ false
+or_false true b p q = absurd cc
+or_false false b p q = q
+
+fine_unless : (b : Bool) (code : ℕ) → b ≡ true → is_fine (unless b code) ≡ true
+fine_unless true code h = refl
+fine_unless false code h = absurd cc
+
+total_good : (total : ℕ) → total ≤ 8388608 → total_field.good total ≡ true
+unfolding total_field fault_of
+total_good total le = and_from (ltb total 4294967296) _ (lt-ltb total 4294967296 (omega arith)) (fine_unless (leb total 8388608) 4 (le-leb total 8388608 le))
+
+front_good : (total : ℕ) → total ≤ 8388608 → front.good (front_of total) ≡ true
+unfolding front magic_field version_field zero_u16 fault_of
+front_good total le = and_from true _ refl (and_from true _ refl (and_from true _ refl (total_good total le)))
+
+front_length : (f : Front) → length (front.spell f) ≡ 12
+unfolding front magic_field version_field zero_u16 total_field
+front_length f = refl
+
+counts_length : (c : Counts) → length (counts.spell c) ≡ 8
+unfolding counts plain_u16 data_count zero_u16
+counts_length c = refl
+
+abbrev text_of : Program → List ℕ
+text_of p = (body false).spell p
+
+text_long : (p : Program) → 8 ≤ length (text_of p)
+unfolding body records raw_records
+text_long p =
+    let r = raw_of_records (records_of p) in
+    omega (arith, counts_length r.0, length-append (counts.spell r.0) ((code_blocks false r.0.0).spell r.1.0 ++ ((data_blocks r.0.1.0).spell r.1.1.0 ++ (names r.0.1.1.0).spell r.1.1.1)))
+
+-- ---- the image
+
+abbrev rest_of : Bool → ℕ → Cursor → Read Program
+rest_of judged total cur = bind ((body judged).read (record { at = cur.at; rest = take (total - front_size) cur.rest })) at_end
+
+-- nothing is cut off, and nothing is noted
+cut_finds : (judged : Bool) (total : ℕ) (cur : Cursor) (p : Program) (end : Cursor) → 20 ≤ total → Finds Program (rest_of judged total cur) p end → Finds Program (cut judged total total cur) p end
+cut_finds judged total cur p end le h =
+    let no_cut : (ltb total 20 || ltb total total) ≡ false = or_false _ _ (le-ltb total 20 le) (le-ltb total total (omega arith)) in
+    let same : eqb total total ≡ true = eq-eqb total total refl in
+    let shape : cut judged total total cur ≡ rest_of judged total cur = rw (no_cut, same) refl in
+    subst (λ (z : Read Program). Finds Program z p end) (sym shape) h
+
+pub image_again : (judged : Bool) (p : Program) → (body judged).good p ≡ true → front_size + length (text_of p) ≤ 8388608 → Finds Program (read_by judged (image p)) p (at_place (front_size + length (text_of p)) [])
+unfolding read_by image
+image_again judged p good short =
+    let text = text_of p in
+    let total = front_size + length text in
+    let values : Front = front_of total in
+    let all = front.spell values ++ text in
+    let end = at_place total [] in
+    let one = front_laid.again values 0 text (front_good total short) in
+    let mid = at_place (0 + length (front.spell values)) text in
+    let mid_is : mid ≡ at_place 12 text = ap (λ (k : ℕ). at_place (0 + k) text) (front_length values) in
+    let one_here : Finds Front (front.read (at_place 0 all)) values (at_place 12 text) = subst (λ (z : Cursor). Finds Front (front.read (at_place 0 all)) values z) mid_is one in
+    let size : length all ≡ total = length-append (front.spell values) text ∙ ap (λ (k : ℕ). k + length text) (front_length values) in
+    let spelled : (body judged).spell p ≡ text = same_text judged p in
+    let whole : take (total - front_size) text ≡ (body judged).spell p ++ [] = ap (λ (z : List ℕ). take (total - front_size) z) (sym (append-nil text)) ∙ take_at text [] (total - front_size) (omega arith) ∙ sym spelled ∙ sym (append-nil ((body judged).spell p)) in
+    let two = (body_laid judged).again p 12 [] good in
+    let two_at : Finds Program ((body judged).read (at_place 12 ((body judged).spell p ++ []))) p (at_place (12 + length text) []) = subst (λ (z : List ℕ). Finds Program ((body judged).read (at_place 12 ((body judged).spell p ++ []))) p (at_place (12 + length z) [])) spelled two in
+    let two_here : Finds Program ((body judged).read (at_place 12 (take (total - front_size) text))) p (at_place (12 + length text) []) = subst (λ (z : List ℕ). Finds Program ((body judged).read (at_place 12 z)) p (at_place (12 + length text) [])) (sym whole) two_at in
+    let three : Finds Program (at_end p (at_place (12 + length text) [])) p end = record { found = refl; clean = refl } in
+    let inner : Finds Program (rest_of judged total (at_place 12 text)) p end = bind_finds _ at_end p (at_place (12 + length text) []) p end two_here three in
+    let cut_there : Finds Program (cut judged total total (at_place 12 text)) p end = cut_finds judged total (at_place 12 text) p end (let l = text_long p in omega arith) inner in
+    let cut_here : Finds Program (cut judged (length all) total (at_place 12 text)) p end = subst (λ (k : ℕ). Finds Program (cut judged k total (at_place 12 text)) p end) (sym size) cut_there in
+    bind_finds (front.read (at_place 0 all)) (λ f cur. cut judged (length all) f.1.1.1 cur) values (at_place 12 text) p end one_here cut_here
+
+-- every byte string is the image of at most one program
+pub image_one : (p q : Program) → IsProgram p → IsProgram q → image p ≡ image q → p ≡ q
+image_one p q hp hq e =
+    let a = image_again false p hp.good hp.short in
+    let b = image_again false q hq.good hq.short in
+    let both = same_Some _ _ (sym a.found ∙ ap (λ (z : List ℕ). (read_by false z).found) e ∙ b.found) in
+    ap (λ (z : Program × Cursor). z.0) both
+
+no_note : (b : Bool) (at code : ℕ) → faults_in (cond b [] (Faulty at code ∷ [])) ≡ [] → b ≡ true
+no_note true at code h = refl
+no_note false at code h = absurd cc
+
+magic_is : (n : ℕ) → magic_field.good n ≡ true → n ≡ 0x53374642
+unfolding magic_field fault_of
+magic_is n good = eqb-true n 0x53374642 (unless_fine _ 1 (and_parts (ltb n 4294967296) (is_fine (unless (eqb n 0x53374642) 1)) good).1)
+
+version_is : (n : ℕ) → version_field.good n ≡ true → n ≡ 1
+unfolding version_field fault_of
+version_is n good = eqb-true n 1 (unless_fine _ 2 (and_parts (ltb n 65536) (is_fine (unless (eqb n 1) 2)) good).1)
+
+total_is_short : (n : ℕ) → total_field.good n ≡ true → n ≤ 8388608
+unfolding total_field fault_of
+total_is_short n good = leb-true n 8388608 (unless_fine _ 4 (and_parts (ltb n 4294967296) (is_fine (unless (leb n 8388608) 4)) good).1)
+
+-- what a front without fault says
+front_is : (f : Front) → front.good f ≡ true → (f.0 ≡ 0x53374642) × (f.1.0 ≡ 1) × (f.1.1.0 ≡ 0) × (f.1.1.1 ≤ 8388608)
+unfolding front
+front_is f good =
+    let a = chain_parts magic_field (λ magic. front_from_version) f good in
+    let b = chain_parts version_field (λ version. front_from_zero) f.1 a.1 in
+    let c = chain_parts zero_u16 (λ zero. total_field) f.1.1 b.1 in
+    (magic_is f.0 a.0, version_is f.1.0 b.0, zero_u16_is f.1.1.0 c.0, total_is_short f.1.1.1 c.1)
+
+pub image_takes : (text : List ℕ) (p : Program) (end : Cursor) → IsBytes text → Finds Program (read_image text) p end → (text ≡ image p) × IsProgram p × IsRight p
+unfolding read_by image
+image_takes text p end are h =
+    let a = bind_parts (front.read (at_place 0 text)) (λ f cur. cut true (length text) f.1.1.1 cur) p end h in
+    let f = a.first in
+    let total = f.1.1.1 in
+    let cur = a.next in
+    let t = front_laid.takes (at_place 0 text) f cur are a.one in
+    let fs = front_is f t.good in
+    cond_finds (ltb total 20 || ltb (length text) total) (ended 8 3) _ p end _ a.two (λ _ k. absurd (ended_finds 8 3 p end k)) (λ within g.
+    let n = no_faults (cond (eqb (length text) total) [] (Faulty total 10 ∷ [])) (rest_of true total cur).notes g.clean in
+    let size : length text ≡ total = eqb-true _ _ (no_note _ total 10 n.0) in
+    let b = bind_parts ((body true).read (at_place cur.at (take (total - front_size) cur.rest))) at_end p end (record { found = g.found; clean = n.1 }) in
+    let u = (body_laid true).takes (at_place cur.at (take (total - front_size) cur.rest)) b.first b.next (bytes_taken (total - front_size) cur.rest t.text.rest_fits) b.one in
+    let made = same_Some (b.first, b.next) (p, end) b.two.found in
+    let p_is : b.first ≡ p = ap (λ (z : Program × Cursor). z.0) made in
+    let none : b.next.rest ≡ [] = nil_from_length b.next.rest (eqb-true _ _ (no_note _ b.next.at 10 b.two.clean)) in
+    let lengths : length text ≡ 12 + length cur.rest = ap length t.text.parts ∙ length-append (front.spell f) cur.rest ∙ ap (λ (k : ℕ). k + length cur.rest) (front_length f) in
+    let all : take (total - front_size) cur.rest ≡ cur.rest = ap (λ (z : List ℕ). take (total - front_size) z) (sym (append-nil cur.rest)) ∙ take_at cur.rest [] (total - front_size) (omega (arith, lengths, size)) in
+    let behind : cur.rest ≡ text_of b.first = sym all ∙ u.text.parts ∙ ap (λ (z : List ℕ). (body true).spell b.first ++ z) none ∙ append-nil ((body true).spell b.first) ∙ same_text true b.first in
+    let total_is : total ≡ front_size + length (text_of b.first) = sym size ∙ lengths ∙ ap (λ (z : List ℕ). 12 + length z) behind in
+    let values : f ≡ front_of (front_size + length (text_of b.first)) = quad fs.0 fs.1 fs.2 total_is in
+    let whole : text ≡ image b.first = t.text.parts ∙ ap (λ (z : List ℕ). front.spell f ++ z) behind ∙ ap (λ (z : Front). front.spell z ++ text_of b.first) values in
+    let here : (text ≡ image b.first) × IsProgram b.first × IsRight b.first = (whole, record { good = good_weaker b.first u.good; short = rw (← total_is) fs.3 }, u.good) in
+    subst (λ (z : Program). (text ≡ image z) × IsProgram z × IsRight z) p_is here)

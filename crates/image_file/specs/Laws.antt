@@ -1,0 +1,17 @@
+-- The image both ways.
+use Rattle.std.specs.Prelude.{◌≡◌, ◌<◌, ℕ, List, [], get_or, Option, Some, None}
+use Rattle.flat_code.specs.Layout.{Cursor, Read, faults_in}
+use Rattle.flat_code.specs.Programs.{Program}
+use Rattle.flat_code.specs.Image.{image, IsProgram, IsRight, read_image}
+
+-- every byte string is the image of at most one program, whether it verifies or not
+abbrev pub ImagesAreOfOne : Type 0
+ImagesAreOfOne = (p q : Program) → IsProgram p → IsProgram q → image p ≡ image q → p ≡ q
+
+-- a program without faults of fields is read from its image
+abbrev pub ImagesAreRead : Type 0
+ImagesAreRead = (p : Program) → IsProgram p → IsRight p → (end : Cursor) × ((read_image (image p)).found ≡ Some (p, end)) × (faults_in (read_image (image p)).notes ≡ [])
+
+-- bytes that are read with no fault are the image of what was found
+abbrev pub ReadingsAreImages : Type 0
+ReadingsAreImages = (bytes : List ℕ) (p : Program) (end : Cursor) → ((i : ℕ) → get_or bytes i 0 < 256) → (read_image bytes).found ≡ Some (p, end) → faults_in (read_image bytes).notes ≡ [] → (bytes ≡ image p) × IsProgram p × IsRight p

@@ -1,0 +1,4 @@
+//! Images of programs: both ways, and verified.
+#![tactic(auto)]
+
+pub mod laws;
