@@ -1,5 +1,5 @@
 use plc_base::{Area, Place, Width};
-use plc_mem::{Memory, Missing};
+use plc_mem::{Memory, Missing, operands};
 use std::alloc::Global;
 use std::process::Abort;
 
@@ -163,4 +163,22 @@ fn peripherals(rt: HostRuntime) {
     assert_eq!(rt; memory.output(0), Some(0));
     assert_eq!(rt; memory.output(700), Some(0));
     assert_eq!(rt; memory.read(at(Area::Q, 0, 0), Width::Byte), Ok(0x99));
+}
+
+// Local bytes are no memory; their operands are read and written in the same way.
+#[test]
+fn local_bytes(rt: HostRuntime) {
+    let mut bytes = [0x12, 0x34, 0x56, 0x78];
+    assert_eq!(rt; operands::number(&bytes, 1, 0, Width::Word), Some(0x3456));
+    assert_eq!(rt; operands::number(&bytes, 3, 4, Width::Bit), Some(1));
+    assert_eq!(rt; operands::number(&bytes, 3, 0, Width::Word), None);
+    assert_eq!(rt;
+        operands::put(&mut bytes, 2, 0, Width::Word, 0xABCD),
+        Ok(())
+    );
+    assert_eq!(rt;
+        operands::put(&mut bytes, 1, 0, Width::Dword, 0),
+        Err(Missing)
+    );
+    assert_eq!(rt; bytes, [0x12, 0x34, 0xAB, 0xCD]);
 }

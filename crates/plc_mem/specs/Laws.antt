@@ -18,7 +18,8 @@ use Rattle.plc_mem.specs.Written.{IsWritten}
 
 -- Two memories with the same loaded data blocks and the same bits at every bit place are the same.
 abbrev pub BitsDetermineMemory : (m n : Areas) → Type 0
-BitsDetermineMemory m n = SameBlocks m n → ((place : BitPlace) → bit_at n place ≡ bit_at m place) → n ≡ m
+BitsDetermineMemory m n =
+    SameBlocks m n → ((place : BitPlace) → bit_at n place ≡ bit_at m place) → n ≡ m
 
 -- Writing gives a memory with the number there and every other bit as before, and each memory of which
 -- this is so is that one.
@@ -32,8 +33,10 @@ WritingGivesTheOneMemory m other =
 -- There is a number, or a writing, exactly where each bit of the operand exists.
 abbrev pub ReadsWhereEachBitExists : Areas → Type 0
 ReadsWhereEachBitExists m =
-    (place : Place) (width : Width) → IsSome (number_at m place width) ↔ EachBitExists m (region_read place) place width
+    (place : Place) (width : Width)
+    → IsSome (number_at m place width) ↔ EachBitExists m (region_read place) place width
 
+-- the same of writing
 abbrev pub WritesWhereEachBitExists : Areas → Type 0
 WritesWhereEachBitExists m =
     (place : Place) (width : Width) (value : ℕ)
@@ -51,22 +54,33 @@ NumbersAreReadBack m =
 -- No call adds or removes a place.
 abbrev pub PlacesStay : Areas → Type 0
 PlacesStay m =
-    ((n : Areas) (place : Place) (width : Width) (value : ℕ) → value < 2 ^ bit_count width → written m place width value ≡ Some n → SamePlaces m n)
+    ((n : Areas) (place : Place) (width : Width) (value : ℕ)
+    → value < 2 ^ bit_count width
+    → written m place width value ≡ Some n
+    → SamePlaces m n)
     × ((n : Areas) (byte value : ℕ) → value < 2 ^ 8 → with_input m byte value ≡ Some n → SamePlaces m n)
     × SamePlaces m (outputs_cleared m)
     × SamePlaces m (refreshed m)
 
--- A refresh, a clearing of the outputs and an input, said of bits.
+-- A refresh, said of bits; below, the same of clearing the outputs and of an input.
 abbrev pub RefreshesBits : Areas → Type 0
 RefreshesBits m = IsMemory (refreshed m) × IsRefreshed m (refreshed m)
 
+-- clearing the outputs
 abbrev pub ClearsBits : Areas → Type 0
 ClearsBits m = IsMemory (outputs_cleared m) × IsCleared m (outputs_cleared m)
 
+-- an input
 abbrev pub SetsInputBits : Areas → Type 0
 SetsInputBits m =
-    (n : Areas) (byte value : ℕ) → value < 2 ^ 8 → with_input m byte value ≡ Some n → IsMemory n × IsInput m n byte value
+    (n : Areas) (byte value : ℕ)
+    → value < 2 ^ 8
+    → with_input m byte value ≡ Some n
+    → IsMemory n × IsInput m n byte value
 
 -- Memory begins as one, where the data blocks are made of bytes.
 abbrev pub MemoryStarts : Type 0
-MemoryStarts = (blocks : List (ℕ × List ℕ)) → AllByRecursion (λ (block : ℕ × List ℕ). AreBytes block.1) blocks → IsMemory (fresh blocks)
+MemoryStarts =
+    (blocks : List (ℕ × List ℕ))
+    → AllByRecursion (λ (block : ℕ × List ℕ). AreBytes block.1) blocks
+    → IsMemory (fresh blocks)

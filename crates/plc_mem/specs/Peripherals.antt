@@ -23,12 +23,20 @@ outputs_cleared m = record m { peripheral_outputs = clear_peripheral }
 
 -- The same, said of bits: each peripheral output is 0, and every other bit is as before.
 pub record IsCleared (old new : Areas) : Type 0 where
-  pub outputs : (byte bit : ℕ) → bit_at new (bit_place PeripheralOutputs byte bit) ≡ option_map (λ _. false) (bit_at old (bit_place PeripheralOutputs byte bit))
-  pub others : (place : BitPlace) → place.region ≢ PeripheralOutputs → bit_at new place ≡ bit_at old place
+  pub outputs :
+      (byte bit : ℕ)
+      → bit_at new (bit_place PeripheralOutputs byte bit)
+      ≡ option_map (λ _. false) (bit_at old (bit_place PeripheralOutputs byte bit))
+  pub others :
+      (place : BitPlace) → place.region ≢ PeripheralOutputs → bit_at new place ≡ bit_at old place
   pub blocks : SameBlocks old new
 
 -- One byte of the peripheral inputs is the value, and every other bit is as before.
 pub record IsInput (old new : Areas) (byte value : ℕ) : Type 0 where
-  pub input : (bit : ℕ) → bit < 8 → bit_at new (bit_place PeripheralInputs byte bit) ≡ Some (bit_of value bit)
-  pub others : (place : BitPlace) → place ≢ bit_place PeripheralInputs byte place.bit → bit_at new place ≡ bit_at old place
+  pub input :
+      (bit : ℕ) → bit < 8 → bit_at new (bit_place PeripheralInputs byte bit) ≡ Some (bit_of value bit)
+  pub others :
+      (place : BitPlace)
+      → place ≢ bit_place PeripheralInputs byte place.bit
+      → bit_at new place ≡ bit_at old place
   pub blocks : SameBlocks old new

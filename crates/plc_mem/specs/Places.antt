@@ -9,7 +9,8 @@ use Rattle.plc_mem.specs.Bits.{bit_at}
 
 -- The same data blocks are loaded.
 abbrev pub SameBlocks : (old new : Areas) → Type 0
-SameBlocks old new = (number : ℕ) → is_some (map.get new.data_blocks number) ≡ is_some (map.get old.data_blocks number)
+SameBlocks old new =
+    (number : ℕ) → is_some (map.get new.data_blocks number) ≡ is_some (map.get old.data_blocks number)
 
 -- No place is added or removed.
 pub record SamePlaces (old new : Areas) : Type 0 where
@@ -25,13 +26,15 @@ pub record IsRun (count : ℕ) (bytes : List ℕ) : Type 0 where
   pub count_is : length bytes ≡ count
   pub bytes_are : AreBytes bytes
 
+-- The two parts of a peripheral area have their sizes and are made of bytes.
 pub record IsPeripheral (p : PeripheralBytes) : Type 0 where
   pub low : IsRun image_size p.low
   pub high : IsRun upper_size p.high
 
 -- Each data block is made of bytes.
 abbrev pub AreBlocks : map.FinMap nat_cmp (List ℕ) → Type 0
-AreBlocks blocks = (number : ℕ) (bytes : List ℕ) → map.get blocks number ≡ Some bytes → AreBytes bytes
+AreBlocks blocks =
+    (number : ℕ) (bytes : List ℕ) → map.get blocks number ≡ Some bytes → AreBytes bytes
 
 -- The two parts of a peripheral area have their sizes.
 pub record HasParts (p : PeripheralBytes) : Type 0 where

@@ -13,7 +13,8 @@ number_of_bytes bytes at bit Bit = int.bit_at (slice_index bytes at) bit
 number_of_bytes bytes at bit Byte = slice_index bytes at
 number_of_bytes bytes at bit Word = slice_index bytes at * 2 ^ 8 + slice_index bytes (at + 1)
 number_of_bytes bytes at bit Dword =
-    slice_index bytes at * 2 ^ 24 + slice_index bytes (at + 1) * 2 ^ 16 + slice_index bytes (at + 2) * 2 ^ 8 + slice_index bytes (at + 3)
+    slice_index bytes at * 2 ^ 24 + slice_index bytes (at + 1) * 2 ^ 16 + slice_index bytes (at + 2) * 2 ^ 8
+    + slice_index bytes (at + 3)
 
 -- The bit of an operand that weighs 2 ^ j, where bytes are given by their numbers.
 abbrev pub operand_bit_of : (ℕ → Option ℕ) → (at bit : ℕ) → Width → ℕ → Option Bool

@@ -1,5 +1,5 @@
 // Peripheral inputs, or peripheral outputs: bytes 0 to 127, and bytes 256 to 767.
-ghost use Rattle.std.specs.Prelude.{◌≡◌, ◌^◌, ◌<◌, Some, None, IsSome, IsTrue, ◌↔◌};
+ghost use Rattle.std.specs.Prelude.{◌≡◌, ◌^◌, ◌<◌, Some, None, IsSome, IfSome, IsTrue, ◌↔◌};
 ghost use Rattle.plc_mem.specs.Bits.{peripheral_byte};
 ghost use Rattle.plc_mem.specs.Changes.{IsFirstChange, IsFirstHighChange};
 ghost use Rattle.plc_mem.specs.Fresh.{clear_peripheral};
@@ -71,7 +71,8 @@ impl PeripheralArea {
     /// The number of the first byte, from `from` on, that differs from that of `before`, if there is
     /// one. What changed is found by asking again from the number after it.
     pub fn next_change(&self, before: &PeripheralArea, from: u16) -> Option<u16>
-        ensures { IsFirstChange before.now self.now from result }
+        ensures first { IsFirstChange before.now self.now from result }
+        ensures exists { IfSome result (λ byte. IsTrue (is_peripheral_byte byte)) }
     {
         let from = usize::from(from);
         match first_difference(&before.low, &self.low, from) {
@@ -82,7 +83,8 @@ impl PeripheralArea {
 
     // The same for the upper part, of which the first `skip` bytes are passed over.
     fn next_high_change(&self, before: &PeripheralArea, skip: usize) -> Option<u16>
-        ensures { IsFirstHighChange before.now self.now skip result }
+        ensures first { IsFirstHighChange before.now self.now skip result }
+        ensures exists { IfSome result (λ byte. IsTrue (is_peripheral_byte byte)) }
     {
         let index = first_difference(&before.high, &self.high, skip)?;
         Some((HIGH_START + index) as u16)

@@ -59,3 +59,9 @@ abbrev pub IsRefusalUnique : Type 0
 IsRefusalUnique =
     (source : List ℕ) (symbols : Option (List ℕ)) (r s : Refusal) → IsRefusedSource source symbols r
     → IsRefusedSource source symbols s → r ≡ s
+
+-- each source without a file of symbols means a program or is refused
+abbrev pub IsTotal : Type 0
+IsTotal =
+    (source : List ℕ) →
+    ((code : Code) × MeansCode source None code) ⊎ ((refusal : Refusal) × IsRefusedSource source None refusal)

@@ -30,10 +30,11 @@ timer_at_rest = record {
   free_edge = false;
 }
 
--- RLO 1 and start edge 0; RLO 0 and start edge 1
+-- a rising RLO: 1 with start edge 0
 abbrev pub is_rising : Bool → Timer → Bool
 is_rising rlo timer = rlo && not timer.start_edge
 
+-- a falling RLO: 0 with start edge 1
 abbrev pub is_falling : Bool → Timer → Bool
 is_falling rlo timer = not rlo && timer.start_edge
 

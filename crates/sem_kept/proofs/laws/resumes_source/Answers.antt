@@ -9,6 +9,7 @@ returns c d means_d =
     let b : Code = c.requires.suspended.0 in
     let e : b ≡ d = c.law_of_sources.ensures.one_meaning c.args.source.now None b d c.requires.suspended.1 means_d in
     resumes
+    c.law_of_replay.ensures
     d
     c.args.entries.now
     c.args.place
