@@ -1,4 +1,11 @@
 //! Images of programs: both ways, and verified.
 #![tactic(auto)]
 
+mod faults;
+mod fields;
 pub mod laws;
+mod reader;
+mod records;
+mod stops;
+
+pub use faults::LoadFault;
