@@ -1,3 +1,5 @@
 pub mod LayoutLemmas
 pub mod CodeLemmas
 pub mod ImageLemmas
+pub mod RunLemmas
+pub mod LeastLemmas

@@ -1,6 +1,7 @@
 //! Images of programs: both ways, and verified.
 #![tactic(auto)]
 
+mod codes;
 mod faults;
 mod fields;
 pub mod laws;
