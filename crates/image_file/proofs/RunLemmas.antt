@@ -4,14 +4,14 @@ use Rattle.std.proofs.lemmas.List.{append-nil, map-append}
 use Rattle.flat_code.specs.Image.{code_block_at, plain_block, code_block, whole_at, after_block, data_blocks, plain_data_blocks}
 use Rattle.flat_code.specs.Layout.{Note, Faulty, Whole, AllBlocks, Cursor, Read, Layout, given, go_on, bind, chain, checked, located, seen_as, remembered, noted, read_many, many, faults_in}
 use Rattle.flat_code.specs.Programs.{DataBlock}
-use Rattle.flat_code.specs.Records.{BlockRecord}
+use Rattle.flat_code.specs.Records.{BlockRecord, NameRecord}
 use Rattle.image_file.specs.declared.faults.LoadFault.{LoadFault}
 use Rattle.image_file.specs.declared.stops.Stop.{Stop}
 use Rattle.image_file.specs.declared.stops.Stop.TheVariants as stop
 use Rattle.image_file.specs.declared.reader.Reader.{Reader}
 use Rattle.image_file.specs.declared.records.Started.{Started}
 use Rattle.image_file.specs.Least.{with_fault, with_faults}
-use Rattle.image_file.specs.Running.{Sees, SeesBlock, started, Log, with_wholes, with_all, logged, Ran, Goes, Stops, ran, run, then_run, with_front, log_of, place_of}
+use Rattle.image_file.specs.Running.{Sees, SeesBlock, SeesBlocks, SeesName, started, Log, with_wholes, with_all, logged, Ran, Goes, Stops, ran, run, then_run, with_front, log_of, place_of}
 use Rattle.image_file.proofs.LayoutLemmas.{faults-append}
 
 pub with_more : (least : Option LoadFault) (a b : List (ℕ × ℕ)) → with_faults least (a ++ b) ≡ with_faults (with_faults least a) b
@@ -137,3 +137,27 @@ unfolding logged with_faults
 kept_one least old new datas start block s is same =
     let m : map started new ≡ map started old ++ (start, block) ∷ [] = ap (map started) is ∙ map-append started old (s ∷ []) ∙ ap (λ (z : ℕ × BlockRecord). map started old ++ z ∷ []) same in
     ap (λ (z : List (ℕ × BlockRecord)). let y : Log = record { least = least; blocks = z; datas = datas } in y) m
+
+-- ---- loops that may lack memory
+
+front_nil : {A : Type 0} (r : Ran (List A)) → with_front [] r ≡ r
+front_nil (Goes xs cur log) = refl
+front_nil (Stops log) = refl
+
+pub more_starts : {S A : Type 0} (l : S → Layout A) (next : S → A → S) (s : S) (count : ℕ) (cur : Cursor) (log : Log) → with_front [] (run (many l next s (count - 0)) cur log) ≡ run (many l next s count) cur log
+more_starts {S = S} {A = A} l next s count cur log = ap (λ (n : ℕ). with_front [] (run (many l next s n) cur log)) (omega arith) ∙ front_nil (run (many l next s count) cur log)
+
+pub sees_stops : {S A X Y : Type 0} (view : X → A) (views : Y → List A) (e : Stop) (r : Reader) (l : S → Layout A) (next : S → A → S) (s : S) (count i : ℕ) (cur : Cursor) (log : Log) (xs : List A) (all : Ran (List A))
+    → i < count → Sees view (Err e) r (run (l s) cur log) → with_front xs (run (many l next s (count - i)) cur log) ≡ all → Sees views (Err e) r all
+sees_stops view views stop.AtFault r l next s count i cur log xs all lt h so_far = more_stops l next s count i cur log (log_of r) xs all lt h so_far
+sees_stops view views stop.NoMemory r l next s count i cur log xs all lt h so_far = tt
+
+pub blocks_stop : (e : Stop) (r : Reader) (s : ℕ × ℕ) (count i : ℕ) (cur : Cursor) (log : Log) (xs : List BlockRecord) (all : Ran (List BlockRecord))
+    → i < count → SeesBlock (Err e) r (run (code_block true s) cur log) → with_front xs (run (many (code_block true) after_block s (count - i)) cur log) ≡ all → SeesBlocks (Err e) r all
+blocks_stop stop.AtFault r s count i cur log xs all lt h so_far = more_stops (code_block true) after_block s count i cur log (log_of r) xs all lt h so_far
+blocks_stop stop.NoMemory r s count i cur log xs all lt h so_far = tt
+
+pub names_stop : {Y : Type 0} (views : Y → List NameRecord) (e : Stop) (r : Reader) (l : List ℕ → Layout NameRecord) (next : List ℕ → NameRecord → List ℕ) (s : List ℕ) (count i : ℕ) (cur : Cursor) (log : Log) (xs : List NameRecord) (all : Ran (List NameRecord))
+    → i < count → SeesName (Err e) r (run (l s) cur log) → with_front xs (run (many l next s (count - i)) cur log) ≡ all → Sees views (Err e) r all
+names_stop views stop.AtFault r l next s count i cur log xs all lt h so_far = more_stops l next s count i cur log (log_of r) xs all lt h so_far
+names_stop views stop.NoMemory r l next s count i cur log xs all lt h so_far = tt

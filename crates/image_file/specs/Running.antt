@@ -1,10 +1,11 @@
 -- Reading in one pass with the least fault so far.
 use Rattle.std.specs.Prelude.{◌≡◌, ℕ, ◌+◌, nat_lt, ◌==◌, Bool, true, false, ◌&&◌, ◌||◌, if◌then◌else◌, List, [], ◌∷◌, ◌++◌, length, map, Option, Some, None, Result, Ok, Err}
 use Rattle.std.specs.Option.{option_map}
+use Rattle.std.specs.Borrow.{Bor}
 use Rattle.flat_code.specs.declared.image_fields.Field.{Field}
 use Rattle.flat_code.specs.Faults.{fault_of}
 use Rattle.flat_code.specs.Layout.{Note, Faulty, Whole, AllBlocks, Cursor, Read, Layout, noted, faults_in}
-use Rattle.flat_code.specs.Records.{BlockRecord}
+use Rattle.flat_code.specs.Records.{BlockRecord, NameRecord}
 use Rattle.flat_code.specs.Programs.{DataBlock}
 use Rattle.flat_code.specs.Image.{Head}
 use Rattle.image_file.specs.declared.faults.LoadFault.{LoadFault}
@@ -88,3 +89,15 @@ abbrev pub SeesBlock : Result (ℕ × ℕ) Stop → Reader → Ran BlockRecord �
 SeesBlock (Ok key) r all = (b : BlockRecord) × (Goes b (place_of r) (log_of r) ≡ all) × (key.0 ≡ b.kind) × (key.1 ≡ b.number)
 SeesBlock (Err stop.AtFault) r all = Stops (log_of r) ≡ all
 SeesBlock (Err stop.NoMemory) r all = Unit {0}
+
+-- all code blocks were read and kept
+abbrev pub SeesBlocks : Result (Unit {0}) Stop → Reader → Ran (List BlockRecord) → Type 0
+SeesBlocks (Ok u) r all = (bs : List BlockRecord) × (Goes bs (place_of r) (log_of r) ≡ all)
+SeesBlocks (Err stop.AtFault) r all = Stops (log_of r) ≡ all
+SeesBlocks (Err stop.NoMemory) r all = Unit {0}
+
+-- a name that was read, with its bytes as they stand in the image
+abbrev pub SeesName : Result (NameRecord × Bor (List ℕ)) Stop → Reader → Ran NameRecord → Type 0
+SeesName (Ok n) r all = (Goes n.0 (place_of r) (log_of r) ≡ all) × (n.1.now ≡ n.0.name)
+SeesName (Err stop.AtFault) r all = Stops (log_of r) ≡ all
+SeesName (Err stop.NoMemory) r all = Unit {0}

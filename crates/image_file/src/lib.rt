@@ -1,7 +1,9 @@
 //! Images of programs: both ways, and verified.
 #![tactic(auto)]
 
+mod blocks;
 mod codes;
+mod data;
 mod faults;
 mod fields;
 pub mod laws;
