@@ -3,3 +3,4 @@ pub mod CodeLemmas
 pub mod ImageLemmas
 pub mod RunLemmas
 pub mod LeastLemmas
+pub mod WholeRunLemmas

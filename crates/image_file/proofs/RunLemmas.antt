@@ -2,7 +2,7 @@
 use Rattle.std.proofs.Common.{◌≡◌, ℕ, zero, suc, ◌+◌, ◌-◌, ◌*◌, ◌<◌, ◌≤◌, List, [], ◌∷◌, ◌++◌, Bool, length, map, drop, get_or, drop-cons, add-one, Option, Some, None, Err, refl, sym, ap, ◌∙◌, append_assoc, arith, true}
 use Rattle.std.proofs.lemmas.List.{append-nil, map-append}
 use Rattle.flat_code.specs.Image.{code_block_at, plain_block, code_block, whole_at, after_block, data_blocks, plain_data_blocks}
-use Rattle.flat_code.specs.Layout.{Note, Faulty, Whole, AllBlocks, Cursor, Read, Layout, given, go_on, bind, chain, checked, located, seen_as, remembered, noted, read_many, many, faults_in}
+use Rattle.flat_code.specs.Layout.{Note, Faulty, Whole, AllBlocks, Cursor, Read, Layout, ended, given, go_on, bind, chain, checked, located, seen_as, remembered, noted, read_many, many, faults_in}
 use Rattle.flat_code.specs.Programs.{DataBlock}
 use Rattle.flat_code.specs.Records.{BlockRecord, NameRecord}
 use Rattle.image_file.specs.declared.faults.LoadFault.{LoadFault}
@@ -11,7 +11,7 @@ use Rattle.image_file.specs.declared.stops.Stop.TheVariants as stop
 use Rattle.image_file.specs.declared.reader.Reader.{Reader}
 use Rattle.image_file.specs.declared.records.Started.{Started}
 use Rattle.image_file.specs.Least.{with_fault, with_faults}
-use Rattle.image_file.specs.Running.{Sees, SeesBlock, SeesBlocks, SeesName, started, Log, with_wholes, with_all, logged, Ran, Goes, Stops, ran, run, then_run, with_front, log_of, place_of}
+use Rattle.image_file.specs.Running.{Sees, SeesBlock, SeesBlocks, started, Log, with_wholes, with_all, logged, Ran, Goes, Stops, ran, run, ran_read, then_run, with_front, log_of, place_of}
 use Rattle.image_file.proofs.LayoutLemmas.{faults-append}
 
 pub with_more : (least : Option LoadFault) (a b : List (ℕ × ℕ)) → with_faults least (a ++ b) ≡ with_faults (with_faults least a) b
@@ -157,7 +157,39 @@ pub blocks_stop : (e : Stop) (r : Reader) (s : ℕ × ℕ) (count i : ℕ) (cur 
 blocks_stop stop.AtFault r s count i cur log xs all lt h so_far = more_stops (code_block true) after_block s count i cur log (log_of r) xs all lt h so_far
 blocks_stop stop.NoMemory r s count i cur log xs all lt h so_far = tt
 
-pub names_stop : {Y : Type 0} (views : Y → List NameRecord) (e : Stop) (r : Reader) (l : List ℕ → Layout NameRecord) (next : List ℕ → NameRecord → List ℕ) (s : List ℕ) (count i : ℕ) (cur : Cursor) (log : Log) (xs : List NameRecord) (all : Ran (List NameRecord))
-    → i < count → SeesName (Err e) r (run (l s) cur log) → with_front xs (run (many l next s (count - i)) cur log) ≡ all → Sees views (Err e) r all
-names_stop views stop.AtFault r l next s count i cur log xs all lt h so_far = more_stops l next s count i cur log (log_of r) xs all lt h so_far
-names_stop views stop.NoMemory r l next s count i cur log xs all lt h so_far = tt
+-- ---- what a chain comes to, by what its parts come to
+
+pub chain_goes : {A B : Type 0} (l : Layout A) (m : A → Layout B) (x : A) (y : B) (next end cur : Cursor) (mid last log : Log) → Goes x next mid ≡ run l cur log → Goes y end last ≡ run (m x) next mid → Goes (x, y) end last ≡ run (chain l m) cur log
+chain_goes {A = A} {B = B} l m x y next end cur mid last log p q =
+    sym (run_chain l m cur log ∙ sym (ap (λ (r : Ran A). then_run r (λ x next mid. then_run (run (m x) next mid) (λ y end last. Goes (x, y) end last))) p) ∙ sym (ap (λ (r : Ran B). then_run r (λ y end last. Goes (x, y) end last)) q))
+
+pub chain_ends : {A B : Type 0} (l : Layout A) (m : A → Layout B) (cur : Cursor) (mid log : Log) → ◌≡◌ {A = Ran A} (Stops mid) (run l cur log) → ◌≡◌ {A = Ran (A × B)} (Stops mid) (run (chain l m) cur log)
+chain_ends {A = A} {B = B} l m cur mid log p =
+    sym (run_chain l m cur log ∙ sym (ap (λ (r : Ran A). then_run r (λ x next mid. then_run (run (m x) next mid) (λ y end last. Goes (x, y) end last))) p))
+
+pub chain_breaks : {A B : Type 0} (l : Layout A) (m : A → Layout B) (x : A) (next cur : Cursor) (mid last log : Log) → Goes x next mid ≡ run l cur log → ◌≡◌ {A = Ran B} (Stops last) (run (m x) next mid) → ◌≡◌ {A = Ran (A × B)} (Stops last) (run (chain l m) cur log)
+chain_breaks {A = A} {B = B} l m x next cur mid last log p q =
+    sym (run_chain l m cur log ∙ sym (ap (λ (r : Ran A). then_run r (λ x next mid. then_run (run (m x) next mid) (λ y end last. Goes (x, y) end last))) p) ∙ sym (ap (λ (r : Ran B). then_run r (λ y end last. Goes (x, y) end last)) q))
+
+pub seen_goes : {A B : Type 0} (to : A → B) (from : B → A) (l : Layout A) (x : A) (end cur : Cursor) (mid log : Log) → Goes x end mid ≡ run l cur log → Goes (to x) end mid ≡ run (seen_as to from l) cur log
+seen_goes {A = A} {B = B} to from l x end cur mid log p = sym (run_seen to from l cur log ∙ sym (ap (λ (r : Ran A). then_run r (λ x end mid. Goes (to x) end mid)) p))
+
+pub seen_ends : {A B : Type 0} (to : A → B) (from : B → A) (l : Layout A) (cur : Cursor) (mid log : Log) → ◌≡◌ {A = Ran A} (Stops mid) (run l cur log) → ◌≡◌ {A = Ran B} (Stops mid) (run (seen_as to from l) cur log)
+seen_ends {A = A} {B = B} to from l cur mid log p = sym (run_seen to from l cur log ∙ sym (ap (λ (r : Ran A). then_run r (λ x end mid. Goes (to x) end mid)) p))
+
+pub go_read : {A B : Type 0} (r : Read A) (f : A → Cursor → Read B) (log : Log) → ran_read (bind r f) log ≡ then_run (ran_read r log) (λ x cur mid. ran_read (f x cur) mid)
+unfolding ran_read ran_of
+go_read {A = A} {B = B} r f log = go_runs r.notes r.found f (λ x cur mid. ran_read (f x cur) mid) log (λ x cur mid. refl)
+
+pub run_is_read : {A : Type 0} (l : Layout A) (cur : Cursor) (log : Log) → run l cur log ≡ ran_read (l.read cur) log
+unfolding run ran_read
+run_is_read l cur log = refl
+
+pub ended_read : {A : Type 0} (at code : ℕ) (log : Log) → ◌≡◌ {A = Ran A} (ran_read (ended at code) log) (Stops (logged log (Faulty at code ∷ [])))
+unfolding ran_read
+ended_read {A = A} at code log = refl
+
+-- notes in front of a reading
+pub noted_read : {A : Type 0} (notes : List Note) (r : Read A) (log : Log) → ran_read {A = A} (record { notes = notes ++ r.notes; found = r.found }) log ≡ ran_read r (logged log notes)
+unfolding ran_read
+noted_read {A = A} notes r log = ap (λ (z : Log). ran r.found z) (log_more log notes r.notes)

@@ -5,12 +5,14 @@ use Rattle.std.specs.Borrow.{Bor}
 use Rattle.flat_code.specs.declared.image_fields.Field.{Field}
 use Rattle.flat_code.specs.Faults.{fault_of}
 use Rattle.flat_code.specs.Layout.{Note, Faulty, Whole, AllBlocks, Cursor, Read, Layout, noted, faults_in}
-use Rattle.flat_code.specs.Records.{BlockRecord, NameRecord}
-use Rattle.flat_code.specs.Programs.{DataBlock}
-use Rattle.flat_code.specs.Image.{Head}
+use Rattle.flat_code.specs.Records.{BlockRecord, NameRecord, Records}
+use Rattle.flat_code.specs.Programs.{DataBlock, Program}
+use Rattle.flat_code.specs.Image.{Head, Counts, Front, program_of}
 use Rattle.image_file.specs.declared.faults.LoadFault.{LoadFault}
 use Rattle.image_file.specs.declared.reader.Reader.{Reader}
 use Rattle.image_file.specs.declared.records.HeadRead.{HeadRead}
+use Rattle.image_file.specs.declared.records.CountsRead.{CountsRead}
+use Rattle.image_file.specs.declared.records.FrontRead.{FrontRead}
 use Rattle.image_file.specs.declared.records.Started.{Started}
 use Rattle.image_file.specs.declared.stops.Ended.{Ended}
 use Rattle.image_file.specs.declared.stops.Stop.{Stop}
@@ -96,8 +98,33 @@ SeesBlocks (Ok u) r all = (bs : List BlockRecord) × (Goes bs (place_of r) (log_
 SeesBlocks (Err stop.AtFault) r all = Stops (log_of r) ≡ all
 SeesBlocks (Err stop.NoMemory) r all = Unit {0}
 
--- a name that was read, with its bytes as they stand in the image
-abbrev pub SeesName : Result (NameRecord × Bor (List ℕ)) Stop → Reader → Ran NameRecord → Type 0
-SeesName (Ok n) r all = (Goes n.0 (place_of r) (log_of r) ≡ all) × (n.1.now ≡ n.0.name)
-SeesName (Err stop.AtFault) r all = Stops (log_of r) ≡ all
-SeesName (Err stop.NoMemory) r all = Unit {0}
+-- what was read of a name
+abbrev pub name_values : Bor (List ℕ) × ℕ × ℕ × ℕ × ℕ → NameRecord
+name_values r = record { name = r.0.now; area = r.1; width = r.2; byte = r.3; bit = r.4 }
+
+-- all data blocks were read and kept
+abbrev pub SeesDatas : Result (Unit {0}) Stop → Reader → Ran (List DataBlock) → Type 0
+SeesDatas (Ok u) r all = (ds : List DataBlock) × (Goes ds (place_of r) (log_of r) ≡ all)
+SeesDatas (Err stop.AtFault) r all = Stops (log_of r) ≡ all
+SeesDatas (Err stop.NoMemory) r all = Unit {0}
+
+abbrev pub counts_values : CountsRead → Counts
+counts_values c = (c.codes, (c.datas, (c.names, c.reserved)))
+
+-- all records were read; the names are answered, the blocks are kept
+abbrev pub SeesRecords : {X : Type 0} → (X → List NameRecord) → Result X Stop → Reader → Ran Records → Type 0
+SeesRecords view (Ok names) r all = (x : Records) × (Goes x (place_of r) (log_of r) ≡ all) × (x.names ≡ view names)
+SeesRecords view (Err stop.AtFault) r all = Stops (log_of r) ≡ all
+SeesRecords view (Err stop.NoMemory) r all = Unit {0}
+
+abbrev pub front_values : FrontRead → Front
+front_values f = (f.magic, (f.version, (f.reserved, f.total)))
+
+-- what reading as a whole comes to, behind a log
+unfoldable pub ran_read : {A : Type 0} → Read A → Log → Ran A
+ran_read r log = ran r.found (logged log r.notes)
+
+abbrev pub SeesImage : {X : Type 0} → (X → List NameRecord) → Result X Stop → Reader → Ran Program → Type 0
+SeesImage view (Ok names) r all = (x : Records) × (end : Cursor) × (Goes (program_of x) end (log_of r) ≡ all) × (x.names ≡ view names)
+SeesImage view (Err stop.AtFault) r all = Stops (log_of r) ≡ all
+SeesImage view (Err stop.NoMemory) r all = Unit {0}

@@ -1,10 +1,12 @@
 //! The data blocks and the names of an image.
-ghost use Rattle.std.specs.Prelude.{true, ◌≡◌, ◌+◌, ◌≤◌, ◌<◌, ◌^◌, length, OnOk, IfOk, vec_len};
+ghost use Rattle.std.specs.Prelude.{true, ◌≡◌, ◌+◌, ◌≤◌, ◌<◌, ◌^◌, length, [], OnOk, IfOk, vec_len};
 ghost use Rattle.flat_code.specs.Faults.{is_before, is_upper, ends_blank, name_fault};
-ghost use Rattle.flat_code.specs.Image.{instance_of_number, contents, data_block, plain_data_blocks, name_bytes};
-ghost use Rattle.image_file.specs.Running.{seen, run, place_of, log_of, Sees};
+ghost use Rattle.flat_code.specs.Image.{instance_of_number, contents, data_block, plain_data_blocks, name_bytes, name_record, after_name};
+ghost use Rattle.flat_code.specs.Layout.{many};
+ghost use Rattle.image_file.specs.Running.{seen, run, place_of, log_of, name_values, Sees};
 
 use crate::reader::Reader;
+use crate::records::NameRead;
 use crate::stops::{Ended, Stop};
 use flat_code::DataBlock;
 use std::alloc::Global;
@@ -138,5 +140,37 @@ impl<'a> Reader<'a> {
             self.note(at, code);
         }
         Ok(text)
+    }
+
+    /// A name behind another: its bytes, area, width, byte and bit.
+    #[tactic(auto, unfolding(flat_code::specs::Image::name_record, flat_code::specs::Image::raw_name), using(crate::proofs::RunLemmas::run_seen, crate::proofs::RunLemmas::run_chain))]
+    fn name(&mut self, before: &[u8]) -> Result<(&'a [u8], u8, u8, u16, u8), Ended>
+        requires { self.old.at + length self.old.rest.now < 2 ^ 32 }
+        ensures read { seen name_values result self.new ≡ run (name_record before.now) (place_of self.old) (log_of self.old) }
+        ensures all { self.new.at + length self.new.rest.now ≡ self.old.at + length self.old.rest.now }
+    {
+        let count = self.name_len()?;
+        let text = self.name_text(before, count)?;
+        let area = self.name_area()?;
+        let width = self.width()?;
+        let byte = self.plain_u16()?;
+        let bit = self.name_bit(width)?;
+        Ok((text, area, width, byte, bit))
+    }
+
+    pub(crate) fn names(&mut self, alloc: Global, count: u16) -> Result<Vec<NameRead>, Stop>
+        requires { self.old.at + length self.old.rest.now < 2 ^ 32 }
+        ensures read { Sees (λ v. v.items) result self.new (run (many name_record after_name [] count) (place_of self.old) (log_of self.old)) }
+        ensures all { OnOk result (self.new.at + length self.new.rest.now ≡ self.old.at + length self.old.rest.now) }
+    {
+        let mut names = Vec::new(alloc);
+        let mut before: &[u8] = &[];
+        for _ in 0..count {
+            let (text, area, width, byte, bit) = self.name(before)?;
+            let name = Vec::from_slice(alloc, text)?;
+            names.push(NameRead { name, area, width, byte, bit })?;
+            before = text;
+        }
+        Ok(names)
     }
 }

@@ -1,6 +1,6 @@
 //! The fields of an image, each read and judged.
-ghost use Rattle.std.specs.Prelude.{true, ◌≡◌, ◌+◌, ◌<◌, ◌^◌, length};
-ghost use Rattle.flat_code.specs.Image.{plain_u16, plain_u32, zero_u8, zero_u16, width_field, section_field, parameter_byte, parameter_bit, kind_field, parameter_count, block_number, local_bytes, instance_bytes, line_field, data_number, instance_field, data_len, name_len, name_area, name_bit, data_count, magic_field, version_field, total_field};
+ghost use Rattle.std.specs.Prelude.{true, ◌≡◌, ◌+◌, ◌<◌, ◌^◌, length, min, OnOk};
+ghost use Rattle.flat_code.specs.Image.{plain_u16, plain_u32, zero_u8, zero_u16, width_field, section_field, parameter_byte, parameter_bit, kind_field, parameter_count, block_number, local_bytes, instance_bytes, line_field, data_number, instance_field, data_len, name_len, name_area, name_bit, data_count, magic_field, version_field};
 ghost use Rattle.image_file.specs.Running.{seen, run, place_of, log_of};
 
 use crate::reader::Reader;
@@ -20,9 +20,10 @@ impl Reader<'_> {
 
     #[tactic(auto, unfolding(flat_code::specs::Image::plain_u32))]
     pub(crate) fn plain_u32(&mut self) -> Result<u32, Ended>
-        requires { self.old.at + length self.old.rest.now < 2 ^ 32 }
+        requires { self.old.at + min 4 (length self.old.rest.now) < 2 ^ 32 }
         ensures read { seen (λ n. n) result self.new ≡ run plain_u32 (place_of self.old) (log_of self.old) }
         ensures all { self.new.at + length self.new.rest.now ≡ self.old.at + length self.old.rest.now }
+        ensures step { OnOk result (self.new.at ≡ self.old.at + 4) }
     {
         let number = self.u32()?;
         Ok(number)
@@ -42,9 +43,10 @@ impl Reader<'_> {
 
     #[tactic(auto, unfolding(crate::specs::Running::run, crate::specs::Running::logged, crate::specs::Least::with_faults, flat_code::specs::Image::zero_u16))]
     pub(crate) fn reserved_u16(&mut self) -> Result<u16, Ended>
-        requires { self.old.at + length self.old.rest.now < 2 ^ 32 }
+        requires { self.old.at + min 4 (length self.old.rest.now) < 2 ^ 32 }
         ensures read { seen (λ n. n) result self.new ≡ run zero_u16 (place_of self.old) (log_of self.old) }
         ensures all { self.new.at + length self.new.rest.now ≡ self.old.at + length self.old.rest.now }
+        ensures step { OnOk result (self.new.at ≡ self.old.at + 2) }
     {
         let at = self.at;
         let number = self.u16()?;
@@ -258,9 +260,10 @@ impl Reader<'_> {
 
     #[tactic(auto, unfolding(crate::specs::Running::run, crate::specs::Running::logged, crate::specs::Least::with_faults, flat_code::specs::Image::magic_field))]
     pub(crate) fn magic(&mut self) -> Result<u32, Ended>
-        requires { self.old.at + length self.old.rest.now < 2 ^ 32 }
+        requires { self.old.at + min 4 (length self.old.rest.now) < 2 ^ 32 }
         ensures read { seen (λ n. n) result self.new ≡ run magic_field (place_of self.old) (log_of self.old) }
         ensures all { self.new.at + length self.new.rest.now ≡ self.old.at + length self.old.rest.now }
+        ensures step { OnOk result (self.new.at ≡ self.old.at + 4) }
     {
         let at = self.at;
         let number = self.u32()?;
@@ -270,25 +273,14 @@ impl Reader<'_> {
 
     #[tactic(auto, unfolding(crate::specs::Running::run, crate::specs::Running::logged, crate::specs::Least::with_faults, flat_code::specs::Image::version_field))]
     pub(crate) fn version(&mut self) -> Result<u16, Ended>
-        requires { self.old.at + length self.old.rest.now < 2 ^ 32 }
+        requires { self.old.at + min 4 (length self.old.rest.now) < 2 ^ 32 }
         ensures read { seen (λ n. n) result self.new ≡ run version_field (place_of self.old) (log_of self.old) }
         ensures all { self.new.at + length self.new.rest.now ≡ self.old.at + length self.old.rest.now }
+        ensures step { OnOk result (self.new.at ≡ self.old.at + 2) }
     {
         let at = self.at;
         let number = self.u16()?;
         self.judge(at, Field::Version { number });
-        Ok(number)
-    }
-
-    #[tactic(auto, unfolding(crate::specs::Running::run, crate::specs::Running::logged, crate::specs::Least::with_faults, flat_code::specs::Image::total_field))]
-    pub(crate) fn total(&mut self) -> Result<u32, Ended>
-        requires { self.old.at + length self.old.rest.now < 2 ^ 32 }
-        ensures read { seen (λ n. n) result self.new ≡ run total_field (place_of self.old) (log_of self.old) }
-        ensures all { self.new.at + length self.new.rest.now ≡ self.old.at + length self.old.rest.now }
-    {
-        let at = self.at;
-        let number = self.u32()?;
-        self.judge(at, Field::Total { bytes: number });
         Ok(number)
     }
 }

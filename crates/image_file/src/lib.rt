@@ -10,5 +10,6 @@ pub mod laws;
 mod reader;
 mod records;
 mod stops;
+mod whole;
 
 pub use faults::LoadFault;

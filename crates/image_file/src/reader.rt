@@ -1,5 +1,5 @@
 //! The bytes of an image, read from left to right: numbers and runs of bytes.
-ghost use Rattle.std.specs.Prelude.{◌≡◌, ◌+◌, ◌<◌, ◌^◌, length};
+ghost use Rattle.std.specs.Prelude.{◌≡◌, ◌+◌, ◌<◌, ◌^◌, length, min, IfOk, OnOk};
 ghost use Rattle.flat_code.specs.Coding.{u8 as a_byte, u16 as a_word, u32 as a_dword};
 ghost use Rattle.flat_code.specs.Faults.{fault_of};
 ghost use Rattle.flat_code.specs.Image.{plain, contents, bytes};
@@ -80,9 +80,10 @@ impl<'a> Reader<'a> {
 
     #[tactic(auto, unfolding(crate::specs::Running::run, crate::specs::Running::logged, crate::specs::Least::with_faults))]
     pub(crate) fn u16(&mut self) -> Result<u16, Ended>
-        requires { self.old.at + length self.old.rest.now < 2 ^ 32 }
+        requires { self.old.at + min 4 (length self.old.rest.now) < 2 ^ 32 }
         ensures read { seen (λ n. n) result self.new ≡ run (field a_word plain) (place_of self.old) (log_of self.old) }
         ensures all { self.new.at + length self.new.rest.now ≡ self.old.at + length self.old.rest.now }
+        ensures step { OnOk result (self.new.at ≡ self.old.at + 2) }
     {
         match self.rest {
             [a, b, rest @ ..] => {
@@ -100,9 +101,10 @@ impl<'a> Reader<'a> {
 
     #[tactic(auto, unfolding(crate::specs::Running::run, crate::specs::Running::logged, crate::specs::Least::with_faults))]
     pub(crate) fn u32(&mut self) -> Result<u32, Ended>
-        requires { self.old.at + length self.old.rest.now < 2 ^ 32 }
+        requires { self.old.at + min 4 (length self.old.rest.now) < 2 ^ 32 }
         ensures read { seen (λ n. n) result self.new ≡ run (field a_dword plain) (place_of self.old) (log_of self.old) }
         ensures all { self.new.at + length self.new.rest.now ≡ self.old.at + length self.old.rest.now }
+        ensures step { OnOk result (self.new.at ≡ self.old.at + 4) }
     {
         match self.rest {
             [a, b, c, d, rest @ ..] => {
@@ -124,6 +126,7 @@ impl<'a> Reader<'a> {
         requires { self.old.at + length self.old.rest.now < 2 ^ 32 }
         ensures read { seen (λ s. s.now) result self.new ≡ run (field (bytes count) (λ bs. None)) (place_of self.old) (log_of self.old) }
         ensures all { self.new.at + length self.new.rest.now ≡ self.old.at + length self.old.rest.now }
+        ensures len { IfOk result (λ s. length s.now ≡ count) }
     {
         if self.rest.len() < usize::from(count) {
             self.note(self.at, 3);

@@ -15,6 +15,24 @@ pub(crate) struct HeadRead {
     pub size: u32,
 }
 
+/// The header up to the total length.
+#[derive(Clone, Copy)]
+pub(crate) struct FrontRead {
+    pub magic: u32,
+    pub version: u16,
+    pub reserved: u16,
+    pub total: u32,
+}
+
+/// How many records of each kind there are.
+#[derive(Clone, Copy)]
+pub(crate) struct CountsRead {
+    pub codes: u16,
+    pub datas: u16,
+    pub names: u16,
+    pub reserved: u16,
+}
+
 /// A code block.
 #[derive(Drop)]
 pub(crate) struct BlockRead {
