@@ -28,7 +28,7 @@ use Rattle.image_file.proofs.CodeLemmas.{code_laid, cond_finds, ended_finds}
 
 -- ---- runs of bytes
 
-bytes_taken : (n : ℕ) (text : List ℕ) → IsBytes text → IsBytes (take n text)
+pub bytes_taken : (n : ℕ) (text : List ℕ) → IsBytes text → IsBytes (take n text)
 bytes_taken n text h i =
     elim (cases_lt i n) [
       | inl lt ↦ rw (get_or-take n text i 0 lt) (h i)
@@ -420,7 +420,7 @@ raw_records_is judged x good =
     ap (λ (z : Counts). let r : RawRecords = (z, x.1) in r)
     (quad (sym (codes_count judged x.0.0 x.1.0 p.codes_good)) (sym (datas_count x.0.1.0 x.1.1.0 p.datas_good)) (sym (names_count x.0.1.1.0 x.1.1.1 p.names_good)) (sym (counts_zero x.0 p.counts_good)))
 
-records_laid : (judged : Bool) → IsLaidOut Records (records judged)
+pub records_laid : (judged : Bool) → IsLaidOut Records (records judged)
 unfolding records
 records_laid judged = seen_laid records_of_raw raw_of_records (raw_records judged) (raw_records_is judged) (λ r good. refl) (raw_records_laid judged)
 

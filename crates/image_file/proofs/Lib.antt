@@ -4,3 +4,4 @@ pub mod ImageLemmas
 pub mod RunLemmas
 pub mod LeastLemmas
 pub mod WholeRunLemmas
+pub mod WholeLemmas
