@@ -9,8 +9,6 @@ pub enum Field {
     Magic { number: u32 },
     Version { number: u16 },
     Reserved { number: u16 },
-    /// The length of the whole image, in bytes.
-    Total { bytes: u32 },
     DataBlockCount { count: u16 },
     /// The kind of a code block behind one of another kind (0 for none).
     Kind { before: u8, kind: u8 },
@@ -102,7 +100,6 @@ impl Field {
             Field::Magic { number } => fault_unless(number == 0x5337_4642, 1),
             Field::Version { number } => fault_unless(number == 1, 2),
             Field::Reserved { number } => fault_unless(number == 0, 4),
-            Field::Total { bytes } => fault_unless(bytes <= 8_388_608, 4),
             Field::DataBlockCount { count } => fault_unless(count <= 256, 4),
             Field::Kind { before, kind } => {
                 fault_unless(1 <= kind && kind <= 3 && before <= kind, 4)
