@@ -78,15 +78,11 @@ impl Controller {
     pub fn apply(&mut self, e: Entry) -> Reply
         requires room { 1 ≤ self.old.spare }
         requires valid { IsValid e }
-        ensures history {
-            self.new ≡ record self.old {
-                history = self.old.history ++ e ∷ [];
-                spare = self.old.spare - 1
-            }
-        }
-        ensures reply {
-            result ≡ (happened (thin_code self.new.program) self.new.history).reply
-        }
+        ensures history { self.new ≡ record self.old {
+          history = self.old.history ++ e ∷ [];
+          spare = self.old.spare - 1;
+        } }
+        ensures reply { result ≡ (happened (thin_code self.new.program) self.new.history).reply }
     {
         let before = self.cpu.mode;
         self.cpu.enter(&self.program, e.what);

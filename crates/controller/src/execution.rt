@@ -27,7 +27,9 @@ pub(crate) enum Ending {
 /// Executes the next statement of an activation.
 #[tactic(auto, using(crate::proofs::StepLemmas::went_on_performs, crate::proofs::StepLemmas::went_on_fails), unfolding(crate::specs::Statement::statement))]
 pub(crate) fn execute(program: &Thin, memory: &mut Memory, activation: &mut Activation) -> Ending
-    ensures meaning { Executes (statement_meaning (thin_code program.now) memory.old (activation_of activation.old)) activation.old activation.new memory.old memory.new result }
+    ensures meaning { Executes
+        (statement_meaning (thin_code program.now) memory.old (activation_of activation.old))
+        activation.old activation.new memory.old memory.new result }
     ensures class { activation.new.class ≡ activation.old.class }
 {
     let Some(fetched) = program.fetch(activation.ob, activation.at) else {
@@ -48,7 +50,9 @@ pub(crate) fn execute(program: &Thin, memory: &mut Memory, activation: &mut Acti
 // An instruction that goes on to the next statement.
 #[tactic(auto, unfolding(crate::specs::Effect::plain, crate::specs::ThinCode::plain_of))]
 fn perform(statement: &ThinStatement, regs: &mut Regs, memory: &mut Memory) -> Result<(), Missing>
-    ensures { Performs (plain (plain_of statement.now) (parts regs.old memory.old)) regs.old regs.new memory.old memory.new result }
+    ensures { Performs
+        (plain (plain_of statement.now) (parts regs.old memory.old))
+        regs.old regs.new memory.old memory.new result }
 {
     let place = statement.place;
     match statement.code {
@@ -74,7 +78,9 @@ fn perform(statement: &ThinStatement, regs: &mut Regs, memory: &mut Memory) -> R
 // A, AN and O with an operand.
 #[tactic(auto, unfolding(crate::specs::Effect::plain))]
 fn check(code: Check, place: Place, regs: &mut Regs, memory: &Memory) -> Result<(), Missing>
-    ensures { Performs (plain (Checks code place) (parts regs.old memory.now)) regs.old regs.new memory.now memory.now result }
+    ensures { Performs
+        (plain (Checks code place) (parts regs.old memory.now))
+        regs.old regs.new memory.now memory.now result }
 {
     match memory.read(place, Width::Bit) {
         Ok(bit) => {
@@ -88,7 +94,9 @@ fn check(code: Check, place: Place, regs: &mut Regs, memory: &Memory) -> Result<
 // The assignment =.
 #[tactic(auto, unfolding(crate::specs::Effect::plain))]
 fn assign(place: Place, regs: &mut Regs, memory: &mut Memory) -> Result<(), Missing>
-    ensures { Performs (plain (Assigns place) (parts regs.old memory.old)) regs.old regs.new memory.old memory.new result }
+    ensures { Performs
+        (plain (Assigns place) (parts regs.old memory.old))
+        regs.old regs.new memory.old memory.new result }
 {
     let rlo = regs.status.rlo;
     match memory.write(place, Width::Bit, bit_number(rlo)) {

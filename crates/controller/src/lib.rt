@@ -9,8 +9,6 @@ mod observing;
 mod processing;
 mod programs;
 mod requests;
-#[cfg(test)]
-mod tests;
 
 pub use controllers::Controller;
 pub use laws::law_of_replay;

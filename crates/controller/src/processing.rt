@@ -104,7 +104,8 @@ impl Cpu {
 
     // A synchronous error stops the controller.
     fn finish(&mut self, program: &Thin, ending: Ending)
-        ensures { state_of self.new ≡ finished (thin_code program.now) (state_of self.old) (Some ending) }
+        ensures { state_of self.new ≡
+            finished (thin_code program.now) (state_of self.old) (Some ending) }
     {
         match ending {
             Ending::Fails => self.halt(program, NO_OB_121),
@@ -120,7 +121,8 @@ impl Cpu {
     {
         self.memory.refresh();
         if program.is_loaded(CYCLE_OB) {
-            self.activations.begin(CYCLE_OB, class_in(self.mode, CYCLE_OB));
+            self.activations
+                .begin(CYCLE_OB, class_in(self.mode, CYCLE_OB));
         }
     }
 
@@ -130,7 +132,8 @@ impl Cpu {
         requires thin { IsTrue (is_thin program.now) }
         requires valid { IsArrivable ob }
         requires few { self.old.requests.arrivals + 1 < 2 ^ 64 }
-        ensures { state_of self.new ≡ arrived (thin_code program.now) (state_of self.old) ob information }
+        ensures { state_of self.new ≡
+            arrived (thin_code program.now) (state_of self.old) ob information }
     {
         match self.arrival(program, ob) {
             Arrival::Queued => self.requests.push(information),

@@ -2,4 +2,14 @@
 #![tactic(auto)]
 
 #[cfg(test)]
+mod clause_tests;
+#[cfg(test)]
+mod describe;
+#[cfg(test)]
+mod refusal_tests;
+#[cfg(test)]
+mod rows;
+#[cfg(test)]
 mod token_tests;
+#[cfg(test)]
+mod tree_tests;

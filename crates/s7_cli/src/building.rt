@@ -24,7 +24,7 @@ ghost use Rattle.sem_kept.specs.Built.{
   built_block,
   program_of,
 };
-ghost use Rattle.s7_cli.specs.Inner.{RefusesTree};
+ghost use Rattle.s7_cli.specs.Faults.{RefusesTree};
 ghost use Rattle.s7_cli.specs.Unbuilt.{IsUnbuilt, as_list};
 
 use controller::{Statements, Thin, ThinCode, ThinOb, ThinStatement};

@@ -1,12 +1,11 @@
 -- Of two programs of which one follows the other, each history does the same.
 use Rattle.std.proofs.Common.{◌≡◌, refl, sym, ◌∙◌, ap, ℕ, List, [], ◌∷◌}
-use Rattle.plc_mem.specs.Areas.{Areas}
 use Rattle.plc_mem.specs.Fresh.{fresh}
 use Rattle.var_access.specs.declared.Entry.{Entry}
 use Rattle.controller.specs.Code.{Code}
-use Rattle.controller.specs.State.{State, start}
-use Rattle.controller.specs.Replay.{Happened, happens, at_start, happened_from, happened, replay}
-use Rattle.sem_kept.specs.Moved.{Move, move_state, move_happened, Follows}
+use Rattle.controller.specs.State.{start}
+use Rattle.controller.specs.Replay.{Happened, happens, at_start, happened_from, happened}
+use Rattle.sem_kept.specs.Moved.{Move, move_happened, Follows}
 use Rattle.sem_kept.specs.Agreement.{Agree}
 use Rattle.sem_kept.proofs.Simulation.{happens-moves}
 

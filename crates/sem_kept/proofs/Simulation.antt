@@ -1,10 +1,9 @@
 -- Of two programs of which one follows the other, each entry does the same in moved states.
-use Rattle.std.proofs.Common.{◌≡◌, refl, sym, ◌∙◌, ap, ℕ, List, [], ◌∷◌, ◌++◌, map, Option, Some, None, option_map, Bool, true, false, cond, Result, Ok, Err}
+use Rattle.std.proofs.Common.{◌≡◌, refl, sym, ◌∙◌, ap, ℕ, List, [], ◌∷◌, map, Option, Some, None, option_map, Bool, true, false, cond, Result, Ok, Err}
 use Rattle.plc_base.specs.declared.BlockId.{BlockId}
 use Rattle.plc_base.specs.declared.Mode.TheVariants.{Stop}
 use Rattle.plc_base.specs.declared.Spot.{Spot}
 use Rattle.plc_mem.specs.Areas.{Areas}
-use Rattle.plc_mem.specs.Peripherals.{outputs_cleared}
 use Rattle.var_access.specs.declared.What.{What}
 use Rattle.var_access.specs.declared.What.TheVariants.{Step, Input, Arrive}
 use Rattle.controller.specs.Instr.{Instr, Does, Returns}
@@ -19,7 +18,7 @@ use Rattle.controller.specs.declared.StartInformation.{StartInformation}
 use Rattle.controller.specs.Request.{class_in, cycle_ob, has_room, best_of}
 use Rattle.controller.specs.State.{State, is_stop}
 use Rattle.controller.specs.Event.{spot_of_frames, spot, halted, may_start, started, request_taken, best_started, settled, images_updated, cycle_begun, cycle_point, after_statement, stepped_on, stepped, arrival_by, arrival, after_arrival, arrived, effect, state_after}
-use Rattle.controller.specs.Replay.{Happened, happened_to, happens}
+use Rattle.controller.specs.Replay.{happened_to, happens}
 use Rattle.sem_kept.specs.Moved.{Move, move_fetched, move_frame, move_activation, move_state, move_happened, Follows}
 
 -- the outcome of a statement, moved

@@ -1,5 +1,5 @@
 -- Stages with one outcome at most have one in turn.
-use Rattle.std.proofs.Common.{◌≡◌, refl, sym, ◌∙◌, ap, subst, ℕ, Result, Ok, Err, inl, inr}
+use Rattle.std.proofs.Common.{◌≡◌, ◌∙◌, ap, subst, ℕ, Result, Ok, Err, inl, inr}
 use Rattle.plc_base.specs.declared.Refusal.{Refusal}
 use Rattle.sem_kept.specs.Stages.{InTurn, HasOneOutcome, HasOutcome}
 

@@ -9,6 +9,7 @@ ghost use Rattle.sem_kept.specs.Meaning.{
   IsMeaningUnique,
   ExcludesRefusal,
   IsRefusalUnique,
+  IsTotal,
 };
 ghost use Rattle.sem_kept.specs.Tree.{tree_code};
 ghost use Rattle.sem_kept.specs.Agreement.{Agree};
@@ -17,12 +18,13 @@ ghost use Rattle.sem_kept.specs.Resumption.{IsSuspended, Resumes};
 use controller::Thin;
 use var_access::Entry;
 
-/// A source is judged in one way: it means at most one program, none where it is refused, and there
-/// is at most one refusal.
+/// A source is judged in one way: it means at most one program, none where it is refused, there is
+/// at most one refusal, and each source without a file of symbols means a program or is refused.
 pub fn law_of_sources()
     ensures one_meaning { IsMeaningUnique }
     ensures meaning_or_refusal { ExcludesRefusal }
     ensures one_refusal { IsRefusalUnique }
+    ensures total { IsTotal }
 {
     stl_lexer::law_of_tokens();
     stl_parser::law_of_clauses();
@@ -48,12 +50,8 @@ pub fn resumes_source(
 )
     requires no_symbols { symbols.now ≡ [] }
     requires valid { All IsValid entries.now }
-    requires suspended {
-        (code : Code) × MeansCode source.now None code × IsSuspended code entries.now place from to
-    }
-    ensures {
-        (code : Code) → MeansCode source.now None code → Resumes code entries.now place from to
-    }
+    requires suspended { (code : Code) × MeansCode source.now None code × IsSuspended code entries.now place from to }
+    ensures { (code : Code) → MeansCode source.now None code → Resumes code entries.now place from to }
 {
     // the source means one program
     law_of_sources();

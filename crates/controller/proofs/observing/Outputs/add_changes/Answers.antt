@@ -1,5 +1,4 @@
 use Rattle.std.proofs.Common.{arith, ◌≡◌, ◌<◌, ◌≤◌, ◌+◌, ◌-◌, ◌++◌, ◌∷◌, [], length, min, sym, ◌∙◌, ap, List, ℕ}
-
 use Rattle.controller.specs.declared.observing.Outputs.TheInside.{Inside}
 use Rattle.controller.proofs.ObservingLemmas.{changes_next, changes_end, changes_from, below_end, one_more_change}
 use Rattle.controller.proofs.observing.Outputs.add_changes.Goals as goal
@@ -15,11 +14,10 @@ loop-byte-preserved c =
           let count : length c.match-byte.self-inside.list.items ≡ length c.loop-byte.self-inside.list.items + 1 =
           ap (λ (s : Inside). length s.list.items) w.self-inside-is ∙ w.push.ensures.len in
           let few : length c.loop-byte.self-inside.list.items + 1 ≤ min (c.in-Some.byte + 1) 128 + (c.in-Some.byte + 1 - 256) =
-          one_more_change c.loop-byte.from c.in-Some.byte _ c.in-Some.ensures.first.0 c.in-Some.ensures.exists c.loop-byte.invariant.1 in
-          (
+          one_more_change c.loop-byte.from c.in-Some.byte _ c.in-Some.ensures.first.0 c.in-Some.ensures.exists c.loop-byte.invariant.1 in (
             ap (λ (found : List (ℕ × ℕ)). found ++ changes_from c.args.before.now c.args.after.now (c.in-Some.byte + 1)) items
-            ∙ changes_next _ _ c.args.before.now c.args.after.now c.loop-byte.from c.in-Some.byte w.in-Some-byte.value
-            c.in-Some.ensures.first within (sym w.in-Some-byte.is ∙ c.byte.ensures.value) c.loop-byte.invariant.0,
+                ∙ changes_next _ _ c.args.before.now c.args.after.now c.loop-byte.from c.in-Some.byte w.in-Some-byte.value
+                c.in-Some.ensures.first within (sym w.in-Some-byte.is ∙ c.byte.ensures.value) c.loop-byte.invariant.0,
             omega (arith, count, few),
             omega (arith, within),
           )
