@@ -35,7 +35,6 @@ fault_of (field.Version number) = unless (number == 1) 2
 -- 4: a reserved field is 0
 fault_of (field.Reserved number) = unless (number == 0) 4
 -- sizes, counts, kinds and numbers are within their limits, and records rise
-fault_of (field.Total bytes) = unless (nat_le bytes 8388608) 4
 fault_of (field.DataBlockCount count) = unless (nat_le count 256) 4
 fault_of (field.Kind before kind) = unless (lies_within 1 3 kind && nat_le before kind) 4
 fault_of (field.ParameterCount kind count) = unless (nat_le count 60 && (not (kind == 1) || count == 0)) 4

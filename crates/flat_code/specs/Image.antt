@@ -1,11 +1,9 @@
 -- THE IMAGE of a program, version 1, and what reading bytes as one notes and finds.
-use Rattle.std.specs.Prelude.{◌≡◌, ℕ, zero, suc, ◌+◌, ◌-◌, ◌*◌, ◌≤◌, nat_lt, nat_le, ◌==◌, Bool, true, false, ◌&&◌, ◌||◌, not, if◌then◌else◌, List, [], ◌∷◌, ◌++◌, length, map, take, drop, Option, Some, None}
-use Rattle.plc_base.specs.declared.blocks.BlockId.{BlockId}
+use Rattle.std.specs.Prelude.{◌≡◌, ℕ, zero, suc, ◌+◌, ◌-◌, ◌*◌, ◌≤◌, nat_lt, ◌==◌, Bool, true, false, ◌&&◌, ◌||◌, if◌then◌else◌, List, [], ◌∷◌, ◌++◌, length, map, take, drop, Option, Some, None}
 use Rattle.plc_base.specs.declared.blocks.BlockKind.{BlockKind}
 use Rattle.plc_base.specs.declared.blocks.BlockKind.TheVariants as kind
 use Rattle.plc_base.specs.declared.places.Area.{Area}
 use Rattle.plc_base.specs.declared.places.Area.TheVariants as area
-use Rattle.plc_base.specs.declared.places.Place.{Place}
 use Rattle.plc_base.specs.declared.places.Width.{Width}
 use Rattle.plc_base.specs.declared.places.Width.TheVariants as width
 use Rattle.flat_code.specs.declared.programs.Param.{Param}
@@ -17,7 +15,7 @@ use Rattle.flat_code.specs.Ops.{OpData}
 use Rattle.flat_code.specs.Programs.{CodeBlock, DataBlock, NameEntry, Program}
 use Rattle.flat_code.specs.Records.{BlockRecord, NameRecord, Records}
 use Rattle.flat_code.specs.Faults.{fault_of, name_fault}
-use Rattle.flat_code.specs.Layout.{Note, Faulty, Whole, AllBlocks, Cursor, Read, Layout, ended, given, bind, field, chain, checked, located, many, seen_as, remembered}
+use Rattle.flat_code.specs.Layout.{Note, Faulty, Whole, AllBlocks, Cursor, Read, Layout, ended, bind, field, chain, checked, located, many, seen_as, remembered}
 use Rattle.flat_code.specs.Codes.{code_bytes, code_of, only}
 
 -- a field that is judged later, or not at all
@@ -351,14 +349,11 @@ magic_field = field u32 (λ n. fault_of (field_of.Magic n))
 unfoldable pub version_field : Layout ℕ
 version_field = field u16 (λ n. fault_of (field_of.Version n))
 
-unfoldable pub total_field : Layout ℕ
-total_field = field u32 (λ n. fault_of (field_of.Total n))
-
 abbrev pub Front : Type 0
 Front = ℕ × (ℕ × (ℕ × ℕ))
 
 unfoldable pub front : Layout Front
-front = chain magic_field (λ magic. chain version_field (λ version. chain zero_u16 (λ zero. total_field)))
+front = chain magic_field (λ magic. chain version_field (λ version. chain zero_u16 (λ zero. plain_u32)))
 
 abbrev pub front_size : ℕ
 front_size = 12
@@ -382,10 +377,12 @@ IsRight p = (body true).good p ≡ true
 abbrev pub at_end : Program → Cursor → Read Program
 at_end p end = record { notes = if length end.rest == 0 then [] else Faulty end.at 10 ∷ []; found = Some (p, end) }
 
--- 3: a total length above the bytes there, or below 20. 10: bytes behind the total length, which are cut off
+-- 3: a total length above the bytes there, or below 20. 4: one above 8,388,608. Both end the reading. 10: bytes
+-- behind the total length, which are cut off
 abbrev pub cut : Bool → ℕ → ℕ → Cursor → Read Program
 cut judged size total cur =
     if nat_lt total 20 || nat_lt size total then ended 8 3
+    else if nat_lt 8388608 total then ended 8 4
     else record {
       notes = (if size == total then [] else Faulty total 10 ∷ []) ++ (bind ((body judged).read (record { at = cur.at; rest = take (total - front_size) cur.rest })) at_end).notes;
       found = (bind ((body judged).read (record { at = cur.at; rest = take (total - front_size) cur.rest })) at_end).found;

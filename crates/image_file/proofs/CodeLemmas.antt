@@ -7,8 +7,8 @@ use Rattle.flat_code.specs.Ops.{OpData, is_op, IsOp, op_bytes, op_at}
 use Rattle.flat_code.proofs.CodingLemmas.{IsBytes, Takes}
 use Rattle.flat_code.proofs.OpLemmas.{op_again, op_takes, long_enough}
 use Rattle.flat_code.specs.Layout.{Note, Cursor, Read, Layout, ended, given, faults_in}
-use Rattle.flat_code.specs.Codes.{cons_op, ops_next, ops_from, ends, are_ops, code_bytes, only, overlong, first_of, stop_at, read_ops, placed_ops, read_code, is_nowhere, code_of}
-use Rattle.image_file.specs.Walking.{ops_behind_front}
+use Rattle.flat_code.specs.Codes.{cons_op, ops_next, ops_from, ends, are_ops, code_bytes, only, overlong, first_of, stop_at, read_ops, placed_ops, read_code, is_nowhere, code_of, size, last_place}
+use Rattle.image_file.specs.Walking.{ops_behind_front, HasRead}
 use Rattle.image_file.proofs.LayoutLemmas.{at_place, Finds, Spells, IsLaidOut, given_finds}
 
 -- ---- runs of ops
@@ -165,3 +165,113 @@ ops_stop code front at all none so_far =
 pub ops_start : (code : List ℕ) → ops_behind_front [] (length code) code 0 ≡ ops_from (length code) code
 ops_start code = refl
 
+-- ---- one pass over code
+
+last_of : (from : ℕ) (front : List OpData) (op : OpData) → last_place from (front ++ op ∷ []) ≡ from + length (code_bytes front)
+unfolding size
+last_of from [] op = omega arith
+last_of from (a ∷ []) op = omega (arith, length-append (op_bytes a) [])
+last_of from (a ∷ b ∷ front) op = omega (arith, last_of (from + length (op_bytes a)) (b ∷ front) op, length-append (op_bytes a) (code_bytes (b ∷ front)))
+
+ends_at : (front : List OpData) (op : OpData) → ends (front ++ op ∷ []) ≡ (eqb op.code 0x7B && op.last)
+ends_at [] op = refl
+ends_at (a ∷ []) op = refl
+ends_at (a ∷ b ∷ front) op = ends_at (b ∷ front) op
+
+bytes-append : (a b : List OpData) → code_bytes (a ++ b) ≡ code_bytes a ++ code_bytes b
+bytes-append [] b = refl
+bytes-append (op ∷ a) b = ap (λ (z : List ℕ). op_bytes op ++ z) (bytes-append a b) ∙ sym (append_assoc (op_bytes op) (code_bytes a) (code_bytes b))
+
+pub read_starts : (code : List ℕ) → HasRead code [] 0 0 false 0
+read_starts code = record { within = omega arith; all = refl; size = refl; last = refl; ended = refl; few = refl }
+
+-- the ops from a place on begin with the op there
+ops_there : (n : ℕ) (code : List ℕ) (at next : ℕ) (op : OpData) → n ≡ length code → IsBytes code → op_at (drop at code) ≡ Some (op, drop next code) → at < next → next ≤ length code
+    → ops_from (length code) (drop at code) ≡ cons_op op (ops_from (length code) (drop next code))
+ops_there zero code at next op e are found lt within = absurd (omega (arith, e, lt, within))
+ops_there (suc n) code at next op e are found lt within =
+    let tail = ops_from n (drop next code) in
+    let enough : ops_from (length code) (drop next code) ≡ tail = fuel (length code) n (drop next code) (bytes_dropped next code are) (omega (arith, length-drop next code)) (omega (arith, e, lt, length-drop next code)) in
+    ap (λ (k : ℕ). ops_from k (drop at code)) (sym e) ∙ ap (λ (o : Option (OpData × List ℕ)). ops_next o (drop at code) (λ rest. ops_from n rest)) found ∙ ap (cons_op op) (sym enough)
+
+-- what is counted behind an op
+abbrev count_after : OpData → ℕ → ℕ
+count_after op count = cond op.last 0 (suc count)
+
+pub read_goes : (code : List ℕ) (ops : List OpData) (at next last count after : ℕ) (ended end : Bool) (op : OpData) → IsBytes code → op_at (drop at code) ≡ Some (op, drop next code) → at < next → next ≤ length code
+    → eqb count 64 ≡ false → after ≡ count_after op count → end ≡ (eqb op.code 0x7B && op.last) → HasRead code ops at last ended count → HasRead code (ops ++ op ∷ []) next at end after
+unfolding size
+read_goes code ops at next last count after ended end op are found lt within not64 counted is_end h =
+    let t = op_takes (drop at code) op (drop next code) (bytes_dropped at code are) found in
+    let lengths : length (drop at code) ≡ length (op_bytes op) + length (drop next code) = ap length t.0.parts ∙ length-append (op_bytes op) (drop next code) in
+    let step : next ≡ at + length (op_bytes op) = omega (arith, lengths, lt, within, length-drop at code, length-drop next code) in
+    let there = ops_there (length code) code at next op refl are found lt within in
+    let here : overlong count at (ops_from (length code) (drop at code)).0 ≡ overlong (count_after op count) (at + length (op_bytes op)) (ops_from (length code) (drop next code)).0 =
+        ap (λ (r : List OpData × List ℕ). overlong count at r.0) there ∙ rw not64 refl in
+    record {
+      within = within;
+      all = ops_more code ops at next op _ are found lt within h.all;
+      size = ap length (bytes-append ops (op ∷ [])) ∙ omega (arith, length-append (code_bytes ops) (code_bytes (op ∷ [])), length-append (op_bytes op) [], h.size, step);
+      last = sym (last_of 0 ops op ∙ omega (arith, h.size));
+      ended = is_end ∙ sym (ends_at ops op);
+      few = h.few ∙ here ∙ ap (λ (k : ℕ). overlong k (at + length (op_bytes op)) (ops_from (length code) (drop next code)).0) (sym counted) ∙ ap (λ (k : ℕ). overlong after k (ops_from (length code) (drop next code)).0) (sym step);
+    }
+
+stop_overlong : (ops : List OpData) (left : List ℕ) (at : ℕ) → overlong 0 0 ops ≡ Some at → stop_at true ops left ≡ Some at
+stop_overlong ops [] at e = ap (λ (o : Option ℕ). first_of o (cond (ends ops) None (Some (last_place 0 ops)))) e
+stop_overlong ops (b ∷ left) at e = ap (λ (o : Option ℕ). first_of o (Some (length (code_bytes ops)))) e
+
+-- the 65th op of a statement
+pub read_65th : (code : List ℕ) (ops : List OpData) (at next last count : ℕ) (ended : Bool) (op : OpData) → IsBytes code → op_at (drop at code) ≡ Some (op, drop next code) → at < next → next ≤ length code
+    → eqb count 64 ≡ true → HasRead code ops at last ended count → stop_at true (ops_from (length code) code).0 (ops_from (length code) code).1 ≡ Some at
+read_65th code ops at next last count ended op are found lt within is64 h =
+    let there = ops_there (length code) code at next op refl are found lt within in
+    let here : overlong count at (ops_from (length code) (drop at code)).0 ≡ Some at = ap (λ (r : List OpData × List ℕ). overlong count at r.0) there ∙ rw is64 refl in
+    stop_overlong (ops_from (length code) code).0 (ops_from (length code) code).1 at (h.few ∙ here)
+
+left_stop : (ops : List OpData) (left : List ℕ) (at size : ℕ) → overlong 0 0 ops ≡ None → length (code_bytes ops) ≡ at → 0 < length left → stop_at true ops left ≡ Some at
+left_stop ops [] at size e f lt = absurd (omega (arith, lt))
+left_stop ops (b ∷ left) at size e f lt = ap (λ (o : Option ℕ). first_of o (Some (length (code_bytes ops)))) e ∙ ap (λ (n : ℕ). Some n) f
+
+-- what the code has where no op begins: the ops found, and what is left
+record Ended (code : List ℕ) (ops : List OpData) (at : ℕ) : Type 0 where
+  ops_are : ops ≡ (ops_from (length code) code).0
+  left_is : drop at code ≡ (ops_from (length code) code).1
+  few : overlong 0 0 ops ≡ None
+
+read_ended : (code : List ℕ) (ops : List OpData) (at last count : ℕ) (ended : Bool) → op_at (drop at code) ≡ None → HasRead code ops at last ended count → Ended code ops at
+read_ended code ops at last count ended none h =
+    let p = ops_stop code ops at (ops_from (length code) code) none h.all in
+    let nothing : (ops_from (length code) (drop at code)).0 ≡ [] = ap (λ (r : List OpData × List ℕ). r.0) (nothing_more (length code) (drop at code) none) in
+    let few : overlong 0 0 (ops_from (length code) code).0 ≡ None = h.few ∙ ap (overlong count at) nothing in
+    record { ops_are = p.0; left_is = p.1; few = ap (overlong 0 0) p.0 ∙ few }
+
+abbrev Stops : List ℕ → Option ℕ → Type 0
+Stops code fault = fault ≡ stop_at true (ops_from (length code) code).0 (ops_from (length code) code).1
+
+stop_for : (code : List ℕ) (ops : List OpData) (at : ℕ) → Ended code ops at → stop_at true (ops_from (length code) code).0 (ops_from (length code) code).1 ≡ stop_at true ops (drop at code)
+stop_for code ops at e = rw (← e.ops_are, ← e.left_is) refl
+
+-- bytes that begin no op
+pub read_bad : (code : List ℕ) (ops : List OpData) (at last count : ℕ) (ended : Bool) → op_at (drop at code) ≡ None → at < length code → HasRead code ops at last ended count → Stops code (Some at)
+read_bad code ops at last count ended none lt h =
+    let e = read_ended code ops at last count ended none h in
+    sym (stop_for code ops at e ∙ left_stop ops (drop at code) at at e.few h.size (omega (arith, length-drop at code)))
+
+none_left : (code : List ℕ) (at : ℕ) → length code ≤ at → drop at code ≡ []
+none_left code at le = nil_from_length (drop at code) (omega (arith, length-drop at code))
+
+whole_stop : (code : List ℕ) (ops : List OpData) (at last count : ℕ) (ended : Bool) → op_at (drop at code) ≡ None → length code ≤ at → HasRead code ops at last ended count → stop_at true (ops_from (length code) code).0 (ops_from (length code) code).1 ≡ cond ended None (Some last)
+whole_stop code ops at last count ended none le h =
+    let e = read_ended code ops at last count ended none h in
+    stop_for code ops at e ∙ ap (stop_at true ops) (none_left code at le)
+    ∙ ap (λ (o : Option ℕ). first_of o (cond (ends ops) None (Some (last_place 0 ops)))) e.few
+    ∙ rw (← h.ended, ← h.last) refl
+
+-- code whose last op isn't BE with the end mark
+pub read_open : (code : List ℕ) (ops : List OpData) (at last count : ℕ) (ended : Bool) → op_at (drop at code) ≡ None → length code ≤ at → ended ≡ false → HasRead code ops at last ended count → Stops code (Some last)
+read_open code ops at last count ended none le open_is h = sym (whole_stop code ops at last count ended none le h ∙ rw open_is refl)
+
+pub read_whole : (code : List ℕ) (ops : List OpData) (at last count : ℕ) (ended : Bool) → op_at (drop at code) ≡ None → length code ≤ at → ended ≡ true → HasRead code ops at last ended count → Stops code None × (ops ≡ (ops_from (length code) code).0)
+read_whole code ops at last count ended none le ended_is h =
+    (sym (whole_stop code ops at last count ended none le h ∙ rw ended_is refl), (read_ended code ops at last count ended none h).ops_are)

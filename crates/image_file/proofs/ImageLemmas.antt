@@ -1,6 +1,6 @@
 -- The image is laid out exactly.
 use Rattle.std.proofs.Common.{◌≡◌, ℕ, zero, suc, ◌+◌, ◌-◌, ◌*◌, ◌^◌, ◌<◌, ◌≤◌, Bool, true, false, cond, eqb, ltb, leb, not, ◌&&◌, ◌||◌, List, [], ◌∷◌, ◌++◌, map, length, take, drop, get_or, Option, Some, None, refl, sym, ap, subst, ◌∙◌, append_assoc, length-append, arith, inl, inr}
-use Rattle.std.proofs.lemmas.Bool.{cases_lt, eq-eqb, and_parts, and_from, eqb-true, eqb-false, leb-true, ltb-false, ltb-true, le-ltb, lt-ltb, le-leb}
+use Rattle.std.proofs.lemmas.Bool.{cases_lt, eq-eqb, and_parts, and_from, eqb-true, eqb-false, leb-true, ltb-false, ltb-true, le-ltb, lt-ltb}
 use Rattle.std.proofs.lemmas.List.{append-nil, take_at, drop_at, take-append-drop, nil_from_length, get_or-drop, get_or-take, get_or_past, length-take}
 use Rattle.std.proofs.lemmas.Option.{same_Some}
 use Rattle.plc_base.specs.declared.blocks.BlockKind.{BlockKind}
@@ -21,14 +21,14 @@ use Rattle.flat_code.specs.Records.{BlockRecord, NameRecord, Records}
 use Rattle.flat_code.specs.Faults.{fault_of, name_fault, unless, lies_within}
 use Rattle.flat_code.specs.Layout.{Note, Faulty, Whole, AllBlocks, Cursor, Read, Layout, ended, given, bind, noted, is_fine, field, chain, checked, located, spell_many, many, good_many, seen_as, remembered, faults_in}
 use Rattle.flat_code.specs.Codes.{are_ops, code_bytes, stop_at, is_nowhere, code_of, only}
-use Rattle.flat_code.specs.Image.{plain, plain_u16, plain_u32, zero_u8, zero_u16, width_field, bytes_fit, bytes, section_field, parameter_byte, parameter_bit, RawParameter, raw_parameter, parameter_of_raw, raw_of_parameter, parameter, kind_field, parameter_count, block_number, local_bytes, instance_bytes, Head, head, params_in, instance_in, statements_in, code_len_in, same_state, parameters, end_marks, line_after, line_field, lines_of, code_and_lines, RawBlock, raw_block, block_of_raw, raw_of_block, plain_block, whole_at, code_block_at, code_block, after_block, data_number, instance_field, data_len, contents, RawData, raw_data, instance_of_number, number_of_instance, data_of_raw, raw_of_data, data_block, after_data, name_len, name_bytes, name_area, name_bit, RawName, raw_name, name_of_raw, raw_of_name, name_record, after_name, data_count, Counts, counts, code_blocks, plain_data_blocks, data_blocks, names, RawRecords, raw_records, records_of_raw, raw_of_records, records, kind_of_number, number_of_kind, width_of_number, area_of_number, number_of_area, param_of, record_of_param, block_of_record, record_of_block, entry_of_name, name_of_entry, program_of, records_of, body, magic_field, version_field, total_field, Front, front, front_size, front_of, image, IsProgram, IsRight, at_end, cut, read_by, read_image}
+use Rattle.flat_code.specs.Image.{plain, plain_u16, plain_u32, zero_u8, zero_u16, width_field, bytes_fit, bytes, section_field, parameter_byte, parameter_bit, RawParameter, raw_parameter, parameter_of_raw, raw_of_parameter, parameter, kind_field, parameter_count, block_number, local_bytes, instance_bytes, Head, head, params_in, instance_in, statements_in, code_len_in, same_state, parameters, end_marks, line_after, line_field, lines_of, code_and_lines, RawBlock, raw_block, block_of_raw, raw_of_block, plain_block, whole_at, code_block_at, code_block, after_block, data_number, instance_field, data_len, contents, RawData, raw_data, instance_of_number, number_of_instance, data_of_raw, raw_of_data, data_block, after_data, name_len, name_bytes, name_area, name_bit, RawName, raw_name, name_of_raw, raw_of_name, name_record, after_name, data_count, Counts, counts, code_blocks, plain_data_blocks, data_blocks, names, RawRecords, raw_records, records_of_raw, raw_of_records, records, kind_of_number, number_of_kind, width_of_number, area_of_number, number_of_area, param_of, record_of_param, block_of_record, record_of_block, entry_of_name, name_of_entry, program_of, records_of, body, magic_field, version_field, Front, front, front_size, front_of, image, IsProgram, IsRight, at_end, cut, read_by, read_image}
 use Rattle.flat_code.proofs.CodingLemmas.{IsBytes, Takes, IsExact, pair_is, u8_exact, u16_exact, u32_exact}
 use Rattle.image_file.proofs.LayoutLemmas.{at_place, Finds, Spells, IsLaidOut, Parts, bind_parts, bind_finds, given_finds, field_laid, chain_laid, checked_laid, seen_laid, remembered_laid, many_laid, located_laid, no_faults, no_faults_join}
 use Rattle.image_file.proofs.CodeLemmas.{code_laid, cond_finds, ended_finds}
 
 -- ---- runs of bytes
 
-bytes_taken : (n : ℕ) (text : List ℕ) → IsBytes text → IsBytes (take n text)
+pub bytes_taken : (n : ℕ) (text : List ℕ) → IsBytes text → IsBytes (take n text)
 bytes_taken n text h i =
     elim (cases_lt i n) [
       | inl lt ↦ rw (get_or-take n text i 0 lt) (h i)
@@ -420,7 +420,7 @@ raw_records_is judged x good =
     ap (λ (z : Counts). let r : RawRecords = (z, x.1) in r)
     (quad (sym (codes_count judged x.0.0 x.1.0 p.codes_good)) (sym (datas_count x.0.1.0 x.1.1.0 p.datas_good)) (sym (names_count x.0.1.1.0 x.1.1.1 p.names_good)) (sym (counts_zero x.0 p.counts_good)))
 
-records_laid : (judged : Bool) → IsLaidOut Records (records judged)
+pub records_laid : (judged : Bool) → IsLaidOut Records (records judged)
 unfolding records
 records_laid judged = seen_laid records_of_raw raw_of_records (raw_records judged) (raw_records_is judged) (λ r good. refl) (raw_records_laid judged)
 
@@ -659,36 +659,32 @@ good_weaker p h = all_good (raw_of_records (records_of p)) (record_parts true (r
 -- ---- the header
 
 abbrev front_from_zero : Layout (ℕ × ℕ)
-front_from_zero = chain zero_u16 (λ zero. total_field)
+front_from_zero = chain zero_u16 (λ zero. plain_u32)
 
 abbrev front_from_version : Layout (ℕ × (ℕ × ℕ))
 front_from_version = chain version_field (λ version. front_from_zero)
 
 pub front_laid : IsLaidOut Front front
-unfolding front magic_field version_field zero_u16 total_field
+unfolding front magic_field version_field zero_u16 plain_u32
 front_laid =
     chain_laid magic_field (λ magic. front_from_version) (field_laid u32 _ u32_exact) (λ magic.
     chain_laid version_field (λ version. front_from_zero) (field_laid u16 _ u16_exact) (λ version.
-    chain_laid zero_u16 (λ zero. total_field) (field_laid u16 _ u16_exact) (λ zero. field_laid u32 _ u32_exact)))
+    chain_laid zero_u16 (λ zero. plain_u32) (field_laid u16 _ u16_exact) (λ zero. field_laid u32 plain u32_exact)))
 
 or_false : (a b : Bool) → a ≡ false → b ≡ false → (a || b) ≡ false
 or_false true b p q = absurd cc
 or_false false b p q = q
 
-fine_unless : (b : Bool) (code : ℕ) → b ≡ true → is_fine (unless b code) ≡ true
-fine_unless true code h = refl
-fine_unless false code h = absurd cc
-
-total_good : (total : ℕ) → total ≤ 8388608 → total_field.good total ≡ true
-unfolding total_field fault_of
-total_good total le = and_from (ltb total 4294967296) _ (lt-ltb total 4294967296 (omega arith)) (fine_unless (leb total 8388608) 4 (le-leb total 8388608 le))
+total_good : (total : ℕ) → total ≤ 8388608 → plain_u32.good total ≡ true
+unfolding plain_u32
+total_good total le = and_from (ltb total 4294967296) true (lt-ltb total 4294967296 (omega arith)) refl
 
 front_good : (total : ℕ) → total ≤ 8388608 → front.good (front_of total) ≡ true
 unfolding front magic_field version_field zero_u16 fault_of
 front_good total le = and_from true _ refl (and_from true _ refl (and_from true _ refl (total_good total le)))
 
 front_length : (f : Front) → length (front.spell f) ≡ 12
-unfolding front magic_field version_field zero_u16 total_field
+unfolding front magic_field version_field zero_u16 plain_u32
 front_length f = refl
 
 counts_length : (c : Counts) → length (counts.spell c) ≡ 8
@@ -710,11 +706,12 @@ abbrev rest_of : Bool → ℕ → Cursor → Read Program
 rest_of judged total cur = bind ((body judged).read (record { at = cur.at; rest = take (total - front_size) cur.rest })) at_end
 
 -- nothing is cut off, and nothing is noted
-cut_finds : (judged : Bool) (total : ℕ) (cur : Cursor) (p : Program) (end : Cursor) → 20 ≤ total → Finds Program (rest_of judged total cur) p end → Finds Program (cut judged total total cur) p end
-cut_finds judged total cur p end le h =
+cut_finds : (judged : Bool) (total : ℕ) (cur : Cursor) (p : Program) (end : Cursor) → 20 ≤ total → total ≤ 8388608 → Finds Program (rest_of judged total cur) p end → Finds Program (cut judged total total cur) p end
+cut_finds judged total cur p end le most h =
     let no_cut : (ltb total 20 || ltb total total) ≡ false = or_false _ _ (le-ltb total 20 le) (le-ltb total total (omega arith)) in
     let same : eqb total total ≡ true = eq-eqb total total refl in
-    let shape : cut judged total total cur ≡ rest_of judged total cur = rw (no_cut, same) refl in
+    let small : ltb 8388608 total ≡ false = le-ltb 8388608 total most in
+    let shape : cut judged total total cur ≡ rest_of judged total cur = rw (no_cut, small, same) refl in
     subst (λ (z : Read Program). Finds Program z p end) (sym shape) h
 
 pub image_again : (judged : Bool) (p : Program) → (body judged).good p ≡ true → front_size + length (text_of p) ≤ 8388608 → Finds Program (read_by judged (image p)) p (at_place (front_size + length (text_of p)) [])
@@ -737,7 +734,7 @@ image_again judged p good short =
     let two_here : Finds Program ((body judged).read (at_place 12 (take (total - front_size) text))) p (at_place (12 + length text) []) = subst (λ (z : List ℕ). Finds Program ((body judged).read (at_place 12 z)) p (at_place (12 + length text) [])) (sym whole) two_at in
     let three : Finds Program (at_end p (at_place (12 + length text) [])) p end = record { found = refl; clean = refl } in
     let inner : Finds Program (rest_of judged total (at_place 12 text)) p end = bind_finds _ at_end p (at_place (12 + length text) []) p end two_here three in
-    let cut_there : Finds Program (cut judged total total (at_place 12 text)) p end = cut_finds judged total (at_place 12 text) p end (let l = text_long p in omega arith) inner in
+    let cut_there : Finds Program (cut judged total total (at_place 12 text)) p end = cut_finds judged total (at_place 12 text) p end (let l = text_long p in omega arith) short inner in
     let cut_here : Finds Program (cut judged (length all) total (at_place 12 text)) p end = subst (λ (k : ℕ). Finds Program (cut judged k total (at_place 12 text)) p end) (sym size) cut_there in
     bind_finds (front.read (at_place 0 all)) (λ f cur. cut judged (length all) f.1.1.1 cur) values (at_place 12 text) p end one_here cut_here
 
@@ -761,18 +758,14 @@ version_is : (n : ℕ) → version_field.good n ≡ true → n ≡ 1
 unfolding version_field fault_of
 version_is n good = eqb-true n 1 (unless_fine _ 2 (and_parts (ltb n 65536) (is_fine (unless (eqb n 1) 2)) good).1)
 
-total_is_short : (n : ℕ) → total_field.good n ≡ true → n ≤ 8388608
-unfolding total_field fault_of
-total_is_short n good = leb-true n 8388608 (unless_fine _ 4 (and_parts (ltb n 4294967296) (is_fine (unless (leb n 8388608) 4)) good).1)
-
 -- what a front without fault says
-front_is : (f : Front) → front.good f ≡ true → (f.0 ≡ 0x53374642) × (f.1.0 ≡ 1) × (f.1.1.0 ≡ 0) × (f.1.1.1 ≤ 8388608)
+front_is : (f : Front) → front.good f ≡ true → (f.0 ≡ 0x53374642) × (f.1.0 ≡ 1) × (f.1.1.0 ≡ 0)
 unfolding front
 front_is f good =
     let a = chain_parts magic_field (λ magic. front_from_version) f good in
     let b = chain_parts version_field (λ version. front_from_zero) f.1 a.1 in
-    let c = chain_parts zero_u16 (λ zero. total_field) f.1.1 b.1 in
-    (magic_is f.0 a.0, version_is f.1.0 b.0, zero_u16_is f.1.1.0 c.0, total_is_short f.1.1.1 c.1)
+    let c = chain_parts zero_u16 (λ zero. plain_u32) f.1.1 b.1 in
+    (magic_is f.0 a.0, version_is f.1.0 b.0, zero_u16_is f.1.1.0 c.0)
 
 pub image_takes : (text : List ℕ) (p : Program) (end : Cursor) → IsBytes text → Finds Program (read_image text) p end → (text ≡ image p) × IsProgram p × IsRight p
 unfolding read_by image
@@ -784,6 +777,8 @@ image_takes text p end are h =
     let t = front_laid.takes (at_place 0 text) f cur are a.one in
     let fs = front_is f t.good in
     cond_finds (ltb total 20 || ltb (length text) total) (ended 8 3) _ p end _ a.two (λ _ k. absurd (ended_finds 8 3 p end k)) (λ within g.
+    cond_finds (ltb 8388608 total) (ended 8 4) _ p end _ g (λ _ k. absurd (ended_finds 8 4 p end k)) (λ small g.
+    let most : total ≤ 8388608 = ltb-false 8388608 total small in
     let n = no_faults (cond (eqb (length text) total) [] (Faulty total 10 ∷ [])) (rest_of true total cur).notes g.clean in
     let size : length text ≡ total = eqb-true _ _ (no_note _ total 10 n.0) in
     let b = bind_parts ((body true).read (at_place cur.at (take (total - front_size) cur.rest))) at_end p end (record { found = g.found; clean = n.1 }) in
@@ -797,5 +792,5 @@ image_takes text p end are h =
     let total_is : total ≡ front_size + length (text_of b.first) = sym size ∙ lengths ∙ ap (λ (z : List ℕ). 12 + length z) behind in
     let values : f ≡ front_of (front_size + length (text_of b.first)) = quad fs.0 fs.1 fs.2 total_is in
     let whole : text ≡ image b.first = t.text.parts ∙ ap (λ (z : List ℕ). front.spell f ++ z) behind ∙ ap (λ (z : Front). front.spell z ++ text_of b.first) values in
-    let here : (text ≡ image b.first) × IsProgram b.first × IsRight b.first = (whole, record { good = good_weaker b.first u.good; short = rw (← total_is) fs.3 }, u.good) in
-    subst (λ (z : Program). (text ≡ image z) × IsProgram z × IsRight z) p_is here)
+    let here : (text ≡ image b.first) × IsProgram b.first × IsRight b.first = (whole, record { good = good_weaker b.first u.good; short = rw (← total_is) most }, u.good) in
+    subst (λ (z : Program). (text ≡ image z) × IsProgram z × IsRight z) p_is here))

@@ -2,6 +2,9 @@
 use Rattle.std.specs.Prelude.{◌≡◌, ◌<◌, ℕ, List, [], get_or, Option, Some, None}
 use Rattle.flat_code.specs.Layout.{Cursor, Read, faults_in}
 use Rattle.flat_code.specs.Programs.{Program}
+use Rattle.flat_code.specs.Loading.{Gives, IsLoadable}
+use Rattle.image_file.specs.declared.faults.LoadFault.{LoadFault}
+use Rattle.image_file.specs.Least.{with_faults, IsLeast}
 use Rattle.flat_code.specs.Image.{image, IsProgram, IsRight, read_image}
 
 -- every byte string is the image of at most one program, whether it verifies or not
@@ -15,3 +18,11 @@ ImagesAreRead = (p : Program) → IsProgram p → IsRight p → (end : Cursor) �
 -- bytes that are read with no fault are the image of what was found
 abbrev pub ReadingsAreImages : Type 0
 ReadingsAreImages = (bytes : List ℕ) (p : Program) (end : Cursor) → ((i : ℕ) → get_or bytes i 0 < 256) → (read_image bytes).found ≡ Some (p, end) → faults_in (read_image bytes).notes ≡ [] → (bytes ≡ image p) × IsProgram p × IsRight p
+
+-- bytes are without fault and give a program exactly where they are its image and it verifies
+abbrev pub GivesExactlyImages : Type 0
+GivesExactlyImages = (bytes : List ℕ) (p : Program) → ((i : ℕ) → get_or bytes i 0 < 256) → (Gives bytes p → IsLoadable bytes p) × (IsLoadable bytes p → Gives bytes p)
+
+-- the fault that one pass keeps is the least of all
+abbrev pub KeptIsLeast : Type 0
+KeptIsLeast = (fs : List (ℕ × ℕ)) (f : LoadFault) → with_faults None fs ≡ Some f → IsLeast f fs

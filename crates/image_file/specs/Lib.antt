@@ -1,2 +1,4 @@
 pub mod Laws
 pub mod Walking
+pub mod Least
+pub mod Running

@@ -1,10 +1,22 @@
 //! Laws of images: each function does nothing, and its contract is the law.
-ghost use Rattle.image_file.specs.Laws.{ImagesAreOfOne, ImagesAreRead, ReadingsAreImages};
+ghost use Rattle.image_file.specs.Laws.{ImagesAreOfOne, ImagesAreRead, ReadingsAreImages, GivesExactlyImages, KeptIsLeast};
 
 /// Every program has one image, and every byte string is the image of at most one program.
 pub fn one_program()
     ensures one { ImagesAreOfOne }
     ensures read { ImagesAreRead }
     ensures spelled { ReadingsAreImages }
+{
+}
+
+/// Bytes give a program with no fault exactly where they are its image and it verifies.
+pub fn gives_exactly_images()
+    ensures { GivesExactlyImages }
+{
+}
+
+/// The fault that one pass keeps is the least of all.
+pub fn kept_is_least()
+    ensures { KeptIsLeast }
 {
 }

@@ -31,11 +31,16 @@ is_error ob = ob == 80 || ob == 85
 abbrev pub can_wait : ℕ → Bool
 can_wait ob = ob == 1 || is_interrupt ob || is_error ob
 
--- all of them: also OB 100, startup, and OB 121 and 122, synchronous errors, which start at once
-abbrev pub is_ob : ℕ → Bool
-is_ob ob = can_wait ob || ob == 100 || ob == 121 || ob == 122
+-- those with a priority class of their own: also OB 100, startup, which starts at once
+abbrev pub has_class : ℕ → Bool
+has_class ob = can_wait ob || ob == 100
 
--- the priority class of one that can wait, or of OB 100, in RUN
+-- all of them: also OB 121 and 122, synchronous errors, which start at once in the class of the
+-- activation in which the error came
+abbrev pub is_ob : ℕ → Bool
+is_ob ob = has_class ob || ob == 121 || ob == 122
+
+-- the priority class in RUN
 abbrev pub class_of : ℕ → ℕ
 class_of ob =
     if nat_lt ob 10 then 1

@@ -227,7 +227,8 @@ impl Countdowns {
 
     /// A millisecond of the periods.
     pub(crate) fn count_periods(&mut self)
-        ensures { self.new ≡ record self.old { periods = periods_counted_from 30 self.old.periods } }
+        ensures { self.new
+            ≡ record self.old { periods = periods_counted_from 30 self.old.periods } }
     {
         count_periods(&mut self.periods);
     }

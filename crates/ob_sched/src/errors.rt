@@ -51,7 +51,8 @@ impl Sched {
     )
         requires error { IsTrue (is_error ob) }
         requires event { IsEvent event }
-        ensures { course_of self.new passed.new ≡ error_requested mode ob cause event (course_of self.old passed.old) }
+        ensures { course_of self.new passed.new
+            ≡ error_requested mode ob cause event (course_of self.old passed.old) }
     {
         let info = StartInfo::new(event, class_in(mode, ob));
         match self.arrive(ob, info) {
@@ -65,7 +66,8 @@ impl Sched {
     #[tactic(auto, unfolding(crate::specs::Course::time_error))]
     pub(crate) fn time_error(&mut self, mode: Mode, event: StartEvent, ob: u16, passed: &mut Passed)
         requires { IsEvent event }
-        ensures { course_of self.new passed.new ≡ time_error mode event ob (course_of self.old passed.old) }
+        ensures { course_of self.new passed.new
+            ≡ time_error mode event ob (course_of self.old passed.old) }
     {
         passed.record(TIME_ERROR, ob);
         self.request_error(mode, 80, NO_OB_80, event, passed);
@@ -74,7 +76,8 @@ impl Sched {
     /// An organization block isn't loaded: this is recorded, and requests OB 85.
     #[tactic(auto, unfolding(crate::specs::Course::not_loaded))]
     fn not_loaded(&mut self, mode: Mode, ob: u16, passed: &mut Passed)
-        ensures { course_of self.new passed.new ≡ not_loaded mode ob (course_of self.old passed.old) }
+        ensures { course_of self.new passed.new
+            ≡ not_loaded mode ob (course_of self.old passed.old) }
     {
         passed.record(NOT_LOADED, ob);
         self.request_error(mode, 85, NO_OB_85, StartEvent::NotLoaded { ob }, passed);
@@ -86,7 +89,8 @@ impl Sched {
     #[tactic(auto, unfolding(crate::specs::Course::requested))]
     pub fn request(&mut self, mode: Mode, ob: u16, info: StartInfo, passed: &mut Passed)
         requires { IsTrue (can_wait ob) }
-        ensures { course_of self.new passed.new ≡ requested mode ob info (course_of self.old passed.old) }
+        ensures { course_of self.new passed.new
+            ≡ requested mode ob info (course_of self.old passed.old) }
     {
         match self.arrive(ob, info) {
             Arrived::Queued | Arrived::Dropped => {}

@@ -19,7 +19,7 @@ mod ticks;
 
 pub use bin::Bin;
 pub use bins::Bins;
-pub use organization_blocks::{can_wait, is_ob};
+pub use organization_blocks::{can_wait, class_in, is_ob};
 pub use passed::Passed;
 pub use requests::{Arrived, Pending};
 pub use sched::Sched;

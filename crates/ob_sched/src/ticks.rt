@@ -20,7 +20,8 @@ impl Sched {
     /// A delay has ended: its organization block is requested.
     fn end_delay(&mut self, mode: Mode, ob: u16, passed: &mut Passed)
         requires { IsTrue (is_delay ob) }
-        ensures { course_of self.new passed.new ≡ delay_ended mode ob (course_of self.old passed.old) }
+        ensures { course_of self.new passed.new
+            ≡ delay_ended mode ob (course_of self.old passed.old) }
     {
         let info = StartInfo::new(StartEvent::Delay { ob }, class_in(mode, ob));
         self.request(mode, ob, info, passed);
@@ -31,7 +32,8 @@ impl Sched {
     #[tactic(auto, unfolding(crate::specs::Millisecond::period_ended))]
     fn end_period(&mut self, mode: Mode, active: &[u16], ob: u16, passed: &mut Passed)
         requires { IsTrue (is_cyclic ob) }
-        ensures { course_of self.new passed.new ≡ period_ended mode active.now ob (course_of self.old passed.old) }
+        ensures { course_of self.new passed.new
+            ≡ period_ended mode active.now ob (course_of self.old passed.old) }
     {
         if self.is_disabled(ob) || !self.is_loaded(ob) {
             return;
@@ -47,7 +49,8 @@ impl Sched {
     /// A millisecond of the cycle counter.
     #[tactic(auto, unfolding(crate::specs::Millisecond::cycle_counted))]
     fn count_cycle(&mut self, mode: Mode, passed: &mut Passed)
-        ensures { course_of self.new passed.new ≡ cycle_counted mode (course_of self.old passed.old) }
+        ensures { course_of self.new passed.new
+            ≡ cycle_counted mode (course_of self.old passed.old) }
     {
         if self.cycle.ms_left() > 1 {
             self.cycle.count(1);
@@ -65,7 +68,8 @@ impl Sched {
     /// The delays that have ended, until the controller stops.
     fn end_delays(&mut self, mode: Mode, obs: &[u16], passed: &mut Passed)
         requires { AllPass is_delay obs.now }
-        ensures { course_of self.new passed.new ≡ each_of (delay_ended mode) obs.now (course_of self.old passed.old) }
+        ensures { course_of self.new passed.new
+            ≡ each_of (delay_ended mode) obs.now (course_of self.old passed.old) }
     {
         for ob in obs {
             if passed.stop.is_some() {
@@ -78,7 +82,8 @@ impl Sched {
     /// The periods that have ended, until the controller stops.
     fn end_periods(&mut self, mode: Mode, active: &[u16], obs: &[u16], passed: &mut Passed)
         requires { AllPass is_cyclic obs.now }
-        ensures { course_of self.new passed.new ≡ each_of (period_ended mode active.now) obs.now (course_of self.old passed.old) }
+        ensures { course_of self.new passed.new
+            ≡ each_of (period_ended mode active.now) obs.now (course_of self.old passed.old) }
     {
         for ob in obs {
             if passed.stop.is_some() {
@@ -99,7 +104,8 @@ impl Sched {
 
     /// A millisecond of the started delays.
     fn pass_delays(&mut self, mode: Mode, passed: &mut Passed)
-        ensures { course_of self.new passed.new ≡ delays_passed mode (course_of self.old passed.old) }
+        ensures { course_of self.new passed.new
+            ≡ delays_passed mode (course_of self.old passed.old) }
     {
         let obs = self.countdowns.ending();
         self.countdowns.count_delays();
@@ -108,7 +114,8 @@ impl Sched {
 
     /// A millisecond of the periods.
     fn pass_periods(&mut self, mode: Mode, active: &[u16], passed: &mut Passed)
-        ensures { course_of self.new passed.new ≡ periods_passed mode active.now (course_of self.old passed.old) }
+        ensures { course_of self.new passed.new
+            ≡ periods_passed mode active.now (course_of self.old passed.old) }
     {
         let obs = self.countdowns.due();
         self.countdowns.count_periods();
@@ -117,7 +124,8 @@ impl Sched {
 
     /// A millisecond of what moves in RUN alone, until the controller stops.
     fn pass_run(&mut self, mode: Mode, active: &[u16], passed: &mut Passed)
-        ensures { course_of self.new passed.new ≡ run_passed mode active.now (course_of self.old passed.old) }
+        ensures { course_of self.new passed.new
+            ≡ run_passed mode active.now (course_of self.old passed.old) }
     {
         if mode != Mode::Run || passed.stop.is_some() {
             return;
@@ -132,7 +140,8 @@ impl Sched {
     #[tactic(auto, unfolding(crate::specs::Millisecond::one_ms))]
     fn pass_one_ms(&mut self, mode: Mode, active: &[u16], passed: &mut Passed)
         requires { passed.old.ms + 1 < 2 ^ 32 }
-        ensures { course_of self.new passed.new ≡ one_ms mode active.now (course_of self.old passed.old) }
+        ensures { course_of self.new passed.new
+            ≡ one_ms mode active.now (course_of self.old passed.old) }
     {
         if passed.stop.is_some() {
             return;
@@ -160,7 +169,8 @@ impl Sched {
         requires fits { passed.old.ms + ms < 2 ^ 32 }
         requires running { passed.old.stop ≡ None }
         requires quiet { 0 < ms → Lasts mode (ms + 1) (scheduler_of self.old) }
-        ensures { (active : List ℕ) → course_of self.new passed.new ≡ iterate (one_ms mode active) ms (course_of self.old passed.old) }
+        ensures { (active : List ℕ) → course_of self.new passed.new
+            ≡ iterate (one_ms mode active) ms (course_of self.old passed.old) }
     {
         if ms == 0 {
             return;
@@ -184,7 +194,8 @@ impl Sched {
 
     /// Milliseconds, from one moment at which something ends or is due to the next.
     fn pass(&mut self, n: u32, mode: Mode, active: &[u16]) -> Passed
-        ensures { course_of self.new result ≡ iterate (one_ms mode active.now) n (begun (scheduler_of self.old)) }
+        ensures { course_of self.new result
+            ≡ iterate (one_ms mode active.now) n (begun (scheduler_of self.old)) }
     {
         let mut passed = Passed::new();
         let mut left = n;

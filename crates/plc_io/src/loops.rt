@@ -18,7 +18,8 @@ pub fn read_to_limit<F: Files>(
     name: &str,
     limit: usize,
 ) -> Result<Vec<u8>, IoFault>
-    ensures front { IfOk result (λ v. IsFront (F.shown files.old).contents name.now (limit + 1) v.items) }
+    ensures front { IfOk result
+        (λ v. IsFront (F.shown files.old).contents name.now (limit + 1) v.items) }
     ensures bound { IfOk result (λ v. vec_len v ≤ limit + 1) }
     ensures leaves { LeavesRead (F.shown files.old) (F.shown files.new) name.now result }
 {
@@ -35,7 +36,8 @@ fn read_by_pieces<F: Files>(
     piece: &mut [u8],
 ) -> Result<Vec<u8>, IoFault>
     requires { 0 < length piece.old }
-    ensures front { IfOk result (λ v. IsFront (F.shown files.old).contents name.now (limit + 1) v.items) }
+    ensures front { IfOk result
+        (λ v. IsFront (F.shown files.old).contents name.now (limit + 1) v.items) }
     ensures bound { IfOk result (λ v. vec_len v ≤ limit + 1) }
     ensures leaves { LeavesRead (F.shown files.old) (F.shown files.new) name.now result }
 {
@@ -57,7 +59,8 @@ fn read_more<F: Files>(
     bytes: &mut Vec<u8>,
     piece: &mut [u8],
 ) -> Result<usize, IoFault>
-    ensures reads { IfOk result (ReadsFrom (F.shown files.old).contents name.now (vec_len bytes.old) piece.new) }
+    ensures reads { IfOk result
+        (ReadsFrom (F.shown files.old).contents name.now (vec_len bytes.old) piece.new) }
     ensures added { IfOk result (λ n. bytes.new.items ≡ bytes.old.items ++ take n piece.new) }
     ensures leaves { LeavesRead (F.shown files.old) (F.shown files.new) name.now result }
 {

@@ -61,7 +61,9 @@ impl MemFiles {
     /// Makes the reads of these numbers fail, in place of those that were chosen before. The first
     /// read of these files has number 1. This takes no memory.
     pub fn fail_reads(&mut self, calls: ArrayVec<u64, 16>)
-        ensures { self.new ≡ record self.old { reads = record self.old.reads { failing = calls } } }
+        ensures { self.new ≡ record self.old {
+          reads = record self.old.reads { failing = calls };
+        } }
     {
         self.reads.failing = calls;
     }
@@ -69,7 +71,9 @@ impl MemFiles {
     /// Makes the writes of these numbers fail, in place of those that were chosen before. The first
     /// write to these files has number 1. This takes no memory.
     pub fn fail_writes(&mut self, calls: ArrayVec<u64, 16>)
-        ensures { self.new ≡ record self.old { writes = record self.old.writes { failing = calls } } }
+        ensures { self.new ≡ record self.old {
+          writes = record self.old.writes { failing = calls };
+        } }
     {
         self.writes.failing = calls;
     }
@@ -81,13 +85,16 @@ impl Files for MemFiles {
     /// Fails at the chosen reads, and where there is no such file. This takes no memory.
     fn read_some(&mut self, name: &str, at: u64, into: &mut [u8]) -> Result<usize, IoFault>
         ensures reads { IfOk result (ReadsFrom (contents_of self.old.files) name.now at into.new) }
-        ensures leaves { let before = memory_files self.old.files self.old.reads.failed self.old.writes.failed in
+        ensures leaves { let before =
+            memory_files self.old.files self.old.reads.failed self.old.writes.failed in
             let after = memory_files self.new.files self.new.reads.failed self.new.writes.failed in
             LeavesRead before after name.now result }
         // Exactly when and what.
         ensures answer { let fails = is_next_to_fail self.old.reads in
             result ≡ read_answer fails (bytes_of self.old.files name.now) at (length into.new) }
-        ensures after { self.new ≡ record self.old { reads = after_call self.old.reads (is_err result) } }
+        ensures after { self.new ≡ record self.old {
+          reads = after_call self.old.reads (is_err result);
+        } }
     {
         if self.reads.is_next_to_fail() {
             return Err(self.reads.fail());
@@ -101,7 +108,8 @@ impl Files for MemFiles {
 
     /// Fails at the chosen writes, and then changes no file.
     fn write_whole(&mut self, name: &str, bytes: &[u8]) -> Result<(), IoFault>
-        ensures leaves { let before = memory_files self.old.files self.old.reads.failed self.old.writes.failed in
+        ensures leaves { let before =
+            memory_files self.old.files self.old.reads.failed self.old.writes.failed in
             let after = memory_files self.new.files self.new.reads.failed self.new.writes.failed in
             LeavesWritten before after name.now bytes.now result }
         // Exactly when and what.
@@ -183,7 +191,8 @@ impl Sink for MemSink {
         ensures ok { IfOk result (λ n. self.new.taken ≡ self.old.taken ++ take n bytes.now) }
         ensures err { OnErr result (self.new.taken ≡ self.old.taken) }
         ensures most { self.new.most ≡ self.old.most }
-        ensures after { self.new.pushes ≡ after_call self.old.pushes (is_next_to_fail self.old.pushes) }
+        ensures after { self.new.pushes
+            ≡ after_call self.old.pushes (is_next_to_fail self.old.pushes) }
     {
         if self.pushes.is_next_to_fail() {
             return Err(self.pushes.fail());

@@ -40,8 +40,10 @@ impl Files for SureFiles {
 
     /// Always answers Ok. This takes no memory.
     fn read_some(&mut self, name: &str, at: u64, into: &mut [u8]) -> Result<usize, IoFault>
-        ensures reads { IfOk result (ReadsFrom (sure_contents_of self.old.files) name.now at into.new) }
-        ensures leaves { LeavesRead (sure_files self.old.files) (sure_files self.new.files) name.now result }
+        ensures reads { IfOk result
+            (ReadsFrom (sure_contents_of self.old.files) name.now at into.new) }
+        ensures leaves { LeavesRead (sure_files self.old.files) (sure_files self.new.files)
+            name.now result }
         // Exactly what.
         ensures answer { let rest = length (bytes_or_empty self.old.files name.now) - at in
             result ≡ Ok (min (length into.new) rest) }
@@ -87,7 +89,8 @@ impl Sink for SureSink {
 
     /// Never answers Failed.
     fn push(&mut self, bytes: &[u8]) -> Result<usize, IoFault>
-        ensures offered { Offered (told_sink self.old.taken 0) (told_sink self.new.taken 0) bytes.now result }
+        ensures offered { Offered (told_sink self.old.taken 0) (told_sink self.new.taken 0)
+            bytes.now result }
         // Exactly when and what.
         ensures whole { IfOk result (λ n. n ≡ length bytes.now) }
         ensures ok { OnOk result (self.new.taken ≡ self.old.taken ++ bytes.now) }

@@ -277,8 +277,10 @@ fn new_number(before: &[ThinOb], kind: BlockKind, name: &BlockName) -> Option<u1
 /// An organization block of this number.
 #[tactic(auto, unfolding(sem_kept::specs::Built::built_parts))]
 fn built_parts(alloc: Global, number: u16, block: &Block) -> Result<ThinOb, SourceFault>
-    ensures ok { IfOk result (λ ob. built_parts number block.now.parts block.now.body block.now.end_line ≡ Ok ob) }
-    ensures refused { IfErr result (IsUnbuilt (built_parts number block.now.parts block.now.body block.now.end_line)) }
+    ensures ok { IfOk result
+        (λ ob. built_parts number block.now.parts block.now.body block.now.end_line ≡ Ok ob) }
+    ensures refused { IfErr result
+        (IsUnbuilt (built_parts number block.now.parts block.now.body block.now.end_line)) }
 {
     if let [part, ..] = block.parts.as_slice() {
         return Err(unbuilt(part.line));

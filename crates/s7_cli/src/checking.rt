@@ -23,7 +23,8 @@ fn check<F: Files, K: Sink>(
     out: &mut K,
 ) -> Result<(), Failure>
     ensures { let files_went = disk (F.shown files.old) (F.shown files.new) in
-        Comes (Some (Check src.now)) files_went (taking (K.shown out.old) (K.shown out.new)) result }
+        Comes (Some (Check src.now)) files_went
+        (taking (K.shown out.old) (K.shown out.new)) result }
 {
     let source = read_file(alloc, files, File::Source, src)?;
     judge_source(alloc, &source)?;

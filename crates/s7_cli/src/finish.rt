@@ -24,7 +24,8 @@ pub fn write_text<K: Sink>(out: &mut K, text: &[u8]) -> Result<(), Failure>
 
 /// Writes the line of a failure, if it has one, and answers the failure, or that of the writing.
 fn say<K: Sink>(out: &mut K, failure: Failure) -> Failure
-    ensures { LineWritten (line_of failure) failure (taking (K.shown out.old) (K.shown out.new)) result }
+    ensures { LineWritten (line_of failure) failure
+        (taking (K.shown out.old) (K.shown out.new)) result }
 {
     let Some(line) = failure_line(failure) else {
         return failure;

@@ -1,5 +1,6 @@
 ghost use Rattle.std.specs.Prelude.{◌≡◌, ◌<◌, ◌≤◌, [], ◌∷◌, ◌++◌, false, All, IfErr, IfOk, OnOk};
 ghost use Rattle.var_access.specs.Entry.{IsValid};
+ghost use Rattle.var_access.specs.declared.Entry.{Entry};
 ghost use Rattle.s7_cli.specs.History.{feeder, most_steps, is_step, steps_in, history_of};
 ghost use Rattle.s7_cli.specs.HistoryFault.{AddFault, IsHistoryFault};
 
@@ -68,7 +69,8 @@ impl Reading {
     /// Takes one more entry of the feeder, which is no step.
     fn feed(&mut self, what: What) -> Result<(), AllocError>
         requires { is_step what ≡ false }
-        ensures { OnOk result (self.new.entries.items ≡ self.old.entries.items ++ record { who = feeder; what = what } ∷ []) }
+        ensures { let entry : Entry = record { who = feeder; what = what } in
+            OnOk result (self.new.entries.items ≡ self.old.entries.items ++ entry ∷ []) }
     {
         self.entries.push(Entry { who: FEEDER, what })?;
         Ok(())
@@ -76,7 +78,8 @@ impl Reading {
 
     /// Takes the entries of one more line.
     fn add(&mut self, line: LineEntries) -> Result<(), HistoryFault>
-        ensures ok { OnOk result (self.new.entries.items ≡ self.old.entries.items ++ entries_of line) }
+        ensures ok { OnOk result
+            (self.new.entries.items ≡ self.old.entries.items ++ entries_of line) }
         ensures refused { let entries = self.old.entries.items ++ entries_of line in
             IfErr result (λ fault. AddFault entries fault) }
     {

@@ -22,7 +22,8 @@ use var_access::Entry;
 
 /// Writes the lines of the output bytes that entry `n` changed.
 fn write_outputs<K: Sink>(out: &mut K, n: u64, outputs: &[(u16, u8)]) -> Result<(), Failure>
-    ensures { TextWritten (flat_map (output_text n) outputs.now) (taking (K.shown out.old) (K.shown out.new)) result }
+    ensures { TextWritten (flat_map (output_text n) outputs.now)
+        (taking (K.shown out.old) (K.shown out.new)) result }
 {
     for output in outputs {
         write_text(out, output_line(n, *output).as_slice())?;
@@ -32,7 +33,8 @@ fn write_outputs<K: Sink>(out: &mut K, n: u64, outputs: &[(u16, u8)]) -> Result<
 
 /// Writes the line of the mode that entry `n` began, if it began one.
 fn write_mode<K: Sink>(out: &mut K, n: u64, mode: Option<Mode>) -> Result<(), Failure>
-    ensures { TextWritten (changed_mode_text n mode) (taking (K.shown out.old) (K.shown out.new)) result }
+    ensures { TextWritten (changed_mode_text n mode)
+        (taking (K.shown out.old) (K.shown out.new)) result }
 {
     match mode {
         Some(mode) => write_text(out, mode_line(n, mode).as_slice()),
@@ -43,7 +45,8 @@ fn write_mode<K: Sink>(out: &mut K, n: u64, mode: Option<Mode>) -> Result<(), Fa
 /// Writes what entry `n` showed.
 #[tactic(auto, unfolding(crate::specs::RunText::shown_text))]
 fn write_entry<K: Sink>(out: &mut K, n: u64, seen: &Observed) -> Result<(), Failure>
-    ensures { TextWritten (shown_text n seen.now) (taking (K.shown out.old) (K.shown out.new)) result }
+    ensures { TextWritten (shown_text n seen.now)
+        (taking (K.shown out.old) (K.shown out.new)) result }
 {
     write_outputs(out, n, seen.outputs.as_slice())?;
     write_mode(out, n, seen.mode)
@@ -57,8 +60,13 @@ fn write_entries<K: Sink>(
 ) -> Result<(), Failure>
     requires room { length entries.now ≤ controller.old.spare }
     requires valid { All IsValid entries.now }
-    ensures ok { OnOk result (controller.new ≡ record controller.old { history = controller.old.history ++ entries.now; spare = controller.old.spare - length entries.now }) }
-    ensures text { TextWritten (lines_after (thin_code controller.old.program) controller.old.history entries.now) (taking (K.shown out.old) (K.shown out.new)) result }
+    ensures ok { OnOk result (controller.new ≡ record controller.old {
+      history = controller.old.history ++ entries.now;
+      spare = controller.old.spare - length entries.now;
+    }) }
+    ensures text { TextWritten
+        (lines_after (thin_code controller.old.program) controller.old.history entries.now)
+        (taking (K.shown out.old) (K.shown out.new)) result }
 {
     for entry in entries {
         controller.apply(*entry);
@@ -77,7 +85,8 @@ pub fn run<K: Sink>(
 ) -> Result<(), Failure>
     requires thin { IsTrue (is_thin program) }
     requires valid { All IsValid entries.now }
-    ensures { TextWritten (run_text (tree_code program) entries.now) (taking (K.shown out.old) (K.shown out.new)) result }
+    ensures { TextWritten (run_text (tree_code program) entries.now)
+        (taking (K.shown out.old) (K.shown out.new)) result }
 {
     // the controller's program shows what the source's statements do, entry by entry
     laws::runs_as_source(&program);

@@ -117,7 +117,8 @@ fn periods(rt: HostRuntime) {
         for _ in 0..9 {
             let (ob, _, _) = start_best(&mut sched, Mode::Run);
             if (30..39).contains(&ob) {
-                counts[usize::from(ob - 30)] += 1;
+                let count = &mut counts[usize::from(ob - 30)];
+                *count = count.saturating_add(1);
             }
         }
     }

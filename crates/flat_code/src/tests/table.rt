@@ -1,6 +1,8 @@
 //! The table of op codes, cell by cell: each code with its instruction and what it takes, against a
 //! list that was typed from the instruction set by hand.
 
+ghost use Rattle.std.specs.Prelude.{◌<◌};
+
 use crate::{
     Adding, CallWord, Comparison, EndWord, Joined, Logic, Number, Operand, Passed, PointerWord,
     Shift, StartWord, Takes, Word, taken_by, word_of,
@@ -277,11 +279,10 @@ fn end_name(how: EndWord) -> &'static str {
     }
 }
 
-/// The instruction of a word in two parts: a comparison has the type behind it.
-fn name(word: Word) -> (&'static str, &'static str) {
-    let name = match word {
-        Word::CompareInt(how) => return (comparison_name(how), "I"),
-        Word::CompareDint(how) => return (comparison_name(how), "D"),
+/// The instruction of a word, a comparison without its type.
+fn name(word: Word) -> &'static str {
+    match word {
+        Word::CompareInt(how) | Word::CompareDint(how) => comparison_name(how),
         Word::NoWord => "-",
         Word::Nop => "NOP",
         Word::Bld => "BLD",
@@ -320,8 +321,16 @@ fn name(word: Word) -> (&'static str, &'static str) {
         Word::End(how) => end_name(how),
         Word::OpenBlock => "OPN",
         Word::Exchange => "CDB",
-    };
-    (name, "")
+    }
+}
+
+/// The type behind a comparison.
+fn type_behind(word: Word) -> &'static str {
+    match word {
+        Word::CompareInt(_) => "I",
+        Word::CompareDint(_) => "D",
+        _ => "",
+    }
 }
 
 /// The greatest literal that is taken, of those beside which the limits of the list lie.
@@ -356,101 +365,111 @@ fn greatest_literal(takes: Takes) -> Option<u32> {
 }
 
 /// An operand of each form but 00 and 01, in the order of the list.
-fn operands() -> [(&'static str, Operand); 15] {
+fn operands() -> [Operand; 15] {
     let (area, width, byte, bit) = (Area::M, Width::Word, 2, 0);
     let from = Area::L;
     let actual = Passed::Literal { value: 7 };
     [
-        (
-            "02",
-            Operand::Direct {
-                area,
-                width,
-                byte,
-                bit,
-            },
-        ),
-        (
-            "03",
-            Operand::ByMemory {
-                area,
-                width,
-                from,
-                byte,
-            },
-        ),
-        (
-            "04",
-            Operand::ByRegister {
-                area: None,
-                width,
-                register: 1,
-                bits: 8,
-            },
-        ),
-        ("05", Operand::Parameter { index: 0, width }),
-        ("06T", Operand::Numbered { kind: 1, number: 3 }),
-        (
-            "07T",
-            Operand::NumberedBy {
-                kind: 1,
-                from,
-                byte,
-            },
-        ),
-        ("06C", Operand::Numbered { kind: 2, number: 3 }),
-        (
-            "07C",
-            Operand::NumberedBy {
-                kind: 2,
-                from,
-                byte,
-            },
-        ),
-        ("08", Operand::Jump { kind: 0, target: 6 }),
-        ("09", Operand::OfStatus { condition: 1 }),
-        ("0A", Operand::UseDb { number: 10 }),
-        ("0B", Operand::Pass { index: 0, actual }),
-        (
-            "0D",
-            Operand::Called {
-                kind: 2,
-                number: 1,
-                instance: 0,
-            },
-        ),
-        (
-            "0E",
-            Operand::OpenBlock {
-                register: 1,
-                number: 10,
-            },
-        ),
-        (
-            "0F",
-            Operand::OpenBy {
-                register: 1,
-                from,
-                byte,
-            },
-        ),
+        Operand::Direct {
+            area,
+            width,
+            byte,
+            bit,
+        },
+        Operand::ByMemory {
+            area,
+            width,
+            from,
+            byte,
+        },
+        Operand::ByRegister {
+            area: None,
+            width,
+            register: 1,
+            bits: 8,
+        },
+        Operand::Parameter { index: 0, width },
+        Operand::Numbered { kind: 1, number: 3 },
+        Operand::NumberedBy {
+            kind: 1,
+            from,
+            byte,
+        },
+        Operand::Numbered { kind: 2, number: 3 },
+        Operand::NumberedBy {
+            kind: 2,
+            from,
+            byte,
+        },
+        Operand::Jump { kind: 0, target: 6 },
+        Operand::OfStatus { condition: 1 },
+        Operand::UseDb { number: 10 },
+        Operand::Pass { index: 0, actual },
+        Operand::Called {
+            kind: 2,
+            number: 1,
+            instance: 0,
+        },
+        Operand::OpenBlock {
+            register: 1,
+            number: 10,
+        },
+        Operand::OpenBy {
+            register: 1,
+            from,
+            byte,
+        },
     ]
 }
 
+/// The form of an operand as the list writes it.
+fn form(operand: &Operand) -> &'static str {
+    match *operand {
+        Operand::Nothing => "00",
+        Operand::Literal { .. } => "01",
+        Operand::Direct { .. } => "02",
+        Operand::ByMemory { .. } => "03",
+        Operand::ByRegister { .. } => "04",
+        Operand::Parameter { .. } => "05",
+        Operand::Numbered { kind: 1, .. } => "06T",
+        Operand::Numbered { .. } => "06C",
+        Operand::NumberedBy { kind: 1, .. } => "07T",
+        Operand::NumberedBy { .. } => "07C",
+        Operand::Jump { .. } => "08",
+        Operand::OfStatus { .. } => "09",
+        Operand::UseDb { .. } => "0A",
+        Operand::Pass { .. } => "0B",
+        Operand::Called { .. } => "0D",
+        Operand::OpenBlock { .. } => "0E",
+        Operand::OpenBy { .. } => "0F",
+    }
+}
+
+/// The widths of operands in memory.
+fn put_widths(out: &mut String, takes: Takes) -> Result<(), AllocError> {
+    out.push_str(" /")?;
+    for (width, bits) in [
+        (Width::Bit, 1),
+        (Width::Byte, 8),
+        (Width::Word, 16),
+        (Width::Dword, 32),
+    ] {
+        if takes.has_width(width) {
+            write!(out, " {bits}")?;
+        }
+    }
+    Ok(())
+}
+
 /// A line of the list as the table of the crate has it.
-fn line(alloc: Global, code: u8) -> Result<String, AllocError> {
+fn line(alloc: Global, code: u8) -> Result<String, AllocError>
+    requires { code < 128 }
+{
     let mut out = String::new(alloc);
-    let word = if code < 128 {
-        word_of(code)
-    } else {
-        Word::NoWord
-    };
-    let takes = if code < 128 {
-        taken_by(code)
-    } else {
-        Takes::NoCode
-    };
-    let (name, of) = name(word);
+    let word = word_of(code);
+    let takes = taken_by(code);
+    let name = name(word);
+    let of = type_behind(word);
     write!(out, "{code:02X} {name}{of}")?;
     if takes.admits(&Operand::Nothing) {
         out.push_str(" 00")?;
@@ -458,25 +477,15 @@ fn line(alloc: Global, code: u8) -> Result<String, AllocError> {
     if let Some(most) = greatest_literal(takes) {
         write!(out, " 01:{most}")?;
     }
-    let mut has_widths = false;
-    for (form, operand) in operands() {
+    for operand in operands() {
         if takes.admits(&operand) {
+            let form = form(&operand);
             write!(out, " {form}")?;
-            has_widths = has_widths || form == "02";
         }
     }
-    if has_widths {
-        out.push_str(" /")?;
-        for (width, bits) in [
-            (Width::Bit, 1),
-            (Width::Byte, 8),
-            (Width::Word, 16),
-            (Width::Dword, 32),
-        ] {
-            if takes.has_width(width) {
-                write!(out, " {bits}")?;
-            }
-        }
+    let [place, ..] = operands();
+    if takes.admits(&place) {
+        put_widths(&mut out, takes)?;
     }
     Ok(out)
 }

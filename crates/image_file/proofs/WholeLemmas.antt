@@ -1,0 +1,488 @@
+-- The blocks that reading notes are those of the program that it finds.
+use Rattle.std.proofs.Common.{◌≡◌, ℕ, zero, suc, ◌+◌, ◌-◌, ◌<◌, ◌≤◌, Bool, true, false, cond, eqb, ltb, not, ◌&&◌, ◌||◌, List, [], ◌∷◌, ◌++◌, map, length, take, get_or, Option, Some, None, refl, sym, ap, subst, ◌∙◌, append_assoc, arith}
+use Rattle.std.proofs.lemmas.List.{append-nil}
+use Rattle.std.proofs.lemmas.Option.{same_Some}
+use Rattle.flat_code.specs.Coding.{Coding, u8, u16, u32}
+use Rattle.flat_code.specs.Ops.{OpData}
+use Rattle.flat_code.specs.Programs.{DataBlock, Program}
+use Rattle.flat_code.specs.Records.{BlockRecord, NameRecord, Records}
+use Rattle.flat_code.specs.declared.image_fields.ParameterRecord.{ParameterRecord}
+use Rattle.flat_code.specs.Faults.{fault_of, name_fault}
+use Rattle.flat_code.specs.Layout.{Note, Faulty, Whole, AllBlocks, Cursor, Read, Layout, ended, given, go_on, bind, noted, field_of, field, chain, checked, located, read_many, many, seen_as, remembered, faults_in}
+use Rattle.flat_code.specs.Codes.{ops_from, stop_at, read_ops, placed_ops, read_code, code_of, only}
+use Rattle.flat_code.specs.Image.{plain, plain_u16, plain_u32, zero_u8, zero_u16, width_field, bytes, section_field, parameter_byte, parameter_bit, RawParameter, raw_parameter, parameter_of_raw, raw_of_parameter, parameter, kind_field, parameter_count, block_number, local_bytes, instance_bytes, Head, head, params_in, instance_in, statements_in, code_len_in, same_state, parameters, line_after, line_field, lines_of, code_and_lines, RawBlock, raw_block, block_of_raw, raw_of_block, plain_block, whole_at, code_block_at, code_block, after_block, data_number, instance_field, data_len, contents, RawData, raw_data, data_of_raw, raw_of_data, data_block, after_data, name_len, name_bytes, name_area, name_bit, RawName, raw_name, name_of_raw, raw_of_name, name_record, after_name, data_count, Counts, counts, code_blocks, plain_data_blocks, data_blocks, names, RawRecords, raw_records, records_of_raw, raw_of_records, records, record_of_block, block_of_record, program_of, records_of, body, magic_field, version_field, Front, front, front_size, image, IsProgram, at_end, cut, read_by, read_image, end_marks}
+use Rattle.flat_code.specs.Placed.{OpenBracket, Placed, places, open_behind}
+use Rattle.flat_code.specs.Blocks.{Around, operand_fault, call_fault, mark_fault, bracket_fault, at_offset, op_faults, faults_over, open_faults, block_faults}
+use Rattle.flat_code.specs.Loading.{lens_of, around, wholes, all_blocks, blocks_of, judged_blocks, faults_in_notes, faults_of, Gives, AreVerified, Verifies, IsLoadable}
+use Rattle.flat_code.proofs.CodingLemmas.{IsBytes}
+use Rattle.image_file.proofs.LayoutLemmas.{at_place, Finds, no_faults}
+use Rattle.image_file.proofs.ImageLemmas.{image_again, image_takes, records_back, records_laid, front_laid, bytes_taken}
+
+-- the code blocks that notes tell of, and the data blocks, once all were read
+abbrev Lens : Type 0
+Lens = Option (List (ℕ × ℕ))
+
+abbrev Told : Type 0
+Told = List BlockRecord × Lens
+
+first : Lens → Lens → Lens
+first None other = other
+first (Some lens) other = Some lens
+
+join : Told → Told → Told
+unfolding first
+join a b = (a.0 ++ b.0, first a.1 b.1)
+
+nothing : Told
+nothing = ([], None)
+
+told_in : List Note → Told
+told_in notes = (blocks_of (wholes notes), all_blocks notes)
+
+pairs : {a b : List BlockRecord} {x y : Lens} → a ≡ b → x ≡ y → ◌≡◌ {A = Told} (a, x) (b, y)
+pairs p q = rw (p, q) refl
+
+wholes-append : (a b : List Note) → blocks_of (wholes (a ++ b)) ≡ blocks_of (wholes a) ++ blocks_of (wholes b)
+wholes-append [] b = refl
+wholes-append (Faulty at code ∷ a) b = wholes-append a b
+wholes-append (Whole start block ∷ a) b = ap (λ (z : List BlockRecord). block ∷ z) (wholes-append a b)
+wholes-append (AllBlocks blocks ∷ a) b = wholes-append a b
+
+all-append : (a b : List Note) → all_blocks (a ++ b) ≡ first (all_blocks a) (all_blocks b)
+unfolding first
+all-append [] b = refl
+all-append (Faulty at code ∷ a) b = all-append a b
+all-append (Whole start block ∷ a) b = all-append a b
+all-append (AllBlocks blocks ∷ a) b = refl
+
+told-append : (a b : List Note) → told_in (a ++ b) ≡ join (told_in a) (told_in b)
+unfolding told_in join
+told-append a b = pairs (wholes-append a b) (all-append a b)
+
+first-none : (a : Lens) → first a None ≡ a
+unfolding first
+first-none None = refl
+first-none (Some lens) = refl
+
+join-nothing : (a : Told) → join a nothing ≡ a
+unfolding join nothing
+join-nothing a = pairs (append-nil a.0) (first-none a.1)
+
+nothing-join : (a : Told) → join nothing a ≡ a
+unfolding join nothing first
+nothing-join a = refl
+
+none_noted : (at : ℕ) (o : Option ℕ) → told_in (noted at o) ≡ nothing
+unfolding told_in nothing
+none_noted at None = refl
+none_noted at (Some code) = refl
+
+none_at_all : told_in [] ≡ nothing
+unfolding told_in nothing
+none_at_all = refl
+
+one : BlockRecord → Told
+one b = (b ∷ [], None)
+
+one_block : (start : ℕ) (b : BlockRecord) → told_in (whole_at start b ∷ []) ≡ one b
+unfolding told_in one
+one_block start b = refl
+
+all_told : List DataBlock → Told
+all_told ds = ([], Some (lens_of ds))
+
+all_are_told : (ds : List DataBlock) → told_in (AllBlocks ds ∷ []) ≡ all_told ds
+unfolding told_in all_told
+all_are_told ds = refl
+
+-- what a layout notes of what it finds
+record Notes (A : Type 0) (l : Layout A) (view : A → Told) : Type 0 where
+  says : (cur : Cursor) (x : A) (end : Cursor) → (l.read cur).found ≡ Some (x, end) → told_in (l.read cur).notes ≡ view x
+
+record Steps (A B : Type 0) (r : Read A) (f : A → Cursor → Read B) (y : B) (end : Cursor) : Type 0 where
+  first : A
+  next : Cursor
+  one : r.found ≡ Some (first, next)
+  two : (f first next).found ≡ Some (y, end)
+  are : (bind r f).notes ≡ r.notes ++ (f first next).notes
+  notes : told_in (bind r f).notes ≡ join (told_in r.notes) (told_in (f first next).notes)
+
+go_steps : {A B : Type 0} (notes : List Note) (o : Option (A × Cursor)) (f : A → Cursor → Read B) (y : B) (end : Cursor) → (go_on notes o f).found ≡ Some (y, end) → Steps A B (record { notes = notes; found = o }) f y end
+go_steps {A = A} {B = B} notes None f y end e = absurd cc
+go_steps {A = A} {B = B} notes (Some x) f y end e = record { first = x.0; next = x.1; one = refl; two = e; are = refl; notes = told-append notes (f x.0 x.1).notes }
+
+steps : {A B : Type 0} (r : Read A) (f : A → Cursor → Read B) (y : B) (end : Cursor) → (bind r f).found ≡ Some (y, end) → Steps A B r f y end
+steps r f y end e = go_steps r.notes r.found f y end e
+
+field_of_notes : {A : Type 0} (judge : A → Option ℕ) (cur : Cursor) (o : Option (A × List ℕ)) (x : A) (end : Cursor) → (field_of judge cur o).found ≡ Some (x, end) → told_in (field_of judge cur o).notes ≡ nothing
+field_of_notes {A = A} judge cur None x end h = absurd cc
+field_of_notes {A = A} judge cur (Some r) x end h = none_noted cur.at (judge r.0)
+
+field_notes : {A : Type 0} (c : Coding A) (judge : A → Option ℕ) → Notes A (field c judge) (λ x. nothing)
+field_notes {A = A} c judge = record { says = λ cur x end e. field_of_notes judge cur (c.read cur.rest) x end e }
+
+chain_notes : {A B : Type 0} (l : Layout A) (m : A → Layout B) (v : A → Told) (w : A → B → Told) → Notes A l v → ((x : A) → Notes B (m x) (w x)) → Notes (A × B) (chain l m) (λ x. join (v x.0) (w x.0 x.1))
+chain_notes {A = A} {B = B} l m v w p q = record { says = λ cur x end e.
+    let a = steps (l.read cur) (λ x next. bind ((m x).read next) (λ y end. given (x, y) end)) x end e in
+    let b = steps ((m a.first).read a.next) (λ y end. given (a.first, y) end) x end a.two in
+    let made = same_Some ((a.first, b.first), b.next) (x, end) b.two in
+    let x_is = ap (λ (z : (A × B) × Cursor). z.0) made in
+    let inner = b.notes ∙ ap (λ (z : Told). join (told_in ((m a.first).read a.next).notes) z) none_at_all ∙ join-nothing (told_in ((m a.first).read a.next).notes) ∙ (q a.first).says a.next b.first b.next b.one in
+    a.notes ∙ ap (λ (z : Told). join z (told_in (bind {B = A × B} ((m a.first).read a.next) (λ y end. given (a.first, y) end)).notes)) (p.says cur a.first a.next a.one)
+    ∙ ap (λ (z : Told). join (v a.first) z) inner ∙ ap (λ (z : A × B). join (v z.0) (w z.0 z.1)) x_is }
+
+checked_notes : {A : Type 0} (at : ℕ) (fault : Option ℕ) (l : Layout A) (v : A → Told) → Notes A l v → Notes A (checked at fault l) v
+checked_notes {A = A} at fault l v p = record { says = λ cur x end e. told-append (noted at fault) (l.read cur).notes ∙ ap (λ (z : Told). join z (told_in (l.read cur).notes)) (none_noted at fault) ∙ nothing-join (told_in (l.read cur).notes) ∙ p.says cur x end e }
+
+seen_notes : {A B : Type 0} (to : A → B) (from : B → A) (l : Layout A) (v : A → Told) (w : B → Told) → ((x : A) → v x ≡ w (to x)) → Notes A l v → Notes B (seen_as to from l) w
+seen_notes {A = A} {B = B} to from l v w same p = record { says = λ cur y end e.
+    let a = steps (l.read cur) (λ x end. given (to x) end) y end e in
+    let made = same_Some (to a.first, a.next) (y, end) a.two in
+    a.notes ∙ ap (λ (z : Told). join (told_in (l.read cur).notes) z) none_at_all ∙ join-nothing (told_in (l.read cur).notes) ∙ p.says cur a.first a.next a.one ∙ same a.first ∙ ap w (ap (λ (z : B × Cursor). z.0) made) }
+
+remembered_notes : {A : Type 0} (note : A → Note) (l : Layout A) (w : A → Told) → ((x : A) → told_in (note x ∷ []) ≡ w x) → Notes A l (λ x. nothing) → Notes A (remembered note l) w
+remembered_notes {A = A} note l w tells p = record { says = λ cur b end e.
+    let a = steps (l.read cur) (λ x end. record { notes = note x ∷ []; found = Some (x, end) }) b end e in
+    let made = same_Some (a.first, a.next) (b, end) a.two in
+    a.notes ∙ ap (λ (z : Told). join z (told_in (note a.first ∷ []))) (p.says cur a.first a.next a.one) ∙ nothing-join (told_in (note a.first ∷ [])) ∙ tells a.first ∙ ap (λ (z : A × Cursor). w z.0) made }
+
+located_notes : {A : Type 0} (l : ℕ → Layout A) (v : A → Told) → ((at : ℕ) → Notes A (l at) v) → Notes A (located l) v
+located_notes {A = A} l v p = record { says = λ cur x end e. (p cur.at).says cur x end e }
+
+all_of : {A : Type 0} → (A → Told) → List A → Told
+all_of v [] = nothing
+all_of v (x ∷ xs) = join (v x) (all_of v xs)
+
+many_says : {S A : Type 0} (l : S → Layout A) (next : S → A → S) (v : A → Told) → ((s : S) → Notes A (l s) v) → (s : S) (n : ℕ) (cur : Cursor) (xs : List A) (end : Cursor) → (read_many l next s n cur).found ≡ Some (xs, end) → told_in (read_many l next s n cur).notes ≡ all_of v xs
+unfolding all_of
+many_says {S = S} {A = A} l next v p s zero cur xs end e = let made = same_Some ([], cur) (xs, end) e in none_at_all ∙ ap (λ (z : List A × Cursor). all_of v z.0) made
+many_says {S = S} {A = A} l next v p s (suc n) cur xs end e =
+    let a = steps ((l s).read cur) (λ x after. bind (read_many l next (next s x) n after) (λ xs end. given (x ∷ xs) end)) xs end e in
+    let b = steps (read_many l next (next s a.first) n a.next) (λ xs end. given (a.first ∷ xs) end) xs end a.two in
+    let made = same_Some (a.first ∷ b.first, b.next) (xs, end) b.two in
+    let inner = b.notes ∙ ap (λ (z : Told). join (told_in (read_many l next (next s a.first) n a.next).notes) z) none_at_all ∙ join-nothing (told_in (read_many l next (next s a.first) n a.next).notes) ∙ many_says l next v p (next s a.first) n a.next b.first b.next b.one in
+    a.notes ∙ ap (λ (z : Told). join z (told_in (bind (read_many l next (next s a.first) n a.next) (λ xs end. given (a.first ∷ xs) end)).notes)) ((p s).says cur a.first a.next a.one)
+    ∙ ap (λ (z : Told). join (v a.first) z) inner ∙ ap (λ (z : List A × Cursor). all_of v z.0) made
+
+many_notes : {S A : Type 0} (l : S → Layout A) (next : S → A → S) (v : A → Told) → ((s : S) → Notes A (l s) v) → (s : S) (n : ℕ) → Notes (List A) (many l next s n) (all_of v)
+many_notes l next v p s n = record { says = many_says l next v p s n }
+
+-- layouts that note no block
+weaker : {A : Type 0} (l : Layout A) (v w : A → Told) → ((x : A) → v x ≡ w x) → Notes A l v → Notes A l w
+weaker {A = A} l v w same p = record { says = λ cur x end e. p.says cur x end e ∙ same x }
+
+chain_none : {A B : Type 0} (l : Layout A) (m : A → Layout B) → Notes A l (λ x. nothing) → ((x : A) → Notes B (m x) (λ y. nothing)) → Notes (A × B) (chain l m) (λ x. nothing)
+chain_none {A = A} {B = B} l m p q = weaker (chain l m) (λ x. join nothing nothing) (λ x. nothing) (λ x. nothing-join nothing) (chain_notes l m (λ x. nothing) (λ x y. nothing) p q)
+
+all_none : {A : Type 0} (xs : List A) → all_of (λ x. nothing) xs ≡ nothing
+unfolding all_of
+all_none [] = refl
+all_none (x ∷ xs) = nothing-join (all_of (λ x. nothing) xs) ∙ all_none xs
+
+many_none : {S A : Type 0} (l : S → Layout A) (next : S → A → S) → ((s : S) → Notes A (l s) (λ x. nothing)) → (s : S) (n : ℕ) → Notes (List A) (many l next s n) (λ xs. nothing)
+many_none l next p s n = weaker (many l next s n) (all_of (λ x. nothing)) (λ xs. nothing) (λ xs. all_none xs) (many_notes l next (λ x. nothing) p s n)
+
+cond_found : {A : Type 0} (b : Bool) (x y : Read A) (v : A) (end : Cursor) (t : Told) → (cond b x y).found ≡ Some (v, end) → (x.found ≡ Some (v, end) → told_in x.notes ≡ t) → (y.found ≡ Some (v, end) → told_in y.notes ≡ t) → told_in (cond b x y).notes ≡ t
+cond_found true x y v end t e f g = f e
+cond_found false x y v end t e f g = g e
+
+read_ops_says : (o : Option ℕ) (at : ℕ) (ops : List OpData) (next : Cursor) (x : List OpData) (end : Cursor) → (read_ops o at ops next).found ≡ Some (x, end) → told_in (read_ops o at ops next).notes ≡ nothing
+read_ops_says None at ops next x end e = none_at_all
+read_ops_says (Some offset) at ops next x end e = absurd cc
+
+code_says : (n : ℕ) (cur : Cursor) (ops : List OpData) (end : Cursor) → (read_code true n cur).found ≡ Some (ops, end) → told_in (read_code true n cur).notes ≡ nothing
+code_says n cur ops end e =
+    let r = ops_from n (take n cur.rest) in
+    cond_found (ltb (length cur.rest) n) _ _ ops end nothing e (λ h. absurd cc) (λ e. read_ops_says (stop_at true r.0 r.1) cur.at r.0 _ ops end e)
+
+code_notes : (n : ℕ) → Notes (List OpData) (code_of true n) (λ ops. nothing)
+unfolding code_of
+code_notes n = record { says = code_says n }
+
+parameter_notes : (kind instance : ℕ) → Notes ParameterRecord (parameter kind instance) (λ p. nothing)
+unfolding parameter raw_parameter section_field width_field parameter_byte parameter_bit zero_u8
+parameter_notes kind instance =
+    seen_notes parameter_of_raw raw_of_parameter (raw_parameter kind instance) (λ x. nothing) (λ p. nothing) (λ x. refl)
+    (chain_none section_field _ (field_notes u8 _) (λ s.
+    chain_none width_field _ (field_notes u8 _) (λ w.
+    chain_none (parameter_byte kind instance w) _ (field_notes u16 _) (λ byte.
+    chain_none (parameter_bit kind) _ (field_notes u8 _) (λ bit. field_notes u8 _)))))
+
+parameters_notes : (h : Head) → Notes (List ParameterRecord) (parameters h) (λ ps. nothing)
+unfolding parameters
+parameters_notes h = many_none (λ s. parameter h.0 (instance_in h)) same_state (λ s. parameter_notes h.0 (instance_in h)) 0 (params_in h)
+
+head_notes : (before : ℕ × ℕ) → Notes Head (head before) (λ h. nothing)
+unfolding head kind_field parameter_count block_number local_bytes instance_bytes zero_u16 plain_u16 plain_u32
+head_notes before =
+    chain_none (kind_field before.0) _ (field_notes u8 _) (λ kind.
+    chain_none (parameter_count kind) _ (field_notes u8 _) (λ params.
+    chain_none (block_number before.0 before.1 kind) _ (field_notes u16 _) (λ number.
+    chain_none (local_bytes kind) _ (field_notes u16 _) (λ locals.
+    chain_none (instance_bytes kind) _ (field_notes u16 _) (λ instance.
+    chain_none plain_u16 _ (field_notes u16 plain) (λ statements.
+    chain_none zero_u16 _ (field_notes u16 _) (λ zero. field_notes u32 plain)))))))
+
+lines_notes : (start : ℕ) (h : Head) (ops : List OpData) → Notes (List ℕ) (lines_of true start h ops) (λ x. nothing)
+unfolding lines_of line_field
+lines_notes start h ops = checked_notes (start + 8) _ (many (line_field true) line_after 0 (statements_in h)) (λ x. nothing) (many_none (line_field true) line_after (λ s. field_notes u32 _) 0 (statements_in h))
+
+raw_block_notes : (before : ℕ × ℕ) (at : ℕ) → Notes RawBlock (raw_block true before at) (λ r. nothing)
+unfolding raw_block code_and_lines
+raw_block_notes before at =
+    chain_none (head before) _ (head_notes before) (λ h.
+    chain_none (parameters h) (λ params. code_and_lines true at h) (parameters_notes h) (λ params.
+    chain_none (code_of true (code_len_in h)) (lines_of true at h) (code_notes (code_len_in h)) (lines_notes at h)))
+
+code_block_notes : (before : ℕ × ℕ) → Notes BlockRecord (code_block true before) one
+unfolding code_block plain_block
+code_block_notes before = located_notes (code_block_at true before) one (λ at. remembered_notes (whole_at at) (plain_block true before at) one (one_block at) (seen_notes block_of_raw raw_of_block (raw_block true before at) (λ x. nothing) (λ b. nothing) (λ x. refl) (raw_block_notes before at)))
+
+singles : (bs : List BlockRecord) → all_of one bs ≡ (bs, None)
+unfolding all_of one join nothing first
+singles [] = refl
+singles (b ∷ bs) = ap (λ (z : Told). let y : Told = (b ∷ z.0, z.1) in y) (singles bs)
+
+abbrev codes_told : List BlockRecord → Told
+codes_told bs = (bs, None)
+
+code_blocks_notes : (n : ℕ) → Notes (List BlockRecord) (code_blocks true n) codes_told
+unfolding code_blocks
+code_blocks_notes n = weaker (many (code_block true) after_block (0, 0) n) (all_of one) codes_told singles (many_notes (code_block true) after_block one code_block_notes (0, 0) n)
+
+data_notes : (before : ℕ × ℕ) → Notes DataBlock (data_block before) (λ d. nothing)
+unfolding data_block raw_data data_number instance_field data_len zero_u16 contents
+data_notes before = seen_notes data_of_raw raw_of_data (raw_data before) (λ x. nothing) (λ d. nothing) (λ x. refl)
+    (chain_none (data_number before.0) _ (field_notes u16 _) (λ number.
+    chain_none instance_field _ (field_notes u16 _) (λ instance.
+    chain_none (data_len before.1) _ (field_notes u16 _) (λ n.
+    chain_none zero_u16 (λ zero. contents n) (field_notes u16 _) (λ zero. field_notes (bytes n) (λ bs. None))))))
+
+data_blocks_notes : (n : ℕ) → Notes (List DataBlock) (data_blocks n) all_told
+unfolding data_blocks
+data_blocks_notes n = remembered_notes AllBlocks (plain_data_blocks n) all_told all_are_told (many_none data_block after_data data_notes (0, 0) n)
+
+name_notes : (before : List ℕ) → Notes NameRecord (name_record before) (λ n. nothing)
+unfolding name_record raw_name name_len name_bytes name_area width_field plain_u16 name_bit
+name_notes before = seen_notes name_of_raw raw_of_name (raw_name before) (λ x. nothing) (λ n. nothing) (λ x. refl)
+    (chain_none name_len _ (field_notes u8 _) (λ n.
+    chain_none (name_bytes before n) _ (field_notes (bytes n) _) (λ name.
+    chain_none name_area _ (field_notes u8 _) (λ area.
+    chain_none width_field _ (field_notes u8 _) (λ w.
+    chain_none plain_u16 (λ byte. name_bit w) (field_notes u16 plain) (λ byte. field_notes u8 _))))))
+
+names_notes : (n : ℕ) → Notes (List NameRecord) (names n) (λ ns. nothing)
+unfolding names
+names_notes n = many_none name_record after_name name_notes [] n
+
+counts_notes : Notes Counts counts (λ c. nothing)
+unfolding counts plain_u16 data_count zero_u16
+counts_notes =
+    chain_none plain_u16 _ (field_notes u16 plain) (λ codes.
+    chain_none data_count _ (field_notes u16 _) (λ datas.
+    chain_none plain_u16 (λ names. zero_u16) (field_notes u16 plain) (λ names. field_notes u16 _)))
+
+abbrev datas_and_names : List DataBlock × List NameRecord → Told
+datas_and_names x = join (all_told x.0) nothing
+
+abbrev blocks_and_names : List BlockRecord × (List DataBlock × List NameRecord) → Told
+blocks_and_names x = join (codes_told x.0) (datas_and_names x.1)
+
+raw_records_notes : Notes RawRecords (raw_records true) (λ r. join nothing (blocks_and_names r.1))
+unfolding raw_records
+raw_records_notes =
+    chain_notes counts (λ c. chain (code_blocks true c.0) (λ blocks. chain (data_blocks c.1.0) (λ datas. names c.1.1.0))) (λ c. nothing) (λ c. blocks_and_names) counts_notes (λ c.
+    chain_notes (code_blocks true c.0) (λ blocks. chain (data_blocks c.1.0) (λ datas. names c.1.1.0)) codes_told (λ bs. datas_and_names) (code_blocks_notes c.0) (λ blocks.
+    chain_notes (data_blocks c.1.0) (λ datas. names c.1.1.0) all_told (λ ds ns. nothing) (data_blocks_notes c.1.0) (λ datas. names_notes c.1.1.0)))
+
+-- all blocks of records
+told_of : Records → Told
+told_of r = (r.code_blocks, Some (lens_of r.data_blocks))
+
+records_told : (x : RawRecords) → join nothing (blocks_and_names x.1) ≡ told_of (records_of_raw x)
+unfolding join nothing first all_told told_of
+records_told x = pairs (append-nil x.1.0) refl
+
+records_notes : Notes Records (records true) told_of
+unfolding records
+records_notes = seen_notes records_of_raw raw_of_records (raw_records true) (λ r. join nothing (blocks_and_names r.1)) told_of records_told raw_records_notes
+
+front_notes : Notes Front front (λ f. nothing)
+unfolding front magic_field version_field zero_u16 plain_u32
+front_notes =
+    chain_none magic_field _ (field_notes u32 _) (λ magic.
+    chain_none version_field _ (field_notes u16 _) (λ version.
+    chain_none zero_u16 (λ zero. plain_u32) (field_notes u16 _) (λ zero. field_notes u32 plain)))
+
+cond_note : (b : Bool) (at code : ℕ) → told_in (cond b [] (Faulty at code ∷ [])) ≡ nothing
+unfolding told_in nothing
+cond_note true at code = refl
+cond_note false at code = refl
+
+abbrev are_good : Records → Type 0
+are_good r = (records true).good r ≡ true
+
+-- the records that were found without fault
+record FromRecords (p : Program) (notes : List Note) : Type 0 where
+  records : Records
+  program : program_of records ≡ p
+  good : are_good records
+  told : told_in notes ≡ told_of records
+
+body_from : (cur : Cursor) (p : Program) (end : Cursor) → IsBytes cur.rest → ((body true).read cur).found ≡ Some (p, end) → faults_in ((body true).read cur).notes ≡ [] → FromRecords p ((body true).read cur).notes
+unfolding body
+body_from cur p end are e clean =
+    let a = steps ((records true).read cur) (λ x end. given (program_of x) end) p end e in
+    let made = same_Some (program_of a.first, a.next) (p, end) a.two in
+    let c = no_faults ((records true).read cur).notes [] (sym (ap faults_in a.are) ∙ clean) in
+    let t = (records_laid true).takes cur a.first a.next are (record { found = a.one; clean = c.0 }) in
+    record {
+      records = a.first;
+      program = ap (λ (z : Program × Cursor). z.0) made;
+      good = t.good;
+      told = a.notes ∙ ap (λ (z : Told). join (told_in ((records true).read cur).notes) z) none_at_all ∙ join-nothing (told_in ((records true).read cur).notes) ∙ records_notes.says cur a.first a.next a.one;
+    }
+
+abbrev cut_cursor : ℕ → Cursor → Cursor
+cut_cursor total cur = record { at = cur.at; rest = take (total - front_size) cur.rest }
+
+abbrev cut_inner : List ℕ → ℕ → Cursor → Read Program
+cut_inner text total cur = record {
+  notes = cond (eqb (length text) total) [] (Faulty total 10 ∷ []) ++ (bind ((body true).read (cut_cursor total cur)) at_end).notes;
+  found = (bind ((body true).read (cut_cursor total cur)) at_end).found;
+}
+
+inner_from : (text : List ℕ) (total : ℕ) (cur : Cursor) (p : Program) (end : Cursor) → IsBytes cur.rest → (cut_inner text total cur).found ≡ Some (p, end) → faults_in (cut_inner text total cur).notes ≡ [] → FromRecords p (cut_inner text total cur).notes
+inner_from text total cur p end are e clean =
+    let inner = (body true).read (cut_cursor total cur) in
+    let a = steps inner at_end p end e in
+    let made = same_Some (a.first, a.next) (p, end) a.two in
+    let c = no_faults (cond (eqb (length text) total) [] (Faulty total 10 ∷ [])) (bind inner at_end).notes clean in
+    let d = no_faults inner.notes (at_end a.first a.next).notes (sym (ap faults_in a.are) ∙ c.1) in
+    let f = body_from (cut_cursor total cur) a.first a.next (bytes_taken (total - front_size) cur.rest are) a.one d.0 in
+    record {
+      records = f.records;
+      program = f.program ∙ ap (λ (z : Program × Cursor). z.0) made;
+      good = f.good;
+      told = told-append (cond (eqb (length text) total) [] (Faulty total 10 ∷ [])) (bind inner at_end).notes
+        ∙ ap (λ (z : Told). join z (told_in (bind inner at_end).notes)) (cond_note (eqb (length text) total) total 10)
+        ∙ nothing-join (told_in (bind inner at_end).notes)
+        ∙ a.notes ∙ ap (λ (z : Told). join (told_in inner.notes) z) (cond_note (eqb (length a.next.rest) 0) a.next.at 10) ∙ join-nothing (told_in inner.notes)
+        ∙ f.told;
+    }
+
+cut_from : (text : List ℕ) (total : ℕ) (cur : Cursor) (p : Program) (end : Cursor) (b d : Bool) → IsBytes cur.rest → (cond b (ended 8 3) (cond d (ended 8 4) (cut_inner text total cur))).found ≡ Some (p, end) → faults_in (cond b (ended 8 3) (cond d (ended 8 4) (cut_inner text total cur))).notes ≡ [] → FromRecords p (cond b (ended 8 3) (cond d (ended 8 4) (cut_inner text total cur))).notes
+cut_from text total cur p end true d are e clean = absurd cc
+cut_from text total cur p end false true are e clean = absurd cc
+cut_from text total cur p end false false are e clean = inner_from text total cur p end are e clean
+
+image_from : (text : List ℕ) (p : Program) (end : Cursor) → IsBytes text → (read_image text).found ≡ Some (p, end) → faults_in (read_image text).notes ≡ [] → FromRecords p (read_image text).notes
+unfolding read_by
+image_from text p end are e clean =
+    let a = steps (front.read (at_place 0 text)) (λ f cur. cut true (length text) f.1.1.1 cur) p end e in
+    let c = no_faults (front.read (at_place 0 text)).notes (cut true (length text) a.first.1.1.1 a.next).notes (sym (ap faults_in a.are) ∙ clean) in
+    let t = front_laid.takes (at_place 0 text) a.first a.next are (record { found = a.one; clean = c.0 }) in
+    let f = cut_from text a.first.1.1.1 a.next p end (ltb a.first.1.1.1 20 || ltb (length text) a.first.1.1.1) (ltb 8388608 a.first.1.1.1) t.text.rest_fits a.two c.1 in
+    record {
+      records = f.records;
+      program = f.program;
+      good = f.good;
+      told = a.notes ∙ ap (λ (z : Told). join z (told_in (cut true (length text) a.first.1.1.1 a.next).notes)) (front_notes.says (at_place 0 text) a.first a.next a.one) ∙ nothing-join (told_in (cut true (length text) a.first.1.1.1 a.next).notes) ∙ f.told;
+    }
+
+-- what reading without fault noted, by the program
+pub record Noted (p : Program) (notes : List Note) : Type 0 where
+  pub codes : blocks_of (wholes notes) ≡ map record_of_block p.code_blocks
+  pub datas : all_blocks notes ≡ Some (lens_of p.data_blocks)
+
+pub image_noted : (text : List ℕ) (p : Program) (end : Cursor) → IsBytes text → (read_image text).found ≡ Some (p, end) → faults_in (read_image text).notes ≡ [] → Noted p (read_image text).notes
+unfolding told_in told_of
+image_noted text p end are e clean =
+    let f = image_from text p end are e clean in
+    let back : records_of p ≡ f.records = ap records_of (sym f.program) ∙ records_back true f.records f.good in
+    record {
+      codes = ap (λ (z : Told). z.0) f.told ∙ sym (ap (λ (z : Records). z.code_blocks) back);
+      datas = ap (λ (z : Told). z.1) f.told ∙ sym (ap (λ (z : Records). Some (lens_of z.data_blocks)) back);
+    }
+
+-- ---- verifying
+
+nil_left : {A : Type 0} (xs ys : List A) → xs ++ ys ≡ [] → (xs ≡ []) × (ys ≡ [])
+nil_left [] ys e = (refl, e)
+nil_left (x ∷ xs) ys e = absurd cc
+
+nil_join : {A : Type 0} {xs ys : List A} → xs ≡ [] → ys ≡ [] → xs ++ ys ≡ []
+nil_join p q = rw (p, q) refl
+
+elsewhere : (at other : ℕ) (o : Option ℕ) → at_offset at o ≡ [] → at_offset other o ≡ []
+elsewhere at other None e = refl
+elsewhere at other (Some code) e = absurd cc
+
+op_moved : (around : Around) (ps : List Placed) (start other : ℕ) (p : Placed) → op_faults around ps start p ≡ [] → op_faults around ps other p ≡ []
+unfolding op_faults
+op_moved around ps start other p e =
+    let at = start + p.at in
+    let to = other + p.at in
+    let a = at_offset at (operand_fault around ps p p.op.operand) in
+    let b = at_offset at (call_fault around around.data_lens p) in
+    let c = at_offset at (mark_fault p.op) in
+    let d = at_offset at (bracket_fault p.op.code p.brackets) in
+    let n = nil_left ((a ++ b) ++ c) d e in
+    let m = nil_left (a ++ b) c n.0 in
+    let l = nil_left a b m.0 in
+    nil_join (nil_join (nil_join (elsewhere at to (operand_fault around ps p p.op.operand) l.0) (elsewhere at to (call_fault around around.data_lens p) l.1)) (elsewhere at to (mark_fault p.op) m.1)) (elsewhere at to (bracket_fault p.op.code p.brackets) n.1)
+
+over_moved : (around : Around) (ps : List Placed) (start other : ℕ) (rest : List Placed) → faults_over around ps start rest ≡ [] → faults_over around ps other rest ≡ []
+over_moved around ps start other [] e = refl
+over_moved around ps start other (p ∷ rest) e =
+    let n = nil_left (op_faults around ps start p) (faults_over around ps start rest) e in
+    nil_join (op_moved around ps start other p n.0) (over_moved around ps start other rest n.1)
+
+open_moved : (start other : ℕ) (bs : List OpenBracket) → open_faults start bs ≡ [] → open_faults other bs ≡ []
+open_moved start other [] e = refl
+open_moved start other (b ∷ bs) e = absurd cc
+
+-- where a block begins doesn't matter for whether it has a fault
+pub moved : (around : Around) (start other : ℕ) (ops : List OpData) → block_faults around start ops ≡ [] → block_faults around other ops ≡ []
+unfolding block_faults
+moved around start other ops e =
+    let n = nil_left (faults_over around (places ops) start (places ops)) (open_faults start (open_behind 0 [] ops)) e in
+    nil_join (over_moved around (places ops) start other (places ops) n.0) (open_moved start other (open_behind 0 [] ops) n.1)
+
+verified : (lens : List (ℕ × ℕ)) (all : List BlockRecord) (bs : List (ℕ × BlockRecord)) → judged_blocks (Some lens) all bs ≡ [] → AreVerified lens all (blocks_of bs)
+verified lens all [] e = tt
+verified lens all (b ∷ bs) e =
+    let n = nil_left (block_faults (around (Some lens) all b.1) b.0 b.1.code) (judged_blocks (Some lens) all bs) e in
+    (moved (around (Some lens) all b.1) b.0 0 b.1.code n.0, verified lens all bs n.1)
+
+unjudged : (lens : List (ℕ × ℕ)) (all : List BlockRecord) (bs : List (ℕ × BlockRecord)) → AreVerified lens all (blocks_of bs) → judged_blocks (Some lens) all bs ≡ []
+unjudged lens all [] h = refl
+unjudged lens all (b ∷ bs) h = nil_join (moved (around (Some lens) all b.1) 0 b.0 b.1.code h.0) (unjudged lens all bs h.1)
+
+pub gives_image : (text : List ℕ) (p : Program) → IsBytes text → Gives text p → IsLoadable text p
+unfolding faults_of
+gives_image text p are g =
+    let notes = (read_image text).notes in
+    let n = nil_left (faults_in notes) (judged_blocks (all_blocks notes) (blocks_of (wholes notes)) (wholes notes)) g.clean in
+    let t = image_takes text p g.end are (record { found = g.found; clean = n.0 }) in
+    let m = image_noted text p g.end are g.found n.0 in
+    let judged : judged_blocks (Some (lens_of p.data_blocks)) (blocks_of (wholes notes)) (wholes notes) ≡ [] = ap (λ (z : Option (List (ℕ × ℕ))). judged_blocks z (blocks_of (wholes notes)) (wholes notes)) (sym m.datas) ∙ n.1 in
+    let v = verified (lens_of p.data_blocks) (blocks_of (wholes notes)) (wholes notes) judged in
+    record {
+      spelled = t.0;
+      program = t.1;
+      verifies = record { right = t.2; blocks = subst (λ (z : List BlockRecord). AreVerified (lens_of p.data_blocks) z z) m.codes v };
+    }
+
+pub image_gives : (text : List ℕ) (p : Program) → IsBytes text → IsLoadable text p → Gives text p
+unfolding faults_of
+image_gives text p are h =
+    let is = image_again true p h.verifies.right h.program.short in
+    let end : Cursor = at_place (front_size + length ((body false).spell p)) [] in
+    let notes = (read_image text).notes in
+    let found : (read_image text).found ≡ Some (p, end) = ap (λ (z : List ℕ). (read_image z).found) h.spelled ∙ is.found in
+    let clean : faults_in notes ≡ [] = ap (λ (z : List ℕ). faults_in (read_image z).notes) h.spelled ∙ is.clean in
+    let m = image_noted text p end are found clean in
+    let v : AreVerified (lens_of p.data_blocks) (blocks_of (wholes notes)) (blocks_of (wholes notes)) = subst (λ (z : List BlockRecord). AreVerified (lens_of p.data_blocks) z z) (sym m.codes) h.verifies.blocks in
+    let judged : judged_blocks (all_blocks notes) (blocks_of (wholes notes)) (wholes notes) ≡ [] = ap (λ (z : Option (List (ℕ × ℕ))). judged_blocks z (blocks_of (wholes notes)) (wholes notes)) m.datas ∙ unjudged (lens_of p.data_blocks) (blocks_of (wholes notes)) (wholes notes) v in
+    record { end = end; found = found; clean = nil_join clean judged }

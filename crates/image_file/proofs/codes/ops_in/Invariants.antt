@@ -1,0 +1,14 @@
+use Rattle.std.proofs.Common.{◌-◌, ◌≤◌, length}
+use Rattle.image_file.specs.Walking.{HasRead}
+use Rattle.image_file.proofs.CodeLemmas.{read_starts}
+use Rattle.image_file.proofs.codes.ops_in.Given as goal
+
+abbrev pub invariant-loop-found : goal.invariant-loop-found
+invariant-loop-found l = record {
+  read : HasRead l.code l.ops.items l.at l.last l.ended l.count;
+  before : l.last ≤ l.at;
+  few : l.count ≤ 64;
+}
+
+abbrev pub decreases-loop-found : goal.decreases-loop-found
+decreases-loop-found l = length l.code - l.at

@@ -1,0 +1,30 @@
+-- The least fault: by offset, then by code.
+use Rattle.std.specs.Prelude.{◌≡◌, ℕ, ◌<◌, ◌≤◌, ◌⊎◌, nat_lt, ◌==◌, Bool, ◌&&◌, ◌||◌, if◌then◌else◌, List, [], ◌∷◌, Option, Some, None}
+use Rattle.image_file.specs.declared.faults.LoadFault.{LoadFault}
+
+abbrev pub IsUpTo : LoadFault → ℕ × ℕ → Type 0
+IsUpTo f g = (f.at < g.0) ⊎ ((f.at ≡ g.0) × (f.code ≤ g.1))
+
+abbrev pub IsAmong : ℕ × ℕ → List (ℕ × ℕ) → Type 0
+IsAmong f [] = ⊥
+IsAmong f (g ∷ gs) = (g ≡ f) ⊎ IsAmong f gs
+
+-- a fault of the list, and no other is less
+pub record IsLeast (f : LoadFault) (fs : List (ℕ × ℕ)) : Type 0 where
+  pub one : IsAmong (f.at, f.code) fs
+  pub least : (g : ℕ × ℕ) → IsAmong g fs → IsUpTo f g
+
+-- the least of a fault so far and of those to come, as one pass keeps it
+abbrev pub is_less : ℕ × ℕ → LoadFault → Bool
+is_less f g = nat_lt f.0 g.at || f.0 == g.at && nat_lt f.1 g.code
+
+abbrev pub fault : ℕ × ℕ → LoadFault
+fault f = record { at = f.0; code = f.1 }
+
+abbrev pub with_fault : Option LoadFault → ℕ × ℕ → Option LoadFault
+with_fault None f = Some (fault f)
+with_fault (Some g) f = if is_less f g then Some (fault f) else Some g
+
+unfoldable pub with_faults : Option LoadFault → List (ℕ × ℕ) → Option LoadFault
+with_faults least [] = least
+with_faults least (f ∷ fs) = with_faults (with_fault least f) fs

@@ -1,0 +1,130 @@
+-- Reading in one pass with the least fault so far.
+use Rattle.std.specs.Prelude.{◌≡◌, ℕ, ◌+◌, nat_lt, ◌==◌, Bool, true, false, ◌&&◌, ◌||◌, if◌then◌else◌, List, [], ◌∷◌, ◌++◌, length, map, Option, Some, None, Result, Ok, Err}
+use Rattle.std.specs.Option.{option_map}
+use Rattle.std.specs.Borrow.{Bor}
+use Rattle.flat_code.specs.declared.image_fields.Field.{Field}
+use Rattle.flat_code.specs.Faults.{fault_of}
+use Rattle.flat_code.specs.Layout.{Note, Faulty, Whole, AllBlocks, Cursor, Read, Layout, noted, faults_in}
+use Rattle.flat_code.specs.Records.{BlockRecord, NameRecord, Records}
+use Rattle.flat_code.specs.Programs.{DataBlock, Program}
+use Rattle.flat_code.specs.Image.{Head, Counts, Front, program_of}
+use Rattle.image_file.specs.declared.faults.LoadFault.{LoadFault}
+use Rattle.image_file.specs.declared.reader.Reader.{Reader}
+use Rattle.image_file.specs.declared.records.HeadRead.{HeadRead}
+use Rattle.image_file.specs.declared.records.CountsRead.{CountsRead}
+use Rattle.image_file.specs.declared.records.FrontRead.{FrontRead}
+use Rattle.image_file.specs.declared.records.Started.{Started}
+use Rattle.image_file.specs.declared.stops.Ended.{Ended}
+use Rattle.image_file.specs.declared.stops.Stop.{Stop}
+use Rattle.image_file.specs.declared.stops.Stop.TheVariants as stop
+use Rattle.image_file.specs.Least.{with_fault, with_faults}
+
+abbrev pub judged : ℕ → Field → List (ℕ × ℕ)
+judged at field = faults_in (noted at (fault_of field))
+
+-- what one pass keeps: the least fault, the code blocks that were read whole, and the data blocks once all were read
+pub record Log : Type 0 where
+  pub least : Option LoadFault
+  pub blocks : List (ℕ × BlockRecord)
+  pub datas : Option (List DataBlock)
+
+abbrev pub with_wholes : List (ℕ × BlockRecord) → List Note → List (ℕ × BlockRecord)
+with_wholes blocks [] = blocks
+with_wholes blocks (Faulty at code ∷ notes) = with_wholes blocks notes
+with_wholes blocks (Whole start block ∷ notes) = with_wholes (blocks ++ (start, block) ∷ []) notes
+with_wholes blocks (AllBlocks datas ∷ notes) = with_wholes blocks notes
+
+abbrev pub with_all : Option (List DataBlock) → List Note → Option (List DataBlock)
+with_all datas [] = datas
+with_all datas (Faulty at code ∷ notes) = with_all datas notes
+with_all datas (Whole start block ∷ notes) = with_all datas notes
+with_all datas (AllBlocks found ∷ notes) = with_all (Some found) notes
+
+unfoldable pub logged : Log → List Note → Log
+logged log notes = record { least = with_faults log.least (faults_in notes); blocks = with_wholes log.blocks notes; datas = with_all log.datas notes }
+
+-- what one pass has in the end: a value and what follows, or that it ended, with what it kept
+pub data Ran (A : Type 0) : Type 0 where
+  Goes : (x : A) (cur : Cursor) (log : Log) → Ran A
+  Stops : (log : Log) → Ran A
+
+abbrev pub ran : {A : Type 0} → Option (A × Cursor) → Log → Ran A
+ran None log = Stops log
+ran (Some x) log = Goes x.0 x.1 log
+
+unfoldable pub run : {A : Type 0} → Layout A → Cursor → Log → Ran A
+run l cur log = ran (l.read cur).found (logged log (l.read cur).notes)
+
+abbrev pub then_run : {A B : Type 0} → Ran A → (A → Cursor → Log → Ran B) → Ran B
+then_run (Goes x cur log) f = f x cur log
+then_run (Stops log) f = Stops log
+
+abbrev pub started : Started → ℕ × BlockRecord
+started s = (s.start, s.block)
+
+abbrev pub log_of : Reader → Log
+log_of r = record { least = r.least; blocks = map started r.blocks.items; datas = option_map (λ v. v.items) r.datas }
+
+abbrev pub place_of : Reader → Cursor
+place_of r = record { at = r.at; rest = r.rest.now }
+
+abbrev pub seen : {X A : Type 0} → (X → A) → Result X Ended → Reader → Ran A
+seen view (Ok x) r = Goes (view x) (place_of r) (log_of r)
+seen view (Err e) r = Stops (log_of r)
+
+abbrev pub head_values : HeadRead → Head
+head_values h = (h.kind, (h.params, (h.number, (h.locals, (h.instance, (h.statements, (h.reserved, h.size)))))))
+
+-- the same where memory may be wanting
+abbrev pub Sees : {X A : Type 0} → (X → A) → Result X Stop → Reader → Ran A → Type 0
+Sees view (Ok x) r all = Goes (view x) (place_of r) (log_of r) ≡ all
+Sees view (Err stop.AtFault) r all = Stops (log_of r) ≡ all
+Sees view (Err stop.NoMemory) r all = Unit {0}
+
+-- what was read before, in front
+abbrev pub with_front : {A : Type 0} → List A → Ran (List A) → Ran (List A)
+with_front xs (Goes ys cur log) = Goes (xs ++ ys) cur log
+with_front xs (Stops log) = Stops log
+
+-- a code block that was read and kept: its kind and number are answered
+abbrev pub SeesBlock : Result (ℕ × ℕ) Stop → Reader → Ran BlockRecord → Type 0
+SeesBlock (Ok key) r all = (b : BlockRecord) × (Goes b (place_of r) (log_of r) ≡ all) × (key.0 ≡ b.kind) × (key.1 ≡ b.number)
+SeesBlock (Err stop.AtFault) r all = Stops (log_of r) ≡ all
+SeesBlock (Err stop.NoMemory) r all = Unit {0}
+
+-- all code blocks were read and kept
+abbrev pub SeesBlocks : Result (Unit {0}) Stop → Reader → Ran (List BlockRecord) → Type 0
+SeesBlocks (Ok u) r all = (bs : List BlockRecord) × (Goes bs (place_of r) (log_of r) ≡ all)
+SeesBlocks (Err stop.AtFault) r all = Stops (log_of r) ≡ all
+SeesBlocks (Err stop.NoMemory) r all = Unit {0}
+
+-- what was read of a name
+abbrev pub name_values : Bor (List ℕ) × ℕ × ℕ × ℕ × ℕ → NameRecord
+name_values r = record { name = r.0.now; area = r.1; width = r.2; byte = r.3; bit = r.4 }
+
+-- all data blocks were read and kept
+abbrev pub SeesDatas : Result (Unit {0}) Stop → Reader → Ran (List DataBlock) → Type 0
+SeesDatas (Ok u) r all = (ds : List DataBlock) × (Goes ds (place_of r) (log_of r) ≡ all)
+SeesDatas (Err stop.AtFault) r all = Stops (log_of r) ≡ all
+SeesDatas (Err stop.NoMemory) r all = Unit {0}
+
+abbrev pub counts_values : CountsRead → Counts
+counts_values c = (c.codes, (c.datas, (c.names, c.reserved)))
+
+-- all records were read; the names are answered, the blocks are kept
+abbrev pub SeesRecords : {X : Type 0} → (X → List NameRecord) → Result X Stop → Reader → Ran Records → Type 0
+SeesRecords view (Ok names) r all = (x : Records) × (Goes x (place_of r) (log_of r) ≡ all) × (x.names ≡ view names)
+SeesRecords view (Err stop.AtFault) r all = Stops (log_of r) ≡ all
+SeesRecords view (Err stop.NoMemory) r all = Unit {0}
+
+abbrev pub front_values : FrontRead → Front
+front_values f = (f.magic, (f.version, (f.reserved, f.total)))
+
+-- what reading as a whole comes to, behind a log
+unfoldable pub ran_read : {A : Type 0} → Read A → Log → Ran A
+ran_read r log = ran r.found (logged log r.notes)
+
+abbrev pub SeesImage : {X : Type 0} → (X → List NameRecord) → Result X Stop → Reader → Ran Program → Type 0
+SeesImage view (Ok names) r all = (x : Records) × (end : Cursor) × (Goes (program_of x) end (log_of r) ≡ all) × (x.names ≡ view names)
+SeesImage view (Err stop.AtFault) r all = Stops (log_of r) ≡ all
+SeesImage view (Err stop.NoMemory) r all = Unit {0}

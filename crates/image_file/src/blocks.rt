@@ -1,0 +1,215 @@
+//! The code blocks of an image.
+ghost use Rattle.std.specs.Prelude.{true, ◌≡◌, ◌+◌, ◌*◌, ◌<◌, ◌≤◌, ◌^◌, length, OnOk, IfOk, vec_len};
+ghost use Rattle.flat_code.specs.Codes.{code_of};
+ghost use Rattle.flat_code.specs.Image.{Head, head, parameter, parameters, end_marks, lines_of, line_field, line_after, code_and_lines, plain_block, code_block, code_blocks};
+ghost use Rattle.flat_code.specs.Layout.{many, chain};
+ghost use Rattle.image_file.specs.Running.{seen, run, place_of, log_of, head_values, Sees, SeesBlock, SeesBlocks};
+
+use crate::codes::ops_in;
+use crate::reader::Reader;
+use crate::records::{BlockRead, HeadRead, Started};
+use crate::stops::{Ended, Stop};
+use flat_code::{Field, Op, ParameterRecord};
+use std::alloc::Global;
+
+/// How many ops have the end mark.
+pub(crate) fn end_mark_count(ops: &[Op]) -> usize
+    ensures { result ≡ end_marks ops.now }
+{
+    let mut count = 0;
+    for op in ops {
+        if op.last {
+            count += 1;
+        }
+    }
+    count
+}
+
+/// Kind and number of a block.
+fn key_of(block: &BlockRead) -> (u8, u16)
+    ensures kind { result.0 ≡ block.now.kind }
+    ensures number { result.1 ≡ block.now.number }
+{
+    (block.kind, block.number)
+}
+
+/// The offset of a block's code, of a block that begins at an offset.
+fn code_start(at: u32, block: &BlockRead) -> u32
+    requires room { at + 2000 < 2 ^ 32 }
+    requires few { length block.now.params ≤ 255 }
+    ensures { result ≡ at + 16 + 6 * length block.now.params }
+{
+    at + 16 + 6 * block.params.len() as u32
+}
+
+impl Reader<'_> {
+    #[tactic(auto, unfolding(flat_code::specs::Image::head), using(crate::proofs::RunLemmas::run_chain))]
+    fn head(&mut self, kind_before: u8, before: u16) -> Result<HeadRead, Ended>
+        requires { self.old.at + length self.old.rest.now < 2 ^ 32 }
+        ensures read { seen head_values result self.new ≡ run (head (kind_before, before)) (place_of self.old) (log_of self.old) }
+        ensures all { self.new.at + length self.new.rest.now ≡ self.old.at + length self.old.rest.now }
+    {
+        let kind = self.kind(kind_before)?;
+        let params = self.parameter_count(kind)?;
+        let number = self.block_number(kind_before, before, kind)?;
+        let locals = self.local_bytes(kind)?;
+        let instance = self.instance_bytes(kind)?;
+        let statements = self.plain_u16()?;
+        let reserved = self.reserved_u16()?;
+        let size = self.plain_u32()?;
+        Ok(HeadRead { kind, params, number, locals, instance, statements, reserved, size })
+    }
+
+    #[tactic(auto, unfolding(flat_code::specs::Image::parameter, flat_code::specs::Image::raw_parameter), using(crate::proofs::RunLemmas::run_seen, crate::proofs::RunLemmas::run_chain))]
+    fn parameter(&mut self, kind: u8, instance: u16) -> Result<ParameterRecord, Ended>
+        requires { self.old.at + length self.old.rest.now < 2 ^ 32 }
+        ensures read { seen (λ p. p) result self.new ≡ run (parameter kind instance) (place_of self.old) (log_of self.old) }
+        ensures all { self.new.at + length self.new.rest.now ≡ self.old.at + length self.old.rest.now }
+    {
+        let section = self.section()?;
+        let width = self.width()?;
+        let byte = self.parameter_byte(kind, instance, width)?;
+        let bit = self.parameter_bit(kind)?;
+        let _reserved = self.reserved_u8()?;
+        Ok(ParameterRecord { section, width, byte, bit })
+    }
+
+    #[tactic(auto, unfolding(flat_code::specs::Image::parameters))]
+    fn parameters(&mut self, alloc: Global, head: HeadRead) -> Result<Vec<ParameterRecord>, Stop>
+        requires { self.old.at + length self.old.rest.now < 2 ^ 32 }
+        ensures read { Sees (λ v. v.items) result self.new (run (parameters (head_values head)) (place_of self.old) (log_of self.old)) }
+        ensures all { OnOk result (self.new.at + length self.new.rest.now ≡ self.old.at + length self.old.rest.now) }
+        ensures count { IfOk result (λ v. vec_len v ≤ 255) }
+    {
+        let count = head.params;
+        let mut params = Vec::new(alloc);
+        for _ in 0..count {
+            let param = self.parameter(head.kind, head.instance)?;
+            params.push(param)?;
+        }
+        Ok(params)
+    }
+
+    /// The code of a block.
+    #[tactic(auto, unfolding(crate::specs::Running::run, crate::specs::Running::logged, crate::specs::Least::with_faults, flat_code::specs::Codes::code_of))]
+    fn code(&mut self, alloc: Global, size: u32) -> Result<Vec<Op>, Stop>
+        requires { self.old.at + length self.old.rest.now < 2 ^ 32 }
+        ensures read { Sees (λ v. v.items) result self.new (run (code_of true size) (place_of self.old) (log_of self.old)) }
+        ensures all { OnOk result (self.new.at + length self.new.rest.now ≡ self.old.at + length self.old.rest.now) }
+    {
+        if self.rest.len() < size as usize {
+            self.note(self.at, 3);
+            return Err(Stop::AtFault);
+        }
+        let (code, rest) = self.rest.split_at(size as usize);
+        let found = ops_in(alloc, code)?;
+        match found.fault {
+            Some(offset) => {
+                self.note(self.at + offset, 5);
+                Err(Stop::AtFault)
+            }
+            None => {
+                self.rest = rest;
+                self.at += size;
+                Ok(found.ops)
+            }
+        }
+    }
+
+    fn lines(&mut self, alloc: Global, count: u16) -> Result<Vec<u32>, Stop>
+        requires { self.old.at + length self.old.rest.now < 2 ^ 32 }
+        ensures read { Sees (λ v. v.items) result self.new (run (many (line_field true) line_after 0 count) (place_of self.old) (log_of self.old)) }
+        ensures all { OnOk result (self.new.at + length self.new.rest.now ≡ self.old.at + length self.old.rest.now) }
+    {
+        let mut lines = Vec::new(alloc);
+        let mut before = 0;
+        for _ in 0..count {
+            let line = self.line(before)?;
+            lines.push(line)?;
+            before = line;
+        }
+        Ok(lines)
+    }
+
+    /// The statement count, which is judged now, and the lines.
+    #[tactic(auto, unfolding(flat_code::specs::Image::lines_of), using(crate::proofs::RunLemmas::run_checked))]
+    fn counted_lines(&mut self, alloc: Global, start: u32, head: HeadRead, ops: &[Op]) -> Result<Vec<u32>, Stop>
+        requires fits { self.old.at + length self.old.rest.now < 2 ^ 32 }
+        requires room { start + 8 < 2 ^ 32 }
+        ensures read { Sees (λ v. v.items) result self.new (run (lines_of true start (head_values head) ops.now) (place_of self.old) (log_of self.old)) }
+        ensures all { OnOk result (self.new.at + length self.new.rest.now ≡ self.old.at + length self.old.rest.now) }
+    {
+        let end_marks = end_mark_count(ops);
+        self.judge(start + 8, Field::StatementCount { end_marks, count: head.statements });
+        let lines = self.lines(alloc, head.statements)?;
+        Ok(lines)
+    }
+
+    /// The code of a block and its lines.
+    #[tactic(auto, unfolding(flat_code::specs::Image::code_and_lines), using(crate::proofs::RunLemmas::run_chain))]
+    fn code_and_lines(&mut self, alloc: Global, start: u32, head: HeadRead) -> Result<(Vec<Op>, Vec<u32>), Stop>
+        requires fits { self.old.at + length self.old.rest.now < 2 ^ 32 }
+        requires room { start + 8 < 2 ^ 32 }
+        ensures read { Sees (λ r. (r.0.items, r.1.items)) result self.new (run (code_and_lines true start (head_values head)) (place_of self.old) (log_of self.old)) }
+        ensures all { OnOk result (self.new.at + length self.new.rest.now ≡ self.old.at + length self.old.rest.now) }
+    {
+        let ops = self.code(alloc, head.size)?;
+        let lines = self.counted_lines(alloc, start, head, &ops)?;
+        Ok((ops, lines))
+    }
+
+    /// A code block.
+    #[tactic(auto, unfolding(flat_code::specs::Image::plain_block, flat_code::specs::Image::raw_block), using(crate::proofs::RunLemmas::run_seen, crate::proofs::RunLemmas::run_chain))]
+    fn plain_block(&mut self, alloc: Global, kind_before: u8, before: u16) -> Result<BlockRead, Stop>
+        requires { self.old.at + length self.old.rest.now + 8 < 2 ^ 32 }
+        ensures read { Sees (λ b. b) result self.new (run (plain_block true (kind_before, before) self.old.at) (place_of self.old) (log_of self.old)) }
+        ensures all { OnOk result (self.new.at + length self.new.rest.now ≡ self.old.at + length self.old.rest.now) }
+        ensures count { IfOk result (λ b. length b.params ≤ 255) }
+    {
+        let start = self.at;
+        let head = self.head(kind_before, before)?;
+        let params = self.parameters(alloc, head)?;
+        let (code, lines) = self.code_and_lines(alloc, start, head)?;
+        Ok(BlockRead {
+            kind: head.kind,
+            number: head.number,
+            local_len: head.locals,
+            instance_len: head.instance,
+            params,
+            code,
+            lines,
+        })
+    }
+
+    /// A code block, which is kept. Its kind and number are answered.
+    #[tactic(auto, unfolding(flat_code::specs::Image::code_block, crate::specs::Running::logged, crate::specs::Least::with_faults), using(crate::proofs::RunLemmas::run_located, crate::proofs::RunLemmas::run_remembered))]
+    fn code_block(&mut self, alloc: Global, kind_before: u8, before: u16) -> Result<(u8, u16), Stop>
+        requires { self.old.at + length self.old.rest.now + 2000 < 2 ^ 32 }
+        ensures read { SeesBlock result self.new (run (code_block true (kind_before, before)) (place_of self.old) (log_of self.old)) }
+        ensures all { OnOk result (self.new.at + length self.new.rest.now ≡ self.old.at + length self.old.rest.now) }
+    {
+        let at = self.at;
+        let block = self.plain_block(alloc, kind_before, before)?;
+        let key = key_of(&block);
+        let start = code_start(at, &block);
+        self.blocks.push(Started { start, block })?;
+        Ok(key)
+    }
+
+    /// All code blocks, which are kept.
+    #[tactic(auto, unfolding(flat_code::specs::Image::code_blocks))]
+    pub(crate) fn code_blocks(&mut self, alloc: Global, count: u16) -> Result<(), Stop>
+        requires { self.old.at + length self.old.rest.now + 2000 < 2 ^ 32 }
+        ensures read { SeesBlocks result self.new (run (code_blocks true count) (place_of self.old) (log_of self.old)) }
+        ensures all { OnOk result (self.new.at + length self.new.rest.now ≡ self.old.at + length self.old.rest.now) }
+    {
+        let mut kind_before = 0;
+        let mut before = 0;
+        for _ in 0..count {
+            let key = self.code_block(alloc, kind_before, before)?;
+            kind_before = key.0;
+            before = key.1;
+        }
+        Ok(())
+    }
+}

@@ -1,0 +1,176 @@
+//! The data blocks and the names of an image.
+ghost use Rattle.std.specs.Prelude.{true, ◌≡◌, ◌+◌, ◌≤◌, ◌<◌, ◌^◌, length, [], OnOk, IfOk, vec_len};
+ghost use Rattle.flat_code.specs.Faults.{is_before, is_upper, ends_blank, name_fault};
+ghost use Rattle.flat_code.specs.Image.{instance_of_number, contents, data_block, plain_data_blocks, name_bytes, name_record, after_name};
+ghost use Rattle.flat_code.specs.Layout.{many};
+ghost use Rattle.image_file.specs.Running.{seen, run, place_of, log_of, name_values, Sees};
+
+use crate::reader::Reader;
+use crate::records::NameRead;
+use crate::stops::{Ended, Stop};
+use flat_code::DataBlock;
+use std::alloc::Global;
+
+/// The function block of an instance, by its number plus 1, or 0.
+fn instance_of(number: u16) -> Option<u16>
+    ensures { result ≡ instance_of_number number }
+{
+    match number {
+        0 => None,
+        _ => Some(number - 1),
+    }
+}
+
+/// Whether a name stands before another, by bytes.
+fn is_before(before: &[u8], name: &[u8]) -> bool
+    ensures { result ≡ is_before before.now name.now }
+{
+    let mut rest = before;
+    for y in name {
+        match rest {
+            [] => return true,
+            [x, behind @ ..] => {
+                if x != y {
+                    return x < y;
+                }
+                rest = behind;
+            }
+        }
+    }
+    false
+}
+
+/// Whether there is no lower-case letter.
+fn is_upper(name: &[u8]) -> bool
+    ensures { result ≡ is_upper name.now }
+{
+    for x in name {
+        if 97 <= *x && *x <= 122 {
+            return false;
+        }
+    }
+    true
+}
+
+/// Whether the last byte is a blank.
+fn ends_blank(name: &[u8]) -> bool
+    ensures { result ≡ ends_blank name.now }
+{
+    let mut blank = false;
+    for x in name {
+        blank = *x == 32;
+    }
+    blank
+}
+
+/// The code of the fault of a name behind another, if it has one.
+#[tactic(auto, unfolding(flat_code::specs::Faults::name_fault))]
+fn name_fault(before: &[u8], name: &[u8]) -> Option<u16>
+    ensures { result ≡ name_fault before.now name.now }
+{
+    if is_before(before, name) && is_upper(name) && !ends_blank(name) { None } else { Some(4) }
+}
+
+/// The number of a data block and its length.
+fn key_of_data(block: &DataBlock) -> (u16, u32)
+    requires { length block.now.bytes ≤ 65535 }
+    ensures number { result.0 ≡ block.now.number }
+    ensures len { result.1 ≡ length block.now.bytes }
+{
+    (block.number, block.bytes.len() as u32)
+}
+
+impl<'a> Reader<'a> {
+    #[tactic(auto, unfolding(flat_code::specs::Image::contents))]
+    fn contents(&mut self, alloc: Global, count: u16) -> Result<Vec<u8>, Stop>
+        requires { self.old.at + length self.old.rest.now < 2 ^ 32 }
+        ensures read { Sees (λ v. v.items) result self.new (run (contents count) (place_of self.old) (log_of self.old)) }
+        ensures all { OnOk result (self.new.at + length self.new.rest.now ≡ self.old.at + length self.old.rest.now) }
+        ensures small { IfOk result (λ v. vec_len v ≡ count) }
+    {
+        let taken = self.bytes(count)?;
+        let contents = Vec::from_slice(alloc, taken)?;
+        Ok(contents)
+    }
+
+    /// A data block behind another one and so many bytes of data blocks together.
+    #[tactic(auto, unfolding(flat_code::specs::Image::data_block, flat_code::specs::Image::raw_data), using(crate::proofs::RunLemmas::run_seen, crate::proofs::RunLemmas::run_chain))]
+    fn data_block(&mut self, alloc: Global, before: u16, sum: u32) -> Result<DataBlock, Stop>
+        requires { self.old.at + length self.old.rest.now < 2 ^ 32 }
+        ensures read { Sees (λ d. d) result self.new (run (data_block (before, sum)) (place_of self.old) (log_of self.old)) }
+        ensures all { OnOk result (self.new.at + length self.new.rest.now ≡ self.old.at + length self.old.rest.now) }
+        ensures small { IfOk result (λ d. length d.bytes ≤ 65535) }
+    {
+        let number = self.data_number(before)?;
+        let instance = self.instance_of()?;
+        let len = self.data_len(sum)?;
+        let _reserved = self.reserved_u16()?;
+        let bytes = self.contents(alloc, len)?;
+        Ok(DataBlock { number, instance_of: instance_of(instance), bytes })
+    }
+
+    pub(crate) fn plain_data_blocks(&mut self, alloc: Global, count: u16) -> Result<Vec<DataBlock>, Stop>
+        requires { self.old.at + length self.old.rest.now < 2 ^ 32 }
+        ensures read { Sees (λ v. v.items) result self.new (run (plain_data_blocks count) (place_of self.old) (log_of self.old)) }
+        ensures all { OnOk result (self.new.at + length self.new.rest.now ≡ self.old.at + length self.old.rest.now) }
+    {
+        let mut blocks = Vec::new(alloc);
+        let mut before = 0;
+        let mut sum = 0;
+        for _ in 0..count {
+            let block = self.data_block(alloc, before, sum)?;
+            let key = key_of_data(&block);
+            blocks.push(block)?;
+            before = key.0;
+            sum += key.1;
+        }
+        Ok(blocks)
+    }
+
+    /// The bytes of a name behind another name.
+    #[tactic(auto, unfolding(crate::specs::Running::run, crate::specs::Running::logged, crate::specs::Least::with_faults, flat_code::specs::Image::name_bytes))]
+    fn name_text(&mut self, before: &[u8], count: u8) -> Result<&'a [u8], Ended>
+        requires { self.old.at + length self.old.rest.now < 2 ^ 32 }
+        ensures read { seen (λ s. s.now) result self.new ≡ run (name_bytes before.now count) (place_of self.old) (log_of self.old) }
+        ensures all { self.new.at + length self.new.rest.now ≡ self.old.at + length self.old.rest.now }
+    {
+        let at = self.at;
+        let text = self.bytes(u16::from(count))?;
+        if let Some(code) = name_fault(before, text) {
+            self.note(at, code);
+        }
+        Ok(text)
+    }
+
+    /// A name behind another: its bytes, area, width, byte and bit.
+    #[tactic(auto, unfolding(flat_code::specs::Image::name_record, flat_code::specs::Image::raw_name), using(crate::proofs::RunLemmas::run_seen, crate::proofs::RunLemmas::run_chain))]
+    fn name(&mut self, before: &[u8]) -> Result<(&'a [u8], u8, u8, u16, u8), Ended>
+        requires { self.old.at + length self.old.rest.now < 2 ^ 32 }
+        ensures read { seen name_values result self.new ≡ run (name_record before.now) (place_of self.old) (log_of self.old) }
+        ensures all { self.new.at + length self.new.rest.now ≡ self.old.at + length self.old.rest.now }
+    {
+        let count = self.name_len()?;
+        let text = self.name_text(before, count)?;
+        let area = self.name_area()?;
+        let width = self.width()?;
+        let byte = self.plain_u16()?;
+        let bit = self.name_bit(width)?;
+        Ok((text, area, width, byte, bit))
+    }
+
+    pub(crate) fn names(&mut self, alloc: Global, count: u16) -> Result<Vec<NameRead>, Stop>
+        requires { self.old.at + length self.old.rest.now < 2 ^ 32 }
+        ensures read { Sees (λ v. v.items) result self.new (run (many name_record after_name [] count) (place_of self.old) (log_of self.old)) }
+        ensures all { OnOk result (self.new.at + length self.new.rest.now ≡ self.old.at + length self.old.rest.now) }
+    {
+        let mut names = Vec::new(alloc);
+        let mut before: &[u8] = &[];
+        for _ in 0..count {
+            let (text, area, width, byte, bit) = self.name(before)?;
+            let name = Vec::from_slice(alloc, text)?;
+            names.push(NameRead { name, area, width, byte, bit })?;
+            before = text;
+        }
+        Ok(names)
+    }
+}

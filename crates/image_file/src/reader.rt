@@ -1,0 +1,140 @@
+//! The bytes of an image, read from left to right: numbers and runs of bytes.
+ghost use Rattle.std.specs.Prelude.{◌≡◌, ◌+◌, ◌<◌, ◌^◌, length, min, IfOk, OnOk};
+ghost use Rattle.flat_code.specs.Coding.{u8 as a_byte, u16 as a_word, u32 as a_dword};
+ghost use Rattle.flat_code.specs.Faults.{fault_of};
+ghost use Rattle.flat_code.specs.Image.{plain, contents, bytes};
+ghost use Rattle.flat_code.specs.Layout.{field, noted};
+ghost use Rattle.image_file.specs.Least.{with_fault, with_faults};
+ghost use Rattle.image_file.specs.Running.{seen, run, place_of, log_of, logged};
+
+use crate::faults::LoadFault;
+use crate::records::Started;
+use crate::stops::Ended;
+use flat_code::{DataBlock, Field};
+
+/// Where reading stands: the bytes that are left, their offset, the least fault so far, the code
+/// blocks that were read whole, and the data blocks once all blocks were read.
+#[derive(Drop)]
+pub(crate) struct Reader<'a> {
+    pub rest: &'a [u8],
+    pub at: u32,
+    pub least: Option<LoadFault>,
+    pub blocks: Vec<Started>,
+    pub datas: Option<Vec<DataBlock>>,
+}
+
+/// The lesser of the fault so far and another.
+pub(crate) fn lesser(least: Option<LoadFault>, at: u32, code: u16) -> Option<LoadFault>
+    ensures { result ≡ with_fault least (at, code) }
+{
+    let smaller = match least {
+        None => true,
+        Some(least) => at < least.at || at == least.at && code < least.code,
+    };
+    if smaller { Some(LoadFault { at, code }) } else { least }
+}
+
+impl<'a> Reader<'a> {
+    /// Notes a fault.
+    pub(crate) fn note(&mut self, at: u32, code: u16)
+        ensures least { self.new.least ≡ with_fault self.old.least (at, code) }
+        ensures at { self.new.at ≡ self.old.at }
+        ensures rest { self.new.rest.now ≡ self.old.rest.now }
+        ensures blocks { self.new.blocks.items ≡ self.old.blocks.items }
+        ensures datas { self.new.datas ≡ self.old.datas }
+    {
+        self.least = lesser(self.least, at, code);
+    }
+
+    /// Notes the fault of a field at an offset, if it has one.
+    #[tactic(auto, unfolding(crate::specs::Least::with_faults, crate::specs::Running::logged))]
+    pub(crate) fn judge(&mut self, at: u32, field: Field)
+        ensures log { log_of self.new ≡ logged (log_of self.old) (noted at (fault_of field)) }
+        ensures at { self.new.at ≡ self.old.at }
+        ensures rest { self.new.rest.now ≡ self.old.rest.now }
+    {
+        match field.fault() {
+            Some(code) => self.note(at, code),
+            None => {}
+        }
+    }
+
+    #[tactic(auto, unfolding(crate::specs::Running::run, crate::specs::Running::logged, crate::specs::Least::with_faults))]
+    pub(crate) fn u8(&mut self) -> Result<u8, Ended>
+        requires { self.old.at + length self.old.rest.now < 2 ^ 32 }
+        ensures read { seen (λ n. n) result self.new ≡ run (field a_byte plain) (place_of self.old) (log_of self.old) }
+        ensures all { self.new.at + length self.new.rest.now ≡ self.old.at + length self.old.rest.now }
+    {
+        match self.rest {
+            [a, rest @ ..] => {
+                self.rest = rest;
+                self.at += 1;
+                Ok(*a)
+            }
+            [] => {
+                self.note(self.at, 3);
+                Err(Ended)
+            }
+        }
+    }
+
+    #[tactic(auto, unfolding(crate::specs::Running::run, crate::specs::Running::logged, crate::specs::Least::with_faults))]
+    pub(crate) fn u16(&mut self) -> Result<u16, Ended>
+        requires { self.old.at + min 4 (length self.old.rest.now) < 2 ^ 32 }
+        ensures read { seen (λ n. n) result self.new ≡ run (field a_word plain) (place_of self.old) (log_of self.old) }
+        ensures all { self.new.at + length self.new.rest.now ≡ self.old.at + length self.old.rest.now }
+        ensures step { OnOk result (self.new.at ≡ self.old.at + 2) }
+    {
+        match self.rest {
+            [a, b, rest @ ..] => {
+                let number = u16::from_be_bytes([*a, *b]);
+                self.rest = rest;
+                self.at += 2;
+                Ok(number)
+            }
+            _ => {
+                self.note(self.at, 3);
+                Err(Ended)
+            }
+        }
+    }
+
+    #[tactic(auto, unfolding(crate::specs::Running::run, crate::specs::Running::logged, crate::specs::Least::with_faults))]
+    pub(crate) fn u32(&mut self) -> Result<u32, Ended>
+        requires { self.old.at + min 4 (length self.old.rest.now) < 2 ^ 32 }
+        ensures read { seen (λ n. n) result self.new ≡ run (field a_dword plain) (place_of self.old) (log_of self.old) }
+        ensures all { self.new.at + length self.new.rest.now ≡ self.old.at + length self.old.rest.now }
+        ensures step { OnOk result (self.new.at ≡ self.old.at + 4) }
+    {
+        match self.rest {
+            [a, b, c, d, rest @ ..] => {
+                let number = u32::from_be_bytes([*a, *b, *c, *d]);
+                self.rest = rest;
+                self.at += 4;
+                Ok(number)
+            }
+            _ => {
+                self.note(self.at, 3);
+                Err(Ended)
+            }
+        }
+    }
+
+    /// The next bytes, as many as are wanted.
+    #[tactic(auto, unfolding(crate::specs::Running::run, crate::specs::Running::logged, crate::specs::Least::with_faults))]
+    pub(crate) fn bytes(&mut self, count: u16) -> Result<&'a [u8], Ended>
+        requires { self.old.at + length self.old.rest.now < 2 ^ 32 }
+        ensures read { seen (λ s. s.now) result self.new ≡ run (field (bytes count) (λ bs. None)) (place_of self.old) (log_of self.old) }
+        ensures all { self.new.at + length self.new.rest.now ≡ self.old.at + length self.old.rest.now }
+        ensures len { IfOk result (λ s. length s.now ≡ count) }
+    {
+        if self.rest.len() < usize::from(count) {
+            self.note(self.at, 3);
+            return Err(Ended);
+        }
+        let (taken, rest) = self.rest.split_at(usize::from(count));
+        self.rest = rest;
+        self.at += u32::from(count);
+        Ok(taken)
+    }
+}

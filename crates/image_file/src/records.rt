@@ -1,0 +1,93 @@
+//! The records of an image as they were read, kinds, widths and areas as numbers.
+use flat_code::{Op, ParameterRecord};
+use std::marker::Model;
+
+/// The head of a code block.
+#[derive(Clone, Copy)]
+pub(crate) struct HeadRead {
+    pub kind: u8,
+    pub params: u8,
+    pub number: u16,
+    pub locals: u16,
+    pub instance: u16,
+    pub statements: u16,
+    pub reserved: u16,
+    pub size: u32,
+}
+
+/// The header up to the total length.
+#[derive(Clone, Copy)]
+pub(crate) struct FrontRead {
+    pub magic: u32,
+    pub version: u16,
+    pub reserved: u16,
+    pub total: u32,
+}
+
+/// How many records of each kind there are.
+#[derive(Clone, Copy)]
+pub(crate) struct CountsRead {
+    pub codes: u16,
+    pub datas: u16,
+    pub names: u16,
+    pub reserved: u16,
+}
+
+/// A code block.
+#[derive(Drop)]
+pub(crate) struct BlockRead {
+    pub kind: u8,
+    pub number: u16,
+    pub local_len: u16,
+    pub instance_len: u16,
+    pub params: Vec<ParameterRecord>,
+    pub code: Vec<Op>,
+    pub lines: Vec<u32>,
+}
+
+impl Model for BlockRead {
+    ghost use Rattle.flat_code.specs.Records.{BlockRecord};
+
+    ghost Value = { BlockRecord };
+
+    ghost view = { λ b. record {
+        kind = b.kind;
+        number = b.number;
+        local_len = b.local_len;
+        instance_len = b.instance_len;
+        params = b.params.items;
+        code = b.code.items;
+        lines = b.lines.items;
+    } };
+}
+
+/// A code block that was read whole, and the offset at which its code begins.
+#[derive(Drop)]
+pub(crate) struct Started {
+    pub start: u32,
+    pub block: BlockRead,
+}
+
+/// A name and the place of its variable.
+#[derive(Drop)]
+pub(crate) struct NameRead {
+    pub name: Vec<u8>,
+    pub area: u8,
+    pub width: u8,
+    pub byte: u16,
+    pub bit: u8,
+}
+
+impl Model for NameRead {
+    ghost use Rattle.flat_code.specs.Records.{NameRecord};
+
+    ghost Value = { NameRecord };
+
+    ghost view = { λ n. record {
+        name = n.name.items;
+        area = n.area;
+        width = n.width;
+        byte = n.byte;
+        bit = n.bit;
+    } };
+}

@@ -1,0 +1,122 @@
+//! An image as a whole.
+ghost use Rattle.std.specs.Prelude.{true, ◌≡◌, ◌+◌, ◌<◌, ◌≤◌, ◌^◌, length, take, [], ◌∷◌, if◌then◌else◌, OnOk, IfOk};
+ghost use Rattle.flat_code.specs.Image.{counts, data_blocks, names, records, front, cut, read_image};
+ghost use Rattle.flat_code.specs.Layout.{Faulty};
+ghost use Rattle.image_file.specs.Running.{seen, run, ran_read, logged, place_of, log_of, counts_values, front_values, Sees, SeesDatas, SeesRecords, SeesImage};
+
+use crate::reader::Reader;
+use crate::records::{CountsRead, FrontRead, NameRead};
+use crate::stops::{Ended, Stop};
+use std::alloc::Global;
+
+/// The bytes up to a length.
+fn up_to(bytes: &[u8], count: usize) -> &[u8]
+    requires { count ≤ length bytes.now }
+    ensures { result.now ≡ take count bytes.now }
+{
+    bytes.split_at(count).0
+}
+
+impl Reader<'_> {
+    #[tactic(auto, unfolding(flat_code::specs::Image::counts), using(crate::proofs::RunLemmas::run_chain))]
+    fn counts(&mut self) -> Result<CountsRead, Ended>
+        requires { self.old.at + length self.old.rest.now < 2 ^ 32 }
+        ensures read { seen counts_values result self.new ≡ run counts (place_of self.old) (log_of self.old) }
+        ensures all { self.new.at + length self.new.rest.now ≡ self.old.at + length self.old.rest.now }
+    {
+        let codes = self.plain_u16()?;
+        let datas = self.data_count()?;
+        let names = self.plain_u16()?;
+        let reserved = self.reserved_u16()?;
+        Ok(CountsRead { codes, datas, names, reserved })
+    }
+
+    /// All data blocks, which are kept.
+    #[tactic(auto, unfolding(flat_code::specs::Image::data_blocks, crate::specs::Running::logged, crate::specs::Least::with_faults), using(crate::proofs::RunLemmas::run_remembered))]
+    fn data_blocks(&mut self, alloc: Global, count: u16) -> Result<(), Stop>
+        requires { self.old.at + length self.old.rest.now < 2 ^ 32 }
+        ensures read { SeesDatas result self.new (run (data_blocks count) (place_of self.old) (log_of self.old)) }
+        ensures all { OnOk result (self.new.at + length self.new.rest.now ≡ self.old.at + length self.old.rest.now) }
+    {
+        let blocks = self.plain_data_blocks(alloc, count)?;
+        self.datas = Some(blocks);
+        Ok(())
+    }
+
+    /// All records behind the total length. The blocks are kept.
+    fn records(&mut self, alloc: Global) -> Result<Vec<NameRead>, Stop>
+        requires { self.old.at + length self.old.rest.now + 2000 < 2 ^ 32 }
+        ensures read { SeesRecords (λ v. v.items) result self.new (run (records true) (place_of self.old) (log_of self.old)) }
+        ensures all { OnOk result (self.new.at + length self.new.rest.now ≡ self.old.at + length self.old.rest.now) }
+    {
+        let counts = self.counts()?;
+        self.code_blocks(alloc, counts.codes)?;
+        self.data_blocks(alloc, counts.datas)?;
+        let names = self.names(alloc, counts.names)?;
+        Ok(names)
+    }
+
+    #[tactic(auto, unfolding(flat_code::specs::Image::front), using(crate::proofs::RunLemmas::run_chain))]
+    fn front(&mut self) -> Result<FrontRead, Ended>
+        requires { self.old.at ≡ 0 }
+        ensures read { seen front_values result self.new ≡ run front (place_of self.old) (log_of self.old) }
+        ensures all { self.new.at + length self.new.rest.now ≡ self.old.at + length self.old.rest.now }
+        ensures at { IfOk result (λ f. self.new.at ≡ 12) }
+    {
+        let magic = self.magic()?;
+        let version = self.version()?;
+        let reserved = self.reserved_u16()?;
+        let total = self.plain_u32()?;
+        Ok(FrontRead { magic, version, reserved, total })
+    }
+
+    /// What stands behind the total length of an image of so many bytes.
+    fn rest_of_image(&mut self, alloc: Global, size: usize, total: u32) -> Result<Vec<NameRead>, Stop>
+        requires place { self.old.at ≡ 12 }
+        requires all { 12 + length self.old.rest.now ≡ size }
+        requires low { 20 ≤ total }
+        requires there { total ≤ size }
+        requires high { total ≤ 8388608 }
+        ensures { SeesImage (λ v. v.items) result self.new (ran_read (cut true size total (place_of self.old)) (log_of self.old)) }
+    {
+        self.note_if(size != total as usize, total, 10);
+        self.rest = up_to(self.rest, total as usize - 12);
+        let names = self.records(alloc)?;
+        self.note_if(!self.rest.is_empty(), self.at, 10);
+        Ok(names)
+    }
+
+    /// An image. The names are answered, the blocks are kept.
+    pub(crate) fn image(&mut self, alloc: Global) -> Result<Vec<NameRead>, Stop>
+        requires { self.old.at ≡ 0 }
+        ensures { SeesImage (λ v. v.items) result self.new (ran_read (read_image self.old.rest.now) (log_of self.old)) }
+    {
+        let size = self.rest.len();
+        let front = self.front()?;
+        if front.total < 20 {
+            self.note_if(true, 8, 3);
+            return Err(Stop::AtFault);
+        }
+        if size < front.total as usize {
+            self.note_if(true, 8, 3);
+            return Err(Stop::AtFault);
+        }
+        if front.total > 8_388_608 {
+            self.note_if(true, 8, 4);
+            return Err(Stop::AtFault);
+        }
+        self.rest_of_image(alloc, size, front.total)
+    }
+
+    /// Notes a fault where there is one.
+    #[tactic(auto, unfolding(crate::specs::Least::with_faults, crate::specs::Running::logged))]
+    fn note_if(&mut self, faulty: bool, at: u32, code: u16)
+        ensures log { log_of self.new ≡ logged (log_of self.old) (if faulty then Faulty at code ∷ [] else []) }
+        ensures at { self.new.at ≡ self.old.at }
+        ensures rest { self.new.rest.now ≡ self.old.rest.now }
+    {
+        if faulty {
+            self.note(at, code);
+        }
+    }
+}
