@@ -287,7 +287,8 @@ impl Activation {
     ///
     /// `Missing`, with nothing changed, exactly where there is no such byte.
     pub fn set_local(&mut self, frame: u8, byte: u16, value: u8) -> Result<(), Missing>
-        ensures { ChangesOrStays (with_local_byte frame byte value self.old) self.old self.new result }
+        ensures { ChangesOrStays (with_local_byte frame byte value self.old)
+            self.old self.new result }
     {
         self.running.locals.set_byte(frame, byte, value)
     }

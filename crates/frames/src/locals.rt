@@ -121,7 +121,8 @@ impl Locals {
         value: u32,
     ) -> Result<(), Missing>
         requires { value < 2 ^ bit_count width }
-        ensures { ChangesOrStays (local_written self.old frame at bit width value) self.old self.new result }
+        ensures { ChangesOrStays (local_written self.old frame at bit width value)
+            self.old self.new result }
     {
         let Some(place) = self.place(frame, at, width) else {
             return Err(Missing);
