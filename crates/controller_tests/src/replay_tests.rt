@@ -20,7 +20,16 @@ const INPUT_0E: What = What::Input {
 };
 
 const fn bit(code: ThinCode, area: Area, byte: u16, bit: u8, line: u32) -> ThinStatement
-    ensures { result ≡ record { code = code; place = record { area = area; number = 0; byte = byte; bit = bit }; line = line } }
+    ensures { result ≡ record {
+      code = code;
+      place = record {
+        area = area;
+        number = 0;
+        byte = byte;
+        bit = bit;
+      };
+      line = line;
+    } }
 {
     ThinStatement {
         code,
@@ -40,7 +49,8 @@ fn program(
     statements: &[ThinStatement],
     end_line: u32,
 ) -> Result<ThinOb, AllocError>
-    ensures { IfOk result (λ ob. ob ≡ record { number = number; statements = statements.now; end_line = end_line }) }
+    ensures { IfOk result (λ ob. ob
+        ≡ record { number = number; statements = statements.now; end_line = end_line }) }
 {
     Ok(ThinOb {
         number,

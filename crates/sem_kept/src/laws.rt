@@ -50,8 +50,10 @@ pub fn resumes_source(
 )
     requires no_symbols { symbols.now ≡ [] }
     requires valid { All IsValid entries.now }
-    requires suspended { (code : Code) × MeansCode source.now None code × IsSuspended code entries.now place from to }
-    ensures { (code : Code) → MeansCode source.now None code → Resumes code entries.now place from to }
+    requires suspended { (code : Code) × MeansCode source.now None code
+        × IsSuspended code entries.now place from to }
+    ensures { (code : Code) → MeansCode source.now None code →
+        Resumes code entries.now place from to }
 {
     // the source means one program
     law_of_sources();

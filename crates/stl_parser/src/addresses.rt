@@ -38,7 +38,8 @@ fn glued<'a, X: Copy + Drop>(
     text: &[u8],
     rest: &'a [Token],
 ) -> Option<(X, u16, &'a [Token])>
-    ensures { option_map (λ r. (r.0, r.1, r.2.now)) result ≡ glued_at (map (λ e. (e.0.now, e.1)) table.now) text.now rest.now }
+    ensures { option_map (λ r. (r.0, r.1, r.2.now)) result
+        ≡ glued_at (map (λ e. (e.0.now, e.1)) table.now) text.now rest.now }
 {
     let count = letter_count(text);
     let (letters, digits) = text.split_at(count);
@@ -55,7 +56,8 @@ fn separate<'a, X: Copy + Drop>(
     text: &[u8],
     tokens: &'a [Token],
 ) -> Option<(X, u16, &'a [Token])>
-    ensures { option_map (λ r. (r.0, r.1, r.2.now)) result ≡ separate_at (map (λ e. (e.0.now, e.1)) table.now) source.now text.now tokens.now }
+    ensures { option_map (λ r. (r.0, r.1, r.2.now)) result
+        ≡ separate_at (map (λ e. (e.0.now, e.1)) table.now) source.now text.now tokens.now }
 {
     let [token, rest @ ..] = tokens else {
         return None;
@@ -72,7 +74,8 @@ fn numbered<'a, X: Copy + Drop>(
     source: &[u8],
     tokens: &'a [Token],
 ) -> Option<(X, u16, &'a [Token])>
-    ensures { option_map (λ r. (r.0, r.1, r.2.now)) result ≡ numbered_at (map (λ e. (e.0.now, e.1)) table.now) source.now tokens.now }
+    ensures { option_map (λ r. (r.0, r.1, r.2.now)) result
+        ≡ numbered_at (map (λ e. (e.0.now, e.1)) table.now) source.now tokens.now }
 {
     let [token, rest @ ..] = tokens else {
         return None;
@@ -110,7 +113,8 @@ pub(crate) fn quoted<'a>(
     source: &[u8],
     tokens: &'a [Token],
 ) -> Result<Option<(BlockName, &'a [Token])>, AllocError>
-    ensures { IfOk result (λ found. option_map (λ r. (r.0, r.1.now)) found ≡ quoted_at source.now tokens.now) }
+    ensures { IfOk result (λ found. option_map (λ r. (r.0, r.1.now)) found
+        ≡ quoted_at source.now tokens.now) }
 {
     let [token, rest @ ..] = tokens else {
         return Ok(None);
@@ -129,7 +133,8 @@ pub(crate) fn block<'a>(
     source: &[u8],
     tokens: &'a [Token],
 ) -> Result<Option<(BlockName, &'a [Token])>, AllocError>
-    ensures { IfOk result (λ found. option_map (λ r. (r.0, r.1.now)) found ≡ block_at source.now tokens.now) }
+    ensures { IfOk result (λ found. option_map (λ r. (r.0, r.1.now)) found
+        ≡ block_at source.now tokens.now) }
 {
     match block_number(source, tokens) {
         Some((kind, number, rest)) => {

@@ -259,7 +259,8 @@ fn named<'a>(
     kind: BlockKind,
     tokens: &'a [Token],
 ) -> Result<Option<(BlockName, &'a [Token])>, AllocError>
-    ensures { IfOk result (λ found. option_map (λ r. (r.0, r.1.now)) found ≡ named_at source.now kind tokens.now) }
+    ensures { IfOk result (λ found. option_map (λ r. (r.0, r.1.now)) found
+        ≡ named_at source.now kind tokens.now) }
 {
     let Some((name, rest)) = block(alloc, source, tokens)? else {
         return Ok(None);
@@ -288,7 +289,9 @@ fn result_type<'a>(source: &[u8], tokens: &'a [Token]) -> Option<(Option<Simple>
 
 /// `:` and the type of a return value, and what follows.
 fn typed_result<'a>(source: &[u8], tokens: &'a [Token]) -> Option<(Option<Simple>, &'a [Token])>
-    ensures { option_map (λ r. (r.0, r.1.now)) result ≡ option_and_then (λ rest. result_type source.now rest) (after_colon source.now tokens.now) }
+    ensures { option_map (λ r. (r.0, r.1.now)) result
+        ≡ option_and_then (λ rest. result_type source.now rest)
+        (after_colon source.now tokens.now) }
 {
     let rest = after_colon(source, tokens)?;
     result_type(source, rest)
@@ -318,7 +321,8 @@ fn head<'a>(
     kind: BlockKind,
     tokens: &'a [Token],
 ) -> Result<Option<Reading<'a>>, AllocError>
-    ensures { IfOk result (λ found. option_map (λ r. (r.0, r.1.now, r.2)) found ≡ head_of source.now line kind tokens.now) }
+    ensures { IfOk result (λ found. option_map (λ r. (r.0, r.1.now, r.2)) found
+        ≡ head_of source.now line kind tokens.now) }
 {
     let Some((name, rest)) = named(alloc, source, kind, tokens)? else {
         return Ok(None);
@@ -356,7 +360,8 @@ fn inner_end<'a>(source: &[u8], tokens: &'a [Token]) -> Option<Reading<'a>>
 /// END_STRUCT, behind the word: with a `;` for an inner structure, and else with or without one.
 #[tactic(auto, unfolding(crate::specs::Clauses::structure_end))]
 fn structure_end<'a>(source: &[u8], at: Place, tokens: &'a [Token]) -> Option<Reading<'a>>
-    ensures { option_map (λ r. (r.0, r.1.now, r.2)) result ≡ structure_end source.now at tokens.now }
+    ensures { option_map (λ r. (r.0, r.1.now, r.2)) result
+        ≡ structure_end source.now at tokens.now }
 {
     if level_at(at) > 0 {
         inner_end(source, tokens)
@@ -375,7 +380,8 @@ fn keyword_clause<'a>(
     keyword: Keyword,
     rest: &'a [Token],
 ) -> Result<Option<Reading<'a>>, AllocError>
-    ensures { IfOk result (λ found. option_map (λ r. (r.0, r.1.now, r.2)) found ≡ keyword_clause source.now at line keyword rest.now) }
+    ensures { IfOk result (λ found. option_map (λ r. (r.0, r.1.now, r.2)) found
+        ≡ keyword_clause source.now at line keyword rest.now) }
 {
     match keyword {
         Keyword::Opens { kind } => head(alloc, source, line, kind, rest),
@@ -443,7 +449,8 @@ fn head_word_clause<'a>(
     word: HeadWord,
     tokens: &'a [Token],
 ) -> Option<Reading<'a>>
-    ensures { option_map (λ r. (r.0, r.1.now, r.2)) result ≡ head_word_clause source.now at word tokens.now }
+    ensures { option_map (λ r. (r.0, r.1.now, r.2)) result
+        ≡ head_word_clause source.now at word tokens.now }
 {
     let rest = behind_head_word(source, word, tokens)?;
     Some((Clause::Note, behind_note(source, at, rest), false))
@@ -466,7 +473,8 @@ fn based<'a>(
     source: &[u8],
     tokens: &'a [Token],
 ) -> Result<Option<Reading<'a>>, AllocError>
-    ensures { IfOk result (λ found. option_map (λ r. (r.0, r.1.now, r.2)) found ≡ based_at source.now tokens.now) }
+    ensures { IfOk result (λ found. option_map (λ r. (r.0, r.1.now, r.2)) found
+        ≡ based_at source.now tokens.now) }
 {
     let Some((name, rest)) = block(alloc, source, tokens)? else {
         return Ok(None);
@@ -486,7 +494,8 @@ fn structure_clause<'a>(
     at: Place,
     tokens: &'a [Token],
 ) -> Result<Option<Reading<'a>>, AllocError>
-    ensures { IfOk result (λ found. option_map (λ r. (r.0, r.1.now, r.2)) found ≡ structure_clause source.now at tokens.now) }
+    ensures { IfOk result (λ found. option_map (λ r. (r.0, r.1.now, r.2)) found
+        ≡ structure_clause source.now at tokens.now) }
 {
     if takes_parameters(at) {
         return Ok(None);
@@ -656,7 +665,8 @@ fn semicolon_clause<'a>(
     line: u32,
     tokens: &'a [Token],
 ) -> Result<Option<Reading<'a>>, AllocError>
-    ensures { IfOk result (λ found. option_map (λ r. (r.0, r.1.now, r.2)) found ≡ semicolon_clause source.now at line tokens.now) }
+    ensures { IfOk result (λ found. option_map (λ r. (r.0, r.1.now, r.2)) found
+        ≡ semicolon_clause source.now at line tokens.now) }
 {
     let Some((inside, rest)) = until_semicolon(source, tokens) else {
         return Ok(None);
@@ -676,7 +686,8 @@ fn plain_clause<'a>(
     line: u32,
     tokens: &'a [Token],
 ) -> Result<Option<Reading<'a>>, AllocError>
-    ensures { IfOk result (λ found. option_map (λ r. (r.0, r.1.now, r.2)) found ≡ plain_clause source.now at line tokens.now) }
+    ensures { IfOk result (λ found. option_map (λ r. (r.0, r.1.now, r.2)) found
+        ≡ plain_clause source.now at line tokens.now) }
 {
     if let Some(found) = structure_clause(alloc, source, at, tokens)? {
         return Ok(Some(found));
@@ -694,7 +705,8 @@ fn other_clause<'a>(
     line: u32,
     tokens: &'a [Token],
 ) -> Result<Option<Reading<'a>>, AllocError>
-    ensures { IfOk result (λ found. option_map (λ r. (r.0, r.1.now, r.2)) found ≡ other_clause source.now at line tokens.now) }
+    ensures { IfOk result (λ found. option_map (λ r. (r.0, r.1.now, r.2)) found
+        ≡ other_clause source.now at line tokens.now) }
 {
     if !in_data_head(at) {
         return plain_clause(alloc, source, at, line, tokens);
@@ -715,7 +727,9 @@ fn free_word_clause<'a>(
     rest: &'a [Token],
     tokens: &'a [Token],
 ) -> Result<Option<Reading<'a>>, AllocError>
-    ensures { IfOk result (λ found. option_map (λ r. (r.0, r.1.now, r.2)) found ≡ free_word_clause source.now at token.now rest.now tokens.now (look_up head_words (text_of source.now token.now))) }
+    ensures { IfOk result (λ found. option_map (λ r. (r.0, r.1.now, r.2)) found
+        ≡ free_word_clause source.now at token.now rest.now tokens.now (look_up head_words
+        (text_of source.now token.now))) }
 {
     match head_word_of(text(source, token)) {
         Some(word) => {
@@ -739,7 +753,9 @@ fn word_clause<'a>(
     rest: &'a [Token],
     tokens: &'a [Token],
 ) -> Result<Option<Reading<'a>>, AllocError>
-    ensures { IfOk result (λ found. option_map (λ r. (r.0, r.1.now, r.2)) found ≡ word_clause source.now at token.now rest.now tokens.now (look_up keywords (text_of source.now token.now))) }
+    ensures { IfOk result (λ found. option_map (λ r. (r.0, r.1.now, r.2)) found
+        ≡ word_clause source.now at token.now rest.now tokens.now (look_up keywords
+        (text_of source.now token.now))) }
 {
     match keyword_of(text(source, token)) {
         Some(keyword) => keyword_clause(alloc, source, at, token.line, keyword, rest),
@@ -757,7 +773,8 @@ fn clause_by_kind<'a>(
     rest: &'a [Token],
     tokens: &'a [Token],
 ) -> Result<Option<Reading<'a>>, AllocError>
-    ensures { IfOk result (λ found. option_map (λ r. (r.0, r.1.now, r.2)) found ≡ clause_by_kind source.now at token.now rest.now tokens.now token.now.kind) }
+    ensures { IfOk result (λ found. option_map (λ r. (r.0, r.1.now, r.2)) found
+        ≡ clause_by_kind source.now at token.now rest.now tokens.now token.now.kind) }
 {
     match token.kind {
         TokenKind::Word => word_clause(alloc, source, at, token, rest, tokens),
@@ -776,7 +793,8 @@ pub(crate) fn clause_at<'a>(
     at: Place,
     tokens: &'a [Token],
 ) -> Result<Option<Reading<'a>>, AllocError>
-    ensures { IfOk result (λ found. option_map (λ r. (r.0, r.1.now, r.2)) found ≡ clause_at source.now at tokens.now) }
+    ensures { IfOk result (λ found. option_map (λ r. (r.0, r.1.now, r.2)) found
+        ≡ clause_at source.now at tokens.now) }
 {
     let [token, rest @ ..] = tokens else {
         return Ok(None);

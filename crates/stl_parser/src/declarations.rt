@@ -109,7 +109,8 @@ pub(crate) fn structure<'a>(
     level: u32,
     tokens: &'a [Token],
 ) -> Result<Option<(Declaration, &'a [Token])>, AllocError>
-    ensures { IfOk result (λ found. option_map (λ r. (r.0, r.1.now)) found ≡ structure_at source.now level tokens.now) }
+    ensures { IfOk result (λ found. option_map (λ r. (r.0, r.1.now)) found
+        ≡ structure_at source.now level tokens.now) }
 {
     let Some((word, rest)) = declared_name(source, tokens) else {
         return Ok(None);
@@ -142,7 +143,8 @@ fn init_behind(
     element: &ElementType,
     tokens: &[Token],
 ) -> Result<Option<Sequence<Init>>, AllocError>
-    ensures { IfOk result (λ found. found ≡ init_behind source.now arrays.now element.now tokens.now) }
+    ensures { IfOk result (λ found. found
+        ≡ init_behind source.now arrays.now element.now tokens.now) }
 {
     let [token, rest @ ..] = tokens else {
         return Ok(Some(Sequence::from_vec(Vec::new(alloc))));

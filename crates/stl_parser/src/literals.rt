@@ -144,7 +144,8 @@ fn bytes_behind<'a>(
     token: &Token,
     rest: &'a [Token],
 ) -> Option<(Literal, &'a [Token])>
-    ensures { option_map (λ r. (r.0, r.1.now)) result ≡ bytes_behind source.now a b token.now rest.now }
+    ensures { option_map (λ r. (r.0, r.1.now)) result
+        ≡ bytes_behind source.now a b token.now rest.now }
 {
     if is_mark(source, token, Mark::CloseParen) {
         Some((bytes_literal(list_of(&[a, b])), rest))

@@ -38,7 +38,8 @@ pub(crate) fn all_digits(bytes: &[u8]) -> bool
 
 /// The number of these decimal digits, up to 65,535.
 fn number_of_digits(digits: &[u8]) -> Option<u16>
-    ensures { result ≡ (if list_all is_ascii_digit digits.now && nat_le (decimal_value digits.now) 65535 then Some (decimal_value digits.now) else None) }
+    ensures { result ≡ (if list_all is_ascii_digit digits.now && nat_le
+        (decimal_value digits.now) 65535 then Some (decimal_value digits.now) else None) }
 {
     let value = decimal_value(digits);
     if all_digits(digits) && value <= GREATEST_NUMBER {

@@ -465,7 +465,8 @@ fn plain_pointer(source: &[u8], tokens: &[Token]) -> Option<Operand>
 
 /// The pointer constant of an address, behind `P#`.
 fn address_pointer(source: &[u8], tokens: &[Token]) -> Option<Operand>
-    ensures { result ≡ option_and_then (λ r. area_pointer source.now r.0 r.1 r.2) (address_at source.now tokens.now) }
+    ensures { result ≡ option_and_then
+        (λ r. area_pointer source.now r.0 r.1 r.2) (address_at source.now tokens.now) }
 {
     let (address, byte, rest) = address(source, tokens)?;
     area_pointer(source, address, byte, rest)
@@ -700,7 +701,8 @@ fn operand_by_kind(
     rest: &[Token],
     tokens: &[Token],
 ) -> Result<Option<Operand>, AllocError>
-    ensures { IfOk result (λ found. found ≡ operand_by_kind source.now token.now rest.now tokens.now token.now.kind) }
+    ensures { IfOk result (λ found. found
+        ≡ operand_by_kind source.now token.now rest.now tokens.now token.now.kind) }
 {
     match token.kind {
         TokenKind::Word => word_operand(alloc, source, token, rest, tokens),

@@ -32,7 +32,8 @@ fn name_step<'a>(
     source: &[u8],
     tokens: &'a [Token],
 ) -> Result<Option<(PathStep, &'a [Token])>, AllocError>
-    ensures { IfOk result (λ found. option_map (λ r. (r.0, r.1.now)) found ≡ name_step source.now tokens.now) }
+    ensures { IfOk result (λ found. option_map (λ r. (r.0, r.1.now)) found
+        ≡ name_step source.now tokens.now) }
 {
     let [token, rest @ ..] = tokens else {
         return Ok(None);
@@ -46,7 +47,8 @@ fn name_step<'a>(
 
 /// An index in brackets, behind its `[`.
 fn index_step<'a>(source: &[u8], tokens: &'a [Token]) -> Option<(PathStep, &'a [Token])>
-    ensures { option_map (λ r. (r.0, r.1.now)) result ≡ option_and_then (λ r. index_end source.now r.0 r.1) (int_at source.now tokens.now) }
+    ensures { option_map (λ r. (r.0, r.1.now)) result
+        ≡ option_and_then (λ r. index_end source.now r.0 r.1) (int_at source.now tokens.now) }
 {
     let (at, rest) = int(source, tokens)?;
     index_end(source, at, rest)
@@ -59,7 +61,8 @@ fn step<'a>(
     source: &[u8],
     tokens: &'a [Token],
 ) -> Result<Option<(PathStep, &'a [Token])>, AllocError>
-    ensures { IfOk result (λ found. option_map (λ r. (r.0, r.1.now)) found ≡ step_at source.now tokens.now) }
+    ensures { IfOk result (λ found. option_map (λ r. (r.0, r.1.now)) found
+        ≡ step_at source.now tokens.now) }
 {
     let [token, rest @ ..] = tokens else {
         return Ok(None);
@@ -98,7 +101,8 @@ pub(crate) fn steps<'a>(
     first: Vec<PathStep>,
     tokens: &'a [Token],
 ) -> Result<Option<(Sequence<PathStep>, &'a [Token])>, AllocError>
-    ensures { IfOk result (λ found. option_map (λ r. (r.0, r.1.now)) found ≡ steps_from source.now first.items tokens.now) }
+    ensures { IfOk result (λ found. option_map (λ r. (r.0, r.1.now)) found
+        ≡ steps_from source.now first.items tokens.now) }
 {
     let mut read = first;
     let mut rest = tokens;

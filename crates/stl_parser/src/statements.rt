@@ -109,7 +109,8 @@ fn actual<'a>(
     source: &[u8],
     tokens: &'a [Token],
 ) -> Result<Option<(Actual, &'a [Token])>, AllocError>
-    ensures { IfOk result (λ found. option_map (λ r. (r.0, r.1.now)) found ≡ actual_at source.now tokens.now) }
+    ensures { IfOk result (λ found. option_map (λ r. (r.0, r.1.now)) found
+        ≡ actual_at source.now tokens.now) }
 {
     let [word, assign, rest @ ..] = tokens else {
         return Ok(None);
@@ -139,7 +140,8 @@ fn next_actual<'a>(
     source: &[u8],
     tokens: &'a [Token],
 ) -> Result<Option<(Actual, &'a [Token])>, AllocError>
-    ensures { IfOk result (λ found. option_map (λ r. (r.0, r.1.now)) found ≡ next_actual source.now tokens.now) }
+    ensures { IfOk result (λ found. option_map (λ r. (r.0, r.1.now)) found
+        ≡ next_actual source.now tokens.now) }
 {
     let [token, rest @ ..] = tokens else {
         return Ok(None);
@@ -176,7 +178,9 @@ fn further_actuals<'a>(
     first: Vec<Actual>,
     tokens: &'a [Token],
 ) -> Result<Option<(Sequence<Actual>, &'a [Token])>, AllocError>
-    ensures { IfOk result (λ found. option_map (λ r. (r.0, r.1.now)) found ≡ parts_from (actuals_end source.now) (next_actual source.now) first.items (length tokens.now) tokens.now) }
+    ensures { IfOk result (λ found. option_map (λ r. (r.0, r.1.now)) found
+        ≡ parts_from (actuals_end source.now) (next_actual source.now) first.items
+        (length tokens.now) tokens.now) }
 {
     let mut read = first;
     let mut rest = tokens;
@@ -262,7 +266,8 @@ fn data_block<'a>(
     source: &[u8],
     tokens: &'a [Token],
 ) -> Result<Option<(BlockName, &'a [Token])>, AllocError>
-    ensures { IfOk result (λ found. option_map (λ r. (r.0, r.1.now)) found ≡ data_block_at source.now tokens.now) }
+    ensures { IfOk result (λ found. option_map (λ r. (r.0, r.1.now)) found
+        ≡ data_block_at source.now tokens.now) }
 {
     let Some((name, rest)) = block(alloc, source, tokens)? else {
         return Ok(None);
@@ -282,7 +287,8 @@ fn instance<'a>(
     name: &BlockName,
     tokens: &'a [Token],
 ) -> Result<Option<(Option<BlockName>, &'a [Token])>, AllocError>
-    ensures { IfOk result (λ found. option_map (λ r. (r.0, r.1.now)) found ≡ instance_at source.now name.now tokens.now) }
+    ensures { IfOk result (λ found. option_map (λ r. (r.0, r.1.now)) found
+        ≡ instance_at source.now name.now tokens.now) }
 {
     let [token, rest @ ..] = tokens else {
         return Ok(Some((None, tokens)));

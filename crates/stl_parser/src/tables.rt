@@ -580,7 +580,8 @@ fn same_word(a: &[u8], b: &[u8]) -> bool
 
 /// The value that stands beside a text in a table, compared without case of ASCII letters.
 fn entry_of<X: Copy + Drop>(table: &[(&[u8], X)], word: &[u8]) -> Option<X>
-    ensures { result ≡ option_map (λ e. e.1) (find (λ e. str_eq_ignore_ascii_case word.now e.0.now) table.now) }
+    ensures { result ≡ option_map (λ e. e.1) (find
+        (λ e. str_eq_ignore_ascii_case word.now e.0.now) table.now) }
 {
     table
         .iter()

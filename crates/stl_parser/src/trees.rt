@@ -28,7 +28,8 @@ use stl_ast::{
 #[tactic(auto, using(crate::proofs::TreeLemmas::taken, crate::proofs::TreeLemmas::put_back, crate::proofs::TreeLemmas::reverse_last, crate::proofs::TreeLemmas::outline_push, crate::proofs::TreeLemmas::deepest_push))]
 fn declarations(alloc: Global, clauses: &mut Vec<Clause>) -> Result<Declarations, AllocError>
     ensures all { IfOk result (λ _. FrontIsNo is_declaration (reverse clauses.new.items)) }
-    ensures taken { IfOk result (λ items. reverse clauses.old.items ≡ map spelled.Declares items ++ reverse clauses.new.items) }
+    ensures taken { IfOk result (λ items. reverse clauses.old.items
+        ≡ map spelled.Declares items ++ reverse clauses.new.items) }
 {
     let mut items: Vec<Declaration> = Vec::new(alloc);
     let mut deepest = 0;
@@ -54,7 +55,8 @@ fn declarations(alloc: Global, clauses: &mut Vec<Clause>) -> Result<Declarations
 #[tactic(auto, using(crate::proofs::TreeLemmas::taken_with, crate::proofs::TreeLemmas::put_back, crate::proofs::TreeLemmas::append_none, crate::proofs::TreeLemmas::reverse_last))]
 fn parts(alloc: Global, clauses: &mut Vec<Clause>) -> Result<Sequence<Part>, AllocError>
     ensures all { IfOk result (λ _. FrontIsNo is_section (reverse clauses.new.items)) }
-    ensures taken { IfOk result (λ parts. reverse clauses.old.items ≡ flat_map spelled_part parts ++ reverse clauses.new.items) }
+    ensures taken { IfOk result (λ parts. reverse clauses.old.items
+        ≡ flat_map spelled_part parts ++ reverse clauses.new.items) }
 {
     let mut read: Vec<Part> = Vec::new(alloc);
     while let Some(clause) = clauses.pop() {
@@ -76,7 +78,8 @@ fn parts(alloc: Global, clauses: &mut Vec<Clause>) -> Result<Sequence<Part>, All
 #[tactic(auto, using(crate::proofs::TreeLemmas::taken, crate::proofs::TreeLemmas::put_back, crate::proofs::TreeLemmas::reverse_last))]
 fn settings(alloc: Global, clauses: &mut Vec<Clause>) -> Result<Sequence<Setting>, AllocError>
     ensures all { IfOk result (λ _. FrontIsNo is_setting (reverse clauses.new.items)) }
-    ensures taken { IfOk result (λ settings. reverse clauses.old.items ≡ map spelled.Sets settings ++ reverse clauses.new.items) }
+    ensures taken { IfOk result (λ settings. reverse clauses.old.items
+        ≡ map spelled.Sets settings ++ reverse clauses.new.items) }
 {
     let mut read: Vec<Setting> = Vec::new(alloc);
     while let Some(clause) = clauses.pop() {
@@ -95,7 +98,8 @@ fn settings(alloc: Global, clauses: &mut Vec<Clause>) -> Result<Sequence<Setting
 #[tactic(auto, using(crate::proofs::TreeLemmas::taken, crate::proofs::TreeLemmas::put_back, crate::proofs::TreeLemmas::reverse_last))]
 fn body(alloc: Global, clauses: &mut Vec<Clause>) -> Result<Sequence<Statement>, AllocError>
     ensures all { IfOk result (λ _. FrontIsNo is_statement (reverse clauses.new.items)) }
-    ensures taken { IfOk result (λ body. reverse clauses.old.items ≡ map spelled.Runs body ++ reverse clauses.new.items) }
+    ensures taken { IfOk result (λ body. reverse clauses.old.items
+        ≡ map spelled.Runs body ++ reverse clauses.new.items) }
 {
     let mut read: Vec<Statement> = Vec::new(alloc);
     while let Some(clause) = clauses.pop() {
@@ -147,7 +151,8 @@ fn is_udt(name: &BlockName) -> bool
 
 /// The shape that a name stands for: a data type, or else the function block of an instance.
 fn based(alloc: Global, name: BlockName) -> Shape
-    ensures { spelled_shape result.shape result.instance_of result.components ≡ spelled.Based name ∷ [] }
+    ensures { spelled_shape result.shape result.instance_of result.components
+        ≡ spelled.Based name ∷ [] }
 {
     let components = no_components(alloc);
     if is_udt(&name) {
@@ -168,7 +173,8 @@ fn based(alloc: Global, name: BlockName) -> Shape
 
 /// The shape that is a structure with these components.
 fn structured(alloc: Global, components: Declarations) -> Shape
-    ensures { spelled_shape result.shape result.instance_of result.components ≡ spelled.Structure ∷ map spelled.Declares components }
+    ensures { spelled_shape result.shape result.instance_of result.components
+        ≡ spelled.Structure ∷ map spelled.Declares components }
 {
     let shape = Some(single_type(alloc, ElementType::Structure));
     Shape {
@@ -192,8 +198,10 @@ fn shapeless(alloc: Global) -> Shape
 /// The shape at the front of the clauses, where one stands there.
 #[tactic(auto, using(crate::proofs::TreeLemmas::reverse_last))]
 fn shape_at_front(alloc: Global, clauses: &mut Vec<Clause>) -> Result<Shape, AllocError>
-    ensures all { IfOk result (λ s. IsWholeShape (spelled_shape s.shape s.instance_of s.components) (reverse clauses.new.items)) }
-    ensures taken { IfOk result (λ s. reverse clauses.old.items ≡ spelled_shape s.shape s.instance_of s.components ++ reverse clauses.new.items) }
+    ensures all { IfOk result (λ s. IsWholeShape
+        (spelled_shape s.shape s.instance_of s.components) (reverse clauses.new.items)) }
+    ensures taken { IfOk result (λ s. reverse clauses.old.items
+        ≡ spelled_shape s.shape s.instance_of s.components ++ reverse clauses.new.items) }
 {
     match clauses.pop() {
         Some(Clause::Structure) => {
@@ -212,7 +220,8 @@ fn shape_at_front(alloc: Global, clauses: &mut Vec<Clause>) -> Result<Shape, All
 /// The line of the END clause at the front of the clauses. The frame lets no other stand there.
 #[tactic(auto, using(crate::proofs::TreeLemmas::reverse_last))]
 fn end_line(kind: BlockKind, clauses: &mut Vec<Clause>) -> Result<u32, AllocError>
-    ensures { IfOk result (λ line. reverse clauses.old.items ≡ spelled.Ends line kind ∷ reverse clauses.new.items) }
+    ensures { IfOk result (λ line. reverse clauses.old.items
+        ≡ spelled.Ends line kind ∷ reverse clauses.new.items) }
 {
     match clauses.pop() {
         Some(Clause::Ends { line, kind: ended }) => {
@@ -236,7 +245,8 @@ fn block(
     returns: Option<Simple>,
     clauses: &mut Vec<Clause>,
 ) -> Result<Block, AllocError>
-    ensures { IfOk result (λ b. spelled.Head line kind name returns ∷ reverse clauses.old.items ≡ spelled_block b ++ reverse clauses.new.items) }
+    ensures { IfOk result (λ b. spelled.Head line kind name returns ∷ reverse clauses.old.items
+        ≡ spelled_block b ++ reverse clauses.new.items) }
 {
     let parts = parts(alloc, clauses)?;
     let Shape {

@@ -55,7 +55,8 @@ fn array_end<'a>(
 
 /// The upper bound and `] OF`, behind the `..`.
 fn array_rest<'a>(source: &[u8], low: i32, tokens: &'a [Token]) -> Option<(Bounds, &'a [Token])>
-    ensures { option_map (λ r. (r.0, r.1.now)) result ≡ option_and_then (λ r. array_end source.now low r.0 r.1) (int_at source.now tokens.now) }
+    ensures { option_map (λ r. (r.0, r.1.now)) result
+        ≡ option_and_then (λ r. array_end source.now low r.0 r.1) (int_at source.now tokens.now) }
 {
     let (high, rest) = int(source, tokens)?;
     array_end(source, low, high, rest)
@@ -78,7 +79,8 @@ fn array_high<'a>(source: &[u8], low: i32, tokens: &'a [Token]) -> Option<(Bound
 
 /// The bounds of an array, behind its `[`.
 fn array_bounds<'a>(source: &[u8], tokens: &'a [Token]) -> Option<(Bounds, &'a [Token])>
-    ensures { option_map (λ r. (r.0, r.1.now)) result ≡ option_and_then (λ r. array_high source.now r.0 r.1) (int_at source.now tokens.now) }
+    ensures { option_map (λ r. (r.0, r.1.now)) result
+        ≡ option_and_then (λ r. array_high source.now r.0 r.1) (int_at source.now tokens.now) }
 {
     let (low, rest) = int(source, tokens)?;
     array_high(source, low, rest)
@@ -117,7 +119,8 @@ pub(crate) fn arrays<'a>(
     source: &[u8],
     tokens: &'a [Token],
 ) -> Result<Option<(Sequence<Bounds>, &'a [Token])>, AllocError>
-    ensures { IfOk result (λ found. option_map (λ r. (r.0, r.1.now)) found ≡ arrays_at source.now tokens.now) }
+    ensures { IfOk result (λ found. option_map (λ r. (r.0, r.1.now)) found
+        ≡ arrays_at source.now tokens.now) }
 {
     let mut read = Vec::new(alloc);
     let mut rest = tokens;
@@ -173,7 +176,8 @@ fn udt<'a>(
     source: &[u8],
     tokens: &'a [Token],
 ) -> Result<Option<(ElementType, &'a [Token])>, AllocError>
-    ensures { IfOk result (λ found. option_map (λ r. (r.0, r.1.now)) found ≡ udt_at source.now tokens.now) }
+    ensures { IfOk result (λ found. option_map (λ r. (r.0, r.1.now)) found
+        ≡ udt_at source.now tokens.now) }
 {
     let Some((name, rest)) = block(alloc, source, tokens)? else {
         return Ok(None);
@@ -191,7 +195,8 @@ pub(crate) fn element<'a>(
     source: &[u8],
     tokens: &'a [Token],
 ) -> Result<Option<(ElementType, &'a [Token])>, AllocError>
-    ensures { IfOk result (λ found. option_map (λ r. (r.0, r.1.now)) found ≡ element_at source.now tokens.now) }
+    ensures { IfOk result (λ found. option_map (λ r. (r.0, r.1.now)) found
+        ≡ element_at source.now tokens.now) }
 {
     let [token, rest @ ..] = tokens else {
         return Ok(None);
@@ -210,7 +215,8 @@ fn counted_end<'a>(
     value: Literal,
     tokens: &'a [Token],
 ) -> Option<(Init, &'a [Token])>
-    ensures { option_map (λ r. (r.0, r.1.now)) result ≡ counted_end source.now count value tokens.now }
+    ensures { option_map (λ r. (r.0, r.1.now)) result
+        ≡ counted_end source.now count value tokens.now }
 {
     let [token, rest @ ..] = tokens else {
         return None;
@@ -286,7 +292,8 @@ fn further_inits<'a>(
     first: Vec<Init>,
     tokens: &'a [Token],
 ) -> Result<Option<(Sequence<Init>, &'a [Token])>, AllocError>
-    ensures { IfOk result (λ found. option_map (λ r. (r.0, r.1.now)) found ≡ parts_from at_end (next_init source.now) first.items (length tokens.now) tokens.now) }
+    ensures { IfOk result (λ found. option_map (λ r. (r.0, r.1.now)) found
+        ≡ parts_from at_end (next_init source.now) first.items (length tokens.now) tokens.now) }
 {
     let mut read = first;
     let mut rest = tokens;

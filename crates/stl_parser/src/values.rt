@@ -58,7 +58,9 @@ fn with_digit(greatest: u32, base: u32, value: u32, b: u8) -> Option<u32>
     requires low { 2 ≤ base }
     requires high { base ≤ 36 }
     requires within { value ≤ greatest }
-    ensures { result ≡ (if nat_lt (digit_value b) base && nat_le (base * value + digit_value b) greatest then Some (base * value + digit_value b) else None) }
+    ensures { result ≡ (if nat_lt (digit_value b) base && nat_le
+        (base * value + digit_value b) greatest then Some
+        (base * value + digit_value b) else None) }
 {
     let digit = char::from(b).to_digit(base)?;
     let next = u64::from(base) * u64::from(value) + u64::from(digit);

@@ -86,7 +86,8 @@ fn set_unless_refused(
     ob_nr: u32,
     disabled: bool,
 ) -> u32
-    ensures { LeavesReturned (set_unless (refused mode ob_nr) disabled mode ob_nr (scheduler_of s.old) a.old)
+    ensures { LeavesReturned (set_unless (refused mode ob_nr) disabled mode ob_nr
+        (scheduler_of s.old) a.old)
         (scheduler_of s.new) a.new result }
 {
     if let Some(code) = refusal(mode, ob_nr) {
@@ -101,7 +102,8 @@ fn set_unless_refused(
 /// OB_NR is 16#8090.
 #[tactic(auto, unfolding(crate::specs::Functions::dis_irt))]
 pub fn dis_irt(s: &mut Sched, a: &mut Activation, mode: u32, ob_nr: u32) -> u32
-    ensures { LeavesReturned (disables (scheduler_of s.old) a.old mode ob_nr) (scheduler_of s.new) a.new result }
+    ensures { LeavesReturned (disables (scheduler_of s.old) a.old mode ob_nr)
+        (scheduler_of s.new) a.new result }
 {
     set_unless_refused(s, a, mode, ob_nr, true)
 }
@@ -109,7 +111,8 @@ pub fn dis_irt(s: &mut Sched, a: &mut Activation, mode: u32, ob_nr: u32) -> u32
 /// SFC 40 EN_IRT: enables interrupts, by MODE and OB_NR as DIS_IRT disables them.
 #[tactic(auto, unfolding(crate::specs::Functions::en_irt))]
 pub fn en_irt(s: &mut Sched, a: &mut Activation, mode: u32, ob_nr: u32) -> u32
-    ensures { LeavesReturned (enables (scheduler_of s.old) a.old mode ob_nr) (scheduler_of s.new) a.new result }
+    ensures { LeavesReturned (enables (scheduler_of s.old) a.old mode ob_nr)
+        (scheduler_of s.new) a.new result }
 {
     set_unless_refused(s, a, mode, ob_nr, false)
 }

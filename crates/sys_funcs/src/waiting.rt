@@ -17,7 +17,8 @@ const NOT_DELAYED: u32 = 0x8080;
 /// returns how often they are delayed.
 #[tactic(auto, unfolding(crate::specs::Functions::dis_airt))]
 pub fn dis_airt(s: &mut Sched, a: &mut Activation) -> u32
-    ensures { LeavesReturned (disables (scheduler_of s.old) a.old) (scheduler_of s.new) a.new result }
+    ensures { LeavesReturned (disables (scheduler_of s.old) a.old)
+        (scheduler_of s.new) a.new result }
 {
     let _ = s;
     let delay = a.delay.min(MOST_DELAYS - 1) + 1;
@@ -29,7 +30,8 @@ pub fn dis_airt(s: &mut Sched, a: &mut Activation) -> u32
 /// Where they aren't delayed it returns 16#8080, and changes nothing but BR.
 #[tactic(auto, unfolding(crate::specs::Functions::en_airt))]
 pub fn en_airt(s: &mut Sched, a: &mut Activation) -> u32
-    ensures { LeavesReturned (enables (scheduler_of s.old) a.old) (scheduler_of s.new) a.new result }
+    ensures { LeavesReturned (enables (scheduler_of s.old) a.old)
+        (scheduler_of s.new) a.new result }
 {
     let _ = s;
     if a.delay == 0 {
