@@ -9,6 +9,8 @@ mod calls;
 #[cfg(test)]
 mod edge_tests;
 #[cfg(test)]
+mod gate_tests;
+#[cfg(test)]
 mod outside_tests;
 #[cfg(test)]
 mod words_tests;
