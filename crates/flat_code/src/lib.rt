@@ -18,7 +18,7 @@ mod words;
 
 pub use decoding::{BadOp, decode_op};
 pub use encoding::encode_op;
-pub use image_fields::{Field, ParameterRecord};
+pub use image_fields::{Field, OpenBracket, ParameterRecord};
 pub use making::{assign, bare};
 pub use names::{NameEntry, Names};
 pub use operands::{Operand, Passed};

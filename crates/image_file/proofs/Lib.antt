@@ -5,3 +5,4 @@ pub mod RunLemmas
 pub mod LeastLemmas
 pub mod WholeRunLemmas
 pub mod WholeLemmas
+pub mod JudgeLemmas

@@ -11,7 +11,8 @@ use Rattle.flat_code.specs.Faults.{fault_of, name_fault}
 use Rattle.flat_code.specs.Layout.{Note, Faulty, Whole, AllBlocks, Cursor, Read, Layout, ended, given, go_on, bind, noted, field_of, field, chain, checked, located, read_many, many, seen_as, remembered, faults_in}
 use Rattle.flat_code.specs.Codes.{ops_from, stop_at, read_ops, placed_ops, read_code, code_of, only}
 use Rattle.flat_code.specs.Image.{plain, plain_u16, plain_u32, zero_u8, zero_u16, width_field, bytes, section_field, parameter_byte, parameter_bit, RawParameter, raw_parameter, parameter_of_raw, raw_of_parameter, parameter, kind_field, parameter_count, block_number, local_bytes, instance_bytes, Head, head, params_in, instance_in, statements_in, code_len_in, same_state, parameters, line_after, line_field, lines_of, code_and_lines, RawBlock, raw_block, block_of_raw, raw_of_block, plain_block, whole_at, code_block_at, code_block, after_block, data_number, instance_field, data_len, contents, RawData, raw_data, data_of_raw, raw_of_data, data_block, after_data, name_len, name_bytes, name_area, name_bit, RawName, raw_name, name_of_raw, raw_of_name, name_record, after_name, data_count, Counts, counts, code_blocks, plain_data_blocks, data_blocks, names, RawRecords, raw_records, records_of_raw, raw_of_records, records, record_of_block, block_of_record, program_of, records_of, body, magic_field, version_field, Front, front, front_size, image, IsProgram, at_end, cut, read_by, read_image, end_marks}
-use Rattle.flat_code.specs.Placed.{OpenBracket, Placed, places, open_behind}
+use Rattle.flat_code.specs.declared.image_fields.OpenBracket.{OpenBracket}
+use Rattle.flat_code.specs.Placed.{Placed, Spot, spots, places, open_behind}
 use Rattle.flat_code.specs.Blocks.{Around, operand_fault, call_fault, mark_fault, bracket_fault, at_offset, op_faults, faults_over, open_faults, block_faults}
 use Rattle.flat_code.specs.Loading.{lens_of, around, wholes, all_blocks, blocks_of, judged_blocks, faults_in_notes, faults_of, Gives, AreVerified, Verifies, IsLoadable}
 use Rattle.flat_code.proofs.CodingLemmas.{IsBytes}
@@ -418,7 +419,7 @@ elsewhere : (at other : ℕ) (o : Option ℕ) → at_offset at o ≡ [] → at_o
 elsewhere at other None e = refl
 elsewhere at other (Some code) e = absurd cc
 
-op_moved : (around : Around) (ps : List Placed) (start other : ℕ) (p : Placed) → op_faults around ps start p ≡ [] → op_faults around ps other p ≡ []
+op_moved : (around : Around) (ps : List Spot) (start other : ℕ) (p : Placed) → op_faults around ps start p ≡ [] → op_faults around ps other p ≡ []
 unfolding op_faults
 op_moved around ps start other p e =
     let at = start + p.at in
@@ -432,7 +433,7 @@ op_moved around ps start other p e =
     let l = nil_left a b m.0 in
     nil_join (nil_join (nil_join (elsewhere at to (operand_fault around ps p p.op.operand) l.0) (elsewhere at to (call_fault around around.data_lens p) l.1)) (elsewhere at to (mark_fault p.op) m.1)) (elsewhere at to (bracket_fault p.op.code p.brackets) n.1)
 
-over_moved : (around : Around) (ps : List Placed) (start other : ℕ) (rest : List Placed) → faults_over around ps start rest ≡ [] → faults_over around ps other rest ≡ []
+over_moved : (around : Around) (ps : List Spot) (start other : ℕ) (rest : List Placed) → faults_over around ps start rest ≡ [] → faults_over around ps other rest ≡ []
 over_moved around ps start other [] e = refl
 over_moved around ps start other (p ∷ rest) e =
     let n = nil_left (op_faults around ps start p) (faults_over around ps start rest) e in
@@ -446,8 +447,8 @@ open_moved start other (b ∷ bs) e = absurd cc
 pub moved : (around : Around) (start other : ℕ) (ops : List OpData) → block_faults around start ops ≡ [] → block_faults around other ops ≡ []
 unfolding block_faults
 moved around start other ops e =
-    let n = nil_left (faults_over around (places ops) start (places ops)) (open_faults start (open_behind 0 [] ops)) e in
-    nil_join (over_moved around (places ops) start other (places ops) n.0) (open_moved start other (open_behind 0 [] ops) n.1)
+    let n = nil_left (faults_over around (spots ops) start (places ops)) (open_faults start (open_behind 0 [] ops)) e in
+    nil_join (over_moved around (spots ops) start other (places ops) n.0) (open_moved start other (open_behind 0 [] ops) n.1)
 
 verified : (lens : List (ℕ × ℕ)) (all : List BlockRecord) (bs : List (ℕ × BlockRecord)) → judged_blocks (Some lens) all bs ≡ [] → AreVerified lens all (blocks_of bs)
 verified lens all [] e = tt

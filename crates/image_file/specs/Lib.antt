@@ -2,3 +2,4 @@ pub mod Laws
 pub mod Walking
 pub mod Least
 pub mod Running
+pub mod Judging

@@ -2,14 +2,18 @@
 #![tactic(auto)]
 
 mod blocks;
+mod calls;
 mod codes;
 mod data;
 mod faults;
 mod fields;
 pub mod laws;
+mod judging;
+mod operands;
 mod reader;
 mod records;
 mod stops;
+mod surroundings;
 mod whole;
 
 pub use faults::LoadFault;
