@@ -6,9 +6,9 @@ use Rattle.flat_code.specs.declared.image_fields.OpenBracket.{OpenBracket}
 use Rattle.flat_code.specs.Ops.{OpData, op_bytes}
 use Rattle.flat_code.specs.Codes.{size, code_bytes}
 use Rattle.flat_code.specs.Placed.{Placed, placed, places, opens, inner, opened, before_next, open_behind, Spot, spots, spots_from, few}
-use Rattle.flat_code.specs.Blocks.{Around, is_ju, leads, op_faults, faults_over, open_faults}
+use Rattle.flat_code.specs.Blocks.{Around, is_ju, leads, op_faults, faults_over, open_faults, block_faults}
 use Rattle.image_file.specs.declared.faults.LoadFault.{LoadFault}
-use Rattle.image_file.specs.Least.{with_faults}
+use Rattle.image_file.specs.Least.{with_fault, with_faults}
 use Rattle.image_file.specs.Judging.{AllUpTo}
 use Rattle.image_file.proofs.RunLemmas.{with_more}
 
@@ -51,10 +51,10 @@ up_to_opened at code bs false false h = h
 pub up_to_next : (at next code : ℕ) (bs after : List OpenBracket) → at ≤ next → after ≡ opened at code bs → AllUpTo at bs → AllUpTo next after
 up_to_next at next code bs after le is h = subst (λ (z : List OpenBracket). AllUpTo next z) (sym is) (up_to_more at next (opened at code bs) le (up_to_opened at code bs (opens code) (eqb code 0x1E) h))
 
-pub up_to_at : (n i : ℕ) (b : OpenBracket) (bs : List OpenBracket) → i < length bs → b ≡ get_or bs i b → AllUpTo n bs → b.at ≤ n
-up_to_at n i b [] lt is h = absurd (omega (arith, lt))
-up_to_at n zero b (c ∷ bs) lt is h = subst (λ (z : OpenBracket). z.at ≤ n) (sym is) h.0
-up_to_at n (suc i) b (c ∷ bs) lt is h = up_to_at n i b bs (omega (arith, lt)) is h.1
+pub up_to_at : (n i : ℕ) (d : OpenBracket) (bs : List OpenBracket) → i < length bs → AllUpTo n bs → (get_or bs i d).at ≤ n
+up_to_at n i d [] lt h = absurd (omega (arith, lt))
+up_to_at n zero d (c ∷ bs) lt h = h.0
+up_to_at n (suc i) d (c ∷ bs) lt h = up_to_at n i d bs (omega (arith, lt)) h.1
 
 -- ---- one op more
 
@@ -105,8 +105,36 @@ spots_next front at i end begin brackets after ops op now lt is e a n =
 pub spots_done : (front : List Spot) (at i : ℕ) (begin : Bool) (brackets : List OpenBracket) (ops : List OpData) → length ops ≤ i → front ++ spots_from at begin brackets (drop i ops) ≡ front
 spots_done front at i begin brackets ops le = rw (drop_of_length-le ops {i = i} le) (append-nil front)
 
-pub open_faults_next : (start i : ℕ) (b : OpenBracket) (bs : List OpenBracket) (least mid : Option LoadFault) → i < length bs → b ≡ get_or bs i b → mid ≡ with_faults least ((start + b.at, 8) ∷ []) → with_faults mid (open_faults start (drop (i + 1) bs)) ≡ with_faults least (open_faults start (drop i bs))
-open_faults_next start i b bs least mid lt is m =
-    ap (λ (z : Option LoadFault). with_faults z (open_faults start (drop (i + 1) bs))) m
+one_fault : (least : Option LoadFault) (f : ℕ × ℕ) → with_faults least (f ∷ []) ≡ with_fault least f
+unfolding with_faults
+one_fault least f = refl
+
+pub open_faults_next : (start i : ℕ) (d : OpenBracket) (bs : List OpenBracket) (least mid : Option LoadFault) → i < length bs → mid ≡ with_fault least (start + (get_or bs i d).at, 8) → with_faults mid (open_faults start (drop (i + 1) bs)) ≡ with_faults least (open_faults start (drop i bs))
+open_faults_next start i d bs least mid lt m =
+    let b = get_or bs i d in
+    let cut : drop i bs ≡ b ∷ drop (i + 1) bs = rw add-one (drop-cons bs i d lt) in
+    ap (λ (z : Option LoadFault). with_faults z (open_faults start (drop (i + 1) bs))) (m ∙ sym (one_fault least (start + b.at, 8)))
     ∙ sym (with_more least ((start + b.at, 8) ∷ []) (open_faults start (drop (i + 1) bs)))
-    ∙ sym (ap (λ (z : List OpenBracket). with_faults least (open_faults start z)) (next_of bs i b lt is))
+    ∙ sym (ap (λ (z : List OpenBracket). with_faults least (open_faults start z)) cut)
+
+pub open_faults_done : (start i : ℕ) (bs : List OpenBracket) (least : Option LoadFault) → length bs ≤ i → least ≡ with_faults least (open_faults start (drop i bs))
+unfolding with_faults
+open_faults_done start i bs least le = rw (drop_of_length-le bs {i = i} le) refl
+
+pub room_here : (at i total : ℕ) (ops : List OpData) (op : OpData) → i < length ops → op ≡ get_or ops i op → at + length (code_bytes (drop i ops)) ≡ total → at + size op + length (code_bytes (drop (i + 1) ops)) ≡ total
+room_here at i total ops op lt is h = omega (arith, h, ap (λ (z : List OpData). length (code_bytes z)) (next_of ops i op lt is), code_len op (drop (i + 1) ops))
+
+pub same_place : (around : Around) (ss ss' : List Spot) (start at : ℕ) (stack stack' : List OpenBracket) (before before' : List OpData) (op : OpData) (rest rest' : List OpData) (least : Option LoadFault) → ss ≡ ss' → stack ≡ stack' → before ≡ before' → rest ≡ rest'
+    → with_faults least (op_faults around ss start (record { at = at; brackets = stack; before = before; op = op; rest = rest })) ≡ with_faults least (op_faults around ss' start (record { at = at; brackets = stack'; before = before'; op = op; rest = rest' }))
+same_place around ss ss' start at stack stack' before before' op rest rest' least p q r s = rw (p, q, r, s) refl
+
+pub judge_done : (around : Around) (ss : List Spot) (start at i : ℕ) (stack : List OpenBracket) (before ops : List OpData) (least first result : Option LoadFault) → length ops ≤ i → ss ≡ spots ops
+    → with_faults least (faults_over around ss start (placed at stack before (drop i ops))) ≡ with_faults first (faults_over around ss start (places ops)) → open_behind at stack (drop i ops) ≡ open_behind 0 [] ops
+    → result ≡ with_faults least (open_faults start stack) → result ≡ with_faults first (block_faults around start ops)
+unfolding block_faults
+judge_done around ss start at i stack before ops least first result le s f o r =
+    let done : least ≡ with_faults first (faults_over around (spots ops) start (places ops)) = sym (faults_done around ss start at i stack before ops least le) ∙ f ∙ ap (λ (z : List Spot). with_faults first (faults_over around z start (places ops))) s in
+    let stack_is : stack ≡ open_behind 0 [] ops = sym (open_done at i stack ops le) ∙ o in
+    r ∙ ap (λ (z : Option LoadFault). with_faults z (open_faults start stack)) done
+    ∙ ap (λ (z : List OpenBracket). with_faults (with_faults first (faults_over around (spots ops) start (places ops))) (open_faults start z)) stack_is
+    ∙ sym (with_more first (faults_over around (spots ops) start (places ops)) (open_faults start (open_behind 0 [] ops)))

@@ -32,7 +32,7 @@ impl Model for Statement {
 }
 
 /// The op codes of open brackets, if they are at most seven.
-fn few(stack: &[OpenBracket]) -> Option<ArrayVec<u8, 7>>
+pub(crate) fn few(stack: &[OpenBracket]) -> Option<ArrayVec<u8, 7>>
     ensures { option_map (λ v. v.items) result ≡ few stack.now }
 {
     if stack.len() > 7 {
@@ -46,9 +46,10 @@ fn few(stack: &[OpenBracket]) -> Option<ArrayVec<u8, 7>>
 }
 
 /// The open brackets behind an op.
-fn open(stack: &mut Vec<OpenBracket>, at: u32, code: u8) -> Result<(), NoMemory>
-    ensures { OnOk result (stack.new.items ≡ opened at code stack.old.items) }
+pub(crate) fn open(stack: &mut Vec<OpenBracket>, at: u32, op: &Op) -> Result<(), NoMemory>
+    ensures { OnOk result (stack.new.items ≡ opened at op.now.code stack.old.items) }
 {
+    let code = op.code;
     if 0x18 <= code && code <= 0x1D {
         stack.push(OpenBracket { at, code })?;
         return Ok(());
@@ -59,8 +60,15 @@ fn open(stack: &mut Vec<OpenBracket>, at: u32, code: u8) -> Result<(), NoMemory>
     Ok(())
 }
 
+/// Whether an op ends its statement.
+pub(crate) fn is_last(op: &Op) -> bool
+    ensures { result ≡ op.now.last }
+{
+    op.last
+}
+
 /// The ops of the statement before the next op.
-fn prepare(before: &mut Vec<Op>, op: &Op) -> Result<(), NoMemory>
+pub(crate) fn prepare(before: &mut Vec<Op>, op: &Op) -> Result<(), NoMemory>
     ensures { OnOk result (before.new.items ≡ before_next op.now before.old.items) }
 {
     if op.last {
@@ -71,7 +79,7 @@ fn prepare(before: &mut Vec<Op>, op: &Op) -> Result<(), NoMemory>
     Ok(())
 }
 
-fn same_codes(codes: &[u8], others: &[u8]) -> bool
+pub(crate) fn same_codes(codes: &[u8], others: &[u8]) -> bool
     ensures { result ≡ same_codes codes.now others.now }
 {
     let mut rest = others;
@@ -90,7 +98,7 @@ fn same_codes(codes: &[u8], others: &[u8]) -> bool
 }
 
 /// The brackets that stand open at the statement of an offset.
-fn statement_at(statements: &[Statement], at: u32) -> Option<&Statement>
+pub(crate) fn statement_at(statements: &[Statement], at: u32) -> Option<&Statement>
     ensures { option_map (λ s. s.now.codes) result ≡ spot_at statements.now at }
 {
     for statement in statements {
@@ -101,20 +109,20 @@ fn statement_at(statements: &[Statement], at: u32) -> Option<&Statement>
     None
 }
 
-fn seven_if(faulty: bool) -> Option<u16>
+pub(crate) fn seven_if(faulty: bool) -> Option<u16>
     ensures { result ≡ seven_if faulty }
 {
     if faulty { Some(7) } else { None }
 }
 
-fn mark_fault(op: &Op) -> Option<u16>
+pub(crate) fn mark_fault(op: &Op) -> Option<u16>
     ensures { result ≡ mark_fault op.now }
 {
     let prepares = op.code == 2 || op.code == 4;
     seven_if(if prepares { op.last } else { !op.last })
 }
 
-fn bracket_fault(code: u8, stack: &[OpenBracket]) -> Option<u16>
+pub(crate) fn bracket_fault(code: u8, stack: &[OpenBracket]) -> Option<u16>
     ensures { result ≡ bracket_fault code stack.now }
 {
     if 0x18 <= code && code <= 0x1D {
@@ -137,7 +145,7 @@ fn is_none_open(stack: &[OpenBracket]) -> bool
 
 /// The lesser of the fault so far and one at an offset, if there is one.
 #[tactic(auto, unfolding(crate::specs::Least::with_faults))]
-fn lesser_if(least: Option<LoadFault>, at: u32, code: Option<u16>) -> Option<LoadFault>
+pub(crate) fn lesser_if(least: Option<LoadFault>, at: u32, code: Option<u16>) -> Option<LoadFault>
     ensures { result ≡ with_faults least (at_offset at code) }
 {
     match code {

@@ -14,6 +14,7 @@ mod reader;
 mod records;
 mod stops;
 mod surroundings;
+mod verifying;
 mod whole;
 
 pub use faults::LoadFault;
