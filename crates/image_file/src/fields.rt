@@ -13,6 +13,7 @@ impl Reader<'_> {
         requires { self.old.at + length self.old.rest.now < 2 ^ 32 }
         ensures read { seen (λ n. n) result self.new ≡ run plain_u16 (place_of self.old) (log_of self.old) }
         ensures all { self.new.at + length self.new.rest.now ≡ self.old.at + length self.old.rest.now }
+        ensures step { OnOk result (self.new.at ≡ self.old.at + 2) }
     {
         let number = self.u16()?;
         Ok(number)
@@ -34,6 +35,7 @@ impl Reader<'_> {
         requires { self.old.at + length self.old.rest.now < 2 ^ 32 }
         ensures read { seen (λ n. n) result self.new ≡ run zero_u8 (place_of self.old) (log_of self.old) }
         ensures all { self.new.at + length self.new.rest.now ≡ self.old.at + length self.old.rest.now }
+        ensures step { OnOk result (self.new.at ≡ self.old.at + 1) }
     {
         let at = self.at;
         let number = self.u8()?;
@@ -59,6 +61,7 @@ impl Reader<'_> {
         requires { self.old.at + length self.old.rest.now < 2 ^ 32 }
         ensures read { seen (λ n. n) result self.new ≡ run width_field (place_of self.old) (log_of self.old) }
         ensures all { self.new.at + length self.new.rest.now ≡ self.old.at + length self.old.rest.now }
+        ensures step { OnOk result (self.new.at ≡ self.old.at + 1) }
     {
         let at = self.at;
         let number = self.u8()?;
@@ -71,6 +74,7 @@ impl Reader<'_> {
         requires { self.old.at + length self.old.rest.now < 2 ^ 32 }
         ensures read { seen (λ n. n) result self.new ≡ run section_field (place_of self.old) (log_of self.old) }
         ensures all { self.new.at + length self.new.rest.now ≡ self.old.at + length self.old.rest.now }
+        ensures step { OnOk result (self.new.at ≡ self.old.at + 1) }
     {
         let at = self.at;
         let number = self.u8()?;
@@ -83,6 +87,7 @@ impl Reader<'_> {
         requires { self.old.at + length self.old.rest.now < 2 ^ 32 }
         ensures read { seen (λ n. n) result self.new ≡ run (parameter_byte kind instance width) (place_of self.old) (log_of self.old) }
         ensures all { self.new.at + length self.new.rest.now ≡ self.old.at + length self.old.rest.now }
+        ensures step { OnOk result (self.new.at ≡ self.old.at + 2) }
     {
         let at = self.at;
         let number = self.u16()?;
@@ -95,6 +100,7 @@ impl Reader<'_> {
         requires { self.old.at + length self.old.rest.now < 2 ^ 32 }
         ensures read { seen (λ n. n) result self.new ≡ run (parameter_bit kind) (place_of self.old) (log_of self.old) }
         ensures all { self.new.at + length self.new.rest.now ≡ self.old.at + length self.old.rest.now }
+        ensures step { OnOk result (self.new.at ≡ self.old.at + 1) }
     {
         let at = self.at;
         let number = self.u8()?;
@@ -107,6 +113,7 @@ impl Reader<'_> {
         requires { self.old.at + length self.old.rest.now < 2 ^ 32 }
         ensures read { seen (λ n. n) result self.new ≡ run (kind_field before) (place_of self.old) (log_of self.old) }
         ensures all { self.new.at + length self.new.rest.now ≡ self.old.at + length self.old.rest.now }
+        ensures step { OnOk result (self.new.at ≡ self.old.at + 1) }
     {
         let at = self.at;
         let number = self.u8()?;
@@ -119,6 +126,7 @@ impl Reader<'_> {
         requires { self.old.at + length self.old.rest.now < 2 ^ 32 }
         ensures read { seen (λ n. n) result self.new ≡ run (parameter_count kind) (place_of self.old) (log_of self.old) }
         ensures all { self.new.at + length self.new.rest.now ≡ self.old.at + length self.old.rest.now }
+        ensures step { OnOk result (self.new.at ≡ self.old.at + 1) }
     {
         let at = self.at;
         let number = self.u8()?;
@@ -131,6 +139,7 @@ impl Reader<'_> {
         requires { self.old.at + length self.old.rest.now < 2 ^ 32 }
         ensures read { seen (λ n. n) result self.new ≡ run (block_number kind_before before kind) (place_of self.old) (log_of self.old) }
         ensures all { self.new.at + length self.new.rest.now ≡ self.old.at + length self.old.rest.now }
+        ensures step { OnOk result (self.new.at ≡ self.old.at + 2) }
     {
         let at = self.at;
         let number = self.u16()?;
@@ -143,6 +152,7 @@ impl Reader<'_> {
         requires { self.old.at + length self.old.rest.now < 2 ^ 32 }
         ensures read { seen (λ n. n) result self.new ≡ run (local_bytes kind) (place_of self.old) (log_of self.old) }
         ensures all { self.new.at + length self.new.rest.now ≡ self.old.at + length self.old.rest.now }
+        ensures step { OnOk result (self.new.at ≡ self.old.at + 2) }
     {
         let at = self.at;
         let number = self.u16()?;
@@ -155,6 +165,7 @@ impl Reader<'_> {
         requires { self.old.at + length self.old.rest.now < 2 ^ 32 }
         ensures read { seen (λ n. n) result self.new ≡ run (instance_bytes kind) (place_of self.old) (log_of self.old) }
         ensures all { self.new.at + length self.new.rest.now ≡ self.old.at + length self.old.rest.now }
+        ensures step { OnOk result (self.new.at ≡ self.old.at + 2) }
     {
         let at = self.at;
         let number = self.u16()?;

@@ -64,6 +64,7 @@ impl<'a> Reader<'a> {
         requires { self.old.at + length self.old.rest.now < 2 ^ 32 }
         ensures read { seen (λ n. n) result self.new ≡ run (field a_byte plain) (place_of self.old) (log_of self.old) }
         ensures all { self.new.at + length self.new.rest.now ≡ self.old.at + length self.old.rest.now }
+        ensures step { OnOk result (self.new.at ≡ self.old.at + 1) }
     {
         match self.rest {
             [a, rest @ ..] => {

@@ -1,4 +1,7 @@
 //! The records of an image as they were read, kinds, widths and areas as numbers.
+ghost use Rattle.std.specs.Prelude.{◌+◌, ◌<◌, ◌^◌, length};
+ghost use Rattle.flat_code.specs.Codes.{code_bytes};
+
 use flat_code::{Op, ParameterRecord};
 use std::marker::Model;
 
@@ -66,6 +69,7 @@ impl Model for BlockRead {
 pub(crate) struct Started {
     pub start: u32,
     pub block: BlockRead,
+    ghost fits: { start + length (code_bytes block.code) < 2 ^ 32 },
 }
 
 /// A name and the place of its variable.
