@@ -6,3 +6,4 @@ pub mod LeastLemmas
 pub mod WholeRunLemmas
 pub mod WholeLemmas
 pub mod JudgeLemmas
+pub mod LoadLemmas

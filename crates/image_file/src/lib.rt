@@ -9,6 +9,7 @@ mod faults;
 mod fields;
 pub mod laws;
 mod judging;
+mod loading;
 mod operands;
 mod reader;
 mod records;
