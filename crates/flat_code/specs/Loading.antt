@@ -30,11 +30,15 @@ wholes (Whole start block ∷ notes) = (start, block) ∷ wholes notes
 wholes (AllBlocks blocks ∷ notes) = wholes notes
 
 -- the data blocks, if all blocks were read
+abbrev pub later : Option (List (ℕ × ℕ)) → Option (List (ℕ × ℕ)) → Option (List (ℕ × ℕ))
+later before None = before
+later before (Some lens) = Some lens
+
 abbrev pub all_blocks : List Note → Option (List (ℕ × ℕ))
 all_blocks [] = None
 all_blocks (Faulty at code ∷ notes) = all_blocks notes
 all_blocks (Whole start block ∷ notes) = all_blocks notes
-all_blocks (AllBlocks blocks ∷ notes) = Some (lens_of blocks)
+all_blocks (AllBlocks blocks ∷ notes) = later (Some (lens_of blocks)) (all_blocks notes)
 
 abbrev pub blocks_of : List (ℕ × BlockRecord) → List BlockRecord
 blocks_of [] = []

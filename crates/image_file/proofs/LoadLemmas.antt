@@ -1,13 +1,19 @@
 -- The faults of all blocks that were read.
-use Rattle.std.proofs.Common.{◌≡◌, ℕ, suc, ◌+◌, ◌<◌, ◌≤◌, List, [], ◌∷◌, ◌++◌, map, length, drop, get_or, Option, Some, None, refl, sym, ap, subst, ◌∙◌, arith}
+use Rattle.std.proofs.Common.{append_assoc, ◌≡◌, ℕ, suc, ◌+◌, ◌<◌, ◌≤◌, List, [], ◌∷◌, ◌++◌, map, length, drop, get_or, Option, Some, None, refl, sym, ap, subst, ◌∙◌, arith}
 use Rattle.std.proofs.Math.ListN.{drop_of_length-le}
-use Rattle.flat_code.specs.Records.{BlockRecord}
+use Rattle.std.specs.Option.{option_map}
+use Rattle.std.proofs.lemmas.List.{append-nil}
+use Rattle.flat_code.specs.Programs.{DataBlock, Program}
+use Rattle.flat_code.specs.Records.{BlockRecord, NameRecord, Records}
+use Rattle.flat_code.specs.Layout.{Note, Faulty, Whole, AllBlocks, Cursor, Read, faults_in}
+use Rattle.flat_code.specs.Image.{program_of, read_image}
 use Rattle.flat_code.specs.Blocks.{Signature, signature_of, Around, block_faults}
-use Rattle.flat_code.specs.Loading.{around, judged_blocks}
+use Rattle.flat_code.specs.Loading.{around, judged_blocks, lens_of, later, wholes, all_blocks, blocks_of, faults_of}
 use Rattle.image_file.specs.declared.faults.LoadFault.{LoadFault}
 use Rattle.image_file.specs.declared.records.Started.{Started}
 use Rattle.image_file.specs.Least.{with_faults}
-use Rattle.image_file.specs.Running.{started}
+use Rattle.image_file.specs.declared.reader.Reader.{Reader}
+use Rattle.image_file.specs.Running.{started, with_wholes, with_all, Log, logged, Ran, Goes, Stops, ran, ran_read, log_of, SeesNames, HasFound}
 use Rattle.image_file.proofs.RunLemmas.{with_more}
 use Rattle.image_file.proofs.JudgeLemmas.{next_of}
 
@@ -28,3 +34,79 @@ judged_next lens signatures all bs i s least mid lt is known m =
 pub judged_done : (lens : Lens) (all : List BlockRecord) (bs : List Started) (i : ℕ) (least : Option LoadFault) → length bs ≤ i → least ≡ with_faults least (judged_blocks lens all (map started (drop i bs)))
 unfolding with_faults
 judged_done lens all bs i least le = rw (drop_of_length-le bs {i = i} le) refl
+
+-- ---- what one pass keeps
+
+wholes_kept : (bs : List (ℕ × BlockRecord)) (notes : List Note) → with_wholes bs notes ≡ bs ++ wholes notes
+wholes_kept bs [] = sym (append-nil bs)
+wholes_kept bs (Faulty at code ∷ notes) = wholes_kept bs notes
+wholes_kept bs (Whole start block ∷ notes) = wholes_kept (bs ++ (start, block) ∷ []) notes ∙ append_assoc bs ((start, block) ∷ []) (wholes notes)
+wholes_kept bs (AllBlocks datas ∷ notes) = wholes_kept bs notes
+
+lens_in : Option (List DataBlock) → Lens
+lens_in datas = option_map lens_of datas
+
+later_some : (d : Lens) (l : List (ℕ × ℕ)) (a : Lens) → later (Some l) a ≡ later d (later (Some l) a)
+later_some d l None = refl
+later_some d l (Some m) = refl
+
+datas_kept : (d : Option (List DataBlock)) (notes : List Note) → lens_in (with_all d notes) ≡ later (lens_in d) (all_blocks notes)
+unfolding lens_in
+datas_kept d [] = refl
+datas_kept d (Faulty at code ∷ notes) = datas_kept d notes
+datas_kept d (Whole start block ∷ notes) = datas_kept d notes
+datas_kept d (AllBlocks found ∷ notes) = datas_kept (Some found) notes ∙ later_some (option_map lens_of d) (lens_of found) (all_blocks notes)
+
+later_none : (a : Lens) → later None a ≡ a
+later_none None = refl
+later_none (Some l) = refl
+
+abbrev empty_log : Log
+empty_log = record { least = None; blocks = []; datas = None }
+
+-- reading told all that it kept
+record Kept (text : List ℕ) (log : Log) : Type 0 where
+  least : log.least ≡ with_faults None (faults_in (read_image text).notes)
+  blocks : log.blocks ≡ wholes (read_image text).notes
+  datas : option_map lens_of log.datas ≡ all_blocks (read_image text).notes
+
+kept_by : (text : List ℕ) (log : Log) → log ≡ logged empty_log (read_image text).notes → Kept text log
+unfolding logged lens_in
+kept_by text log e = record {
+  least = ap (λ (z : Log). z.least) e;
+  blocks = ap (λ (z : Log). z.blocks) e ∙ wholes_kept [] (read_image text).notes;
+  datas = ap (λ (z : Log). option_map lens_of z.datas) e ∙ datas_kept None (read_image text).notes ∙ later_none (all_blocks (read_image text).notes);
+}
+
+goes_found : (o : Option (Program × Cursor)) (p : Program) (end : Cursor) (log all : Log) → Goes p end log ≡ ran o all → (o ≡ Some (p, end)) × (log ≡ all)
+goes_found None p end log all e = absurd cc
+goes_found (Some x) p end log all e = (cc, cc)
+
+stops_found : (o : Option (Program × Cursor)) (log all : Log) → ◌≡◌ {A = Ran Program} (Stops log) (ran o all) → (o ≡ None) × (log ≡ all)
+stops_found None log all e = (refl, cc)
+stops_found (Some x) log all e = absurd cc
+
+kept_of : (names : Option (List NameRecord)) (r : Reader) (text : List ℕ) → SeesNames names r (ran_read (read_image text) empty_log) → Kept text (log_of r)
+unfolding ran_read
+kept_of None r text h = kept_by text (log_of r) (stops_found (read_image text).found (log_of r) (logged empty_log (read_image text).notes) h).1
+kept_of (Some names) r text h = kept_by text (log_of r) (goes_found (read_image text).found (program_of h.0) h.1 (log_of r) (logged empty_log (read_image text).notes) h.2).1
+
+pub found_of : (names : Option (List NameRecord)) (r : Reader) (text : List ℕ) → SeesNames names r (ran_read (read_image text) empty_log) → HasFound text (map started r.blocks.items) (option_map (λ v. v.items) r.datas) names
+unfolding ran_read
+found_of None r text h = (stops_found (read_image text).found (log_of r) (logged empty_log (read_image text).notes) h).0
+found_of (Some names) r text h =
+    let g = goes_found (read_image text).found (program_of h.0) h.1 (log_of r) (logged empty_log (read_image text).notes) h.2 in
+    let k = kept_by text (log_of r) g.1 in
+    (h.0, h.1, g.0, h.3, k.blocks, k.datas)
+
+-- the least of all faults
+pub least_of : (names : Option (List NameRecord)) (r : Reader) (text : List ℕ) (lens : Lens) (result : Option LoadFault) → SeesNames names r (ran_read (read_image text) empty_log) → lens ≡ option_map lens_of (option_map (λ v. v.items) r.datas)
+    → result ≡ with_faults r.least (judged_blocks lens (blocks_of (map started r.blocks.items)) (map started r.blocks.items)) → result ≡ with_faults None (faults_of text)
+unfolding faults_of
+least_of names r text lens result h l e =
+    let k = kept_of names r text h in
+    let notes = (read_image text).notes in
+    e ∙ ap (λ (z : Option LoadFault). with_faults z (judged_blocks lens (blocks_of (map started r.blocks.items)) (map started r.blocks.items))) k.least
+    ∙ ap (λ (z : List (ℕ × BlockRecord)). with_faults (with_faults None (faults_in notes)) (judged_blocks lens (blocks_of z) z)) k.blocks
+    ∙ ap (λ (z : Lens). with_faults (with_faults None (faults_in notes)) (judged_blocks z (blocks_of (wholes notes)) (wholes notes))) (l ∙ k.datas)
+    ∙ sym (with_more None (faults_in notes) (judged_blocks (all_blocks notes) (blocks_of (wholes notes)) (wholes notes)))

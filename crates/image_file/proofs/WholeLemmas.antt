@@ -14,7 +14,7 @@ use Rattle.flat_code.specs.Image.{plain, plain_u16, plain_u32, zero_u8, zero_u16
 use Rattle.flat_code.specs.declared.image_fields.OpenBracket.{OpenBracket}
 use Rattle.flat_code.specs.Placed.{Placed, Spot, spots, places, open_behind}
 use Rattle.flat_code.specs.Blocks.{Around, operand_fault, call_fault, mark_fault, bracket_fault, at_offset, op_faults, faults_over, open_faults, block_faults}
-use Rattle.flat_code.specs.Loading.{lens_of, around, wholes, all_blocks, blocks_of, judged_blocks, faults_in_notes, faults_of, Gives, AreVerified, Verifies, IsLoadable}
+use Rattle.flat_code.specs.Loading.{lens_of, later, around, wholes, all_blocks, blocks_of, judged_blocks, faults_in_notes, faults_of, Gives, AreVerified, Verifies, IsLoadable}
 use Rattle.flat_code.proofs.CodingLemmas.{IsBytes}
 use Rattle.image_file.proofs.LayoutLemmas.{at_place, Finds, no_faults}
 use Rattle.image_file.proofs.ImageLemmas.{image_again, image_takes, records_back, records_laid, front_laid, bytes_taken}
@@ -26,13 +26,8 @@ Lens = Option (List (ℕ × ℕ))
 abbrev Told : Type 0
 Told = List BlockRecord × Lens
 
-first : Lens → Lens → Lens
-first None other = other
-first (Some lens) other = Some lens
-
 join : Told → Told → Told
-unfolding first
-join a b = (a.0 ++ b.0, first a.1 b.1)
+join a b = (a.0 ++ b.0, later a.1 b.1)
 
 nothing : Told
 nothing = ([], None)
@@ -49,29 +44,31 @@ wholes-append (Faulty at code ∷ a) b = wholes-append a b
 wholes-append (Whole start block ∷ a) b = ap (λ (z : List BlockRecord). block ∷ z) (wholes-append a b)
 wholes-append (AllBlocks blocks ∷ a) b = wholes-append a b
 
-all-append : (a b : List Note) → all_blocks (a ++ b) ≡ first (all_blocks a) (all_blocks b)
-unfolding first
-all-append [] b = refl
+later-assoc : (a b c : Lens) → later a (later b c) ≡ later (later a b) c
+later-assoc a b None = refl
+later-assoc a b (Some lens) = refl
+
+later-none : (a : Lens) → later None a ≡ a
+later-none None = refl
+later-none (Some lens) = refl
+
+all-append : (a b : List Note) → all_blocks (a ++ b) ≡ later (all_blocks a) (all_blocks b)
+all-append [] b = sym (later-none (all_blocks b))
 all-append (Faulty at code ∷ a) b = all-append a b
 all-append (Whole start block ∷ a) b = all-append a b
-all-append (AllBlocks blocks ∷ a) b = refl
+all-append (AllBlocks blocks ∷ a) b = ap (later (Some (lens_of blocks))) (all-append a b) ∙ later-assoc (Some (lens_of blocks)) (all_blocks a) (all_blocks b)
 
 told-append : (a b : List Note) → told_in (a ++ b) ≡ join (told_in a) (told_in b)
 unfolding told_in join
 told-append a b = pairs (wholes-append a b) (all-append a b)
 
-first-none : (a : Lens) → first a None ≡ a
-unfolding first
-first-none None = refl
-first-none (Some lens) = refl
-
 join-nothing : (a : Told) → join a nothing ≡ a
 unfolding join nothing
-join-nothing a = pairs (append-nil a.0) (first-none a.1)
+join-nothing a = pairs (append-nil a.0) refl
 
 nothing-join : (a : Told) → join nothing a ≡ a
-unfolding join nothing first
-nothing-join a = refl
+unfolding join nothing
+nothing-join a = pairs refl (later-none a.1)
 
 none_noted : (at : ℕ) (o : Option ℕ) → told_in (noted at o) ≡ nothing
 unfolding told_in nothing
@@ -240,7 +237,7 @@ unfolding code_block plain_block
 code_block_notes before = located_notes (code_block_at true before) one (λ at. remembered_notes (whole_at at) (plain_block true before at) one (one_block at) (seen_notes block_of_raw raw_of_block (raw_block true before at) (λ x. nothing) (λ b. nothing) (λ x. refl) (raw_block_notes before at)))
 
 singles : (bs : List BlockRecord) → all_of one bs ≡ (bs, None)
-unfolding all_of one join nothing first
+unfolding all_of one join nothing
 singles [] = refl
 singles (b ∷ bs) = ap (λ (z : Told). let y : Told = (b ∷ z.0, z.1) in y) (singles bs)
 
@@ -301,7 +298,7 @@ told_of : Records → Told
 told_of r = (r.code_blocks, Some (lens_of r.data_blocks))
 
 records_told : (x : RawRecords) → join nothing (blocks_and_names x.1) ≡ told_of (records_of_raw x)
-unfolding join nothing first all_told told_of
+unfolding join nothing all_told told_of
 records_told x = pairs (append-nil x.1.0) refl
 
 records_notes : Notes Records (records true) told_of

@@ -1,22 +1,25 @@
 //! Bytes judged as an image: read in one pass, and then the ops of each block.
-ghost use Rattle.std.specs.Prelude.{◌≡◌, ◌++◌, ◌∷◌, [], ◌+◌, ◌<◌, ◌^◌, length, map, IfOk, OnOk, None};
+ghost use Rattle.std.specs.Prelude.{◌≡◌, ◌++◌, ◌∷◌, [], ◌+◌, ◌<◌, ◌^◌, length, map, IfOk, None};
 ghost use Rattle.std.specs.Option.{option_map};
 ghost use Rattle.flat_code.specs.Blocks.{signature_of, block_faults};
 ghost use Rattle.flat_code.specs.Loading.{lens_of, blocks_of, judged_blocks, faults_of};
 ghost use Rattle.image_file.specs.Judging.{around_of};
 ghost use Rattle.image_file.specs.Least.{with_faults};
-ghost use Rattle.image_file.specs.Running.{started};
+ghost use Rattle.flat_code.specs.Image.{read_image};
+ghost use Rattle.image_file.specs.Running.{started, ran_read, log_of, SeesNames, HasFound};
 
 
 use crate::faults::LoadFault;
 
-use crate::records::{BlockRead, Started};
+use crate::reader::Reader;
+use crate::records::{BlockRead, NameRead, Started};
+use crate::stops::Stop;
 
 use crate::surroundings::{SignatureRead, Surroundings};
 use crate::verifying::judge_block;
 use flat_code::DataBlock;
 use plc_base::NoMemory;
-use std::alloc::Global;
+use std::alloc::{AllocError, Global};
 
 /// What a CALL sees of a block.
 fn signature(alloc: Global, block: &BlockRead) -> Result<SignatureRead, NoMemory>
@@ -42,16 +45,38 @@ fn signatures(alloc: Global, blocks: &[Started]) -> Result<Vec<SignatureRead>, N
     Ok(signatures)
 }
 
-/// The number of a data block and its length, which is below 65,536.
-fn key_of(block: &DataBlock) -> (u16, u16)
-    requires { length block.now.bytes < 2 ^ 16 }
+/// The number of a data block and its length.
+fn key_of(block: &DataBlock) -> (u16, usize)
     ensures { result ≡ (block.now.number, length block.now.bytes) }
 {
-    (block.number, block.bytes.len() as u16)
+    (block.number, block.bytes.len())
+}
+
+fn lens_of(alloc: Global, blocks: &[DataBlock]) -> Result<Vec<(u16, usize)>, NoMemory>
+    ensures { IfOk result (λ v. v.items ≡ lens_of blocks.now) }
+{
+    let mut lens = Vec::new(alloc);
+    for block in blocks {
+        lens.push(key_of(block))?;
+    }
+    Ok(lens)
+}
+
+/// The numbers and lengths of the data blocks, if all blocks were read.
+fn data_lens(alloc: Global, datas: &Option<Vec<DataBlock>>) -> Result<Option<Vec<(u16, usize)>>, NoMemory>
+    ensures { IfOk result (λ l. option_map (λ v. v.items) l ≡ option_map (λ v. lens_of v.items) datas.now) }
+{
+    match datas {
+        None => Ok(None),
+        Some(blocks) => {
+            let lens = lens_of(alloc, blocks.as_slice())?;
+            Ok(Some(lens))
+        }
+    }
 }
 
 /// A list as a slice.
-fn slice_of(lens: &Option<Vec<(u16, u16)>>) -> Option<&[(u16, u16)]>
+fn slice_of(lens: &Option<Vec<(u16, usize)>>) -> Option<&[(u16, usize)]>
     ensures { option_map (λ d. d.now) result ≡ option_map (λ d. d.items) lens.now }
 {
     match lens {
@@ -61,7 +86,7 @@ fn slice_of(lens: &Option<Vec<(u16, u16)>>) -> Option<&[(u16, u16)]>
 }
 
 /// The lesser of the fault so far and those of the ops of blocks.
-fn judge_blocks(alloc: Global, signatures: &[SignatureRead], lens: &Option<Vec<(u16, u16)>>, blocks: &[Started], least: Option<LoadFault>) -> Result<Option<LoadFault>, NoMemory>
+fn judge_blocks(alloc: Global, signatures: &[SignatureRead], lens: &Option<Vec<(u16, usize)>>, blocks: &[Started], least: Option<LoadFault>) -> Result<Option<LoadFault>, NoMemory>
     requires { signatures.now ≡ map signature_of (blocks_of (map started blocks.now)) }
     ensures { IfOk result (λ l. l ≡ with_faults least (judged_blocks (option_map (λ d. d.items) lens.now) (blocks_of (map started blocks.now)) (map started blocks.now))) }
 {
@@ -73,7 +98,7 @@ fn judge_blocks(alloc: Global, signatures: &[SignatureRead], lens: &Option<Vec<(
 }
 
 /// The lesser of the fault so far and those of the ops of a block.
-fn judge_started(alloc: Global, signatures: &[SignatureRead], lens: &Option<Vec<(u16, u16)>>, started: &Started, least: Option<LoadFault>) -> Result<Option<LoadFault>, NoMemory>
+fn judge_started(alloc: Global, signatures: &[SignatureRead], lens: &Option<Vec<(u16, usize)>>, started: &Started, least: Option<LoadFault>) -> Result<Option<LoadFault>, NoMemory>
     ensures { IfOk result (λ l. l ≡ with_faults least (block_faults (record {
         kind = started.now.block.kind;
         local_len = started.now.block.local_len;
@@ -91,4 +116,38 @@ fn judge_started(alloc: Global, signatures: &[SignatureRead], lens: &Option<Vec<
         data_lens: slice_of(lens),
     };
     judge_block(alloc, &around, started.start, block.code.as_slice(), least)
+}
+
+/// What was read of bytes, and the least of their faults. Where they have none, all was read.
+#[derive(Drop)]
+pub(crate) struct Judged {
+    pub least: Option<LoadFault>,
+    pub blocks: Vec<Started>,
+    pub datas: Option<Vec<DataBlock>>,
+    pub names: Option<Vec<NameRead>>,
+}
+
+/// Reads bytes as an image and judges them.
+pub(crate) fn judge(alloc: Global, bytes: &[u8]) -> Result<Judged, NoMemory>
+    ensures least { IfOk result (λ j. j.least ≡ with_faults None (faults_of bytes.now)) }
+    ensures found { IfOk result (λ j. HasFound bytes.now (map started j.blocks.items) (option_map (λ v. v.items) j.datas) (option_map (λ v. v.items) j.names)) }
+{
+    let mut reader = Reader { rest: bytes, at: 0, least: None, blocks: Vec::new(alloc), datas: None };
+    let names = read_names(alloc, &mut reader)?;
+    let signatures = signatures(alloc, reader.blocks.as_slice())?;
+    let lens = data_lens(alloc, &reader.datas)?;
+    let least = judge_blocks(alloc, signatures.as_slice(), &lens, reader.blocks.as_slice(), reader.least)?;
+    Ok(Judged { least, blocks: reader.blocks, datas: reader.datas, names })
+}
+
+/// The names, or none where reading ended at a fault.
+fn read_names(alloc: Global, reader: &mut Reader) -> Result<Option<Vec<NameRead>>, NoMemory>
+    requires { reader.old.at ≡ 0 }
+    ensures { IfOk result (λ n. SeesNames (option_map (λ v. v.items) n) reader.new (ran_read (read_image reader.old.rest.now) (log_of reader.old))) }
+{
+    match reader.image(alloc) {
+        Ok(names) => Ok(Some(names)),
+        Err(Stop::AtFault) => Ok(None),
+        Err(Stop::NoMemory) => Err(AllocError),
+    }
 }

@@ -37,7 +37,7 @@ pub(crate) struct Surroundings<'a> {
     pub local_len: u16,
     pub params: &'a [ParameterRecord],
     pub blocks: &'a [SignatureRead],
-    pub data_lens: Option<&'a [(u16, u16)]>,
+    pub data_lens: Option<&'a [(u16, usize)]>,
 }
 
 static SET_TINT: [ParameterRecord; 4] = [
@@ -98,7 +98,7 @@ fn block_with(blocks: &[SignatureRead], kind: u8, number: u16) -> Option<(u8, u1
 }
 
 /// The length of the first data block of a number.
-pub(crate) fn data_len(number: u16, lens: &[(u16, u16)]) -> Option<u16>
+pub(crate) fn data_len(number: u16, lens: &[(u16, usize)]) -> Option<usize>
     ensures { result ≡ data_len number lens.now }
 {
     for data in lens {

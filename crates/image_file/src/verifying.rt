@@ -112,7 +112,7 @@ fn operand_fault(around: &Surroundings, statements: &[Statement], op: &Op, place
     }
 }
 
-fn call_fault_among(around: &Surroundings, lens: &[(u16, u16)], op: &Op, place: &Place) -> Option<u16>
+fn call_fault_among(around: &Surroundings, lens: &[(u16, usize)], op: &Op, place: &Place) -> Option<u16>
     ensures { result ≡ call_fault_among (around_of around.now) lens.now (placed_of op.now place.now) op.now.operand }
 {
     match op.operand {
