@@ -24,10 +24,6 @@ from_bcd_word r =
 unfoldable pub from_bcd_dword : Regs → Option Regs
 from_bcd_dword r = option_map (λ n. record r { a1 = modulo 32 n }) (signed_of_bcd 7 r.a1)
 
--- BTI and BTD give the registers where there are some, and else answer an error and change nothing
-abbrev pub Converts : {E : Type 0} → (given : Option Regs) (old new : Regs) → Result (Unit {0}) E → Type 0
-Converts given old new result = MatchResult result (λ _. given ≡ Some new) (λ _. (given ≡ None) × (new ≡ old))
-
 -- OV as given; OS becomes 1 with it, and else is kept
 abbrev pub with_overflow : Bool → Status → Status
 with_overflow ov s = record s { ov = ov; os = s.os || ov }

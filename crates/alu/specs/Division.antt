@@ -17,6 +17,7 @@ quotient dividend divisor =
 abbrev pub remainder : (dividend divisor : ℤ) → ℤ
 remainder dividend divisor = dividend -ℤ quotient dividend divisor *ℤ divisor
 
+-- whether an integer is 0
 abbrev pub is_zero : ℤ → Bool
 is_zero z = unsigned_abs z == 0
 

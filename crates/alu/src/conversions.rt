@@ -1,7 +1,8 @@
 ghost use Rattle.std.specs.Prelude.{◌≡◌, ◌<◌, ◌^◌};
 ghost use Rattle.std.specs.Option.{ForSome};
 ghost use Rattle.alu.specs.Signed.{width_of};
-ghost use Rattle.alu.specs.Conversions.{inverted, widened, from_bcd_word, from_bcd_dword, to_bcd_word, to_bcd_dword, with_bcd, with_overflow, Converts};
+ghost use Rattle.plc_base.specs.Changes.{ChangesOrStays};
+ghost use Rattle.alu.specs.Conversions.{inverted, widened, from_bcd_word, from_bcd_dword, to_bcd_word, to_bcd_dword, with_bcd, with_overflow};
 
 use crate::formats::{Format, dint_of, int_of, low_dword, word_of};
 use plc_base::{BadBcd, bcd_to_int, bcd7_to_dint, dint_to_bcd7, int_to_bcd};
@@ -40,7 +41,7 @@ pub fn itd(r: &mut Regs)
 /// changed then.
 #[tactic(auto, unfolding(crate::specs::Conversions::from_bcd_word))]
 pub fn bti(r: &mut Regs) -> Result<(), BadBcd>
-    ensures { Converts (from_bcd_word r.old) r.old r.new result }
+    ensures { ChangesOrStays (from_bcd_word r.old) r.old r.new result }
 {
     let number = bcd_to_int(word_of(r.a1))?;
     r.a1 = Format::Int.put(r.a1, i64::from(number));
@@ -55,7 +56,7 @@ pub fn bti(r: &mut Regs) -> Result<(), BadBcd>
 /// changed then.
 #[tactic(auto, unfolding(crate::specs::Conversions::from_bcd_dword))]
 pub fn btd(r: &mut Regs) -> Result<(), BadBcd>
-    ensures { Converts (from_bcd_dword r.old) r.old r.new result }
+    ensures { ChangesOrStays (from_bcd_dword r.old) r.old r.new result }
 {
     let number = bcd7_to_dint(r.a1)?;
     r.a1 = low_dword(i64::from(number));

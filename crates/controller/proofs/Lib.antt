@@ -1,7 +1,8 @@
 pub mod ThinLemmas
-pub mod OutputLemmas
 pub mod StepLemmas
 pub mod StackLemmas
-pub mod QueueLemmas
+pub mod RequestLemmas
+pub mod ArrivalLemmas
+pub mod CountLemmas
 pub mod ObservingLemmas
 pub mod ReplayLemmas

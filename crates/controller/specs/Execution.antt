@@ -6,18 +6,18 @@ use Rattle.status_word.specs.declared.Regs.{Regs}
 use Rattle.controller.specs.declared.activations.Activation as code
 use Rattle.controller.specs.declared.execution.Ending.{Ending}
 use Rattle.controller.specs.declared.execution.Ending.TheVariants.{Continues, Ends, Fails, HasNoStatement}
-use Rattle.controller.specs.Frames.{Frame, Activation, ob_block}
+use Rattle.controller.specs.Frames.{Frame, Activation, ob_block, nothing_open, fresh_frame, fresh_activation}
 use Rattle.controller.specs.Effect.{Parts}
 use Rattle.controller.specs.Code.{Code}
 use Rattle.controller.specs.Statement.{Outcome, Went, Ended, Failed, Stuck, statement}
 
 -- the frame of an activation of a program of bit logic, with no open bracket
 abbrev pub frame_of : code.Activation → Frame
-frame_of a = record { block = ob_block a.ob; at = a.at; inner = record { brackets = [] } }
+frame_of a = record (fresh_frame (ob_block a.ob)) { at = a.at }
 
 -- such an activation: interrupts aren't delayed, and it has one frame
 abbrev pub activation_of : code.Activation → Activation
-activation_of a = record { class = a.class; ob = a.ob; regs = a.regs; delay = 0; frames = frame_of a ∷ [] }
+activation_of a = record (fresh_activation a.ob a.class) { regs = a.regs; frames = frame_of a ∷ [] }
 
 -- the running activation, then the suspended ones, which the code keeps the other way round
 abbrev pub activations_of : Option code.Activation → List code.Activation → List Activation
@@ -36,7 +36,7 @@ IsStack (Some running) suspended = (running.class ≤ 28) × FallsFrom running.c
 
 -- what an instruction sees in a frame with no open bracket
 abbrev pub parts : Regs → Areas → Parts
-parts regs memory = record { regs = regs; inner = record { brackets = [] }; memory = memory }
+parts regs memory = record { regs = regs; inner = nothing_open; memory = memory }
 
 -- after an instruction registers and memory are those of its effect, or as before where it fails
 abbrev pub Performs : Result Parts ℕ → (before after : Regs) (old new : Areas) → Result (Unit {0}) Missing → Type 0

@@ -29,9 +29,13 @@ pub record Activation : Type 0 where
 abbrev pub ob_block : ℕ → BlockId
 ob_block ob = record { kind = Ob; number = ob }
 
--- a frame as its block begins: nothing is open
+-- no bracket is open
+abbrev pub nothing_open : FrameData
+nothing_open = record { brackets = [] }
+
+-- a frame as its block begins
 abbrev pub fresh_frame : BlockId → Frame
-fresh_frame block = record { block = block; at = 0; inner = record { brackets = [] } }
+fresh_frame block = record { block = block; at = 0; inner = nothing_open }
 
 -- an activation as its organization block begins: all registers and the status word 0, nothing open, nothing delayed
 abbrev pub fresh_activation : (ob class : ℕ) → Activation

@@ -1,10 +1,18 @@
--- The one interrupt that a program of bit logic may have.
-use Rattle.std.specs.Prelude.{ℕ}
-use Rattle.controller.specs.Request.{Request, class_of}
+-- The one interrupt that a program of bit logic may have: OB 40.
+use Rattle.std.specs.Prelude.{ℕ, ◌≡◌, ◌+◌, ◌≤◌, List, [], ◌∷◌, Option, Some, None, drop}
+use Rattle.plc_base.specs.declared.Mode.{Mode}
+use Rattle.controller.specs.declared.requests.Request.{Request}
+use Rattle.controller.specs.Request.{Requests, best_of}
 
--- OB 40, the first of the hardware interrupts, and a request of it
-abbrev pub hardware_ob : ℕ
-hardware_ob = 40
+-- requests of OB 40 whose numbers rise, from a number on, and are below a count
+abbrev pub AreHardware : (least count : ℕ) → List Request → Type 0
+AreHardware least count [] = least ≤ count
+AreHardware least count (r ∷ rest) = (r.ob ≡ 40) × (least ≤ r.arrival) × AreHardware (r.arrival + 1) count rest
 
-abbrev pub hardware_request : Request
-hardware_request = record { ob = hardware_ob; class = class_of hardware_ob }
+-- the best request is the first one; there is none where nothing waits
+abbrev pub IsBest : Mode → List Request → Option Request → Type 0
+IsBest mode pending None = best_of mode pending ≡ None
+IsBest mode pending (Some best) = best_of mode pending ≡ Some (best, drop 1 pending)
+
+abbrev pub without_first : Requests → Requests
+without_first requests = record requests { pending = drop 1 requests.pending }

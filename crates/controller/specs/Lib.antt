@@ -13,7 +13,6 @@ pub mod Recorded
 pub mod ThinCode
 pub mod Program
 pub mod Fetching
-pub mod Observing
 pub mod Execution
 pub mod Processing
 pub mod Kept

@@ -4,14 +4,15 @@ use Rattle.std.specs.List.{list_all}
 use Rattle.plc_base.specs.declared.Area.{Area}
 use Rattle.plc_base.specs.declared.Area.TheVariants.{P, I, Q, M, Db, Di, L}
 use Rattle.plc_base.specs.declared.Place.{Place}
+use Rattle.plc_base.specs.AreaBytes.{has_byte}
 use Rattle.controller.specs.declared.programs.ThinOb.{ThinOb}
 
 -- whether a byte of this number exists in I (0 to 127), Q (0 to 127) or M (0 to 255)
 abbrev pub is_image_byte : Area → ℕ → Bool
 is_image_byte P byte = false
-is_image_byte I byte = nat_lt byte 128
-is_image_byte Q byte = nat_lt byte 128
-is_image_byte M byte = nat_lt byte 256
+is_image_byte I byte = has_byte I byte
+is_image_byte Q byte = has_byte Q byte
+is_image_byte M byte = has_byte M byte
 is_image_byte Db byte = false
 is_image_byte Di byte = false
 is_image_byte L byte = false

@@ -1,5 +1,5 @@
 -- The small program of bit logic as the controller runs it.
-use Rattle.std.specs.Prelude.{ℕ, ◌+◌, ◌==◌, List, Option, Some, None, is_some, find, slice_get, length, if◌then◌else◌}
+use Rattle.std.specs.Prelude.{ℕ, ◌+◌, ◌==◌, List, [], Option, Some, None, option_map, find, slice_get, length, if◌then◌else◌}
 use Rattle.plc_base.specs.declared.BlockId.{BlockId}
 use Rattle.plc_base.specs.declared.BlockKind.{BlockKind}
 use Rattle.plc_base.specs.declared.BlockKind.TheVariants.{Ob, Fc, Fb, Db, Sfc, Udt}
@@ -9,7 +9,7 @@ use Rattle.controller.specs.declared.programs.ThinCode.TheVariants.{A, An, O, Or
 use Rattle.controller.specs.declared.programs.ThinStatement.{ThinStatement}
 use Rattle.controller.specs.declared.programs.ThinOb.{ThinOb}
 use Rattle.controller.specs.Instr.{Plain, Checks, OrsBare, Assigns, Sets, Clears, Does, Returns}
-use Rattle.controller.specs.Code.{Code, Fetched}
+use Rattle.controller.specs.Code.{Code, Fetched, Head}
 
 -- the instruction of a statement
 unfoldable pub plain_of : ThinStatement → Plain
@@ -46,8 +46,14 @@ abbrev pub fetched_of : ℕ → Option ThinOb → Option Fetched
 fetched_of n None = None
 fetched_of n (Some ob) = statement_or_return ob n (slice_get ob.statements n)
 
+-- an organization block has 20 bytes of local data, those of its start information, no instance and no parameters
+abbrev pub ob_head : ThinOb → Head
+ob_head ob = record { local_length = 20; instance_length = 0; parameters = [] }
+
+-- a small program has no data blocks
 unfoldable pub thin_code : List ThinOb → Code
 thin_code program = record {
   fetch = λ block n. fetched_of n (ob_of program block);
-  is_loaded = λ block. is_some (ob_of program block);
+  head = λ block. option_map ob_head (ob_of program block);
+  blocks = [];
 }

@@ -2,7 +2,6 @@ ghost use Rattle.std.specs.Prelude.{◌≡◌, ◌<◌, ◌≤◌, [], ◌∷◌
 ghost use Rattle.controller.specs.Event.{may_start, spot};
 ghost use Rattle.controller.specs.Execution.{activation_of, Steps};
 ghost use Rattle.controller.specs.Frames.{fresh_activation};
-ghost use Rattle.controller.specs.Program.{is_thin};
 ghost use Rattle.controller.specs.ThinCode.{thin_code};
 
 use crate::execution::{Ending, execute};
@@ -90,7 +89,6 @@ impl Activations {
     /// Where the running activation stands: its block, and the line of its next statement.
     #[tactic(auto)]
     pub(crate) fn spot(&self, program: &Thin) -> Option<Spot>
-        requires { IsTrue (is_thin program.now) }
         ensures { result ≡ spot (thin_code program.now) self.now }
     {
         let running = self.running?;
@@ -104,9 +102,10 @@ impl Activations {
         })
     }
 
-    /// Whether a request of this class may start: nothing runs, or what runs has a lower class.
-    pub(crate) fn may_start(&self, ob: u16, class: u8) -> bool
-        ensures { result ≡ may_start (record { ob = ob; class = class }) self.now }
+    /// Whether an organization block of this class may start: nothing runs, or what runs has a lower
+    /// class.
+    pub(crate) fn may_start(&self, class: u8) -> bool
+        ensures { result ≡ may_start class self.now }
     {
         match self.running {
             None => true,
@@ -118,7 +117,7 @@ impl Activations {
     #[tactic(auto, using(crate::proofs::StackLemmas::stack_short))]
     pub(crate) fn begin(&mut self, ob: u16, class: u8)
         requires class { class ≤ 28 }
-        requires above { IsTrue (may_start (record { ob = ob; class = class }) self.old) }
+        requires above { IsTrue (may_start class self.old) }
         ensures { self.new ≡ fresh_activation ob class ∷ self.old }
     {
         if let Some(running) = self.running {
@@ -130,9 +129,7 @@ impl Activations {
     /// Executes one statement of the running activation, and ends it where that was its return. No
     /// answer where nothing runs.
     pub(crate) fn step(&mut self, program: &Thin, memory: &mut Memory) -> Option<Ending>
-        requires { IsTrue (is_thin program.now) }
-        ensures meaning { Steps (thin_code program.now) self.old self.new memory.old memory.new result }
-        ensures outputs { memory.new.peripheral_outputs ≡ memory.old.peripheral_outputs }
+        ensures { Steps (thin_code program.now) self.old self.new memory.old memory.new result }
     {
         let running = self.running.as_mut()?;
         let ending = execute(program, memory, running);

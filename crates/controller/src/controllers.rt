@@ -1,14 +1,14 @@
 ghost use Rattle.std.specs.Prelude.{◌≡◌, ℕ, ◌+◌, ◌-◌, ◌^◌, ◌<◌, ◌≤◌, ◌↔◌, [], ◌∷◌, ◌++◌, length, max, slice_get, IsTrue, IfOk, OnOk, OnErr, IsNone};
 ghost use Rattle.controller.specs.Program.{is_thin};
-ghost use Rattle.controller.specs.Replay.{event_after, replay, last_seen};
+ghost use Rattle.controller.specs.Replay.{happened, replay};
 ghost use Rattle.controller.specs.ThinCode.{thin_code};
 ghost use Rattle.var_access.specs.Entry.{IsValid};
 
-use crate::observing::{Observed, Outputs};
+use crate::observing::{Observed, changed_mode};
 use crate::processing::Cpu;
 use crate::programs::Thin;
-use plc_base::Mode;
-use plc_mem::{Memory, NoMemory};
+use plc_base::{Mode, NoMemory};
+use plc_mem::{Memory, PeripheralArea};
 use std::alloc::Global;
 use std::marker::Model;
 use var_access::{Entry, Reply};
@@ -23,6 +23,8 @@ pub struct Controller {
     history: Vec<Entry>,
     spare: u64,
     observed: Observed,
+    /// The peripheral outputs after the last entry, with which the next one's are compared.
+    shown: PeripheralArea,
 }
 
 impl Model for Controller {
@@ -39,21 +41,21 @@ impl Model for Controller {
 
 impl Controller {
     /// A controller at its first start, with an empty history and room for no entry.
-    #[tactic(auto, unfolding(crate::specs::Replay::replay, crate::specs::Replay::last_seen))]
+    #[tactic(auto, unfolding(crate::specs::Replay::happened))]
     pub fn new(alloc: Global, program: Thin) -> Result<Controller, NoMemory>
         requires { IsTrue (is_thin program) }
         ensures { IfOk result (λ c. c ≡ record { program = program; history = []; spare = 0 }) }
     {
         let memory = Memory::new(alloc, &[])?;
+        let shown = *memory.outputs();
+        let cpu = Cpu::start(&program, memory);
         Ok(Controller {
             program,
-            cpu: Cpu::start(memory),
+            cpu,
             history: Vec::new(alloc),
             spare: 0,
-            observed: Observed {
-                outputs: Outputs::new(),
-                mode: None,
-            },
+            observed: Observed::nothing(),
+            shown,
         })
     }
 
@@ -72,23 +74,33 @@ impl Controller {
     }
 
     /// Makes one entry of the history, and answers what the entry answers. Takes no memory.
-    #[tactic(auto, using(crate::proofs::ReplayLemmas::replay_next, crate::proofs::ReplayLemmas::seen_next))]
+    #[tactic(auto, using(crate::proofs::ReplayLemmas::reply_next))]
     pub fn apply(&mut self, e: Entry) -> Reply
         requires room { 1 ≤ self.old.spare }
         requires valid { IsValid e }
-        ensures history { self.new ≡ record self.old { history = self.old.history ++ e ∷ []; spare = self.old.spare - 1 } }
-        ensures reply { result ≡ (event_after (thin_code self.old.program) self.old.history e.what).reply }
+        ensures history { self.new ≡ record self.old {
+          history = self.old.history ++ e ∷ [];
+          spare = self.old.spare - 1;
+        } }
+        ensures reply { result ≡ (happened (thin_code self.new.program) self.new.history).reply }
     {
-        let reply = self.cpu.happen(&self.program, e.what, &mut self.observed);
+        let before = self.cpu.mode;
+        self.cpu.enter(&self.program, e.what);
+        self.observed.mode = changed_mode(before, self.cpu.mode);
+        self.observed.outputs.clear();
+        self.observed
+            .outputs
+            .add_changes(&self.shown, self.cpu.memory.outputs());
+        self.shown = *self.cpu.memory.outputs();
         let pushed = self.history.push(e);
         prove!(pushed.is_ok());
         self.spare -= 1;
-        reply
+        Reply::Done
     }
 
     /// What the last entry showed.
     pub fn observed(&self) -> &Observed
-        ensures { result.now ≡ last_seen (thin_code self.now.program) self.now.history }
+        ensures { result.now ≡ (happened (thin_code self.now.program) self.now.history).seen }
     {
         &self.observed
     }

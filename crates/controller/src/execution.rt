@@ -1,8 +1,7 @@
-ghost use Rattle.std.specs.Prelude.{◌≡◌, ◌<◌, IsTrue};
+ghost use Rattle.std.specs.Prelude.{◌≡◌, ◌<◌};
 ghost use Rattle.controller.specs.Effect.{plain, bit_number as number_of_bit};
 ghost use Rattle.controller.specs.Execution.{activation_of, parts, Performs, Executes};
 ghost use Rattle.controller.specs.Instr.{Assigns, Checks};
-ghost use Rattle.controller.specs.Program.{is_image_bit, is_thin};
 ghost use Rattle.controller.specs.Statement.{statement as statement_meaning};
 ghost use Rattle.controller.specs.ThinCode.{plain_of, thin_code};
 
@@ -28,10 +27,10 @@ pub(crate) enum Ending {
 /// Executes the next statement of an activation.
 #[tactic(auto, using(crate::proofs::StepLemmas::went_on_performs, crate::proofs::StepLemmas::went_on_fails), unfolding(crate::specs::Statement::statement))]
 pub(crate) fn execute(program: &Thin, memory: &mut Memory, activation: &mut Activation) -> Ending
-    requires { IsTrue (is_thin program.now) }
-    ensures meaning { Executes (statement_meaning (thin_code program.now) memory.old (activation_of activation.old)) activation.old activation.new memory.old memory.new result }
+    ensures meaning { Executes
+        (statement_meaning (thin_code program.now) memory.old (activation_of activation.old))
+        activation.old activation.new memory.old memory.new result }
     ensures class { activation.new.class ≡ activation.old.class }
-    ensures outputs { memory.new.peripheral_outputs ≡ memory.old.peripheral_outputs }
 {
     let Some(fetched) = program.fetch(activation.ob, activation.at) else {
         return Ending::HasNoStatement;
@@ -51,9 +50,9 @@ pub(crate) fn execute(program: &Thin, memory: &mut Memory, activation: &mut Acti
 // An instruction that goes on to the next statement.
 #[tactic(auto, unfolding(crate::specs::Effect::plain, crate::specs::ThinCode::plain_of))]
 fn perform(statement: &ThinStatement, regs: &mut Regs, memory: &mut Memory) -> Result<(), Missing>
-    requires { IsTrue (is_image_bit statement.now.place) }
-    ensures meaning { Performs (plain (plain_of statement.now) (parts regs.old memory.old)) regs.old regs.new memory.old memory.new result }
-    ensures outputs { memory.new.peripheral_outputs ≡ memory.old.peripheral_outputs }
+    ensures { Performs
+        (plain (plain_of statement.now) (parts regs.old memory.old))
+        regs.old regs.new memory.old memory.new result }
 {
     let place = statement.place;
     match statement.code {
@@ -79,7 +78,9 @@ fn perform(statement: &ThinStatement, regs: &mut Regs, memory: &mut Memory) -> R
 // A, AN and O with an operand.
 #[tactic(auto, unfolding(crate::specs::Effect::plain))]
 fn check(code: Check, place: Place, regs: &mut Regs, memory: &Memory) -> Result<(), Missing>
-    ensures { Performs (plain (Checks code place) (parts regs.old memory.now)) regs.old regs.new memory.now memory.now result }
+    ensures { Performs
+        (plain (Checks code place) (parts regs.old memory.now))
+        regs.old regs.new memory.now memory.now result }
 {
     match memory.read(place, Width::Bit) {
         Ok(bit) => {
@@ -91,11 +92,11 @@ fn check(code: Check, place: Place, regs: &mut Regs, memory: &Memory) -> Result<
 }
 
 // The assignment =.
-#[tactic(auto, using(crate::proofs::OutputLemmas::written_same), unfolding(crate::specs::Effect::plain))]
+#[tactic(auto, unfolding(crate::specs::Effect::plain))]
 fn assign(place: Place, regs: &mut Regs, memory: &mut Memory) -> Result<(), Missing>
-    requires { IsTrue (is_image_bit place) }
-    ensures meaning { Performs (plain (Assigns place) (parts regs.old memory.old)) regs.old regs.new memory.old memory.new result }
-    ensures outputs { memory.new.peripheral_outputs ≡ memory.old.peripheral_outputs }
+    ensures { Performs
+        (plain (Assigns place) (parts regs.old memory.old))
+        regs.old regs.new memory.old memory.new result }
 {
     let rlo = regs.status.rlo;
     match memory.write(place, Width::Bit, bit_number(rlo)) {

@@ -1,12 +1,10 @@
-ghost use Rattle.std.specs.Prelude.{◌≡◌, ◌+◌, ◌<◌, ◌≤◌, ◌^◌, [], ◌++◌, length, map, option_to_list};
-ghost use Rattle.controller.specs.ChangedOutputs.{bytes_from, if_changed, changed_outputs};
-ghost use Rattle.controller.specs.Event.{changed_mode};
-ghost use Rattle.controller.specs.Observing.{changes_from};
-ghost use Rattle.plc_mem.specs.Peripherals.{output_of};
+ghost use Rattle.std.specs.Prelude.{◌≡◌, ◌+◌, ◌<◌, ◌≤◌, ◌^◌, [], length};
+ghost use Rattle.controller.specs.ChangedOutputs.{changed_outputs};
+ghost use Rattle.controller.specs.Replay.{changed_mode, nothing_shown};
 
 use arrayvec::ArrayVec;
 use plc_base::Mode;
-use plc_mem::Memory;
+use plc_mem::PeripheralArea;
 use std::marker::Model;
 
 /// How many peripheral output bytes there are.
@@ -44,13 +42,6 @@ impl Outputs {
         }
     }
 
-    /// Drops all bytes.
-    pub(crate) fn clear(&mut self)
-        ensures { self.new ≡ [] }
-    {
-        self.list.clear();
-    }
-
     /// The bytes with their values as a slice.
     pub fn as_slice(&self) -> &[(u16, u8)]
         ensures { result.now ≡ self.now }
@@ -58,50 +49,39 @@ impl Outputs {
         self.list.as_slice()
     }
 
-    /// Adds, of consecutive bytes that had these values before, those that have others now.
-    #[tactic(auto, using(crate::proofs::ObservingLemmas::changes_step, crate::proofs::ObservingLemmas::changes_end))]
-    pub(crate) fn add_changes(&mut self, first: u16, before: &[Option<u8>], memory: &Memory)
-        requires bytes { first + length before.now < 2 ^ 16 }
-        requires room { length self.old + length before.now ≤ OUTPUT_BYTES }
-        ensures changes { self.new ≡ self.old ++ changes_from first before.now memory.now }
-        ensures room { length self.new ≤ length self.old + length before.now }
+    /// Drops all bytes.
+    pub(crate) fn clear(&mut self)
+        ensures { self.new ≡ [] }
     {
-        let mut byte = first;
-        for value in before {
-            self.add_if_changed(byte, *value, memory.output(byte));
-            byte += 1;
-        }
+        self.list.clear();
     }
 
-    fn add_if_changed(&mut self, byte: u16, before: Option<u8>, after: Option<u8>)
-        requires { length self.old < OUTPUT_BYTES }
-        ensures change { self.new ≡ self.old ++ option_to_list (if_changed byte before after) }
-        ensures room { length self.new ≤ length self.old + 1 }
+    /// Adds the bytes that differ between two moments.
+    #[tactic(auto, using(crate::proofs::ObservingLemmas::changes_next, crate::proofs::ObservingLemmas::changes_end, crate::proofs::ObservingLemmas::all_changes))]
+    pub(crate) fn add_changes(&mut self, before: &PeripheralArea, after: &PeripheralArea)
+        requires { self.old ≡ [] }
+        ensures { self.new ≡ changed_outputs before.now after.now }
     {
-        if let (Some(old), Some(new)) = (before, after) {
-            if old != new {
-                self.list.push((byte, new));
+        let mut from = 0;
+        while let Some(byte) = after.next_change(before, from) {
+            if let Some(value) = after.byte(byte) {
+                self.list.push((byte, value));
             }
+            from = byte + 1;
         }
     }
 }
 
-/// Values of consecutive peripheral output bytes.
-pub(crate) type OutputValues = ArrayVec<Option<u8>, 512>;
-
-/// The values of consecutive peripheral output bytes.
-#[tactic(auto, using(crate::proofs::ObservingLemmas::values_step, crate::proofs::ObservingLemmas::values_end))]
-pub(crate) fn output_values(memory: &Memory, first: u16, count: u16) -> OutputValues
-    requires bytes { first + count < 2 ^ 16 }
-    requires few { count ≤ 512 }
-    ensures values { result.items ≡ map (output_of memory.now) (bytes_from first count) }
-    ensures len { length result.items ≡ count }
-{
-    let mut values = ArrayVec::new();
-    for byte in first..first + count {
-        values.push(memory.output(byte));
+impl Observed {
+    /// Nothing has changed.
+    pub(crate) fn nothing() -> Observed
+        ensures { result ≡ nothing_shown }
+    {
+        Observed {
+            outputs: Outputs::new(),
+            mode: None,
+        }
     }
-    values
 }
 
 /// The mode after an entry, if the entry changed it.

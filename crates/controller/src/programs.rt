@@ -1,8 +1,7 @@
-ghost use Rattle.std.specs.Prelude.{◌≡◌, Some, IsTrue, IfSome};
+ghost use Rattle.std.specs.Prelude.{◌≡◌, Some, is_some};
 ghost use Rattle.std.specs.Option.{option_copied, option_map};
 ghost use Rattle.controller.specs.Frames.{ob_block};
-ghost use Rattle.controller.specs.Fetching.{fetched_value, IsImageOperand};
-ghost use Rattle.controller.specs.Program.{is_thin, is_thin_ob};
+ghost use Rattle.controller.specs.Fetching.{fetched_value};
 ghost use Rattle.controller.specs.ThinCode.{ob_of, fetched_of, thin_code};
 
 use plc_base::Place;
@@ -70,11 +69,8 @@ pub struct ThinOb {
 
 impl ThinOb {
     /// The statement at a position, or the return after the last one.
-    #[tactic(auto, using(crate::proofs::ThinLemmas::operand_at))]
     fn fetch(&self, at: usize) -> Option<Fetched>
-        requires { IsTrue (is_thin_ob self.now) }
-        ensures value { option_map fetched_value result ≡ fetched_of at (Some self.now) }
-        ensures operand { IfSome result IsImageOperand }
+        ensures { option_map fetched_value result ≡ fetched_of at (Some self.now) }
     {
         let statements = self.statements.as_slice();
         if let Some(statement) = statements.get(at).copied() {
@@ -147,19 +143,17 @@ impl Thin {
     }
 
     /// Whether the program has this organization block.
-    #[tactic(auto, unfolding(crate::specs::ThinCode::thin_code))]
+    #[tactic(auto, using(crate::proofs::ThinLemmas::head_there), unfolding(crate::specs::ThinCode::thin_code))]
     pub(crate) fn is_loaded(&self, ob: u16) -> bool
-        ensures { result ≡ (thin_code self.now).is_loaded (ob_block ob) }
+        ensures { result ≡ is_some ((thin_code self.now).head (ob_block ob)) }
     {
         self.ob(ob).is_some()
     }
 
     /// The statement at a position of an organization block, or its return.
-    #[tactic(auto, using(crate::proofs::ThinLemmas::thin_ob_found), unfolding(crate::specs::ThinCode::thin_code))]
+    #[tactic(auto, unfolding(crate::specs::ThinCode::thin_code))]
     pub(crate) fn fetch(&self, ob: u16, at: usize) -> Option<Fetched>
-        requires { IsTrue (is_thin self.now) }
-        ensures value { option_map fetched_value result ≡ (thin_code self.now).fetch (ob_block ob) at }
-        ensures operand { IfSome result IsImageOperand }
+        ensures { option_map fetched_value result ≡ (thin_code self.now).fetch (ob_block ob) at }
     {
         match self.ob(ob) {
             Some(ob) => ob.fetch(at),

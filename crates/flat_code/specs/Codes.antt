@@ -1,7 +1,7 @@
 -- The code of a block: its ops to the end, the last of them BE with the end mark.
-use Rattle.std.specs.Prelude.{ℕ, zero, suc, ◌+◌, nat_lt, ◌==◌, Bool, true, false, ◌&&◌, ◌||◌, not, is_some, if◌then◌else◌, List, [], ◌∷◌, ◌++◌, length, take, drop, Option, Some, None}
+use Rattle.std.specs.Prelude.{ℕ, zero, suc, ◌+◌, nat_lt, ◌==◌, Bool, true, false, ◌&&◌, if◌then◌else◌, List, [], ◌∷◌, ◌++◌, length, take, drop, Option, Some, None}
 use Rattle.flat_code.specs.Ops.{OpData, is_op, op_bytes, op_at}
-use Rattle.flat_code.specs.Layout.{Note, Cursor, Read, Layout, ended, given}
+use Rattle.flat_code.specs.Layout.{Cursor, Read, Layout, ended, given}
 
 -- the ops that bytes begin with, one behind the other, and what is left; each op takes a byte at least
 abbrev pub cons_op : OpData → List OpData × List ℕ → List OpData × List ℕ

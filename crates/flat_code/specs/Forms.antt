@@ -1,6 +1,6 @@
 -- The forms of operands: the payload of each, as the table of forms has it.
-use Rattle.std.specs.Prelude.{ℕ, ◌==◌, nat_le, Bool, true, false, ◌&&◌, ◌||◌, if◌then◌else◌, List, [], ◌∷◌, ◌++◌, Option, Some, None}
-use Rattle.std.specs.Option.{option_map, option_and_then}
+use Rattle.std.specs.Prelude.{ℕ, ◌==◌, Bool, true, false, ◌||◌, if◌then◌else◌, List, [], ◌∷◌, Option, Some, None}
+use Rattle.std.specs.Option.{option_map}
 use Rattle.plc_base.specs.declared.places.Area.{Area}
 use Rattle.plc_base.specs.declared.places.Area.TheVariants as area
 use Rattle.plc_base.specs.declared.places.Width.{Width}
@@ -94,8 +94,14 @@ literal = u32
 unfoldable pub direct : Coding (Area × (Width × (ℕ × ℕ)))
 direct = then_coding any_area (then_coding a_width (then_coding u16 (within 0 7)))
 
+abbrev pub memory_area : Coding Area
+memory_area = such_that in_memory any_area
+
+abbrev pub pointer_area : Coding Area
+pointer_area = such_that holds_pointers any_area
+
 abbrev pub by_memory : Coding (Area × (Width × (Area × ℕ)))
-by_memory = then_coding (such_that in_memory any_area) (then_coding a_width (then_coding (such_that holds_pointers any_area) u16))
+by_memory = then_coding memory_area (then_coding a_width (then_coding pointer_area u16))
 
 abbrev pub by_register : Coding (Option Area × (Width × (ℕ × ℕ)))
 by_register = then_coding crossing (then_coding a_width (then_coding (within 1 2) u32))
@@ -107,7 +113,7 @@ abbrev pub numbered : Coding (ℕ × ℕ)
 numbered = then_coding (within 1 2) u16
 
 abbrev pub numbered_by : Coding (ℕ × (Area × ℕ))
-numbered_by = then_coding (within 1 2) (then_coding (such_that holds_pointers any_area) u16)
+numbered_by = then_coding (within 1 2) (then_coding pointer_area u16)
 
 abbrev pub jump : Coding (ℕ × ℕ)
 jump = then_coding (within 0 17) u32
@@ -125,7 +131,7 @@ abbrev pub open_block : Coding (ℕ × ℕ)
 open_block = then_coding (within 1 2) u16
 
 abbrev pub open_by : Coding (ℕ × (Area × ℕ))
-open_by = then_coding (within 1 2) (then_coding (such_that holds_pointers any_area) u16)
+open_by = then_coding (within 1 2) (then_coding pointer_area u16)
 
 abbrev pub in_block : Coding (ℕ × (Area × (Width × (ℕ × ℕ))))
 in_block = then_coding u16 direct
@@ -139,20 +145,23 @@ abbrev pub actual_fits : Passed → Bool
 actual_fits (passed.Literal value) = literal.fits value
 actual_fits (passed.Direct area width byte bit) = direct.fits (area, (width, (byte, bit)))
 actual_fits (passed.Parameter index width) = parameter.fits (index, width)
-actual_fits (passed.InBlock number area width byte bit) = in_block.fits (number, (area, (width, (byte, bit))))
+actual_fits (passed.InBlock number area width byte bit) =
+    in_block.fits (number, (area, (width, (byte, bit))))
 
 abbrev pub actual_spelled : Passed → List ℕ
 actual_spelled (passed.Literal value) = 1 ∷ literal.spell value
 actual_spelled (passed.Direct area width byte bit) = 2 ∷ direct.spell (area, (width, (byte, bit)))
 actual_spelled (passed.Parameter index width) = 5 ∷ parameter.spell (index, width)
-actual_spelled (passed.InBlock number area width byte bit) = 12 ∷ in_block.spell (number, (area, (width, (byte, bit))))
+actual_spelled (passed.InBlock number area width byte bit) =
+    12 ∷ in_block.spell (number, (area, (width, (byte, bit))))
 
 abbrev pub actual_in : ℕ → List ℕ → Option (Passed × List ℕ)
 actual_in n bytes =
     if n == 1 then read_as passed.Literal literal bytes
     else if n == 2 then read_as (λ x. passed.Direct x.0 x.1.0 x.1.1.0 x.1.1.1) direct bytes
     else if n == 5 then read_as (λ x. passed.Parameter x.0 x.1) parameter bytes
-    else if n == 12 then read_as (λ x. passed.InBlock x.0 x.1.0 x.1.1.0 x.1.1.1.0 x.1.1.1.1) in_block bytes
+    else if n == 12 then
+    read_as (λ x. passed.InBlock x.0 x.1.0 x.1.1.0 x.1.1.1.0 x.1.1.1.1) in_block bytes
     else None
 
 abbrev pub actual_at : List ℕ → Option (Passed × List ℕ)
@@ -164,6 +173,10 @@ actual = record { fits = actual_fits; spell = actual_spelled; read = actual_at }
 
 abbrev pub pass : Coding (ℕ × Passed)
 pass = then_coding u8 actual
+
+-- an op of form 0B behind its first byte
+abbrev pub passes : ℕ → Passed → List ℕ
+passes index passed = 11 ∷ pass.spell (index, passed)
 
 -- the form of an operand, and its byte
 abbrev pub form_of_operand : Operand → ℕ
@@ -178,7 +191,7 @@ form_of_operand (operand.NumberedBy kind from byte) = 7
 form_of_operand (operand.Jump kind target) = 8
 form_of_operand (operand.OfStatus condition) = 9
 form_of_operand (operand.UseDb number) = 10
-form_of_operand (operand.Pass index actual) = 11
+form_of_operand (operand.Pass index passed) = 11
 form_of_operand (operand.Called kind number instance) = 13
 form_of_operand (operand.OpenBlock register number) = 14
 form_of_operand (operand.OpenBy register from byte) = 15
@@ -188,7 +201,8 @@ payload_fits operand.Nothing = true
 payload_fits (operand.Literal value) = literal.fits value
 payload_fits (operand.Direct area width byte bit) = direct.fits (area, (width, (byte, bit)))
 payload_fits (operand.ByMemory area width from byte) = by_memory.fits (area, (width, (from, byte)))
-payload_fits (operand.ByRegister area width register bits) = by_register.fits (area, (width, (register, bits)))
+payload_fits (operand.ByRegister area width register bits) =
+    by_register.fits (area, (width, (register, bits)))
 payload_fits (operand.Parameter index width) = parameter.fits (index, width)
 payload_fits (operand.Numbered kind number) = numbered.fits (kind, number)
 payload_fits (operand.NumberedBy kind from byte) = numbered_by.fits (kind, (from, byte))
@@ -205,7 +219,8 @@ payload operand.Nothing = []
 payload (operand.Literal value) = literal.spell value
 payload (operand.Direct area width byte bit) = direct.spell (area, (width, (byte, bit)))
 payload (operand.ByMemory area width from byte) = by_memory.spell (area, (width, (from, byte)))
-payload (operand.ByRegister area width register bits) = by_register.spell (area, (width, (register, bits)))
+payload (operand.ByRegister area width register bits) =
+    by_register.spell (area, (width, (register, bits)))
 payload (operand.Parameter index width) = parameter.spell (index, width)
 payload (operand.Numbered kind number) = numbered.spell (kind, number)
 payload (operand.NumberedBy kind from byte) = numbered_by.spell (kind, (from, byte))
@@ -223,7 +238,8 @@ payload_in n bytes =
     else if n == 1 then read_as operand.Literal literal bytes
     else if n == 2 then read_as (λ x. operand.Direct x.0 x.1.0 x.1.1.0 x.1.1.1) direct bytes
     else if n == 3 then read_as (λ x. operand.ByMemory x.0 x.1.0 x.1.1.0 x.1.1.1) by_memory bytes
-    else if n == 4 then read_as (λ x. operand.ByRegister x.0 x.1.0 x.1.1.0 x.1.1.1) by_register bytes
+    else if n == 4 then
+    read_as (λ x. operand.ByRegister x.0 x.1.0 x.1.1.0 x.1.1.1) by_register bytes
     else if n == 5 then read_as (λ x. operand.Parameter x.0 x.1) parameter bytes
     else if n == 6 then read_as (λ x. operand.Numbered x.0 x.1) numbered bytes
     else if n == 7 then read_as (λ x. operand.NumberedBy x.0 x.1.0 x.1.1) numbered_by bytes

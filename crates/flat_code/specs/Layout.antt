@@ -1,6 +1,6 @@
 -- A layout of values: their bytes, which of them are without fault, and what reading them from left
 -- to right notes and finds.
-use Rattle.std.specs.Prelude.{ℕ, zero, suc, ◌+◌, ◌-◌, nat_lt, ◌==◌, Bool, true, false, ◌&&◌, not, if◌then◌else◌, List, [], ◌∷◌, ◌++◌, length, Option, Some, None}
+use Rattle.std.specs.Prelude.{ℕ, zero, suc, ◌+◌, ◌-◌, Bool, true, false, ◌&&◌, List, [], ◌∷◌, ◌++◌, length, Option, Some, None}
 use Rattle.flat_code.specs.Coding.{Coding}
 use Rattle.flat_code.specs.Programs.{DataBlock}
 use Rattle.flat_code.specs.Records.{BlockRecord}

@@ -1,10 +1,14 @@
 pub mod Words
+pub mod OpCodes
+pub mod Kinds
 pub mod Table
 pub mod Coding
 pub mod Forms
 pub mod Ops
 pub mod Laws
 pub mod Programs
+pub mod Instr
+pub mod Names
 pub mod Records
 pub mod Layout
 pub mod Faults

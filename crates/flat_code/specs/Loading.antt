@@ -1,14 +1,10 @@
 -- WHEN A PROGRAM VERIFIES, and what the faults of bytes and of a program are.
-use Rattle.std.specs.Prelude.{◌≡◌, ◌<◌, ℕ, ◌==◌, Bool, true, false, ◌&&◌, not, if◌then◌else◌, List, [], ◌∷◌, ◌++◌, length, map, get_or, Option, Some, None}
-use Rattle.flat_code.specs.declared.image_fields.Field.TheVariants.{StatementCount, Line}
-use Rattle.flat_code.specs.Ops.{OpData}
+use Rattle.std.specs.Prelude.{◌≡◌, ℕ, List, [], ◌∷◌, ◌++◌, length, map, Option, Some, None}
 use Rattle.flat_code.specs.Programs.{DataBlock, Program}
 use Rattle.flat_code.specs.Records.{BlockRecord}
-use Rattle.flat_code.specs.Faults.{fault_of}
-use Rattle.flat_code.specs.Layout.{Note, Faulty, Whole, AllBlocks, Cursor, Read, faults_in}
-use Rattle.flat_code.specs.Codes.{code_fault, is_nowhere}
-use Rattle.flat_code.specs.Image.{image, IsProgram, IsRight, read_image, record_of_block, end_marks}
-use Rattle.flat_code.specs.Blocks.{Signature, signature_of, Around, block_faults}
+use Rattle.flat_code.specs.Layout.{Note, Faulty, Whole, AllBlocks, Cursor, faults_in}
+use Rattle.flat_code.specs.Image.{image, IsProgram, IsRight, read_image, record_of_block}
+use Rattle.flat_code.specs.Blocks.{signature_of, Around, block_faults}
 
 -- the numbers and lengths of data blocks
 abbrev pub lens_of : List DataBlock → List (ℕ × ℕ)

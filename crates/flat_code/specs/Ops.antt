@@ -1,9 +1,10 @@
 -- Ops: what is one, its bytes, and what bytes begin with one.
 use Rattle.flat_code.specs.declared.decoding.BadOp.{BadOp}
-use Rattle.std.specs.Prelude.{◌≡◌, ◌<◌, ◌≤◌, length, drop, Result, Ok, Err, ℕ, ◌+◌, ◌%◌, nat_lt, nat_le, Bool, true, false, ◌&&◌, if◌then◌else◌, List, [], ◌∷◌, ◌++◌, Option, Some, None}
-use Rattle.std.specs.Option.{option_map, option_and_then}
+use Rattle.std.specs.Prelude.{◌≡◌, ◌<◌, ◌≤◌, length, drop, Result, Ok, Err, ℕ, ◌+◌, ◌%◌, nat_lt, nat_le, Bool, true, ◌&&◌, if◌then◌else◌, List, ◌∷◌, Option, Some, None}
+use Rattle.std.specs.Option.{option_and_then}
 use Rattle.flat_code.specs.declared.operands.Operand.{Operand}
-use Rattle.flat_code.specs.Table.{takes_of, admits}
+use Rattle.flat_code.specs.declared.words.Word.{Word}
+use Rattle.flat_code.specs.Table.{takes_of, takes_of_word, admits}
 use Rattle.flat_code.specs.Forms.{form_of_operand, payload_fits, payload, payload_in}
 
 -- an op: the code of its instruction, whether it ends its statement, its operand
@@ -12,9 +13,16 @@ pub record OpData : Type 0 where
   pub last : Bool
   pub operand : Operand
 
+abbrev pub op_of : ℕ → Bool → Operand → OpData
+op_of code last operand = record { code = code; last = last; operand = operand }
+
 -- whether it is an op of the table
 unfoldable pub is_op : ℕ → Operand → Bool
 is_op code operand = nat_lt code 128 && admits (takes_of code) operand && payload_fits operand
+
+-- whether a word takes the operand, so that the two make an op
+unfoldable pub is_instruction : Word → Operand → Bool
+is_instruction word operand = admits (takes_of_word word) operand && payload_fits operand
 
 abbrev pub IsOp : OpData → Type 0
 IsOp op = is_op op.code op.operand ≡ true
@@ -38,5 +46,6 @@ op_at _ = None
 -- what decoding at an offset answers: the op that the bytes from there begin with and the offset
 -- after it, or that they begin with none
 abbrev pub Decodes : List ℕ → ℕ → Result (OpData × ℕ) BadOp → Type 0
-Decodes bytes at (Ok r) = (op_at (drop at bytes) ≡ Some (r.0, drop r.1 bytes)) × (at < r.1) × (r.1 ≤ length bytes)
+Decodes bytes at (Ok r) =
+    (op_at (drop at bytes) ≡ Some (r.0, drop r.1 bytes)) × (at < r.1) × (r.1 ≤ length bytes)
 Decodes bytes at (Err e) = op_at (drop at bytes) ≡ None

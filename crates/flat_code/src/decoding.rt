@@ -1,7 +1,7 @@
 ghost use Rattle.std.specs.Prelude.{◌≡◌, ◌<◌, ◌≤◌, ◌^◌, ◌%◌, nat_le, true, length, drop, Some, None, IfSome, IfNone, MatchResult};
 ghost use Rattle.std.specs.Option.{option_map};
 ghost use Rattle.flat_code.specs.Forms.{payload_in, payload_fits};
-ghost use Rattle.flat_code.specs.Ops.{op_at, is_op, Decodes};
+ghost use Rattle.flat_code.specs.Ops.{op_of, op_at, is_op, Decodes};
 
 use crate::fields::{
     actual_at, area_at, callable_at, crossing_at, direct_at, memory_area_at, pointer_area_at,
@@ -146,7 +146,7 @@ fn operand_at(form: u8, bytes: &[u8]) -> Option<(Operand, &[u8])>
 /// The parts of the op that bytes begin with, and the bytes after it.
 #[tactic(auto, unfolding(crate::specs::Ops::op_at, crate::specs::Ops::is_op))]
 fn op_from(bytes: &[u8]) -> Option<(u8, bool, Operand, &[u8])>
-    ensures read { option_map (λ r. (record { code = r.0; last = r.1; operand = r.2 }, r.3.now)) result ≡ op_at bytes.now }
+    ensures read { option_map (λ r. (op_of r.0 r.1 r.2, r.3.now)) result ≡ op_at bytes.now }
     ensures op { IfSome result (λ r. is_op r.0 r.2 ≡ true) }
 {
     match bytes {
@@ -173,7 +173,8 @@ fn behind(bytes: &[u8], at: usize) -> &[u8]
 fn op_behind(bytes: &[u8], at: u32) -> Option<(Op, u32)>
     requires short { length bytes.now < 2 ^ 32 }
     requires within { at ≤ length bytes.now }
-    ensures found { IfSome result (λ r. (op_at (drop at bytes.now) ≡ Some (r.0, drop r.1 bytes.now)) × (at < r.1) × (r.1 ≤ length bytes.now)) }
+    ensures found { IfSome result (λ r. (op_at (drop at bytes.now) ≡ Some (r.0, drop r.1 bytes.now))
+        × (at < r.1) × (r.1 ≤ length bytes.now)) }
     ensures none { IfNone result (op_at (drop at bytes.now) ≡ None) }
 {
     let (code, last, operand, rest) = op_from(behind(bytes, at as usize))?;

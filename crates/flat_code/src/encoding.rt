@@ -1,5 +1,5 @@
 ghost use Rattle.std.specs.Prelude.{◌≡◌, ◌<◌, ◌∷◌, ◌++◌, OnOk, OnErr};
-ghost use Rattle.flat_code.specs.Forms.{area_code, width_code, crossing_code, form_of_operand, payload, pass, direct, actual};
+ghost use Rattle.flat_code.specs.Forms.{area_code, width_code, crossing_code, form_of_operand, payload, passes};
 ghost use Rattle.flat_code.specs.Ops.{op_bytes, code_byte};
 
 use crate::operands::{Operand, Passed};
@@ -49,7 +49,8 @@ fn first_byte(code: u8, last: bool) -> u8
 
 #[tactic(auto, unfolding(crate::specs::Forms::direct))]
 fn put(out: &mut Vec<u8>, first: u8, operand: &Operand) -> Result<(), NoMemory>
-    ensures ok { OnOk result (out.new.items ≡ out.old.items ++ first ∷ form_of_operand operand.now ∷ payload operand.now) }
+    ensures ok { OnOk result (out.new.items
+        ≡ out.old.items ++ first ∷ form_of_operand operand.now ∷ payload operand.now) }
     ensures err { OnErr result (out.new.items ≡ out.old.items) }
 {
     match *operand {
@@ -158,7 +159,7 @@ fn put(out: &mut Vec<u8>, first: u8, operand: &Operand) -> Result<(), NoMemory>
 
 #[tactic(auto, unfolding(crate::specs::Forms::direct, crate::specs::Forms::actual))]
 fn put_pass(out: &mut Vec<u8>, first: u8, index: u8, actual: Passed) -> Result<(), NoMemory>
-    ensures ok { OnOk result (out.new.items ≡ out.old.items ++ first ∷ 11 ∷ pass.spell (index, actual)) }
+    ensures ok { OnOk result (out.new.items ≡ out.old.items ++ first ∷ passes index actual) }
     ensures err { OnErr result (out.new.items ≡ out.old.items) }
 {
     match actual {

@@ -6,35 +6,93 @@ ghost use Rattle.flat_code.specs.Faults.{fault_of, has_number, holds_parameter, 
 /// 2 byte, 3 word, 4 double word; areas 0x81 I, 0x82 Q, 0x83 M.
 #[derive(Clone, Copy)]
 pub enum Field {
-    Magic { number: u32 },
-    Version { number: u16 },
-    Reserved { number: u16 },
-    DataBlockCount { count: u16 },
+    Magic {
+        number: u32,
+    },
+    Version {
+        number: u16,
+    },
+    Reserved {
+        number: u16,
+    },
+    DataBlockCount {
+        count: u16,
+    },
     /// The kind of a code block behind one of another kind (0 for none).
-    Kind { before: u8, kind: u8 },
-    ParameterCount { kind: u8, count: u8 },
+    Kind {
+        before: u8,
+        kind: u8,
+    },
+    ParameterCount {
+        kind: u8,
+        count: u8,
+    },
     /// The number of a code block behind another block's kind and number.
-    Number { kind_before: u8, before: u16, kind: u8, number: u16 },
-    LocalBytes { kind: u8, bytes: u16 },
-    InstanceBytes { kind: u8, bytes: u16 },
-    Section { section: u8 },
-    Width { width: u8 },
+    Number {
+        kind_before: u8,
+        before: u16,
+        kind: u8,
+        number: u16,
+    },
+    LocalBytes {
+        kind: u8,
+        bytes: u16,
+    },
+    InstanceBytes {
+        kind: u8,
+        bytes: u16,
+    },
+    Section {
+        section: u8,
+    },
+    Width {
+        width: u8,
+    },
     /// The byte of a parameter in a block of a kind with so many instance bytes.
-    ParameterByte { kind: u8, instance: u16, width: u8, byte: u16 },
-    ParameterBit { kind: u8, bit: u8 },
+    ParameterByte {
+        kind: u8,
+        instance: u16,
+        width: u8,
+        byte: u16,
+    },
+    ParameterBit {
+        kind: u8,
+        bit: u8,
+    },
     /// The statement count of a block whose code has this many end marks.
-    StatementCount { end_marks: usize, count: u16 },
+    StatementCount {
+        end_marks: usize,
+        count: u16,
+    },
     /// The line of a statement behind another (0 for none).
-    Line { before: u32, line: u32 },
+    Line {
+        before: u32,
+        line: u32,
+    },
     /// The number of a data block behind another (0 for none).
-    DataNumber { before: u16, number: u16 },
+    DataNumber {
+        before: u16,
+        number: u16,
+    },
     /// The number of the function block whose instance a data block is, plus 1, or 0.
-    InstanceOf { number: u16 },
+    InstanceOf {
+        number: u16,
+    },
     /// The bytes of a data block behind blocks of so many bytes together.
-    DataBytes { before: u32, bytes: u16 },
-    NameLength { bytes: u8 },
-    NameArea { area: u8 },
-    NameBit { width: u8, bit: u8 },
+    DataBytes {
+        before: u32,
+        bytes: u16,
+    },
+    NameLength {
+        bytes: u8,
+    },
+    NameArea {
+        area: u8,
+    },
+    NameBit {
+        width: u8,
+        bit: u8,
+    },
 }
 
 /// A parameter of a code block as its image has it: section (1 IN, 2 OUT, 3 IN_OUT), width (1 bit,
@@ -71,7 +129,11 @@ fn is_organization_block(number: u16) -> bool
 fn is_block_number(kind: u8, number: u16) -> bool
     ensures { result ≡ has_number kind number }
 {
-    if kind == 1 { is_organization_block(number) } else { number <= 2047 }
+    if kind == 1 {
+        is_organization_block(number)
+    } else {
+        number <= 2047
+    }
 }
 
 /// How many bytes a width takes; a bit stands in one.
@@ -114,7 +176,12 @@ impl Field {
             Field::ParameterCount { kind, count } => {
                 fault_unless(count <= 60 && (kind != 1 || count == 0), 4)
             }
-            Field::Number { kind_before, before, kind, number } => {
+            Field::Number {
+                kind_before,
+                before,
+                kind,
+                number,
+            } => {
                 let rises = kind != kind_before || before < number;
                 fault_unless(is_block_number(kind, number) && rises, 4)
             }
@@ -122,13 +189,23 @@ impl Field {
                 fault_unless(bytes <= 1024 && (kind != 1 || 20 <= bytes), 4)
             }
             Field::InstanceBytes { kind, bytes } => {
-                fault_unless(if kind == 3 { bytes <= 16_384 } else { bytes == 0 }, 4)
+                fault_unless(
+                    if kind == 3 {
+                        bytes <= 16_384
+                    } else {
+                        bytes == 0
+                    },
+                    4,
+                )
             }
             Field::Section { section } => fault_unless(1 <= section && section <= 3, 4),
             Field::Width { width } => fault_unless(1 <= width && width <= 4, 4),
-            Field::ParameterByte { kind, instance, width, byte } => {
-                fault_unless(is_parameter_byte(kind, instance, width, byte), 4)
-            }
+            Field::ParameterByte {
+                kind,
+                instance,
+                width,
+                byte,
+            } => { fault_unless(is_parameter_byte(kind, instance, width, byte), 4) }
             Field::ParameterBit { kind, bit } => {
                 fault_unless(bit <= 7 && (kind == 3 || bit == 0), 4)
             }

@@ -1,8 +1,21 @@
 //! Laws of the coding of ops: each function does nothing, and its contract is the law.
-ghost use Rattle.flat_code.specs.Laws.{OpsAreReadAgain, OpsAreSpelledSo};
+ghost use Rattle.flat_code.specs.Laws.{OpsAreReadAgain, OpsAreSpelledSo, WordsHaveTheirCodes, JumpsHaveTheirKinds, ConditionsHaveTheirNumbers, ProgramsHaveNames};
 
 /// What is spelled is read again, whatever follows; what is read is an op, and is spelled so.
 pub fn one_coding()
     ensures again { OpsAreReadAgain }
     ensures spelled { OpsAreSpelledSo }
+{}
+
+/// Each word stands in the table of words at its op code, each jump at its kind and each condition
+/// at its number: no two share one.
+pub fn one_number_each()
+    ensures words { WordsHaveTheirCodes }
+    ensures jumps { JumpsHaveTheirKinds }
+    ensures conditions { ConditionsHaveTheirNumbers }
+{}
+
+/// What a program's type keeps of its names is what `Names` keeps.
+pub fn names_in_order()
+    ensures { ProgramsHaveNames }
 {}

@@ -5,9 +5,10 @@ mod decoding;
 mod encoding;
 mod fields;
 mod image_fields;
+mod kinds;
 pub mod laws;
-mod making;
 mod names;
+mod op_codes;
 mod operands;
 mod ops;
 mod programs;
@@ -19,12 +20,12 @@ mod words;
 pub use decoding::{BadOp, decode_op};
 pub use encoding::encode_op;
 pub use image_fields::{Field, OpenBracket, ParameterRecord};
-pub use making::{assign, bare};
-pub use names::{NameEntry, Names};
+pub use kinds::{CONDITIONS, JUMPS, JumpWord, condition_of, flag_of, jump_of};
+pub use names::{NameEntry, Names, is_name_before, is_upper_case};
 pub use operands::{Operand, Passed};
 pub use ops::Op;
 pub use programs::{CodeBlock, DataBlock, Param, Program};
-pub use table::{Takes, taken_by};
+pub use table::{Takes, taken_by, taken_by_word};
 pub use words::{
     Adding, CallWord, Comparison, EndWord, Joined, Logic, Number, PointerWord, Shift, StartWord,
     WORDS, Word, word_of,

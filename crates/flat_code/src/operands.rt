@@ -66,8 +66,8 @@ pub enum Operand {
         index: u8,
         actual: Passed,
     },
-    /// Form 0D: a function (kind 2), function block (3) or system function (5) to call, and the data
-    /// block that is its instance, or 0.
+    /// Form 0D: a function (kind 2), function block (3) or system function (5) to call, and the
+    /// data block that is its instance, or 0.
     Called {
         kind: u8,
         number: u16,

@@ -15,7 +15,13 @@ pub struct Param {
 }
 
 impl Default for Param {
-    fn default() -> Param {
+    ghost use Rattle.std.specs.Prelude.{◌≡◌};
+    ghost use Rattle.plc_base.specs.declared.places.Width.TheVariants.{Bit};
+
+    /// An IN parameter of one bit, with no place in an instance.
+    fn default() -> Param
+        ensures { result ≡ record { section = 1; width = Bit; byte = 0; bit = 0 } }
+    {
         Param {
             section: 1,
             width: Width::Bit,
@@ -66,7 +72,11 @@ impl Model for DataBlock {
 
     ghost Value = { DataBlockData };
 
-    ghost view = { λ b. record { number = b.number; instance_of = b.instance_of; bytes = b.bytes.items } };
+    ghost view = { λ b. record {
+      number = b.number;
+      instance_of = b.instance_of;
+      bytes = b.bytes.items;
+    } };
 }
 
 /// A program: its code blocks, its data blocks, and the names of its variables. Every number fits its

@@ -1,2 +1,3 @@
+mod DecimalLemmas
 pub mod BcdLemmas
 pub mod RoundTrips

@@ -1,3 +1,7 @@
+pub mod AreaBytes
 pub mod Bcd
+pub mod Changes
+pub mod Decimal
 pub mod Pointer
 pub mod S5Time
+pub mod Widths

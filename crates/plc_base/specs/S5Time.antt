@@ -2,7 +2,6 @@
 -- of that base, 0 to 3, in bits 12 and 13. Bits 14 and 15 mean nothing.
 use Rattle.std.specs.Prelude.{ℕ, ◌+◌, ◌*◌, ◌/◌, ◌%◌, ◌^◌, nat_le, ◌==◌, if◌then◌else◌, List, [], ◌∷◌, find, Option, option_map}
 use Rattle.plc_base.specs.Bcd.{bcd_digits, unsigned_of_bcd}
-use Rattle.plc_base.specs.declared.s5times.TheConstants.{MOST_UNITS}
 use Rattle.plc_base.specs.declared.s5times.TimeBase.{TimeBase}
 use Rattle.plc_base.specs.declared.s5times.TimeBase.TheVariants.{TenMs, HundredMs, OneSecond, TenSeconds}
 
@@ -40,7 +39,7 @@ time_bases = TenMs ∷ HundredMs ∷ OneSecond ∷ TenSeconds ∷ []
 -- the smallest time base that holds the milliseconds: 999 units of it are not fewer; none above
 -- 9,990,000
 unfoldable pub smallest_base : ℕ → Option TimeBase
-smallest_base ms = find (λ base. nat_le ms (MOST_UNITS * unit_of base)) time_bases
+smallest_base ms = find (λ base. nat_le ms (999 * unit_of base)) time_bases
 
 -- the S5TIME of a number of milliseconds, cut down to whole units of the smallest base that holds
 -- it; none above 9,990,000

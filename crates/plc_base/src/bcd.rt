@@ -66,7 +66,9 @@ fn signed_number(word: u32, count: u32) -> Option<i32>
 ///
 /// `BadBcd` exactly where a digit is above 9, or the sign digit is neither 0 nor 15.
 pub fn bcd_to_int(word: u16) -> Result<i16, BadBcd>
-    ensures { MatchResult result (λ n. signed_of_bcd 3 word ≡ Some n) (λ _. signed_of_bcd 3 word ≡ None) }
+    ensures { MatchResult result
+        (λ n. signed_of_bcd 3 word ≡ Some n)
+        (λ _. signed_of_bcd 3 word ≡ None) }
 {
     match signed_number(u32::from(word), 3) {
         Some(number) => Ok(number as i16),
@@ -80,7 +82,9 @@ pub fn bcd_to_int(word: u16) -> Result<i16, BadBcd>
 ///
 /// `BadBcd` exactly where a digit is above 9, or the sign digit is neither 0 nor 15.
 pub fn bcd7_to_dint(word: u32) -> Result<i32, BadBcd>
-    ensures { MatchResult result (λ n. signed_of_bcd 7 word ≡ Some n) (λ _. signed_of_bcd 7 word ≡ None) }
+    ensures { MatchResult result
+        (λ n. signed_of_bcd 7 word ≡ Some n)
+        (λ _. signed_of_bcd 7 word ≡ None) }
 {
     signed_number(word, 7).ok_or(BadBcd)
 }
@@ -89,7 +93,7 @@ pub fn bcd7_to_dint(word: u32) -> Result<i32, BadBcd>
 #[tactic(auto, unfolding(crate::specs::Bcd::bcd_of_signed))]
 pub fn int_to_bcd(number: i16) -> Option<u16>
     ensures value { result ≡ bcd_of_signed 3 number }
-    ensures none { IsNone result ↔ (MOST_OF_3_DIGITS < nat_abs number) }
+    ensures none { IsNone result ↔ (999 < nat_abs number) }
 {
     let size = number.unsigned_abs();
     if size > MOST_OF_3_DIGITS {
@@ -108,7 +112,7 @@ pub fn int_to_bcd(number: i16) -> Option<u16>
 #[tactic(auto, unfolding(crate::specs::Bcd::bcd_of_signed))]
 pub fn dint_to_bcd7(number: i32) -> Option<u32>
     ensures value { result ≡ bcd_of_signed 7 number }
-    ensures none { IsNone result ↔ (MOST_OF_7_DIGITS < nat_abs number) }
+    ensures none { IsNone result ↔ (9999999 < nat_abs number) }
 {
     let size = number.unsigned_abs();
     if size > MOST_OF_7_DIGITS {

@@ -5,19 +5,18 @@ ghost use Rattle.plc_base.specs.Bcd.{signed_of_bcd, bcd_of_signed};
 ghost use Rattle.plc_base.specs.Pointer.{place_of, pointer_of};
 ghost use Rattle.plc_base.specs.S5Time.{ms_of, s5time_of, smallest_base, unit_of};
 
-use crate::bcd::{MOST_OF_3_DIGITS, MOST_OF_7_DIGITS};
 use crate::places::Place;
 use crate::s5times::TimeBase;
 
 /// A number in range comes back from its three BCD digits and sign.
 pub fn int_and_back(number: i16)
-    requires { nat_abs number ≤ MOST_OF_3_DIGITS }
+    requires { nat_abs number ≤ 999 }
     ensures { option_and_then (signed_of_bcd 3) (bcd_of_signed 3 number) ≡ Some number }
 {}
 
 /// A number in range comes back from its seven BCD digits and sign.
 pub fn dint_and_back(number: i32)
-    requires { nat_abs number ≤ MOST_OF_7_DIGITS }
+    requires { nat_abs number ≤ 9999999 }
     ensures { option_and_then (signed_of_bcd 7) (bcd_of_signed 7 number) ≡ Some number }
 {}
 

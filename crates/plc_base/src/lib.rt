@@ -3,6 +3,7 @@
 
 mod bcd;
 mod blocks;
+mod decimals;
 mod faults;
 mod flags;
 pub mod laws;
@@ -11,14 +12,13 @@ mod places;
 mod pointers;
 mod refusals;
 mod s5times;
-#[cfg(test)]
-mod tests;
 
 pub use bcd::{
     BadBcd, MOST_OF_3_DIGITS, MOST_OF_7_DIGITS, bcd_to_int, bcd_to_unsigned, bcd7_to_dint,
     dint_to_bcd7, int_to_bcd, unsigned_to_bcd,
 };
 pub use blocks::{BlockId, BlockKind};
+pub use decimals::{capped_decimal, decimal_up_to};
 pub use faults::NoMemory;
 pub use flags::Flag;
 pub use modes::{Mode, Spot};

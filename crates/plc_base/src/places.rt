@@ -1,3 +1,7 @@
+ghost use Rattle.std.specs.Prelude.{◌≡◌};
+ghost use Rattle.plc_base.specs.AreaBytes.{has_byte};
+ghost use Rattle.plc_base.specs.Widths.{byte_count, bit_count};
+
 /// The width of an operand: one bit, or one, two or four bytes.
 #[derive(Clone, Copy, Debug, PartialEq, Eq)]
 pub enum Width {
@@ -5,6 +9,31 @@ pub enum Width {
     Byte,
     Word,
     Dword,
+}
+
+impl Width {
+    /// How many bytes an operand lies in; a bit lies in one.
+    pub fn byte_count(self) -> usize
+        ensures { result ≡ byte_count self }
+    {
+        match self {
+            Width::Bit | Width::Byte => 1,
+            Width::Word => 2,
+            Width::Dword => 4,
+        }
+    }
+
+    /// How many bits an operand has.
+    pub fn bit_count(self) -> u32
+        ensures { result ≡ bit_count self }
+    {
+        match self {
+            Width::Bit => 1,
+            Width::Byte => 8,
+            Width::Word => 16,
+            Width::Dword => 32,
+        }
+    }
 }
 
 /// A memory area: peripheral (`PI`, `PQ`), process image of the inputs and of the outputs, bit
@@ -18,6 +47,21 @@ pub enum Area {
     Db,
     Di,
     L,
+}
+
+impl Area {
+    /// Whether the area has a byte of this number: 0 to 127 in I and Q, 0 to 255 in M, 0 to 127 and
+    /// 256 to 767 in P. False for data blocks and local data, whose sizes each block says itself.
+    pub fn has_byte(self, byte: u16) -> bool
+        ensures { result ≡ has_byte self byte }
+    {
+        match self {
+            Area::P => byte < 128 || (byte >= 256 && byte < 768),
+            Area::I | Area::Q => byte < 128,
+            Area::M => byte < 256,
+            Area::Db | Area::Di | Area::L => false,
+        }
+    }
 }
 
 /// A place in memory. `number` is that of a data block, else 0; `bit` is 0 to 7 where a bit is

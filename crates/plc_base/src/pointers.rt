@@ -45,7 +45,9 @@ fn number_of_area(area: Area) -> u32
 /// `BadArea` exactly where bit 31 is 0 or the area bits are 7.
 #[tactic(auto, unfolding(crate::specs::Pointer::place_of))]
 pub fn place_of_pointer(pointer: u32) -> Result<Place, BadArea>
-    ensures { MatchResult result (λ place. place_of pointer ≡ Some place) (λ _. place_of pointer ≡ None) }
+    ensures { MatchResult result
+        (λ place. place_of pointer ≡ Some place)
+        (λ _. place_of pointer ≡ None) }
 {
     if pointer >> 31 == 0 {
         return Err(BadArea);

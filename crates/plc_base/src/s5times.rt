@@ -49,7 +49,7 @@ impl TimeBase {
 
     /// The S5TIME of `units` units of this base.
     pub fn s5time(self, units: u32) -> u16
-        requires { units ≤ MOST_UNITS }
+        requires { units ≤ 999 }
         ensures { result ≡ s5time_of_units self units }
     {
         let digits = unsigned_to_bcd(units, 3) as u16;
@@ -69,8 +69,10 @@ impl TimeBase {
 /// `TooLong` exactly above 9,990,000.
 #[tactic(auto, unfolding(crate::specs::S5Time::s5time_of, crate::specs::S5Time::smallest_base))]
 pub fn s5time_of_ms(ms: u32) -> Result<u16, TooLong>
-    ensures value { MatchResult result (λ word. s5time_of ms ≡ Some word) (λ _. s5time_of ms ≡ None) }
-    ensures refused { IsErr result ↔ (LONGEST_MS < ms) }
+    ensures value { MatchResult result
+        (λ word. s5time_of ms ≡ Some word)
+        (λ _. s5time_of ms ≡ None) }
+    ensures refused { IsErr result ↔ (9990000 < ms) }
 {
     let base = match ms {
         0..=9_990 => TimeBase::TenMs,
@@ -90,7 +92,7 @@ pub fn s5time_of_ms(ms: u32) -> Result<u16, TooLong>
 #[tactic(auto, unfolding(crate::specs::S5Time::ms_of))]
 pub fn ms_of_s5time(word: u16) -> Result<u32, BadBcd>
     ensures value { MatchResult result (λ ms. ms_of word ≡ Some ms) (λ _. ms_of word ≡ None) }
-    ensures bound { IfOk result (λ ms. ms ≤ MOST_UNITS * unit_of (base_of_s5time word)) }
+    ensures bound { IfOk result (λ ms. ms ≤ 999 * unit_of (base_of_s5time word)) }
 {
     match bcd_to_unsigned(u32::from(word), 3) {
         Some(units) => Ok(units * TimeBase::of_s5time(word).unit_ms()),

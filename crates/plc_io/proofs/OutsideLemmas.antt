@@ -6,7 +6,8 @@ use Rattle.std.proofs.Math.Seq.{take-add}
 use Rattle.std.proofs.lemmas.List.{append-nil, length-take-le, take_rest}
 use Rattle.plc_io.specs.Contents.{Contents, ReadsFrom, SameFiles}
 use Rattle.plc_io.specs.Counts.{CountsAt, Rose, SameCounts, last_count}
-use Rattle.plc_io.specs.Taken.{Took, TookFront}
+use Rattle.plc_io.specs.Moments.{SinkAt}
+use Rattle.plc_io.specs.Taken.{Offered, Took, TookFront}
 use Rattle.plc_io.specs.declared.faults.IoFault.{IoFault}
 use Rattle.plc_io.specs.declared.faults.IoFault.TheVariants.{Failed, NoMemory}
 
@@ -51,17 +52,24 @@ CountsAt-handed X Y a b c name e r same counts handed =
     subst (λ (s : Result Y IoFault). CountsAt a c name s) (sym handed) (CountsAt-failed X Y a b c name e same counts)
 
 -- two pieces were taken one after the other
-pub Took-append : (a b c : Option (List ℕ)) (xs ys : List ℕ) → Took a b xs → Took b c ys → Took a c (xs ++ ys)
-Took-append None b c xs ys p q = q ∙ ap (option_map (λ had. had ++ ys)) p
-Took-append (Some had) b c xs ys p q = q ∙ ap (option_map (λ had. had ++ ys)) p ∙ ap Some (append_assoc had xs ys)
+joined : (a b c : Option (List ℕ)) (xs ys : List ℕ) → b ≡ option_map (λ had. had ++ xs) a → c ≡ option_map (λ had. had ++ ys) b
+    → c ≡ option_map (λ had. had ++ (xs ++ ys)) a
+joined None b c xs ys p q = q ∙ ap (option_map (λ had. had ++ ys)) p
+joined (Some had) b c xs ys p q = q ∙ ap (option_map (λ had. had ++ ys)) p ∙ ap Some (append_assoc had xs ys)
+
+pub Took-append : (a b c : SinkAt) (xs ys : List ℕ) → Took a b xs → Took b c ys → Took a c (xs ++ ys)
+Took-append a b c xs ys p q = joined a.taken b.taken c.taken xs ys p q
 
 -- nothing was taken
-pub Took-nothing : (a : Option (List ℕ)) → Took a a []
-Took-nothing None = refl
-Took-nothing (Some had) = ap Some (sym (simp append-nil))
+nothing : (a : Option (List ℕ)) → a ≡ option_map (λ had. had ++ []) a
+nothing None = refl
+nothing (Some had) = ap Some (sym (simp append-nil))
+
+pub Took-nothing : (a : SinkAt) → Took a a []
+Took-nothing a = nothing a.taken
 
 -- the rest of a text was offered, and some of it was taken
-pub Took-more : (a b c : Option (List ℕ)) (bytes : List ℕ) (done n : ℕ) → done ≤ length bytes → Took a b (take done bytes)
+pub Took-more : (a b c : SinkAt) (bytes : List ℕ) (done n : ℕ) → done ≤ length bytes → Took a b (take done bytes)
     → TookFront b c (take (length bytes - done) (drop done bytes)) n → (done + n ≤ length bytes) × Took a c (take (done + n) bytes)
 Took-more a b c bytes done n within had took =
     let rest : take (length bytes - done) (drop done bytes) ≡ drop done bytes = take_rest bytes done in
@@ -70,6 +78,18 @@ Took-more a b c bytes done n within had took =
       omega (arith, more.within),
       rw (take-add done n bytes) (Took-append a b c (take done bytes) (take n (drop done bytes)) had more.took),
     )
+
+-- so many bytes of a text were taken, and no push failed
+pub record HasPushed (before now : SinkAt) (bytes : List ℕ) (done : ℕ) : Type 0 where
+  pub within : done ≤ length bytes
+  pub took : Took before now (take done bytes)
+  pub count : now.faults ≡ before.faults
+
+pub HasPushed-more : (a b c : SinkAt) (bytes : List ℕ) (done n : ℕ) → HasPushed a b bytes done
+    → Offered b c (take (length bytes - done) (drop done bytes)) (Ok n) → HasPushed a c bytes (done + n)
+HasPushed-more a b c bytes done n so_far offered =
+    let more = Took-more a b c bytes done n so_far.within so_far.took offered.taken in
+    record { within = more.0; took = more.1; count = offered.faults ∙ so_far.count }
 
 -- these bytes are the front of the file, if there is one
 pub record HasRead (c : Contents) (name bytes : List ℕ) : Type 0 where

@@ -1,10 +1,16 @@
 -- Calls of one kind that are counted, some of which are to fail.
-use Rattle.std.specs.Prelude.{ℕ, ◌+◌, ◌-◌, min, Bool, true, false, ◌==◌, List, length, if◌then◌else◌, Option, None, Some, Ok, Err, Result}
+use Rattle.std.specs.Prelude.{◌≡◌, ℕ, ◌+◌, ◌-◌, min, Bool, true, false, ◌==◌, List, [], length, if◌then◌else◌, Option, None, Some, Ok, Err, Result}
 use Rattle.std.specs.List.{list_any}
 use Rattle.plc_io.specs.declared.calls.Calls.{Calls}
 use Rattle.plc_io.specs.declared.faults.IoFault.{IoFault}
 use Rattle.plc_io.specs.declared.faults.IoFault.TheVariants.{Failed}
 use Rattle.plc_io.specs.Counts.{last_count}
+
+-- no call was made, and none is to fail
+pub record NoCalls (calls : Calls) : Type 0 where
+  pub made : calls.made ≡ 0
+  pub failed : calls.failed ≡ 0
+  pub failing : calls.failing.items ≡ []
 
 -- the count after one more
 abbrev pub next_count : ℕ → ℕ

@@ -1,5 +1,8 @@
 pub mod Calls
 pub mod Contents
 pub mod Counts
+pub mod FileCalls
+pub mod Moments
 pub mod NamedFiles
 pub mod Taken
+pub mod Untold

@@ -1,6 +1,8 @@
 -- Files in memory: a list of names with their bytes.
 use Rattle.std.specs.Prelude.{◌≡◌, ℕ, List, [], ◌∷◌, true, Option, None, Some, unwrap_or, option_map, find, if◌then◌else◌, bytes_eq}
 use Rattle.plc_io.specs.Contents.{Contents}
+use Rattle.plc_io.specs.Counts.{for_every_name}
+use Rattle.plc_io.specs.Moments.{FilesAt}
 
 -- the bytes under a name
 abbrev pub bytes_of : List (List ℕ × List ℕ) → List ℕ → Option (List ℕ)
@@ -27,3 +29,16 @@ sure_contents_of files = record { told = true; at = λ name. Some (bytes_or_empt
 abbrev pub EachNameOnce : List (List ℕ × List ℕ) → Type 0
 EachNameOnce [] = Unit {0}
 EachNameOnce (f ∷ fs) = (bytes_of fs f.0 ≡ None) × EachNameOnce fs
+
+-- what files show that tell these contents, with one count of failed reads and one of failed writes for all names
+abbrev pub told_files : Contents → (failed_reads failed_writes : ℕ) → FilesAt
+told_files contents failed_reads failed_writes =
+    record { contents = contents; failed_reads = for_every_name failed_reads; failed_writes = for_every_name failed_writes }
+
+-- files in memory at one moment
+abbrev pub memory_files : List (List ℕ × List ℕ) → (failed_reads failed_writes : ℕ) → FilesAt
+memory_files files = told_files (contents_of files)
+
+-- and those of which no call fails
+abbrev pub sure_files : List (List ℕ × List ℕ) → FilesAt
+sure_files files = told_files (sure_contents_of files) 0 0

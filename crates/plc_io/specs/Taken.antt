@@ -1,22 +1,43 @@
--- What a sink has taken: all its bytes in order, or `None` where it doesn't tell.
-use Rattle.std.specs.Prelude.{◌≡◌, ℕ, ◌<◌, ◌≤◌, List, ◌++◌, length, take, Option, option_map, Ok, Err, Result}
+-- What a sink has taken, from one moment to another.
+use Rattle.std.specs.Prelude.{◌≡◌, ℕ, ◌<◌, ◌≤◌, List, ◌++◌, length, take, option_map, Some, Ok, Err, Result}
 use Rattle.plc_io.specs.declared.faults.IoFault.{IoFault}
+use Rattle.plc_io.specs.Counts.{Counts}
+use Rattle.plc_io.specs.Moments.{SinkAt}
 
 -- these bytes were taken, behind those before
-abbrev pub Took : Option (List ℕ) → Option (List ℕ) → List ℕ → Type 0
-Took before now bytes = now ≡ option_map (λ had. had ++ bytes) before
+abbrev pub Took : SinkAt → SinkAt → List ℕ → Type 0
+Took before after bytes = after.taken ≡ option_map (λ had. had ++ bytes) before.taken
 
 -- some front of these bytes was taken
-abbrev pub TookPrefix : Option (List ℕ) → Option (List ℕ) → List ℕ → Type 0
-TookPrefix before now bytes = (n : ℕ) × Took before now (take n bytes)
+abbrev pub TookPrefix : SinkAt → SinkAt → List ℕ → Type 0
+TookPrefix before after bytes = (n : ℕ) × Took before after (take n bytes)
 
 -- the first `n` bytes of a piece were taken, at least one of a nonempty piece
-pub record TookFront (before now : Option (List ℕ)) (bytes : List ℕ) (n : ℕ) : Type 0 where
-  pub took : Took before now (take n bytes)
+pub record TookFront (before after : SinkAt) (bytes : List ℕ) (n : ℕ) : Type 0 where
+  pub took : Took before after (take n bytes)
   pub within : n ≤ length bytes
   pub some : 0 < length bytes → 0 < n
 
--- what an offer of a piece leaves: as many bytes from its front as are told were taken, or, where it failed, none
-abbrev pub Offered : Option (List ℕ) → Option (List ℕ) → List ℕ → Result ℕ IoFault → Type 0
-Offered before now bytes (Ok n) = TookFront before now bytes n
-Offered before now bytes (Err fault) = now ≡ before
+-- what an offer of a piece took: as many bytes from its front as are told, or, where it failed, none
+abbrev pub TookOffer : SinkAt → SinkAt → List ℕ → Result ℕ IoFault → Type 0
+TookOffer before after bytes (Ok n) = TookFront before after bytes n
+TookOffer before after bytes (Err fault) = after.taken ≡ before.taken
+
+-- a piece was offered, with this result
+pub record Offered (before after : SinkAt) (bytes : List ℕ) (result : Result ℕ IoFault) : Type 0 where
+  pub taken : TookOffer before after bytes result
+  pub faults : Counts before.faults after.faults result
+
+-- what the writing of a text took: all of it, or, where it failed, a front
+abbrev pub TookText : {X : Type 0} → SinkAt → SinkAt → List ℕ → Result X IoFault → Type 0
+TookText before after text (Ok x) = Took before after text
+TookText before after text (Err fault) = TookPrefix before after text
+
+-- a text was written, with this result
+pub record Wrote {X : Type 0} (before after : SinkAt) (text : List ℕ) (result : Result X IoFault) : Type 0 where
+  pub taken : TookText before after text result
+  pub faults : Counts before.faults after.faults result
+
+-- what a sink shows that tells these bytes and this count
+abbrev pub told_sink : List ℕ → ℕ → SinkAt
+told_sink taken faults = record { taken = Some taken; faults = faults }

@@ -1,5 +1,5 @@
-ghost use Rattle.std.specs.Prelude.{◌≡◌, ◌≤◌, [], true, false};
-ghost use Rattle.plc_io.specs.Calls.{after_call, is_next_to_fail};
+ghost use Rattle.std.specs.Prelude.{◌≡◌, ◌≤◌, true, false};
+ghost use Rattle.plc_io.specs.Calls.{NoCalls, after_call, is_next_to_fail};
 ghost use Rattle.plc_io.specs.Counts.{Rose};
 
 use crate::faults::IoFault;
@@ -18,9 +18,7 @@ pub struct Calls {
 
 impl Calls {
     pub fn new() -> Self
-        ensures none { result.made ≡ 0 }
-        ensures none_failed { result.failed ≡ 0 }
-        ensures none_failing { result.failing.items ≡ [] }
+        ensures { NoCalls result }
     {
         Calls {
             made: 0,

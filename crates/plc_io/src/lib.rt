@@ -19,6 +19,3 @@ pub use memory::{MemFiles, MemSink};
 pub use real::{OpenGate, RealFiles, RealSink};
 pub use sure::{SureFiles, SureSink};
 pub use traits::{Files, Gate, Sink};
-
-#[cfg(test)]
-mod tests;

@@ -1,7 +1,7 @@
-ghost use Rattle.std.specs.Prelude.{◌≡◌, ◌≤◌, ◌+◌, ◌++◌, take, ◌<◌, length, vec_len, IfOk, OnOk, OnErr};
-ghost use Rattle.plc_io.specs.Contents.{IsFront, ReadsFrom, SameFiles};
-ghost use Rattle.plc_io.specs.Counts.{Counts, CountsAt, SameCounts};
-ghost use Rattle.plc_io.specs.Taken.{Took, TookPrefix};
+ghost use Rattle.std.specs.Prelude.{◌≡◌, ◌≤◌, ◌+◌, ◌++◌, take, ◌<◌, length, vec_len, IfOk};
+ghost use Rattle.plc_io.specs.Contents.{IsFront, ReadsFrom};
+ghost use Rattle.plc_io.specs.FileCalls.{LeavesRead};
+ghost use Rattle.plc_io.specs.Taken.{Wrote};
 
 use crate::faults::IoFault;
 use crate::traits::{Files, Sink};
@@ -18,11 +18,10 @@ pub fn read_to_limit<F: Files>(
     name: &str,
     limit: usize,
 ) -> Result<Vec<u8>, IoFault>
-    ensures front { IfOk result (λ v. IsFront (F.contents files.old) name.now (limit + 1) v.items) }
+    ensures front { IfOk result
+        (λ v. IsFront (F.shown files.old).contents name.now (limit + 1) v.items) }
     ensures bound { IfOk result (λ v. vec_len v ≤ limit + 1) }
-    ensures same { SameFiles (F.contents files.old) (F.contents files.new) }
-    ensures reads_count { CountsAt (F.failed_reads files.old) (F.failed_reads files.new) name.now result }
-    ensures writes_count { SameCounts (F.failed_writes files.old) (F.failed_writes files.new) }
+    ensures leaves { LeavesRead (F.shown files.old) (F.shown files.new) name.now result }
 {
     let mut piece = vec![in alloc; 0u8; PIECE]?;
     read_by_pieces(alloc, files, name, limit, &mut piece)
@@ -37,11 +36,10 @@ fn read_by_pieces<F: Files>(
     piece: &mut [u8],
 ) -> Result<Vec<u8>, IoFault>
     requires { 0 < length piece.old }
-    ensures front { IfOk result (λ v. IsFront (F.contents files.old) name.now (limit + 1) v.items) }
+    ensures front { IfOk result
+        (λ v. IsFront (F.shown files.old).contents name.now (limit + 1) v.items) }
     ensures bound { IfOk result (λ v. vec_len v ≤ limit + 1) }
-    ensures same { SameFiles (F.contents files.old) (F.contents files.new) }
-    ensures reads_count { CountsAt (F.failed_reads files.old) (F.failed_reads files.new) name.now result }
-    ensures writes_count { SameCounts (F.failed_writes files.old) (F.failed_writes files.new) }
+    ensures leaves { LeavesRead (F.shown files.old) (F.shown files.new) name.now result }
 {
     let mut bytes = Vec::new(alloc);
     while bytes.len() <= limit {
@@ -61,11 +59,10 @@ fn read_more<F: Files>(
     bytes: &mut Vec<u8>,
     piece: &mut [u8],
 ) -> Result<usize, IoFault>
-    ensures reads { IfOk result (ReadsFrom (F.contents files.old) name.now (vec_len bytes.old) piece.new) }
+    ensures reads { IfOk result
+        (ReadsFrom (F.shown files.old).contents name.now (vec_len bytes.old) piece.new) }
     ensures added { IfOk result (λ n. bytes.new.items ≡ bytes.old.items ++ take n piece.new) }
-    ensures same { SameFiles (F.contents files.old) (F.contents files.new) }
-    ensures reads_count { CountsAt (F.failed_reads files.old) (F.failed_reads files.new) name.now result }
-    ensures writes_count { SameCounts (F.failed_writes files.old) (F.failed_writes files.new) }
+    ensures leaves { LeavesRead (F.shown files.old) (F.shown files.new) name.now result }
 {
     let at = bytes.len() as u64;
     let count = files.read_some(name, at, piece)?;
@@ -76,9 +73,7 @@ fn read_more<F: Files>(
 /// Offers the rest of a text to the sink until it has taken all. After a failure it has taken some
 /// front of the text.
 pub fn push_all<K: Sink>(out: &mut K, bytes: &[u8]) -> Result<(), IoFault>
-    ensures ok { OnOk result (Took (K.taken out.old) (K.taken out.new) bytes.now) }
-    ensures err { OnErr result (TookPrefix (K.taken out.old) (K.taken out.new) bytes.now) }
-    ensures count { Counts (K.faults out.old) (K.faults out.new) result }
+    ensures { Wrote (K.shown out.old) (K.shown out.new) bytes.now result }
 {
     let mut done = 0;
     while done < bytes.len() {

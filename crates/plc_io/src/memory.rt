@@ -1,9 +1,24 @@
-ghost use Rattle.std.specs.Prelude.{◌≡◌, ◌≤◌, ◌-◌, ◌↔◌, ◌++◌, List, ℕ, [], true, Some, length, take, drop, min, is_err, option_map, IfOk, IfErr, IsTrue, OnOk, OnErr};
-ghost use Rattle.plc_io.specs.Calls.{after_call, is_next_to_fail, read_answer};
-ghost use Rattle.plc_io.specs.Contents.{Agrees, IsCutShort, ReadsFrom, SameElsewhere, SameFiles, IsPiece};
-ghost use Rattle.plc_io.specs.Counts.{Counts, CountsAt, SameCounts, for_every_name};
-ghost use Rattle.plc_io.specs.NamedFiles.{bytes_of, contents_of, with_file};
-ghost use Rattle.plc_io.specs.Taken.{Offered};
+ghost use Rattle.std.specs.Prelude.{
+  ◌≡◌,
+  ◌≤◌,
+  ◌-◌,
+  ◌↔◌,
+  ◌++◌,
+  [],
+  length,
+  take,
+  min,
+  is_err,
+  IfOk,
+  IsTrue,
+  OnOk,
+  OnErr,
+};
+ghost use Rattle.plc_io.specs.Calls.{NoCalls, after_call, is_next_to_fail, read_answer};
+ghost use Rattle.plc_io.specs.Contents.{IsPiece, ReadsFrom};
+ghost use Rattle.plc_io.specs.FileCalls.{LeavesRead, LeavesWritten};
+ghost use Rattle.plc_io.specs.NamedFiles.{bytes_of, contents_of, memory_files, with_file};
+ghost use Rattle.plc_io.specs.Taken.{Offered, told_sink};
 
 use crate::calls::Calls;
 use crate::faults::{IoFault, NoMemory};
@@ -24,8 +39,8 @@ impl MemFiles {
     /// No files, and no call that is to fail. This takes no memory.
     pub fn new(alloc: Global) -> Self
         ensures empty { result.files ≡ [] }
-        ensures reads { (result.reads.made ≡ 0) × (result.reads.failed ≡ 0) × (result.reads.failing.items ≡ []) }
-        ensures writes { (result.writes.made ≡ 0) × (result.writes.failed ≡ 0) × (result.writes.failing.items ≡ []) }
+        ensures reads { NoCalls result.reads }
+        ensures writes { NoCalls result.writes }
     {
         MemFiles {
             files: NamedFiles::new(alloc),
@@ -36,7 +51,8 @@ impl MemFiles {
 
     /// Puts a file, in place of one of this name. Without memory nothing changes.
     pub fn put(&mut self, name: &str, bytes: &[u8]) -> Result<(), NoMemory>
-        ensures ok { OnOk result (self.new ≡ record self.old { files = with_file self.old.files name.now bytes.now }) }
+        ensures ok { let files = with_file self.old.files name.now bytes.now in
+            OnOk result (self.new ≡ record self.old { files = files }) }
         ensures err { OnErr result (self.new ≡ self.old) }
     {
         self.files.put(name, bytes)
@@ -45,7 +61,9 @@ impl MemFiles {
     /// Makes the reads of these numbers fail, in place of those that were chosen before. The first
     /// read of these files has number 1. This takes no memory.
     pub fn fail_reads(&mut self, calls: ArrayVec<u64, 16>)
-        ensures { self.new ≡ record self.old { reads = record self.old.reads { failing = calls } } }
+        ensures { self.new ≡ record self.old {
+          reads = record self.old.reads { failing = calls };
+        } }
     {
         self.reads.failing = calls;
     }
@@ -53,28 +71,30 @@ impl MemFiles {
     /// Makes the writes of these numbers fail, in place of those that were chosen before. The first
     /// write to these files has number 1. This takes no memory.
     pub fn fail_writes(&mut self, calls: ArrayVec<u64, 16>)
-        ensures { self.new ≡ record self.old { writes = record self.old.writes { failing = calls } } }
+        ensures { self.new ≡ record self.old {
+          writes = record self.old.writes { failing = calls };
+        } }
     {
         self.writes.failing = calls;
     }
 }
 
 impl Files for MemFiles {
-    ghost contents = { λ m. contents_of m.files };
-
-    ghost failed_reads = { λ m. for_every_name m.reads.failed };
-
-    ghost failed_writes = { λ m. for_every_name m.writes.failed };
+    ghost shown = { λ m. memory_files m.files m.reads.failed m.writes.failed };
 
     /// Fails at the chosen reads, and where there is no such file. This takes no memory.
     fn read_some(&mut self, name: &str, at: u64, into: &mut [u8]) -> Result<usize, IoFault>
         ensures reads { IfOk result (ReadsFrom (contents_of self.old.files) name.now at into.new) }
-        ensures same { SameFiles (contents_of self.old.files) (contents_of self.new.files) }
-        ensures reads_count { CountsAt (for_every_name self.old.reads.failed) (for_every_name self.new.reads.failed) name.now result }
-        ensures writes_count { SameCounts (for_every_name self.old.writes.failed) (for_every_name self.new.writes.failed) }
+        ensures leaves { let before =
+            memory_files self.old.files self.old.reads.failed self.old.writes.failed in
+            let after = memory_files self.new.files self.new.reads.failed self.new.writes.failed in
+            LeavesRead before after name.now result }
         // Exactly when and what.
-        ensures answer { result ≡ read_answer (is_next_to_fail self.old.reads) (bytes_of self.old.files name.now) at (length into.new) }
-        ensures after { self.new ≡ record self.old { reads = after_call self.old.reads (is_err result) } }
+        ensures answer { let fails = is_next_to_fail self.old.reads in
+            result ≡ read_answer fails (bytes_of self.old.files name.now) at (length into.new) }
+        ensures after { self.new ≡ record self.old {
+          reads = after_call self.old.reads (is_err result);
+        } }
     {
         if self.reads.is_next_to_fail() {
             return Err(self.reads.fail());
@@ -88,16 +108,16 @@ impl Files for MemFiles {
 
     /// Fails at the chosen writes, and then changes no file.
     fn write_whole(&mut self, name: &str, bytes: &[u8]) -> Result<(), IoFault>
-        ensures written { OnOk result (Agrees (contents_of self.new.files) name.now bytes.now) }
-        ensures cut { OnErr result (IsCutShort (contents_of self.old.files) (contents_of self.new.files) name.now bytes.now) }
-        ensures elsewhere { SameElsewhere (contents_of self.old.files) (contents_of self.new.files) name.now }
-        ensures writes_count { CountsAt (for_every_name self.old.writes.failed) (for_every_name self.new.writes.failed) name.now result }
-        ensures reads_count { SameCounts (for_every_name self.old.reads.failed) (for_every_name self.new.reads.failed) }
+        ensures leaves { let before =
+            memory_files self.old.files self.old.reads.failed self.old.writes.failed in
+            let after = memory_files self.new.files self.new.reads.failed self.new.writes.failed in
+            LeavesWritten before after name.now bytes.now result }
         // Exactly when and what.
         ensures fails { (result ≡ Err IoFault.Failed) ↔ IsTrue (is_next_to_fail self.old.writes) }
         ensures ok { OnOk result (self.new.files ≡ with_file self.old.files name.now bytes.now) }
         ensures err { OnErr result (self.new.files ≡ self.old.files) }
-        ensures after { self.new ≡ record self.old { files = self.new.files; writes = after_call self.old.writes (is_next_to_fail self.old.writes) } }
+        ensures after { let writes = after_call self.old.writes (is_next_to_fail self.old.writes) in
+            self.new ≡ record self.old { files = self.new.files; writes = writes } }
     {
         if self.writes.is_next_to_fail() {
             return Err(self.writes.fail());
@@ -137,7 +157,7 @@ impl MemSink {
         requires { 1 ≤ most }
         ensures empty { result.taken ≡ [] }
         ensures most { result.most ≡ most }
-        ensures pushes { (result.pushes.made ≡ 0) × (result.pushes.failed ≡ 0) × (result.pushes.failing.items ≡ []) }
+        ensures pushes { NoCalls result.pushes }
     {
         MemSink {
             taken: Bytes::new(alloc),
@@ -158,20 +178,21 @@ impl MemSink {
 }
 
 impl Sink for MemSink {
-    ghost taken = { λ k. Some k.taken };
-
-    ghost faults = { λ k. k.pushes.failed };
+    ghost shown = { λ k. told_sink k.taken k.pushes.failed };
 
     /// Fails at the chosen pushes.
     fn push(&mut self, bytes: &[u8]) -> Result<usize, IoFault>
-        ensures offered { Offered (Some self.old.taken) (Some self.new.taken) bytes.now result }
-        ensures count { Counts self.old.pushes.failed self.new.pushes.failed result }
+        ensures offered { let before = told_sink self.old.taken self.old.pushes.failed in
+            let after = told_sink self.new.taken self.new.pushes.failed in
+            Offered before after bytes.now result }
         // Exactly when and what.
         ensures fails { (result ≡ Err IoFault.Failed) ↔ IsTrue (is_next_to_fail self.old.pushes) }
-        ensures ok { IfOk result (λ n. (n ≡ min self.old.most (length bytes.now)) × (self.new.taken ≡ self.old.taken ++ take n bytes.now)) }
+        ensures count { IfOk result (λ n. n ≡ min self.old.most (length bytes.now)) }
+        ensures ok { IfOk result (λ n. self.new.taken ≡ self.old.taken ++ take n bytes.now) }
         ensures err { OnErr result (self.new.taken ≡ self.old.taken) }
         ensures most { self.new.most ≡ self.old.most }
-        ensures after { self.new.pushes ≡ after_call self.old.pushes (is_next_to_fail self.old.pushes) }
+        ensures after { self.new.pushes
+            ≡ after_call self.old.pushes (is_next_to_fail self.old.pushes) }
     {
         if self.pushes.is_next_to_fail() {
             return Err(self.pushes.fail());

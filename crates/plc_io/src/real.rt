@@ -1,5 +1,5 @@
-ghost use Rattle.std.specs.Prelude.{◌≡◌, ◌≤◌, ℕ, List, length, None, false, IfOk};
-ghost use Rattle.plc_io.specs.Counts.{for_every_name};
+ghost use Rattle.std.specs.Prelude.{◌≡◌, ◌≤◌, length, IfOk};
+ghost use Rattle.plc_io.specs.Untold.{untold_files, untold_sink};
 
 use crate::faults::IoFault;
 use crate::traits::{Files, Gate, Sink};
@@ -18,8 +18,7 @@ pub struct RealFiles<R> {
 impl<R: rt::Files + Drop> RealFiles<R> {
     /// Nothing has failed yet.
     pub fn new(rt: R) -> Self
-        ensures reads { (name : List ℕ) → ⟦<RealFiles<R> as Files>⟧.failed_reads result name ≡ 0 }
-        ensures writes { (name : List ℕ) → ⟦<RealFiles<R> as Files>⟧.failed_writes result name ≡ 0 }
+        ensures { ⟦<RealFiles<R> as Files>⟧.shown result ≡ untold_files 0 0 }
     {
         RealFiles {
             rt,
@@ -30,11 +29,7 @@ impl<R: rt::Files + Drop> RealFiles<R> {
 }
 
 impl<R: rt::Files + Drop> Files for RealFiles<R> {
-    ghost contents = { λ _. record { told = false; at = λ _. None } };
-
-    ghost failed_reads = { λ f. for_every_name f.failed_reads };
-
-    ghost failed_writes = { λ f. for_every_name f.failed_writes };
+    ghost shown = { λ f. untold_files f.failed_reads f.failed_writes };
 
     fn read_some(&mut self, name: &str, at: u64, into: &mut [u8]) -> Result<usize, IoFault> {
         match read_at(&self.rt, name, at, into) {
@@ -78,16 +73,14 @@ pub struct RealSink<R> {
 impl<R: Print + Drop> RealSink<R> {
     /// Nothing has failed yet.
     pub fn new(rt: R) -> Self
-        ensures { ⟦<RealSink<R> as Sink>⟧.faults result ≡ 0 }
+        ensures { ⟦<RealSink<R> as Sink>⟧.shown result ≡ untold_sink 0 }
     {
         RealSink { rt, faults: 0 }
     }
 }
 
 impl<R: Print + Drop> Sink for RealSink<R> {
-    ghost taken = { λ _. None };
-
-    ghost faults = { λ k. k.faults };
+    ghost shown = { λ k. untold_sink k.faults };
 
     fn push(&mut self, bytes: &[u8]) -> Result<usize, IoFault> {
         match self.rt.write_some(bytes) {

@@ -1,8 +1,8 @@
-ghost use Rattle.std.specs.Prelude.{◌≡◌, ◌-◌, ◌++◌, [], ◌≢◌, Some, length, min, IfOk, IfErr, OnOk, OnErr};
-ghost use Rattle.plc_io.specs.Contents.{Agrees, IsCutShort, ReadsFrom, SameElsewhere, SameFiles};
-ghost use Rattle.plc_io.specs.Counts.{Counts, CountsAt, SameCounts, for_every_name};
-ghost use Rattle.plc_io.specs.NamedFiles.{bytes_or_empty, sure_contents_of, with_file};
-ghost use Rattle.plc_io.specs.Taken.{Offered};
+ghost use Rattle.std.specs.Prelude.{◌≡◌, ◌-◌, ◌++◌, [], length, min, IfOk, IfErr, OnOk, OnErr};
+ghost use Rattle.plc_io.specs.Contents.{ReadsFrom};
+ghost use Rattle.plc_io.specs.FileCalls.{LeavesRead, LeavesWritten};
+ghost use Rattle.plc_io.specs.NamedFiles.{bytes_or_empty, sure_contents_of, sure_files, with_file};
+ghost use Rattle.plc_io.specs.Taken.{Offered, told_sink};
 
 use crate::faults::{IoFault, NoMemory};
 use crate::lists::{Bytes, NamedFiles};
@@ -36,20 +36,17 @@ impl SureFiles {
 }
 
 impl Files for SureFiles {
-    ghost contents = { λ s. sure_contents_of s.files };
-
-    ghost failed_reads = { λ _. for_every_name 0 };
-
-    ghost failed_writes = { λ _. for_every_name 0 };
+    ghost shown = { λ s. sure_files s.files };
 
     /// Always answers Ok. This takes no memory.
     fn read_some(&mut self, name: &str, at: u64, into: &mut [u8]) -> Result<usize, IoFault>
-        ensures reads { IfOk result (ReadsFrom (sure_contents_of self.old.files) name.now at into.new) }
-        ensures same { SameFiles (sure_contents_of self.old.files) (sure_contents_of self.new.files) }
-        ensures reads_count { CountsAt (for_every_name 0) (for_every_name 0) name.now result }
-        ensures writes_count { SameCounts (for_every_name 0) (for_every_name 0) }
+        ensures reads { IfOk result
+            (ReadsFrom (sure_contents_of self.old.files) name.now at into.new) }
+        ensures leaves { LeavesRead (sure_files self.old.files) (sure_files self.new.files)
+            name.now result }
         // Exactly what.
-        ensures answer { result ≡ Ok (min (length into.new) (length (bytes_or_empty self.old.files name.now) - at)) }
+        ensures answer { let rest = length (bytes_or_empty self.old.files name.now) - at in
+            result ≡ Ok (min (length into.new) rest) }
         ensures after { self.new.files ≡ self.old.files }
     {
         let all = self.files.get(name).unwrap_or(&[]);
@@ -58,11 +55,8 @@ impl Files for SureFiles {
 
     /// Never answers Failed.
     fn write_whole(&mut self, name: &str, bytes: &[u8]) -> Result<(), IoFault>
-        ensures written { OnOk result (Agrees (sure_contents_of self.new.files) name.now bytes.now) }
-        ensures cut { OnErr result (IsCutShort (sure_contents_of self.old.files) (sure_contents_of self.new.files) name.now bytes.now) }
-        ensures elsewhere { SameElsewhere (sure_contents_of self.old.files) (sure_contents_of self.new.files) name.now }
-        ensures writes_count { CountsAt (for_every_name 0) (for_every_name 0) name.now result }
-        ensures reads_count { SameCounts (for_every_name 0) (for_every_name 0) }
+        ensures leaves { LeavesWritten (sure_files self.old.files) (sure_files self.new.files)
+            name.now bytes.now result }
         // Exactly when and what.
         ensures ok { OnOk result (self.new.files ≡ with_file self.old.files name.now bytes.now) }
         ensures err { OnErr result (self.new.files ≡ self.old.files) }
@@ -91,16 +85,15 @@ impl SureSink {
 }
 
 impl Sink for SureSink {
-    ghost taken = { λ k. Some k.taken };
-
-    ghost faults = { λ _. 0 };
+    ghost shown = { λ k. told_sink k.taken 0 };
 
     /// Never answers Failed.
     fn push(&mut self, bytes: &[u8]) -> Result<usize, IoFault>
-        ensures offered { Offered (Some self.old.taken) (Some self.new.taken) bytes.now result }
-        ensures count { Counts 0 0 result }
+        ensures offered { Offered (told_sink self.old.taken 0) (told_sink self.new.taken 0)
+            bytes.now result }
         // Exactly when and what.
-        ensures ok { IfOk result (λ n. (n ≡ length bytes.now) × (self.new.taken ≡ self.old.taken ++ bytes.now)) }
+        ensures whole { IfOk result (λ n. n ≡ length bytes.now) }
+        ensures ok { OnOk result (self.new.taken ≡ self.old.taken ++ bytes.now) }
         ensures err { OnErr result (self.new.taken ≡ self.old.taken) }
         ensures only_memory { IfErr result (λ fault. fault ≡ IoFault.NoMemory) }
     {

@@ -43,7 +43,7 @@ is_there : (v : Vec ℕ Global) (o : Option (Vec ℕ Global)) → o ≡ Some v �
 is_there v o e = subst IsSome (sym e) refl
 
 -- to put a vector at a number is to insert its bytes there
-inserted : (m n : BTreeMap ℕ (Vec ℕ Global)) (k : ℕ) (w : Vec ℕ Global) → tree.Updates nat_cmp m n k (Some w) → blocks_of n.entries ≡ map.insert (blocks_of m.entries) k w.items
+pub inserted : (m n : BTreeMap ℕ (Vec ℕ Global)) (k : ℕ) (w : Vec ℕ Global) → tree.Updates nat_cmp m n k (Some w) → blocks_of n.entries ≡ map.insert (blocks_of m.entries) k w.items
 inserted m n k w updates =
     same_map nat_cmp_total nat_cmp-IsAntisymmetric _ _ (λ q.
     get_blocks n q

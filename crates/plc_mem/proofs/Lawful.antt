@@ -20,12 +20,14 @@ use Rattle.plc_base.specs.declared.Place.{Place}
 use Rattle.plc_mem.specs.Areas.{Areas, PeripheralBytes}
 use Rattle.plc_mem.specs.BitPlace.{Region, bit_place, Inputs, Outputs, BitMemory, PeripheralInputs, PeripheralOutputs, DataBlock}
 use Rattle.plc_mem.specs.Bits.{bit_at, bit_in, bit_of, byte_at, peripheral_byte, block_byte}
-use Rattle.plc_mem.specs.Number.{bit_count, weights_of, plus_weight, number_of, number_at, region_of, region_read, region_written, operand_bit, EachBitExists}
+use Rattle.plc_base.specs.Widths.{bit_count}
+use Rattle.plc_mem.specs.Number.{weights_of, plus_weight, number_of, number_at, region_of, region_read, region_written, operand_bit, EachBitExists}
 use Rattle.plc_mem.specs.Places.{IsRun, SamePlaces, IsMemory, IsPeripheral, AreBytes, HasImage, HasParts}
 use Rattle.plc_mem.specs.Writing.{written, written_in, put, put_peripheral, put_in_block, is_within}
 use Rattle.plc_mem.specs.Written.{IsWritten, bit_after, value_of_bit}
 use Rattle.plc_mem.specs.Run.{number_over, operand_bit_of}
-use Rattle.plc_mem.specs.Peripherals.{IsPeripheralByte, with_input, outputs_cleared}
+use Rattle.plc_base.specs.AreaBytes.{is_peripheral_byte}
+use Rattle.plc_mem.specs.Peripherals.{with_input, outputs_cleared}
 use Rattle.plc_mem.specs.Refresh.{refreshed, IsRefreshed}
 use Rattle.plc_mem.specs.Fresh.{fresh, clear_peripheral}
 use Rattle.plc_mem.specs.Laws.{MemoryStarts, ReadsWhereEachBitExists, WritesWhereEachBitExists, NumbersAreReadBack, RefreshesBits, ClearsBits, SetsInputBits, PlacesStay}
@@ -60,7 +62,7 @@ number_exists m None place width = (λ h. true_not_false (sym h), λ h. absurd h
 number_exists m (Some r) place width =
     (λ h j below. weights_need (λ (j : ℕ). bit_at m (operand_bit r place width j)) (bit_count width) h j below, λ h. weights_there (λ (j : ℕ). bit_at m (operand_bit r place width j)) (bit_count width) h)
 
-pub reads_where_each_bit_exists : ReadsWhereEachBitExists
+pub reads_where_each_bit_exists : (m : Areas) → ReadsWhereEachBitExists m
 unfolding number_at
 reads_where_each_bit_exists m place width = number_exists m (region_read place) place width
 
@@ -75,9 +77,9 @@ same_regions Db number other = refl
 same_regions Di number other = refl
 same_regions L number other = refl
 
-pub numbers_are_read_back : NumbersAreReadBack
+pub numbers_are_read_back : (m : Areas) → IsMemory m → NumbersAreReadBack m
 unfolding number_at
-numbers_are_read_back m n place width value is fits other done =
+numbers_are_read_back m is n place width value fits other done =
     let words = written_is m n place width value (λ _. has_image m is) fits done in
     ap (option_and_then (λ (r : Region). number_of n r place width)) (same_regions place.area place.number other ∙ words.1) ∙ words.2.number
 
@@ -181,7 +183,7 @@ refreshed_bits m is =
       places = record { bits = λ q. refreshed_places m is q.region q.byte q.bit; blocks = λ k. refl };
     }
 
-pub refreshes_bits : RefreshesBits
+pub refreshes_bits : (m : Areas) → IsMemory m → RefreshesBits m
 refreshes_bits m is = (refreshed_memory m is, refreshed_bits m is)
 
 -- ---- cleared outputs
@@ -248,7 +250,7 @@ cleared_memory m is = record {
   data_blocks = is.data_blocks;
 }
 
-pub clears_bits : ClearsBits
+pub clears_bits : (m : Areas) → IsMemory m → ClearsBits m
 unfolding bit_at outputs_cleared
 clears_bits m is = (
   cleared_memory m is,
@@ -291,9 +293,9 @@ input_others byte value BitMemory n b o other = sym (kept_bit o)
 input_others byte value PeripheralOutputs n b o other = sym (kept_bit o)
 input_others byte value (DataBlock k) n b o other = sym (kept_bit o)
 
-pub sets_input_bits : SetsInputBits
+pub sets_input_bits : (m : Areas) → IsMemory m → SetsInputBits m
 unfolding with_input byte_place
-sets_input_bits m n byte value is fits done =
+sets_input_bits m is n byte value fits done =
     let words = input_written m n (byte_place byte) Byte value is.peripheral_inputs.low.count_is fits done in (
       written_in_memory m n PeripheralInputs byte 0 Byte value is fits done,
       record {
@@ -324,10 +326,10 @@ unfolding bit_at outputs_cleared
 cleared_places m is PeripheralOutputs n b = ap is_some (cleared_bits m.peripheral_outputs n b is.peripheral_outputs) ∙ kept_place (λ (_ : Bool). false) (bit_at m (bit_place PeripheralOutputs n b))
 cleared_places m is region n b = refl
 
-pub places_stay : PlacesStay
-places_stay m n is = (
-  λ place width value fits done. written_places m n place width value is fits done,
-  λ byte value fits done. input_places m n byte value is fits done,
+pub places_stay : (m : Areas) → IsMemory m → PlacesStay m
+places_stay m is = (
+  λ n place width value fits done. written_places m n place width value is fits done,
+  λ n byte value fits done. input_places m n byte value is fits done,
   record { bits = λ q. cleared_places m is q.region q.byte q.bit; blocks = (clears_bits m is).1.blocks },
   (refreshes_bits m is).1.places,
 )
@@ -439,8 +441,8 @@ writing_exists m place width value sizes =
     let exists = number_exists m (region_written place) place width in
     (λ h. exists.0 (sym same ∙ h), λ h. same ∙ exists.1 h)
 
-pub writes_where_each_bit_exists : WritesWhereEachBitExists
-writes_where_each_bit_exists m place width value sizes = writing_exists m place width value (λ _. sizes)
+pub writes_where_each_bit_exists : (m : Areas) → IsMemory m → WritesWhereEachBitExists m
+writes_where_each_bit_exists m is place width value = writing_exists m place width value (λ _. has_image m is)
 
 -- ---- what the calls answer
 
@@ -469,11 +471,17 @@ write_bits m n place width value (Err _) sizes fits is = tt
 
 -- ---- one peripheral byte
 
-byte_of_part : (p q : PeripheralBytes) (at value : ℕ) → HasParts p → PartPut p q at 0 Byte value → IsPeripheralByte at
-byte_of_part p q at value parts (inl w) = let end = put_within p.low w.0 at 0 Byte value w.2 in inl (omega (arith, parts.low))
-byte_of_part p q at value parts (inr w) = let end = put_within p.high w.0 (at - 256) 0 Byte value w.2 in inr (omega (arith, w.1), omega (arith, parts.high, w.1))
+byte_of_part : (p q : PeripheralBytes) (at value : ℕ) → HasParts p → PartPut p q at 0 Byte value → is_peripheral_byte at ≡ true
+byte_of_part p q at value parts (inl w) = let end = put_within p.low w.0 at 0 Byte value w.2 in
+    let below : at < 128 = omega (arith, parts.low) in grind (arith, nat_tests)
+byte_of_part p q at value parts (inr w) = let end = put_within p.high w.0 (at - 256) 0 Byte value w.2 in
+    let from : 256 ≤ at = w.1 in let below : at < 768 = omega (arith, parts.high, w.1) in grind (arith, nat_tests)
 
-byte_put : (p : PeripheralBytes) (at value : ℕ) → HasParts p → IsPeripheralByte at → IsSome (put_peripheral p at 0 Byte value)
+-- in which part a peripheral byte lies
+part_of_byte : (at : ℕ) → is_peripheral_byte at ≡ true → (at < 128) ⊎ ((256 ≤ at) × (at < 768))
+part_of_byte at there = grind (arith, nat_tests)
+
+byte_put : (p : PeripheralBytes) (at value : ℕ) → HasParts p → (at < 128) ⊎ ((256 ≤ at) × (at < 768)) → IsSome (put_peripheral p at 0 Byte value)
 unfolding put_peripheral put
 byte_put p at value parts (inl low) =
     let first : nat_lt at 256 ≡ true = grind (arith, nat_tests) in
@@ -488,14 +496,14 @@ pub input_answers :
     (p q : PeripheralBytes) (at value : ℕ) (r : Result (Unit {0}) Missing)
     → HasParts p
     → MatchResult r (λ _. put_peripheral p at 0 Byte value ≡ Some q) (λ _. (put_peripheral p at 0 Byte value ≡ None) × (q ≡ p))
-    → IsOk r ↔ IsPeripheralByte at
+    → IsOk r ↔ (is_peripheral_byte at ≡ true)
 input_answers p q at value (Ok _) parts is = (λ _. byte_of_part p q at value parts (part_put p q at 0 Byte value is), λ _. refl)
 input_answers p q at value (Err _) parts is =
-    (λ h. absurd (true_not_false (sym h)), λ there. absurd (true_not_false (sym (byte_put p at value parts there) ∙ ap is_some is.0)))
+    (λ h. absurd (true_not_false (sym h)), λ there. absurd (true_not_false (sym (byte_put p at value parts (part_of_byte at there)) ∙ ap is_some is.0)))
 
 -- ---- the start
 
-zero_count : (count : ℕ) → IsRun count (replicate count 0)
+pub zero_count : (count : ℕ) → IsRun count (replicate count 0)
 zero_count count = record { count_is = length-replicate count 0; bytes_are = zero_bytes count }
 
 block_found : (blocks : List (ℕ × List ℕ)) (k : ℕ) (bytes : List ℕ) → AllByRecursion (λ (block : ℕ × List ℕ). AreBytes block.1) blocks → find nat_cmp k blocks ≡ Some bytes → AreBytes bytes

@@ -7,3 +7,4 @@ pub mod Writes
 pub mod Extensional
 pub mod OneMemory
 pub mod Lawful
+pub mod Kept

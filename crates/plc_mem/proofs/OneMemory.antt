@@ -9,7 +9,8 @@ use Rattle.plc_base.specs.declared.Place.{Place}
 use Rattle.plc_mem.specs.Areas.{Areas, PeripheralBytes}
 use Rattle.plc_mem.specs.BitPlace.{Region, Inputs, Outputs, BitMemory, PeripheralInputs, PeripheralOutputs, DataBlock}
 use Rattle.plc_mem.specs.Bits.{bit_at}
-use Rattle.plc_mem.specs.Number.{bit_count, region_written}
+use Rattle.plc_base.specs.Widths.{bit_count}
+use Rattle.plc_mem.specs.Number.{region_written}
 use Rattle.plc_mem.specs.Places.{AreBytes, IsRun, IsPeripheral, IsMemory, HasImage}
 use Rattle.plc_mem.specs.Writing.{is_within, stored, with_bit, put, put_peripheral, put_in_block, written_in, written}
 use Rattle.std.specs.Option.{option_map}
@@ -73,7 +74,7 @@ stored_bytes bytes at bit Dword value all within fits =
     let three = slice_set two (at + 2) c in
     set_bytes three (at + 3) d (set_bytes two (at + 2) c (set_bytes one (at + 1) b (set_bytes bytes at a all (omega arith)) (omega arith)) (omega arith)) (omega arith)
 
-put_run : (count : ℕ) (bytes new : List ℕ) (at bit : ℕ) (width : Width) (value : ℕ) → IsRun count bytes → value < 2 ^ bit_count width → put bytes at bit width value ≡ Some new → IsRun count new
+pub put_run : (count : ℕ) (bytes new : List ℕ) (at bit : ℕ) (width : Width) (value : ℕ) → IsRun count bytes → value < 2 ^ bit_count width → put bytes at bit width value ≡ Some new → IsRun count new
 put_run count bytes new at bit width value run fits done =
     let was = put_done bytes new at bit width value done in
     record {
@@ -81,7 +82,7 @@ put_run count bytes new at bit width value run fits done =
       bytes_are = subst AreBytes was.1 (stored_bytes bytes at bit width value run.bytes_are was.0 fits);
     }
 
-put_peripheral_run : (p q : PeripheralBytes) (at bit : ℕ) (width : Width) (value : ℕ) → IsPeripheral p → value < 2 ^ bit_count width → put_peripheral p at bit width value ≡ Some q → IsPeripheral q
+pub put_peripheral_run : (p q : PeripheralBytes) (at bit : ℕ) (width : Width) (value : ℕ) → IsPeripheral p → value < 2 ^ bit_count width → put_peripheral p at bit width value ≡ Some q → IsPeripheral q
 put_peripheral_run p q at bit width value is fits done =
     elim (part_put p q at bit width value done) [
       | inl w ↦ subst IsPeripheral w.3 (record { low = put_run 128 p.low w.0 at bit width value is.low fits w.2; high = is.high })
@@ -97,7 +98,7 @@ pub found_block :
 found_block true bytes stored o new before e = subst AreBytes (same_some stored bytes e) new
 found_block false bytes stored o new before e = before bytes e
 
-put_blocks_bytes :
+pub put_blocks_bytes :
     (blocks new : map.FinMap nat_cmp (List ℕ)) (k at bit : ℕ) (width : Width) (value : ℕ)
     → ((number : ℕ) (bytes : List ℕ) → map.get blocks number ≡ Some bytes → AreBytes bytes)
     → value < 2 ^ bit_count width
@@ -153,11 +154,11 @@ same_written m n other place width value hn ho wn wo =
     ∙ ap (λ (r : Region). option_map (bit_after r place.byte place.bit width value q) (bit_at m q)) region
     ∙ sym (wn.2.bits q))
 
-pub writing_gives_the_one_memory : WritingGivesTheOneMemory
-writing_gives_the_one_memory m n place width value is fits done =
+pub writing_gives_the_one_memory : (m other : Areas) → IsMemory m → IsMemory other → WritingGivesTheOneMemory m other
+writing_gives_the_one_memory m other is ho n place width value fits done =
     let new = written_memory m n place width value is fits done in
     let words = written_is m n place width value (λ _. has_image m is) fits done in
-    (new, words, λ other ho wo. same_written m n other place width value new ho words wo)
+    (new, words, λ wo. same_written m n other place width value new ho words wo)
 
-pub bits_determine_memory : BitsDetermineMemory
+pub bits_determine_memory : (m n : Areas) → IsMemory m → IsMemory n → BitsDetermineMemory m n
 bits_determine_memory m n hm hn loaded same = same_memory m n hm hn loaded same

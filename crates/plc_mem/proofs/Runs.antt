@@ -13,7 +13,7 @@ use Rattle.plc_base.specs.declared.Width.{Width}
 use Rattle.plc_base.specs.declared.Width.TheVariants.{Bit, Byte, Word, Dword}
 use Rattle.plc_mem.specs.Areas.{PeripheralBytes}
 use Rattle.plc_mem.specs.Bits.{bit_in, peripheral_byte, block_byte}
-use Rattle.plc_mem.specs.Number.{bit_count, byte_count}
+use Rattle.plc_base.specs.Widths.{bit_count, byte_count}
 use Rattle.plc_mem.specs.Run.{number_over}
 use Rattle.plc_mem.specs.Writing.{is_within, stored, put, put_peripheral, put_in_block}
 use Rattle.plc_mem.specs.Written.{weight_in, value_of_bit}

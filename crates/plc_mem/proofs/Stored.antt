@@ -12,7 +12,7 @@ use Rattle.std.proofs.lemmas.Nat.{pow_pos}
 use Rattle.plc_base.specs.declared.Width.{Width}
 use Rattle.plc_base.specs.declared.Width.TheVariants.{Bit, Byte, Word, Dword}
 use Rattle.plc_mem.specs.Bits.{bit_of, bit_in}
-use Rattle.plc_mem.specs.Number.{bit_count, byte_count}
+use Rattle.plc_base.specs.Widths.{bit_count, byte_count}
 use Rattle.plc_mem.specs.Run.{number_over, operand_bit_of}
 use Rattle.plc_mem.specs.Writing.{is_within, stored, with_bit}
 use Rattle.plc_mem.specs.Written.{weight_in, value_of_bit}

@@ -19,19 +19,37 @@ pub record Areas : Type 0 where
   pub peripheral_outputs : PeripheralBytes
   pub data_blocks : map.FinMap nat_cmp (List ℕ)
 
--- data blocks, peripheral areas and memory areas as stored
+-- Data blocks as stored.
 abbrev pub data_blocks_code : Coded (map.FinMap nat_cmp (List ℕ))
 data_blocks_code = map.code coded_ℕ (coded_list coded_ℕ)
 
+-- A peripheral area as stored.
 abbrev pub peripheral_code : Coded PeripheralBytes
 peripheral_code =
-    code_by (List ℕ × List ℕ) (coded× (coded_list coded_ℕ) (coded_list coded_ℕ)) (λ p. (p.low, p.high)) (λ p. record { low = p.0; high = p.1 }) (λ _. refl)
+    code_by
+    (List ℕ × List ℕ)
+    (coded× (coded_list coded_ℕ) (coded_list coded_ℕ))
+    (λ p. (p.low, p.high))
+    (λ p. record { low = p.0; high = p.1 })
+    (λ _. refl)
 
+-- The memory areas as stored.
 abbrev pub areas_code : Coded Areas
 areas_code =
     code_by
     (List ℕ × (List ℕ × (List ℕ × (PeripheralBytes × (PeripheralBytes × map.FinMap nat_cmp (List ℕ))))))
-    (coded× (coded_list coded_ℕ) (coded× (coded_list coded_ℕ) (coded× (coded_list coded_ℕ) (coded× peripheral_code (coded× peripheral_code data_blocks_code)))))
+    (coded×
+    (coded_list coded_ℕ)
+    (coded×
+    (coded_list coded_ℕ)
+    (coded× (coded_list coded_ℕ) (coded× peripheral_code (coded× peripheral_code data_blocks_code)))))
     (λ m. (m.inputs, (m.outputs, (m.bit_memory, (m.peripheral_inputs, (m.peripheral_outputs, m.data_blocks))))))
-    (λ p. record { inputs = p.0; outputs = p.1.0; bit_memory = p.1.1.0; peripheral_inputs = p.1.1.1.0; peripheral_outputs = p.1.1.1.1.0; data_blocks = p.1.1.1.1.1 })
+    (λ p. record {
+      inputs = p.0;
+      outputs = p.1.0;
+      bit_memory = p.1.1.0;
+      peripheral_inputs = p.1.1.1.0;
+      peripheral_outputs = p.1.1.1.1.0;
+      data_blocks = p.1.1.1.1.1;
+    })
     (λ _. refl)

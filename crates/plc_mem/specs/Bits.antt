@@ -4,12 +4,13 @@ use Rattle.std.specs.Option.{option_map}
 use Rattle.std.specs.Int as int
 use Rattle.std.specs.FinMap as map
 use Rattle.std.specs.Ordering.{nat_cmp}
+use Rattle.plc_base.specs.AreaBytes.{upper_start}
 use Rattle.plc_mem.specs.Areas.{Areas, PeripheralBytes}
 use Rattle.plc_mem.specs.BitPlace.{BitPlace, Region, Inputs, Outputs, BitMemory, PeripheralInputs, PeripheralOutputs, DataBlock}
 
 -- A peripheral byte by its number. No byte stands between the two parts of the area.
 abbrev pub peripheral_byte : PeripheralBytes → ℕ → Option ℕ
-peripheral_byte p n = if nat_lt n 256 then slice_get p.low n else slice_get p.high (n - 256)
+peripheral_byte p n = if nat_lt n upper_start then slice_get p.low n else slice_get p.high (n - upper_start)
 
 -- A byte of a data block by its number.
 abbrev pub block_byte : map.FinMap nat_cmp (List ℕ) → (number : ℕ) → ℕ → Option ℕ

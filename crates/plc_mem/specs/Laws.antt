@@ -8,65 +8,79 @@ use Rattle.plc_mem.specs.Areas.{Areas}
 use Rattle.plc_mem.specs.BitPlace.{BitPlace}
 use Rattle.plc_mem.specs.Bits.{bit_at}
 use Rattle.plc_mem.specs.Fresh.{fresh}
-use Rattle.plc_mem.specs.Number.{bit_count, number_at, EachBitExists, region_read, region_written}
+use Rattle.plc_base.specs.Widths.{bit_count}
+use Rattle.plc_mem.specs.Number.{number_at, EachBitExists, region_read, region_written}
 use Rattle.plc_mem.specs.Peripherals.{with_input, outputs_cleared, IsCleared, IsInput}
-use Rattle.plc_mem.specs.Places.{AreBytes, HasImage, IsMemory, SameBlocks, SamePlaces}
+use Rattle.plc_mem.specs.Places.{AreBytes, IsMemory, SameBlocks, SamePlaces}
 use Rattle.plc_mem.specs.Refresh.{refreshed, IsRefreshed}
 use Rattle.plc_mem.specs.Writing.{written}
 use Rattle.plc_mem.specs.Written.{IsWritten}
 
 -- Two memories with the same loaded data blocks and the same bits at every bit place are the same.
-abbrev pub BitsDetermineMemory : Type 0
-BitsDetermineMemory = (m n : Areas) → IsMemory m → IsMemory n → SameBlocks m n → ((place : BitPlace) → bit_at n place ≡ bit_at m place) → n ≡ m
+abbrev pub BitsDetermineMemory : (m n : Areas) → Type 0
+BitsDetermineMemory m n =
+    SameBlocks m n → ((place : BitPlace) → bit_at n place ≡ bit_at m place) → n ≡ m
 
--- Writing gives a memory with the number there and every other bit as before, and there is no other
--- such memory.
-abbrev pub WritingGivesTheOneMemory : Type 0
-WritingGivesTheOneMemory =
-    (m n : Areas) (place : Place) (width : Width) (value : ℕ)
-    → IsMemory m
+-- Writing gives a memory with the number there and every other bit as before, and each memory of which
+-- this is so is that one.
+abbrev pub WritingGivesTheOneMemory : (m other : Areas) → Type 0
+WritingGivesTheOneMemory m other =
+    (n : Areas) (place : Place) (width : Width) (value : ℕ)
     → value < 2 ^ bit_count width
     → written m place width value ≡ Some n
-    → IsMemory n × IsWritten m n place width value × ((other : Areas) → IsMemory other → IsWritten m other place width value → other ≡ n)
+    → IsMemory n × IsWritten m n place width value × (IsWritten m other place width value → other ≡ n)
 
 -- There is a number, or a writing, exactly where each bit of the operand exists.
-abbrev pub ReadsWhereEachBitExists : Type 0
-ReadsWhereEachBitExists = (m : Areas) (place : Place) (width : Width) → IsSome (number_at m place width) ↔ EachBitExists m (region_read place) place width
+abbrev pub ReadsWhereEachBitExists : Areas → Type 0
+ReadsWhereEachBitExists m =
+    (place : Place) (width : Width)
+    → IsSome (number_at m place width) ↔ EachBitExists m (region_read place) place width
 
-abbrev pub WritesWhereEachBitExists : Type 0
-WritesWhereEachBitExists =
-    (m : Areas) (place : Place) (width : Width) (value : ℕ) → HasImage m → IsSome (written m place width value) ↔ EachBitExists m (region_written place) place width
+-- the same of writing
+abbrev pub WritesWhereEachBitExists : Areas → Type 0
+WritesWhereEachBitExists m =
+    (place : Place) (width : Width) (value : ℕ)
+    → IsSome (written m place width value) ↔ EachBitExists m (region_written place) place width
 
 -- A number written is read back, but in area P, whose reading reads inputs.
-abbrev pub NumbersAreReadBack : Type 0
-NumbersAreReadBack =
-    (m n : Areas) (place : Place) (width : Width) (value : ℕ)
-    → IsMemory m
+abbrev pub NumbersAreReadBack : Areas → Type 0
+NumbersAreReadBack m =
+    (n : Areas) (place : Place) (width : Width) (value : ℕ)
     → value < 2 ^ bit_count width
     → place.area ≢ P
     → written m place width value ≡ Some n
     → number_at n place width ≡ Some value
 
 -- No call adds or removes a place.
-abbrev pub PlacesStay : Type 0
-PlacesStay =
-    (m n : Areas)
-    → IsMemory m
-    → ((place : Place) (width : Width) (value : ℕ) → value < 2 ^ bit_count width → written m place width value ≡ Some n → SamePlaces m n)
-    × ((byte value : ℕ) → value < 2 ^ 8 → with_input m byte value ≡ Some n → SamePlaces m n)
+abbrev pub PlacesStay : Areas → Type 0
+PlacesStay m =
+    ((n : Areas) (place : Place) (width : Width) (value : ℕ)
+    → value < 2 ^ bit_count width
+    → written m place width value ≡ Some n
+    → SamePlaces m n)
+    × ((n : Areas) (byte value : ℕ) → value < 2 ^ 8 → with_input m byte value ≡ Some n → SamePlaces m n)
     × SamePlaces m (outputs_cleared m)
     × SamePlaces m (refreshed m)
 
--- A refresh, a clearing of the outputs and an input, said of bits.
-abbrev pub RefreshesBits : Type 0
-RefreshesBits = (m : Areas) → IsMemory m → IsMemory (refreshed m) × IsRefreshed m (refreshed m)
+-- A refresh, said of bits; below, the same of clearing the outputs and of an input.
+abbrev pub RefreshesBits : Areas → Type 0
+RefreshesBits m = IsMemory (refreshed m) × IsRefreshed m (refreshed m)
 
-abbrev pub ClearsBits : Type 0
-ClearsBits = (m : Areas) → IsMemory m → IsMemory (outputs_cleared m) × IsCleared m (outputs_cleared m)
+-- clearing the outputs
+abbrev pub ClearsBits : Areas → Type 0
+ClearsBits m = IsMemory (outputs_cleared m) × IsCleared m (outputs_cleared m)
 
-abbrev pub SetsInputBits : Type 0
-SetsInputBits = (m n : Areas) (byte value : ℕ) → IsMemory m → value < 2 ^ 8 → with_input m byte value ≡ Some n → IsMemory n × IsInput m n byte value
+-- an input
+abbrev pub SetsInputBits : Areas → Type 0
+SetsInputBits m =
+    (n : Areas) (byte value : ℕ)
+    → value < 2 ^ 8
+    → with_input m byte value ≡ Some n
+    → IsMemory n × IsInput m n byte value
 
 -- Memory begins as one, where the data blocks are made of bytes.
 abbrev pub MemoryStarts : Type 0
-MemoryStarts = (blocks : List (ℕ × List ℕ)) → AllByRecursion (λ (block : ℕ × List ℕ). AreBytes block.1) blocks → IsMemory (fresh blocks)
+MemoryStarts =
+    (blocks : List (ℕ × List ℕ))
+    → AllByRecursion (λ (block : ℕ × List ℕ). AreBytes block.1) blocks
+    → IsMemory (fresh blocks)

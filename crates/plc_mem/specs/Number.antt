@@ -1,26 +1,14 @@
 -- The number at a place.
 use Rattle.std.specs.Prelude.{ℕ, zero, suc, ◌<◌, IsSome, ◌+◌, ◌-◌, ◌/◌, ◌%◌, ◌^◌, Option, Some, None, Bool, option_and_then, nat_eq, if◌then◌else◌}
 use Rattle.plc_base.specs.declared.Width.{Width}
-use Rattle.plc_base.specs.declared.Width.TheVariants.{Bit, Byte, Word, Dword}
+use Rattle.plc_base.specs.declared.Width.TheVariants.{Bit}
+use Rattle.plc_base.specs.Widths.{byte_count, bit_count}
 use Rattle.plc_base.specs.declared.Area.{Area}
 use Rattle.plc_base.specs.declared.Area.TheVariants.{P, I, Q, M, Db, Di, L}
 use Rattle.plc_base.specs.declared.Place.{Place}
 use Rattle.plc_mem.specs.Areas.{Areas}
 use Rattle.plc_mem.specs.BitPlace.{BitPlace, Region, Inputs, Outputs, BitMemory, PeripheralInputs, PeripheralOutputs, DataBlock}
 use Rattle.plc_mem.specs.Bits.{bit_at}
-
--- How many bytes, and how many bits, an operand has.
-abbrev pub byte_count : Width → ℕ
-byte_count Bit = 1
-byte_count Byte = 1
-byte_count Word = 2
-byte_count Dword = 4
-
-abbrev pub bit_count : Width → ℕ
-bit_count Bit = 1
-bit_count Byte = 8
-bit_count Word = 16
-bit_count Dword = 32
 
 -- The region in which an operand lies, given the region of the peripheral area. DI and L lie in no
 -- memory, and a number stands with data blocks alone.
@@ -33,10 +21,11 @@ region_of peripheral M number = if nat_eq number 0 then Some BitMemory else None
 region_of peripheral Di number = None
 region_of peripheral L number = None
 
--- Reading area P reads inputs, writing it writes outputs.
+-- The region that reading means: of area P the inputs.
 abbrev pub region_read : Place → Option Region
 region_read place = region_of PeripheralInputs place.area place.number
 
+-- The region that writing means: of area P the outputs.
 abbrev pub region_written : Place → Option Region
 region_written place = region_of PeripheralOutputs place.area place.number
 
@@ -44,7 +33,8 @@ region_written place = region_of PeripheralOutputs place.area place.number
 -- byte n + i weighs 2 ^ (8 * (k - 1 - i) + b).
 abbrev pub operand_bit : Region → Place → Width → ℕ → BitPlace
 operand_bit region place Bit j = record { region = region; byte = place.byte; bit = place.bit }
-operand_bit region place width j = record { region = region; byte = place.byte + (byte_count width - 1 - j / 8); bit = j % 8 }
+operand_bit region place width j =
+    record { region = region; byte = place.byte + (byte_count width - 1 - j / 8); bit = j % 8 }
 
 -- A sum of weights, and the weight 2 ^ j if the bit is 1.
 abbrev pub plus_weight : ℕ → Option ℕ → Option Bool → Option ℕ
@@ -59,13 +49,16 @@ weights_of bits (suc j) = plus_weight j (weights_of bits j) (bits j)
 
 -- The number in an operand of a region, if each bit of the operand exists.
 unfoldable pub number_of : Areas → Region → Place → Width → Option ℕ
-number_of m region place width = weights_of (λ j. bit_at m (operand_bit region place width j)) (bit_count width)
+number_of m region place width =
+    weights_of (λ j. bit_at m (operand_bit region place width j)) (bit_count width)
 
 -- The number at a place and width, if each bit of the operand exists.
 unfoldable pub number_at : Areas → Place → Width → Option ℕ
-number_at m place width = option_and_then (λ region. number_of m region place width) (region_read place)
+number_at m place width =
+    option_and_then (λ region. number_of m region place width) (region_read place)
 
 -- Each bit of an operand exists.
 abbrev pub EachBitExists : Areas → Option Region → Place → Width → Type 0
 EachBitExists m None place width = ⊥
-EachBitExists m (Some region) place width = (j : ℕ) → j < bit_count width → IsSome (bit_at m (operand_bit region place width j))
+EachBitExists m (Some region) place width =
+    (j : ℕ) → j < bit_count width → IsSome (bit_at m (operand_bit region place width j))

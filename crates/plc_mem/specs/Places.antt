@@ -1,13 +1,16 @@
 -- Which places exist, and which memories there can be.
 use Rattle.std.specs.Prelude.{◌≡◌, ℕ, ◌<◌, List, length, Some, is_some, slice_index}
 use Rattle.std.specs.FinMap as map
+use Rattle.std.specs.Ordering.{nat_cmp}
+use Rattle.plc_base.specs.AreaBytes.{image_size, bit_memory_size, upper_size}
 use Rattle.plc_mem.specs.Areas.{Areas, PeripheralBytes}
 use Rattle.plc_mem.specs.BitPlace.{BitPlace}
 use Rattle.plc_mem.specs.Bits.{bit_at}
 
 -- The same data blocks are loaded.
 abbrev pub SameBlocks : (old new : Areas) → Type 0
-SameBlocks old new = (number : ℕ) → is_some (map.get new.data_blocks number) ≡ is_some (map.get old.data_blocks number)
+SameBlocks old new =
+    (number : ℕ) → is_some (map.get new.data_blocks number) ≡ is_some (map.get old.data_blocks number)
 
 -- No place is added or removed.
 pub record SamePlaces (old new : Areas) : Type 0 where
@@ -23,25 +26,31 @@ pub record IsRun (count : ℕ) (bytes : List ℕ) : Type 0 where
   pub count_is : length bytes ≡ count
   pub bytes_are : AreBytes bytes
 
+-- The two parts of a peripheral area have their sizes and are made of bytes.
 pub record IsPeripheral (p : PeripheralBytes) : Type 0 where
-  pub low : IsRun 128 p.low
-  pub high : IsRun 512 p.high
+  pub low : IsRun image_size p.low
+  pub high : IsRun upper_size p.high
+
+-- Each data block is made of bytes.
+abbrev pub AreBlocks : map.FinMap nat_cmp (List ℕ) → Type 0
+AreBlocks blocks =
+    (number : ℕ) (bytes : List ℕ) → map.get blocks number ≡ Some bytes → AreBytes bytes
 
 -- The two parts of a peripheral area have their sizes.
 pub record HasParts (p : PeripheralBytes) : Type 0 where
-  pub low : length p.low ≡ 128
-  pub high : length p.high ≡ 512
+  pub low : length p.low ≡ image_size
+  pub high : length p.high ≡ upper_size
 
 -- A memory that can be: each area has its size, and memory is made of bytes.
 pub record IsMemory (m : Areas) : Type 0 where
-  pub inputs : IsRun 128 m.inputs
-  pub outputs : IsRun 128 m.outputs
-  pub bit_memory : IsRun 256 m.bit_memory
+  pub inputs : IsRun image_size m.inputs
+  pub outputs : IsRun image_size m.outputs
+  pub bit_memory : IsRun bit_memory_size m.bit_memory
   pub peripheral_inputs : IsPeripheral m.peripheral_inputs
   pub peripheral_outputs : IsPeripheral m.peripheral_outputs
-  pub data_blocks : (number : ℕ) (bytes : List ℕ) → map.get m.data_blocks number ≡ Some bytes → AreBytes bytes
+  pub data_blocks : AreBlocks m.data_blocks
 
 -- The process image of the outputs has the bytes of the lower part of the peripheral outputs.
 pub record HasImage (m : Areas) : Type 0 where
-  pub image : length m.outputs ≡ 128
-  pub outputs_low : length m.peripheral_outputs.low ≡ 128
+  pub image : length m.outputs ≡ image_size
+  pub outputs_low : length m.peripheral_outputs.low ≡ image_size

@@ -4,7 +4,8 @@ use Rattle.std.specs.Int as int
 use Rattle.plc_base.specs.declared.Width.{Width}
 use Rattle.plc_base.specs.declared.Width.TheVariants.{Bit, Byte, Word, Dword}
 use Rattle.plc_mem.specs.Bits.{bit_in}
-use Rattle.plc_mem.specs.Number.{bit_count, byte_count, weights_of}
+use Rattle.plc_base.specs.Widths.{bit_count, byte_count}
+use Rattle.plc_mem.specs.Number.{weights_of}
 
 -- The number in an operand that lies within a run of bytes, the highest byte first.
 abbrev pub number_of_bytes : List ℕ → (at bit : ℕ) → Width → ℕ
@@ -12,7 +13,8 @@ number_of_bytes bytes at bit Bit = int.bit_at (slice_index bytes at) bit
 number_of_bytes bytes at bit Byte = slice_index bytes at
 number_of_bytes bytes at bit Word = slice_index bytes at * 2 ^ 8 + slice_index bytes (at + 1)
 number_of_bytes bytes at bit Dword =
-    slice_index bytes at * 2 ^ 24 + slice_index bytes (at + 1) * 2 ^ 16 + slice_index bytes (at + 2) * 2 ^ 8 + slice_index bytes (at + 3)
+    slice_index bytes at * 2 ^ 24 + slice_index bytes (at + 1) * 2 ^ 16 + slice_index bytes (at + 2) * 2 ^ 8
+    + slice_index bytes (at + 3)
 
 -- The bit of an operand that weighs 2 ^ j, where bytes are given by their numbers.
 abbrev pub operand_bit_of : (ℕ → Option ℕ) → (at bit : ℕ) → Width → ℕ → Option Bool

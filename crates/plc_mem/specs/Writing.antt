@@ -7,9 +7,11 @@ use Rattle.std.specs.Ordering.{nat_cmp}
 use Rattle.plc_base.specs.declared.Width.{Width}
 use Rattle.plc_base.specs.declared.Width.TheVariants.{Bit, Byte, Word, Dword}
 use Rattle.plc_base.specs.declared.Place.{Place}
+use Rattle.plc_base.specs.AreaBytes.{upper_start}
 use Rattle.plc_mem.specs.Areas.{Areas, PeripheralBytes}
 use Rattle.plc_mem.specs.BitPlace.{Region, Inputs, Outputs, BitMemory, PeripheralInputs, PeripheralOutputs, DataBlock}
-use Rattle.plc_mem.specs.Number.{byte_count, region_written}
+use Rattle.plc_base.specs.Widths.{byte_count}
+use Rattle.plc_mem.specs.Number.{region_written}
 
 -- A byte with another value of bit k.
 abbrev pub with_bit : ℕ → ℕ → ℕ → ℕ
@@ -24,41 +26,66 @@ is_within bytes at bit width = nat_le (at + byte_count width) (length bytes)
 abbrev pub stored : List ℕ → (at bit : ℕ) → Width → ℕ → List ℕ
 stored bytes at bit Bit value = slice_set bytes at (with_bit (slice_index bytes at) bit value)
 stored bytes at bit Byte value = slice_set bytes at value
-stored bytes at bit Word value = slice_set (slice_set bytes at (value / 2 ^ 8)) (at + 1) (value % 2 ^ 8)
+stored bytes at bit Word value =
+    slice_set (slice_set bytes at (value / 2 ^ 8)) (at + 1) (value % 2 ^ 8)
 stored bytes at bit Dword value =
-    slice_set (slice_set (slice_set (slice_set bytes at (value / 2 ^ 24)) (at + 1) (value / 2 ^ 16 % 2 ^ 8)) (at + 2) (value / 2 ^ 8 % 2 ^ 8)) (at + 3) (value % 2 ^ 8)
+    slice_set
+    (slice_set
+    (slice_set (slice_set bytes at (value / 2 ^ 24)) (at + 1) (value / 2 ^ 16 % 2 ^ 8))
+    (at + 2)
+    (value / 2 ^ 8 % 2 ^ 8))
+    (at + 3)
+    (value % 2 ^ 8)
 
 -- The same, if the operand lies within the bytes.
 unfoldable pub put : List ℕ → (at bit : ℕ) → Width → ℕ → Option (List ℕ)
-put bytes at bit width value = if is_within bytes at bit width then Some (stored bytes at bit width value) else None
+put bytes at bit width value =
+    if is_within bytes at bit width then Some (stored bytes at bit width value) else None
 
 -- A peripheral area with a number in the operand, if the operand lies within one of its parts.
-unfoldable pub put_peripheral : PeripheralBytes → (byte bit : ℕ) → Width → ℕ → Option PeripheralBytes
+unfoldable pub put_peripheral :
+    PeripheralBytes → (byte bit : ℕ) → Width → ℕ → Option PeripheralBytes
 put_peripheral p byte bit width value =
-    if nat_lt byte 256
+    if nat_lt byte upper_start
     then option_map (λ bytes. record p { low = bytes }) (put p.low byte bit width value)
-    else option_map (λ bytes. record p { high = bytes }) (put p.high (byte - 256) bit width value)
+    else option_map (λ bytes. record p { high = bytes }) (put p.high (byte - upper_start) bit width value)
 
 -- Data blocks with a number in the operand.
-unfoldable pub put_in_block : map.FinMap nat_cmp (List ℕ) → (number byte bit : ℕ) → Width → ℕ → Option (map.FinMap nat_cmp (List ℕ))
+unfoldable pub put_in_block :
+    map.FinMap nat_cmp (List ℕ) → (number byte bit : ℕ) → Width → ℕ → Option (map.FinMap nat_cmp (List ℕ))
 put_in_block blocks number byte bit width value =
-    option_and_then (λ bytes. option_map (λ new. map.insert blocks number new) (put bytes byte bit width value)) (map.get blocks number)
+    option_and_then
+    (λ bytes. option_map (λ new. map.insert blocks number new) (put bytes byte bit width value))
+    (map.get blocks number)
 
 -- The memory with a number in an operand of a region. What is written to peripheral outputs is
 -- written to the process image of the outputs as well, where that has these bytes.
 abbrev pub written_in : Areas → Region → (byte bit : ℕ) → Width → ℕ → Option Areas
-written_in m Inputs byte bit width value = option_map (λ bytes. record m { inputs = bytes }) (put m.inputs byte bit width value)
-written_in m Outputs byte bit width value = option_map (λ bytes. record m { outputs = bytes }) (put m.outputs byte bit width value)
-written_in m BitMemory byte bit width value = option_map (λ bytes. record m { bit_memory = bytes }) (put m.bit_memory byte bit width value)
+written_in m Inputs byte bit width value =
+    option_map (λ bytes. record m { inputs = bytes }) (put m.inputs byte bit width value)
+written_in m Outputs byte bit width value =
+    option_map (λ bytes. record m { outputs = bytes }) (put m.outputs byte bit width value)
+written_in m BitMemory byte bit width value =
+    option_map (λ bytes. record m { bit_memory = bytes }) (put m.bit_memory byte bit width value)
 written_in m PeripheralInputs byte bit width value =
-    option_map (λ p. record m { peripheral_inputs = p }) (put_peripheral m.peripheral_inputs byte bit width value)
+    option_map
+    (λ p. record m { peripheral_inputs = p })
+    (put_peripheral m.peripheral_inputs byte bit width value)
 written_in m PeripheralOutputs byte bit width value =
     option_map
-    (λ p. record m { outputs = unwrap_or (put m.outputs byte bit width value) m.outputs; peripheral_outputs = p })
+    (λ p. record m {
+      outputs = unwrap_or (put m.outputs byte bit width value) m.outputs;
+      peripheral_outputs = p;
+    })
     (put_peripheral m.peripheral_outputs byte bit width value)
 written_in m (DataBlock number) byte bit width value =
-    option_map (λ blocks. record m { data_blocks = blocks }) (put_in_block m.data_blocks number byte bit width value)
+    option_map
+    (λ blocks. record m { data_blocks = blocks })
+    (put_in_block m.data_blocks number byte bit width value)
 
 -- The memory with a number at a place and width, if each bit of the operand exists.
 unfoldable pub written : Areas → Place → Width → ℕ → Option Areas
-written m place width value = option_and_then (λ region. written_in m region place.byte place.bit width value) (region_written place)
+written m place width value =
+    option_and_then
+    (λ region. written_in m region place.byte place.bit width value)
+    (region_written place)

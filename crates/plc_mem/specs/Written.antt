@@ -7,7 +7,8 @@ use Rattle.plc_base.specs.declared.Place.{Place}
 use Rattle.plc_mem.specs.Areas.{Areas}
 use Rattle.plc_mem.specs.BitPlace.{BitPlace, Region, Inputs, Outputs, BitMemory, PeripheralInputs, PeripheralOutputs, DataBlock}
 use Rattle.plc_mem.specs.Bits.{bit_at, bit_of}
-use Rattle.plc_mem.specs.Number.{byte_count, number_of, region_written}
+use Rattle.plc_base.specs.Widths.{byte_count}
+use Rattle.plc_mem.specs.Number.{number_of, region_written}
 use Rattle.plc_mem.specs.Places.{SameBlocks}
 
 -- Which power of 2 a bit weighs in an operand from byte `at`, if the bit is one of the operand's:
@@ -15,7 +16,9 @@ use Rattle.plc_mem.specs.Places.{SameBlocks}
 abbrev pub weight_in : (at bit : ℕ) → Width → (byte b : ℕ) → Option ℕ
 weight_in at bit Bit byte b = if nat_eq byte at && nat_eq b bit then Some 0 else None
 weight_in at bit width byte b =
-    if nat_le at byte && nat_lt byte (at + byte_count width) then Some (8 * (byte_count width - 1 - (byte - at)) + b) else None
+    if nat_le at byte && nat_lt byte (at + byte_count width)
+    then Some (8 * (byte_count width - 1 - (byte - at)) + b)
+    else None
 
 -- A truth value after a write: that of the number where the bit has a weight, else the one before.
 abbrev pub value_of_bit : ℕ → Option ℕ → Bool → Bool
@@ -37,16 +40,22 @@ is_set_with written other = false
 -- The truth value at a bit place after a write to a region, given the one before.
 abbrev pub bit_after : Region → (at bit : ℕ) → Width → ℕ → BitPlace → Bool → Bool
 bit_after region at bit width value place before =
-    if is_set_with region place.region then value_of_bit value (weight_in at bit width place.byte place.bit) before else before
+    if is_set_with region place.region
+    then value_of_bit value (weight_in at bit width place.byte place.bit) before
+    else before
 
 -- The new memory has the number in the operand, and is the old one in every other bit. What is
 -- written to peripheral outputs is written to the process image of the outputs as well, as far as
 -- that has these bytes.
-pub record IsWrittenIn (old new : Areas) (region : Region) (place : Place) (width : Width) (value : ℕ) : Type 0 where
+pub record IsWrittenIn (old new : Areas) (region : Region) (place : Place) (width : Width) (value : ℕ)
+    : Type 0 where
   pub number : number_of new region place width ≡ Some value
-  pub bits : (at : BitPlace) → bit_at new at ≡ option_map (bit_after region place.byte place.bit width value at) (bit_at old at)
+  pub bits :
+      (at : BitPlace)
+      → bit_at new at ≡ option_map (bit_after region place.byte place.bit width value at) (bit_at old at)
   pub blocks : SameBlocks old new
 
 -- The same of the region that a place means when it is written.
 abbrev pub IsWritten : (old new : Areas) → Place → Width → ℕ → Type 0
-IsWritten old new place width value = (region : Region) × (region_written place ≡ Some region) × IsWrittenIn old new region place width value
+IsWritten old new place width value =
+    (region : Region) × (region_written place ≡ Some region) × IsWrittenIn old new region place width value

@@ -1,18 +1,20 @@
 // The loaded data blocks, each by its number.
-ghost use Rattle.std.specs.Prelude.{◌≡◌, ◌^◌, ◌<◌, nat_eq, Option, Some, None, IfOk, MatchResult};
+ghost use Rattle.std.specs.Prelude.{◌≡◌, ◌^◌, ◌<◌, nat_eq, Option, Some, None, IfOk};
 ghost use Rattle.std.specs.Option.{option_copied, option_map};
 ghost use Rattle.std.specs.FinMap as map;
 ghost use Rattle.std.specs.List.{IsDistinct};
 ghost use Rattle.plc_mem.specs.Blocks.{bytes_of, numbers_of};
 ghost use Rattle.plc_mem.specs.Bits.{block_byte};
-ghost use Rattle.plc_mem.specs.Number.{bit_count};
+ghost use Rattle.plc_base.specs.Changes.{ChangesOrStays};
+ghost use Rattle.plc_base.specs.Widths.{bit_count};
+ghost use Rattle.plc_mem.specs.Places.{AreBlocks, AreBytes};
 ghost use Rattle.plc_mem.specs.Run.{number_over};
 ghost use Rattle.plc_mem.specs.Writing.{put_in_block};
 
 use crate::faults::Missing;
 use crate::operands;
-use plc_base::Width;
-use std::alloc::{AllocError, Global};
+use plc_base::{NoMemory, Width};
+use std::alloc::Global;
 use std::collections::BTreeMap;
 use std::marker::Model;
 
@@ -35,15 +37,24 @@ impl Model for DataBlocks {
     ghost view = { λ a. blocks_of a.by_number.entries };
 }
 
+/// A copy of these bytes.
+fn copied(alloc: Global, bytes: &[u8]) -> Result<Vec<u8>, NoMemory>
+    ensures items { IfOk result (λ copy. copy.items ≡ bytes.now) }
+    ensures bytes { AreBytes bytes.now }
+{
+    Vec::from_slice(alloc, bytes)
+}
+
 impl DataBlocks {
     /// Copies of these data blocks.
-    pub(crate) fn new(alloc: Global, blocks: &[(u16, Vec<u8>)]) -> Result<Self, AllocError>
+    pub(crate) fn new(alloc: Global, blocks: &[(u16, Vec<u8>)]) -> Result<Self, NoMemory>
         requires { IsDistinct nat_eq (numbers_of blocks.now) }
-        ensures { IfOk result (λ r. r ≡ map.from_entries (bytes_of blocks.now)) }
+        ensures blocks { IfOk result (λ r. r ≡ map.from_entries (bytes_of blocks.now)) }
+        ensures bytes { IfOk result AreBlocks }
     {
         let mut by_number = BTreeMap::new(alloc);
         for (number, bytes) in blocks {
-            by_number.insert(*number, Vec::from_slice(alloc, bytes)?)?;
+            by_number.insert(*number, copied(alloc, bytes)?)?;
         }
         Ok(DataBlocks { by_number })
     }
@@ -78,7 +89,8 @@ impl DataBlocks {
     ) -> Result<(), Missing>
         requires near { at < 2 ^ 16 }
         requires fits { value < 2 ^ bit_count width }
-        ensures { MatchResult result (λ _. put_in_block self.old number at bit width value ≡ Some self.new) (λ _. (put_in_block self.old number at bit width value ≡ None) × (self.new ≡ self.old)) }
+        ensures { ChangesOrStays (put_in_block self.old number at bit width value)
+            self.old self.new result }
     {
         match self.by_number.get_mut(&number) {
             Some(bytes) => operands::put(bytes.as_mut_slice(), at, bit, width, value),

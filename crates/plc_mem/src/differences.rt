@@ -35,7 +35,8 @@ fn skip_equal_blocks(old: &[u8], new: &[u8], from: usize) -> usize
 fn is_same_block(old: &[u8], new: &[u8], at: usize) -> bool
     requires old { at + BLOCK ≤ length old.now }
     requires new { at + BLOCK ≤ length new.now }
-    ensures { IsTrue result → (n : ℕ) → at ≤ n → n < at + BLOCK → slice_get new.now n ≡ slice_get old.now n }
+    ensures { IsTrue result → (n : ℕ) → at ≤ n → n < at + BLOCK →
+        slice_get new.now n ≡ slice_get old.now n }
 {
     let mut same = true;
     for i in at..at + BLOCK {

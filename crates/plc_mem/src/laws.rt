@@ -1,39 +1,55 @@
 //! The laws of memory.
 ghost use Rattle.plc_mem.specs.Laws.{BitsDetermineMemory, WritingGivesTheOneMemory, ReadsWhereEachBitExists, WritesWhereEachBitExists, NumbersAreReadBack, PlacesStay, RefreshesBits, ClearsBits, SetsInputBits, MemoryStarts};
 
+use crate::memories::Memory;
+
 /// Two memories with the same loaded data blocks and the same bits at every bit place are the same.
-pub fn bits_determine_memory()
-    ensures { BitsDetermineMemory }
-{}
+pub fn bits_determine_memory(m: &Memory, n: &Memory)
+    ensures { BitsDetermineMemory m.now n.now }
+{
+    m.law_of_areas();
+    n.law_of_areas();
+}
 
 /// Writing gives a memory with the number there and every other bit as before, and there is no other
 /// such memory.
-pub fn writing_gives_the_one_memory()
-    ensures { WritingGivesTheOneMemory }
-{}
+pub fn writing_gives_the_one_memory(m: &Memory, other: &Memory)
+    ensures { WritingGivesTheOneMemory m.now other.now }
+{
+    m.law_of_areas();
+    other.law_of_areas();
+}
 
 /// A place has a number, and takes one, exactly where each bit of the operand exists.
-pub fn places_exist_bit_by_bit()
-    ensures reads { ReadsWhereEachBitExists }
-    ensures writes { WritesWhereEachBitExists }
-{}
+pub fn places_exist_bit_by_bit(m: &Memory)
+    ensures reads { ReadsWhereEachBitExists m.now }
+    ensures writes { WritesWhereEachBitExists m.now }
+{
+    m.law_of_areas();
+}
 
 /// A number written is read back, but in area P, whose reading reads inputs.
-pub fn numbers_are_read_back()
-    ensures { NumbersAreReadBack }
-{}
+pub fn numbers_are_read_back(m: &Memory)
+    ensures { NumbersAreReadBack m.now }
+{
+    m.law_of_areas();
+}
 
 /// No call adds or removes a place.
-pub fn places_stay()
-    ensures { PlacesStay }
-{}
+pub fn places_stay(m: &Memory)
+    ensures { PlacesStay m.now }
+{
+    m.law_of_areas();
+}
 
 /// A refresh, a clearing of the outputs and an input, said of bits.
-pub fn calls_change_these_bits()
-    ensures refreshes { RefreshesBits }
-    ensures clears { ClearsBits }
-    ensures inputs { SetsInputBits }
-{}
+pub fn calls_change_these_bits(m: &Memory)
+    ensures refreshes { RefreshesBits m.now }
+    ensures clears { ClearsBits m.now }
+    ensures inputs { SetsInputBits m.now }
+{
+    m.law_of_areas();
+}
 
 /// Memory begins as one that can be, where the data blocks are made of bytes.
 pub fn memory_starts()

@@ -7,11 +7,9 @@ mod differences;
 mod faults;
 pub mod laws;
 mod memories;
-mod operands;
+pub mod operands;
 mod peripherals;
-#[cfg(test)]
-mod tests;
 
-pub use faults::{Missing, NoMemory};
+pub use faults::Missing;
 pub use memories::Memory;
 pub use peripherals::PeripheralArea;

@@ -1,23 +1,26 @@
 // The memory areas of the controller but local data.
-ghost use Rattle.std.specs.Prelude.{◌≡◌, ◌^◌, ◌<◌, nat_eq, Some, None, IfOk, OnOk, IsOk, IsSome, MatchResult, ◌↔◌};
+ghost use Rattle.std.specs.Prelude.{◌≡◌, ◌^◌, ◌<◌, nat_eq, Some, None, IfOk, OnOk, IsOk, IsSome, IsTrue, MatchResult, ◌↔◌};
 ghost use Rattle.std.specs.Option.{option_copied};
 ghost use Rattle.std.specs.FinMap as map;
 ghost use Rattle.std.specs.List.{IsDistinct};
 ghost use Rattle.plc_mem.specs.Blocks.{bytes_of, numbers_of};
-ghost use Rattle.plc_mem.specs.Fresh.{fresh};
-ghost use Rattle.plc_mem.specs.Number.{bit_count, number_at, region_read, region_written, EachBitExists};
-ghost use Rattle.plc_mem.specs.Peripherals.{with_input, output_of, outputs_cleared, IsPeripheralByte};
+ghost use Rattle.plc_mem.specs.Fresh.{cleared, fresh};
+ghost use Rattle.plc_base.specs.AreaBytes.{is_peripheral_byte};
+ghost use Rattle.plc_base.specs.Changes.{ChangesOrStays};
+ghost use Rattle.plc_base.specs.Widths.{bit_count};
+ghost use Rattle.plc_mem.specs.Number.{number_at, region_read, region_written, EachBitExists};
+ghost use Rattle.plc_mem.specs.Peripherals.{with_input, output_of, outputs_cleared};
 ghost use Rattle.plc_mem.specs.Refresh.{refreshed};
 ghost use Rattle.plc_mem.specs.Writing.{written, written_in};
 ghost use Rattle.plc_mem.specs.Written.{IsWritten};
-ghost use Rattle.plc_mem.specs.Places.{HasImage};
-ghost use Rattle.plc_mem.specs.BitPlace.{PeripheralOutputs};
+ghost use Rattle.plc_mem.specs.Places.{AreBlocks, HasImage, IsMemory};
+ghost use Rattle.plc_mem.specs.BitPlace.{Inputs, Outputs, BitMemory, PeripheralOutputs, DataBlock};
 
 use crate::data_blocks::DataBlocks;
-use crate::faults::{Missing, NoMemory};
+use crate::faults::Missing;
 use crate::operands;
 use crate::peripherals::{LOW_BYTES, PeripheralArea};
-use plc_base::{Area, Place, Width};
+use plc_base::{Area, NoMemory, Place, Width};
 use std::alloc::Global;
 use std::marker::Model;
 
@@ -38,12 +41,29 @@ pub struct Memory {
 
 impl Model for Memory {
     ghost use Rattle.plc_mem.specs.Areas.{Areas, areas_code};
+    ghost use Rattle.plc_mem.specs.Places.{IsMemory};
 
     ghost Value = { Areas };
 
     ghost coded = { areas_code };
 
-    ghost view = { λ a. record { inputs = a.inputs; outputs = a.outputs; bit_memory = a.bit_memory; peripheral_inputs = a.peripheral_inputs; peripheral_outputs = a.peripheral_outputs; data_blocks = a.data_blocks } };
+    ghost view = { λ a. record {
+      inputs = a.inputs;
+      outputs = a.outputs;
+      bit_memory = a.bit_memory;
+      peripheral_inputs = a.peripheral_inputs;
+      peripheral_outputs = a.peripheral_outputs;
+      data_blocks = a.data_blocks;
+    } };
+
+    ghost invariant = { λ a. IsMemory (record {
+      inputs = a.inputs;
+      outputs = a.outputs;
+      bit_memory = a.bit_memory;
+      peripheral_inputs = a.peripheral_inputs;
+      peripheral_outputs = a.peripheral_outputs;
+      data_blocks = a.data_blocks;
+    }) };
 }
 
 impl Memory {
@@ -53,20 +73,25 @@ impl Memory {
         requires { IsDistinct nat_eq (numbers_of blocks.now) }
         ensures { IfOk result (λ m. m ≡ fresh (bytes_of blocks.now)) }
     {
-        Ok(Memory {
-            inputs: [0; LOW_BYTES],
-            outputs: [0; LOW_BYTES],
-            bit_memory: [0; BIT_MEMORY_BYTES],
-            peripheral_inputs: PeripheralArea::clear(),
-            peripheral_outputs: PeripheralArea::clear(),
-            data_blocks: DataBlocks::new(alloc, blocks)?,
-        })
+        let data_blocks = DataBlocks::new(alloc, blocks)?;
+        Ok(Memory::cleared(data_blocks))
+    }
+
+    /// Nothing is done. The contract says that each memory has its areas, each of its size and made
+    /// of bytes.
+    pub fn law_of_areas(&self)
+        ensures { IsMemory self.now }
+    {
+        let _ = &self.inputs;
     }
 
     /// The number at a place, right-justified with zeros above. Reading area P reads peripheral
     /// inputs.
     pub fn read(&self, place: Place, width: Width) -> Result<u32, Missing>
-        ensures cases { MatchResult result (λ n. number_at self.now place width ≡ Some n) (λ _. number_at self.now place width ≡ None) }
+        ensures cases { MatchResult result
+            (λ n. number_at self.now place width ≡ Some n)
+            (λ _. number_at self.now place width ≡ None) }
+        ensures fits { IfOk result (λ n. n < 2 ^ bit_count width) }
         ensures exists { IsOk result ↔ EachBitExists self.now (region_read place) place width }
     {
         self.number(place, width).ok_or(Missing)
@@ -76,7 +101,8 @@ impl Memory {
     /// the process image of the outputs where these exist.
     pub fn write(&mut self, place: Place, width: Width, value: u32) -> Result<(), Missing>
         requires { value < 2 ^ bit_count width }
-        ensures cases { MatchResult result (λ _. written self.old place width value ≡ Some self.new) (λ _. (written self.old place width value ≡ None) × (self.new ≡ self.old)) }
+        ensures cases { ChangesOrStays (written self.old place width value)
+            self.old self.new result }
         ensures bits { OnOk result (IsWritten self.old self.new place width value) }
         ensures exists { IsOk result ↔ EachBitExists self.old (region_written place) place width }
     {
@@ -86,8 +112,8 @@ impl Memory {
     /// Sets one byte of the peripheral inputs.
     #[tactic(auto, unfolding(crate::specs::Peripherals::with_input))]
     pub fn set_input(&mut self, byte: u16, value: u8) -> Result<(), Missing>
-        ensures exists { IsOk result ↔ IsPeripheralByte byte }
-        ensures cases { MatchResult result (λ _. with_input self.old byte value ≡ Some self.new) (λ _. (with_input self.old byte value ≡ None) × (self.new ≡ self.old)) }
+        ensures exists { IsOk result ↔ IsTrue (is_peripheral_byte byte) }
+        ensures cases { ChangesOrStays (with_input self.old byte value) self.old self.new result }
     {
         let at = usize::from(byte);
         self.peripheral_inputs.put(at, 0, Width::Byte, value.into())
@@ -97,7 +123,7 @@ impl Memory {
     #[tactic(auto, unfolding(crate::specs::Peripherals::output_of))]
     pub fn output(&self, byte: u16) -> Option<u8>
         ensures value { result ≡ output_of self.now byte }
-        ensures exists { IsSome result ↔ IsPeripheralByte byte }
+        ensures exists { IsSome result ↔ IsTrue (is_peripheral_byte byte) }
     {
         self.peripheral_outputs.byte(byte)
     }
@@ -135,6 +161,21 @@ impl Memory {
         self.inputs = self.peripheral_inputs.low;
     }
 
+    // Memory with these data blocks, in which all else is 0.
+    fn cleared(data_blocks: DataBlocks) -> Self
+        requires { AreBlocks data_blocks }
+        ensures { result ≡ cleared data_blocks }
+    {
+        Memory {
+            inputs: [0; LOW_BYTES],
+            outputs: [0; LOW_BYTES],
+            bit_memory: [0; BIT_MEMORY_BYTES],
+            peripheral_inputs: PeripheralArea::clear(),
+            peripheral_outputs: PeripheralArea::clear(),
+            data_blocks,
+        }
+    }
+
     // The number at a place, if each bit of the operand exists.
     #[tactic(auto, using(crate::proofs::Numbers::number_at_bytes))]
     fn number(&self, place: Place, width: Width) -> Option<u32>
@@ -156,25 +197,86 @@ impl Memory {
     fn store(&mut self, place: Place, width: Width, value: u32) -> Result<(), Missing>
         requires { value < 2 ^ bit_count width }
         ensures sizes { region_written place ≡ Some PeripheralOutputs → HasImage self.old }
-        ensures cases { MatchResult result (λ _. written self.old place width value ≡ Some self.new) (λ _. (written self.old place width value ≡ None) × (self.new ≡ self.old)) }
+        ensures cases { ChangesOrStays (written self.old place width value)
+            self.old self.new result }
     {
         let at = usize::from(place.byte);
         match (place.area, place.number) {
-            (Area::P, 0) => self.put_outputs(at, place.bit, width, value),
-            (Area::I, 0) => operands::put(&mut self.inputs, at, place.bit, width, value),
-            (Area::Q, 0) => operands::put(&mut self.outputs, at, place.bit, width, value),
-            (Area::M, 0) => operands::put(&mut self.bit_memory, at, place.bit, width, value),
-            (Area::Db, number) => self.data_blocks.put(number, at, place.bit, width, value),
+            (Area::P, 0) => self.put_peripheral_outputs(at, place.bit, width, value),
+            (Area::I, 0) => self.put_inputs(at, place.bit, width, value),
+            (Area::Q, 0) => self.put_outputs(at, place.bit, width, value),
+            (Area::M, 0) => self.put_bit_memory(at, place.bit, width, value),
+            (Area::Db, number) => self.put_block(number, at, place.bit, width, value),
             _ => Err(Missing),
         }
     }
 
-    // Writes an operand of the peripheral outputs, and the same bytes of the process image.
+    // Writes an operand of the process image of the inputs.
+    fn put_inputs(&mut self, at: usize, bit: u8, width: Width, value: u32) -> Result<(), Missing>
+        requires near { at < 2 ^ 16 }
+        requires fits { value < 2 ^ bit_count width }
+        ensures { ChangesOrStays (written_in self.old Inputs at bit width value)
+            self.old self.new result }
+    {
+        operands::put(&mut self.inputs, at, bit, width, value)
+    }
+
+    // Writes an operand of the process image of the outputs.
     fn put_outputs(&mut self, at: usize, bit: u8, width: Width, value: u32) -> Result<(), Missing>
         requires near { at < 2 ^ 16 }
         requires fits { value < 2 ^ bit_count width }
+        ensures { ChangesOrStays (written_in self.old Outputs at bit width value)
+            self.old self.new result }
+    {
+        operands::put(&mut self.outputs, at, bit, width, value)
+    }
+
+    // Writes an operand of bit memory.
+    fn put_bit_memory(
+        &mut self,
+        at: usize,
+        bit: u8,
+        width: Width,
+        value: u32,
+    ) -> Result<(), Missing>
+        requires near { at < 2 ^ 16 }
+        requires fits { value < 2 ^ bit_count width }
+        ensures { ChangesOrStays (written_in self.old BitMemory at bit width value)
+            self.old self.new result }
+    {
+        operands::put(&mut self.bit_memory, at, bit, width, value)
+    }
+
+    // Writes an operand of a data block.
+    fn put_block(
+        &mut self,
+        number: u16,
+        at: usize,
+        bit: u8,
+        width: Width,
+        value: u32,
+    ) -> Result<(), Missing>
+        requires near { at < 2 ^ 16 }
+        requires fits { value < 2 ^ bit_count width }
+        ensures { ChangesOrStays (written_in self.old (DataBlock number) at bit width value)
+            self.old self.new result }
+    {
+        self.data_blocks.put(number, at, bit, width, value)
+    }
+
+    // Writes an operand of the peripheral outputs, and the same bytes of the process image.
+    fn put_peripheral_outputs(
+        &mut self,
+        at: usize,
+        bit: u8,
+        width: Width,
+        value: u32,
+    ) -> Result<(), Missing>
+        requires near { at < 2 ^ 16 }
+        requires fits { value < 2 ^ bit_count width }
         ensures sizes { HasImage self.old }
-        ensures cases { MatchResult result (λ _. written_in self.old PeripheralOutputs at bit width value ≡ Some self.new) (λ _. (written_in self.old PeripheralOutputs at bit width value ≡ None) × (self.new ≡ self.old)) }
+        ensures cases { ChangesOrStays (written_in self.old PeripheralOutputs at bit width value)
+            self.old self.new result }
     {
         self.peripheral_outputs.put(at, bit, width, value)?;
         // Only bytes 0 to 127 have a place in the process image.

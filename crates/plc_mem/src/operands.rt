@@ -1,6 +1,7 @@
-// Operands in bytes that stand next to each other.
-ghost use Rattle.std.specs.Prelude.{◌≡◌, ◌+◌, ◌*◌, ◌^◌, ◌<◌, ◌≤◌, length, slice_index, Some, None, IsTrue, MatchResult, slice_get, if◌then◌else◌};
-ghost use Rattle.plc_mem.specs.Number.{bit_count};
+//! Operands in bytes that stand next to each other.
+ghost use Rattle.std.specs.Prelude.{◌≡◌, ◌+◌, ◌*◌, ◌^◌, ◌<◌, ◌≤◌, length, slice_index, IfSome, IsTrue, slice_get, if◌then◌else◌};
+ghost use Rattle.plc_base.specs.Changes.{ChangesOrStays};
+ghost use Rattle.plc_base.specs.Widths.{bit_count};
 ghost use Rattle.plc_mem.specs.Run.{number_of_bytes, number_over};
 ghost use Rattle.plc_mem.specs.Writing.{is_within as is_within_spec, put as put_spec, stored, with_bit as with_bit_spec};
 
@@ -10,10 +11,12 @@ use plc_base::Width;
 /// How many bits a byte has.
 const BYTE_BITS: u8 = 8;
 
-/// The number in an operand, if each bit of it exists.
-pub(crate) fn number(bytes: &[u8], at: usize, bit: u8, width: Width) -> Option<u32>
+/// The number in the operand from byte `at` on, the highest byte first; of a bit operand its bit.
+/// `None` exactly where not each bit of the operand exists.
+pub fn number(bytes: &[u8], at: usize, bit: u8, width: Width) -> Option<u32>
     requires { at < 2 ^ 16 }
-    ensures { result ≡ number_over (slice_get bytes.now) at bit width }
+    ensures value { result ≡ number_over (slice_get bytes.now) at bit width }
+    ensures fits { IfSome result (λ n. n < 2 ^ bit_count width) }
 {
     if !is_within(bytes, at, bit, width) {
         return None;
@@ -21,18 +24,17 @@ pub(crate) fn number(bytes: &[u8], at: usize, bit: u8, width: Width) -> Option<u
     Some(load(bytes, at, bit, width))
 }
 
-/// Writes a number to an operand, if each bit of it exists.
+/// Writes a number to the operand from byte `at` on, the highest byte first; of a bit operand to
+/// its bit.
+///
+/// # Errors
+///
+/// `Missing`, with nothing changed, exactly where not each bit of the operand exists.
 #[tactic(auto, unfolding(crate::specs::Writing::put))]
-pub(crate) fn put(
-    bytes: &mut [u8],
-    at: usize,
-    bit: u8,
-    width: Width,
-    value: u32,
-) -> Result<(), Missing>
+pub fn put(bytes: &mut [u8], at: usize, bit: u8, width: Width, value: u32) -> Result<(), Missing>
     requires near { at < 2 ^ 16 }
     requires fits { value < 2 ^ bit_count width }
-    ensures { MatchResult result (λ _. put_spec bytes.old at bit width value ≡ Some bytes.new) (λ _. (put_spec bytes.old at bit width value ≡ None) × (bytes.new ≡ bytes.old)) }
+    ensures { ChangesOrStays (put_spec bytes.old at bit width value) bytes.old bytes.new result }
 {
     if !is_within(bytes, at, bit, width) {
         return Err(Missing);
@@ -48,9 +50,7 @@ fn is_within(bytes: &[u8], at: usize, bit: u8, width: Width) -> bool
 {
     match width {
         Width::Bit => at < bytes.len() && bit < BYTE_BITS,
-        Width::Byte => at + 1 <= bytes.len(),
-        Width::Word => at + 2 <= bytes.len(),
-        Width::Dword => at + 4 <= bytes.len(),
+        _ => at + width.byte_count() <= bytes.len(),
     }
 }
 
@@ -104,7 +104,7 @@ fn store(bytes: &mut [u8], at: usize, bit: u8, width: Width, value: u32)
 // The byte with another value of one bit.
 #[tactic(auto, using(crate::proofs::OneBit::bit_set, crate::proofs::OneBit::bit_clear))]
 fn with_bit(byte: u8, bit: u8, one: bool) -> u8
-    requires { bit < BYTE_BITS }
+    requires { bit < 8 }
     ensures { result ≡ with_bit_spec byte bit (if one then 1 else 0) }
 {
     let mask = 1 << bit;

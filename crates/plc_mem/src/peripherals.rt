@@ -1,10 +1,11 @@
 // Peripheral inputs, or peripheral outputs: bytes 0 to 127, and bytes 256 to 767.
-ghost use Rattle.std.specs.Prelude.{◌≡◌, ◌^◌, ◌<◌, Some, None, IsSome, MatchResult, ◌↔◌};
+ghost use Rattle.std.specs.Prelude.{◌≡◌, ◌^◌, ◌<◌, Some, None, IsSome, IfSome, IsTrue, ◌↔◌};
 ghost use Rattle.plc_mem.specs.Bits.{peripheral_byte};
 ghost use Rattle.plc_mem.specs.Changes.{IsFirstChange, IsFirstHighChange};
 ghost use Rattle.plc_mem.specs.Fresh.{clear_peripheral};
-ghost use Rattle.plc_mem.specs.Number.{bit_count};
-ghost use Rattle.plc_mem.specs.Peripherals.{IsPeripheralByte};
+ghost use Rattle.plc_base.specs.Changes.{ChangesOrStays};
+ghost use Rattle.plc_base.specs.Widths.{bit_count};
+ghost use Rattle.plc_base.specs.AreaBytes.{is_peripheral_byte};
 ghost use Rattle.plc_mem.specs.Places.{HasParts};
 ghost use Rattle.plc_mem.specs.Run.{number_over};
 ghost use Rattle.plc_mem.specs.Writing.{put_peripheral};
@@ -57,7 +58,7 @@ impl PeripheralArea {
     /// The byte of this number, if it exists.
     pub fn byte(&self, number: u16) -> Option<u8>
         ensures value { result ≡ peripheral_byte self.now number }
-        ensures exists { IsSome result ↔ IsPeripheralByte number }
+        ensures exists { IsSome result ↔ IsTrue (is_peripheral_byte number) }
     {
         let number = usize::from(number);
         if number < HIGH_START {
@@ -70,7 +71,8 @@ impl PeripheralArea {
     /// The number of the first byte, from `from` on, that differs from that of `before`, if there is
     /// one. What changed is found by asking again from the number after it.
     pub fn next_change(&self, before: &PeripheralArea, from: u16) -> Option<u16>
-        ensures { IsFirstChange before.now self.now from result }
+        ensures first { IsFirstChange before.now self.now from result }
+        ensures exists { IfSome result (λ byte. IsTrue (is_peripheral_byte byte)) }
     {
         let from = usize::from(from);
         match first_difference(&before.low, &self.low, from) {
@@ -81,7 +83,8 @@ impl PeripheralArea {
 
     // The same for the upper part, of which the first `skip` bytes are passed over.
     fn next_high_change(&self, before: &PeripheralArea, skip: usize) -> Option<u16>
-        ensures { IsFirstHighChange before.now self.now skip result }
+        ensures first { IsFirstHighChange before.now self.now skip result }
+        ensures exists { IfSome result (λ byte. IsTrue (is_peripheral_byte byte)) }
     {
         let index = first_difference(&before.high, &self.high, skip)?;
         Some((HIGH_START + index) as u16)
@@ -111,7 +114,8 @@ impl PeripheralArea {
         requires near { at < 2 ^ 16 }
         requires fits { value < 2 ^ bit_count width }
         ensures sizes { HasParts self.old }
-        ensures cases { MatchResult result (λ _. put_peripheral self.old at bit width value ≡ Some self.new) (λ _. (put_peripheral self.old at bit width value ≡ None) × (self.new ≡ self.old)) }
+        ensures cases { ChangesOrStays (put_peripheral self.old at bit width value)
+            self.old self.new result }
     {
         if at < HIGH_START {
             operands::put(&mut self.low, at, bit, width, value)

@@ -1,5 +1,8 @@
 -- What the program tells of itself.
-use Rattle.std.specs.Prelude.{ℕ, List, [], ◌∷◌, Option, Some, None, codes, bytes_eq, if◌then◌else◌}
+use Rattle.std.specs.Prelude.{◌≡◌, ◌≢◌, ◌⊎◌, ◌||◌, ℕ, List, [], ◌∷◌, Option, Some, None, codes, bytes_eq, if◌then◌else◌}
+use Rattle.plc_io.specs.Counts.{Rose}
+use Rattle.plc_io.specs.Moments.{SinkAt}
+use Rattle.plc_io.specs.Taken.{Took, TookPrefix}
 use Rattle.s7.specs.declared.help.Question.{Question}
 use Rattle.s7.specs.declared.help.Question.TheVariants.{Help, Version}
 use Rattle.s7.specs.declared.help.TheConstants.{HELP, VERSION}
@@ -9,11 +12,21 @@ abbrev pub text_of : Question → List ℕ
 text_of Help = HELP.now
 text_of Version = VERSION.now
 
--- the question that a word asks
+-- the question that a word asks: `--help` or `-h`, `--version` or `-V`
 abbrev pub asked_by : List ℕ → Option Question
-asked_by word = if bytes_eq word (codes "--help") then Some Help else (if bytes_eq word (codes "--version") then Some Version else None)
+asked_by word =
+    if bytes_eq word (codes "--help") || bytes_eq word (codes "-h") then Some Help
+    else if bytes_eq word (codes "--version") || bytes_eq word (codes "-V") then Some Version else None
 
 -- it's asked where that is the only word
 abbrev pub question_of : List (List ℕ) → Option Question
 question_of (word ∷ []) = asked_by word
 question_of words = None
+
+-- its text was written: whole at status 0; a front of it at 6, where the sink's count of faults rose, and at 7
+pub record AnswerWritten (text : List ℕ) (before after : SinkAt) (code : ℕ) : Type 0 where
+  pub statuses : (code ≡ 0) ⊎ (code ≡ 6) ⊎ (code ≡ 7)
+  pub whole : code ≡ 0 → Took before after text
+  pub cut : code ≢ 0 → TookPrefix before after text
+  pub failed : code ≡ 6 → Rose before.faults after.faults
+  pub unfailed : code ≢ 6 → after.faults ≡ before.faults

@@ -5,12 +5,15 @@ use std::test::Fail;
 // A question is the only word.
 #[test]
 fn questions(rt: HostRuntime) -> Result<(), Fail> {
-    let table: [(&[&str], Option<Question>); 7] = [
+    let table: [(&[&str], Option<Question>); 10] = [
         (&["--help"], Some(Question::Help)),
         (&["--version"], Some(Question::Version)),
         (&[], None),
         (&["help"], None),
-        (&["-h"], None),
+        (&["-h"], Some(Question::Help)),
+        (&["-V"], Some(Question::Version)),
+        (&["-v"], None),
+        (&["-h", "-h"], None),
         (&["--help", "go"], None),
         (&["go", "--version"], None),
     ];

@@ -11,16 +11,18 @@ use plc_io::{OpenGate, RealFiles, RealSink};
 use s7_cli::s7_main;
 use std::alloc::{AllocError, Global};
 use std::env;
+use std::io::ErrorKind;
 use std::process::ExitCode;
 
 /// The exit status of a call for which memory is wanting before it begins.
 const NO_MEMORY: u8 = 7;
 
-/// The words of the call, without the program's name. Words that can't be read as text are none,
-/// which the program refuses.
+/// The words of the call, without the program's name. Words that aren't text are none, which the
+/// program refuses. Fails where memory is wanting.
 fn words(rt: &HostRuntime, alloc: Global) -> Result<Vec<String>, AllocError> {
     match env::args(rt) {
         Ok(all) => all.skip(1).collect(alloc),
+        Err(error) if error.kind() == ErrorKind::OutOfMemory => Err(AllocError),
         Err(_) => Ok(Vec::new(alloc)),
     }
 }

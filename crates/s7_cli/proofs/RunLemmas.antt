@@ -8,16 +8,20 @@ use Rattle.var_access.specs.declared.Entry.{Entry}
 use Rattle.controller.specs.declared.Observed.{Observed}
 use Rattle.controller.specs.declared.ThinOb.{ThinOb}
 use Rattle.controller.specs.Code.{Code}
-use Rattle.controller.specs.Replay.{replay, last_seen}
+use Rattle.controller.specs.Replay.{ContinuesReplay, Happened, happened, happens, replay}
+use Rattle.controller.specs.State.{State, start}
 use Rattle.controller.specs.Recorded.{Recorded}
 use Rattle.controller.specs.ThinCode.{thin_code}
 use Rattle.sem_kept.specs.Tree.{tree_code}
 use Rattle.sem_kept.specs.Agreement.{Agree}
-use Rattle.s7_cli.specs.declared.endings.Ending.{Ending}
-use Rattle.s7_cli.specs.Ends.{SinkAt}
+use Rattle.s7_cli.specs.declared.failures.Failure.{Failure}
+use Rattle.s7_cli.specs.Answer.{Outcome}
+use Rattle.plc_io.specs.Moments.{SinkAt}
+use Rattle.s7_cli.specs.Ends.{taking}
 use Rattle.s7_cli.specs.Inner.{TextWritten}
 use Rattle.s7_cli.specs.LineText.{end_text}
-use Rattle.s7_cli.specs.RunText.{entry_text, lines_after, run_text}
+use Rattle.s7_cli.specs.LinesAfter.{lines_after}
+use Rattle.s7_cli.specs.RunText.{entry_text, shown_text, lines_from, run_text}
 use Rattle.s7_cli.proofs.ListLemmas.{drop-next}
 use Rattle.s7_cli.proofs.TextLemmas.{Wrote, hands-on, text-stops, text-then, took-++}
 
@@ -31,7 +35,7 @@ lines-++ c done (e ∷ es) fs =
     ∙ ap (λ (d : List Entry). (first ++ lines_after c (done ++ e ∷ []) es) ++ lines_after c d fs) joined
   where
     first : List ℕ
-    first = entry_text (length done + 1) (last_seen c (done ++ e ∷ []))
+    first = entry_text (length done + 1) (happened c (done ++ e ∷ []))
 
     joined : (done ++ e ∷ []) ++ es ≡ done ++ e ∷ es
     joined = grind (arith, common_steps)
@@ -42,7 +46,7 @@ lines-++ c done (e ∷ es) fs =
 
 -- what entry i shows
 abbrev text_at : Code → (done es : List Entry) (i : ℕ) (e : Entry) → List ℕ
-text_at c done es i e = entry_text (length (done ++ take i es) + 1) (last_seen c ((done ++ take i es) ++ e ∷ []))
+text_at c done es i e = entry_text (length (done ++ take i es) + 1) (happened c ((done ++ take i es) ++ e ∷ []))
 
 lines-split : (c : Code) (done es : List Entry) (i : ℕ) (e : Entry) → i < length es → e ≡ get_or es i e
     → lines_after c done es
@@ -97,11 +101,11 @@ applied-next s0 s1 s2 es i e before one within at =
 
 -- the text that was written for it
 text-is : (s0 s1 s2 : Recorded) (es : List Entry) (i n : ℕ) (e : Entry) (seen : Observed) → Applied s0 es i s1 → Applies s1 e s2
-    → n ≡ length s2.history → seen ≡ last_seen (thin_code s2.program) s2.history
-    → entry_text n seen ≡ text_at (thin_code s0.program) s0.history es i e
+    → n ≡ length s2.history → seen ≡ (happened (thin_code s2.program) s2.history).seen
+    → shown_text n seen ≡ text_at (thin_code s0.program) s0.history es i e
 text-is s0 s1 s2 es i n e seen before one count shows =
-    ap (λ (m : ℕ). entry_text m seen) (count ∙ ap length h ∙ length-append (s0.history ++ take i es) (e ∷ []))
-    ∙ ap (entry_text (length (s0.history ++ take i es) + 1)) (shows ∙ ap (λ (p : List ThinOb). last_seen (thin_code p) s2.history) p ∙ ap (last_seen (thin_code s0.program)) h)
+    ap (λ (m : ℕ). shown_text m seen) (count ∙ ap length h ∙ length-append (s0.history ++ take i es) (e ∷ []))
+    ∙ ap (shown_text (length (s0.history ++ take i es) + 1)) (shows ∙ ap (λ (q : List ThinOb). (happened (thin_code q) s2.history).seen) p ∙ ap (λ (d : List Entry). (happened (thin_code s0.program) d).seen) h)
   where
     h : s2.history ≡ (s0.history ++ take i es) ++ e ∷ []
     h = history-is s0 s1 s2 es i e before one
@@ -109,15 +113,15 @@ text-is s0 s1 s2 es i n e seen before one count shows =
     p : s2.program ≡ s0.program
     p = program-is s0 s1 s2 es i e before one
 
-pub lines-cut : (s0 s1 s2 : Recorded) (es : List Entry) (i n : ℕ) (e : Entry) (seen : Observed) (a b c : SinkAt) (x : Ending) (r : Result Unit Ending)
-    → Applied s0 es i s1 → Applies s1 e s2 → n ≡ length s2.history → seen ≡ last_seen (thin_code s2.program) s2.history
+pub lines-cut : (s0 s1 s2 : Recorded) (es : List Entry) (i n : ℕ) (e : Entry) (seen : Observed) (a b c : SinkAt) (x : Failure) (r : Outcome)
+    → Applied s0 es i s1 → Applies s1 e s2 → n ≡ length s2.history → seen ≡ (happened (thin_code s2.program) s2.history).seen
     → Wrote (lines_after (thin_code s0.program) s0.history (take i es)) a b
-    → TextWritten (entry_text n seen) (record { before = b; after = c }) (Err x) → r ≡ Err x
+    → TextWritten (shown_text n seen) (taking b c) (Err x) → r ≡ Err x
     → i < length es → e ≡ get_or es i e
-    → TextWritten (lines_after (thin_code s0.program) s0.history es) (record { before = a; after = c }) r
+    → TextWritten (lines_after (thin_code s0.program) s0.history es) (taking a c) r
 lines-cut s0 s1 s2 es i n e seen a b c x r before one count shows first second is within at =
     subst
-    (λ (t : List ℕ). TextWritten t (record { before = a; after = c }) r)
+    (λ (t : List ℕ). TextWritten t (taking a c) r)
     (sym (lines-split (thin_code s0.program) s0.history es i e within at))
     (hands-on
     (lines_after (thin_code s0.program) s0.history (take i es))
@@ -130,15 +134,15 @@ lines-cut s0 s1 s2 es i n e seen a b c x r before one count shows first second i
     is
     first
     (text-stops (text_at (thin_code s0.program) s0.history es i e) rest b c x
-    (subst (λ (t : List ℕ). TextWritten t (record { before = b; after = c }) (Err x)) (text-is s0 s1 s2 es i n e seen before one count shows) second)))
+    (subst (λ (t : List ℕ). TextWritten t (taking b c) (Err x)) (text-is s0 s1 s2 es i n e seen before one count shows) second)))
   where
     rest : List ℕ
     rest = lines_after (thin_code s0.program) ((s0.history ++ take i es) ++ e ∷ []) (drop (i + 1) es)
 
 pub lines-on : (s0 s1 s2 : Recorded) (es : List Entry) (i n : ℕ) (e : Entry) (seen : Observed) (a b c : SinkAt) (u : Unit)
-    → Applied s0 es i s1 → Applies s1 e s2 → n ≡ length s2.history → seen ≡ last_seen (thin_code s2.program) s2.history
+    → Applied s0 es i s1 → Applies s1 e s2 → n ≡ length s2.history → seen ≡ (happened (thin_code s2.program) s2.history).seen
     → Wrote (lines_after (thin_code s0.program) s0.history (take i es)) a b
-    → TextWritten (entry_text n seen) (record { before = b; after = c }) (Ok u)
+    → TextWritten (shown_text n seen) (taking b c) (Ok u)
     → i < length es → e ≡ get_or es i e
     → Applied s0 es (i + 1) s2 × Wrote (lines_after (thin_code s0.program) s0.history (take (i + 1) es)) a c
 lines-on s0 s1 s2 es i n e seen a b c u before one count shows first second within at = (
@@ -148,13 +152,13 @@ lines-on s0 s1 s2 es i n e seen a b c u before one count shows first second with
       (sym (lines-next (thin_code s0.program) s0.history es i e within at))
       (record {
         took = took-++
-            a.taken
-            b.taken
-            c.taken
+            a
+            b
+            c
             (lines_after (thin_code s0.program) s0.history (take i es))
             (text_at (thin_code s0.program) s0.history es i e)
             first.took
-            (subst (Took b.taken c.taken) (text-is s0 s1 s2 es i n e seen before one count shows) second.0);
+            (subst (λ (v : List ℕ). Took b c v) (text-is s0 s1 s2 es i n e seen before one count shows) second.0);
         faults = second.1 ∙ first.faults;
       }),
 )
@@ -164,58 +168,76 @@ lines-agree : (c d : Code) → Agree c d → (done es : List Entry) → lines_af
 lines-agree c d agree done [] = refl
 lines-agree c d agree done (e ∷ es) =
     ap
-    (λ (seen : Observed). entry_text (length done + 1) seen ++ lines_after c (done ++ e ∷ []) es)
+    (λ (seen : Observed). shown_text (length done + 1) seen ++ lines_after c (done ++ e ∷ []) es)
     (agree.seen (done ++ e ∷ []))
     ∙ ap
-    (λ (t : List ℕ). entry_text (length done + 1) (last_seen d (done ++ e ∷ [])) ++ t)
+    (λ (t : List ℕ). entry_text (length done + 1) (happened d (done ++ e ∷ [])) ++ t)
     (lines-agree c d agree (done ++ e ∷ []) es)
+
+-- the lines by the history are those from state to state
+lines-states : ContinuesReplay → (c : Code) (done es : List Entry) → lines_after c done es ≡ lines_from c (length done) (replay c done) es
+lines-states continues c done [] = refl
+lines-states continues c done (e ∷ es) =
+    ap (λ (h : Happened). entry_text (length done + 1) h ++ lines_after c (done ++ e ∷ []) es) next
+    ∙ ap (λ (t : List ℕ). entry_text (length done + 1) (happens c (replay c done) e.what) ++ t) (
+    lines-states continues c (done ++ e ∷ []) es
+    ∙ ap (λ (n : ℕ). lines_from c n (replay c (done ++ e ∷ [])) es) (length-append done (e ∷ []))
+    ∙ ap (λ (h : Happened). lines_from c (length done + 1) h.state es) next)
+  where
+    next : happened c (done ++ e ∷ []) ≡ happens c (replay c done) e.what
+    next = continues c done e
+
+lines-from_start : ContinuesReplay → (c : Code) (es : List Entry) → lines_after c [] es ≡ lines_from c 0 (start c) es
+unfolding happened
+lines-from_start continues c es = lines-states continues c [] es
 
 -- the controller as it begins, with room
 abbrev pub Begins : List ThinOb → Recorded → Type 0
 Begins program s = (s.program ≡ program) × (s.history ≡ [])
 
-lines-begin : (program : List ThinOb) (s : Recorded) (es : List Entry) → Begins program s → Agree (tree_code program) (thin_code program)
-    → lines_after (thin_code s.program) s.history es ≡ lines_after (tree_code program) [] es
-lines-begin program s es begins agree =
+lines-begin : ContinuesReplay → (program : List ThinOb) (s : Recorded) (es : List Entry) → Begins program s → Agree (tree_code program) (thin_code program)
+    → lines_after (thin_code s.program) s.history es ≡ lines_from (tree_code program) 0 (start (tree_code program)) es
+lines-begin continues program s es begins agree =
     ap (λ (p : List ThinOb). lines_after (thin_code p) s.history es) begins.0
     ∙ ap (λ (h : List Entry). lines_after (thin_code program) h es) begins.1
     ∙ sym (lines-agree (tree_code program) (thin_code program) agree [] es)
+    ∙ lines-from_start continues (tree_code program) es
 
-pub run-cut : (program : List ThinOb) (s : Recorded) (es : List Entry) (a b : SinkAt) (x : Ending) (r : Result Unit Ending)
+pub run-cut : ContinuesReplay → (program : List ThinOb) (s : Recorded) (es : List Entry) (a b : SinkAt) (x : Failure) (r : Outcome)
     → Begins program s → Agree (tree_code program) (thin_code program)
-    → TextWritten (lines_after (thin_code s.program) s.history es) (record { before = a; after = b }) (Err x) → r ≡ Err x
-    → TextWritten (run_text (tree_code program) es) (record { before = a; after = b }) r
+    → TextWritten (lines_after (thin_code s.program) s.history es) (taking a b) (Err x) → r ≡ Err x
+    → TextWritten (run_text (tree_code program) es) (taking a b) r
 unfolding run_text
-run-cut program s es a b x r begins agree cut is =
+run-cut continues program s es a b x r begins agree cut is =
     subst
-    (TextWritten (run_text (tree_code program) es) (record { before = a; after = b }))
+    (TextWritten (run_text (tree_code program) es) (taking a b))
     (sym is)
     (text-stops
-    (lines_after (tree_code program) [] es)
+    (lines_from (tree_code program) 0 (start (tree_code program)) es)
     (end_text (length es) (replay (tree_code program) es).mode)
     a
     b
     x
-    (subst (λ (t : List ℕ). TextWritten t (record { before = a; after = b }) (Err x)) (lines-begin program s es begins agree) cut))
+    (subst (λ (t : List ℕ). TextWritten t (taking a b) (Err x)) (lines-begin continues program s es begins agree) cut))
 
-pub run-ends : (program : List ThinOb) (s s' : Recorded) (es : List Entry) (n : ℕ) (mode : Mode) (text : List ℕ) (a b c : SinkAt) (u : Unit) (r : Result Unit Ending)
+pub run-ends : ContinuesReplay → (program : List ThinOb) (s s' : Recorded) (es : List Entry) (n : ℕ) (mode : Mode) (text : List ℕ) (a b c : SinkAt) (u : Unit) (r : Outcome)
     → Begins program s → Agree (tree_code program) (thin_code program)
     → s' ≡ record s { history = s.history ++ es; spare = s.spare - length es }
-    → TextWritten (lines_after (thin_code s.program) s.history es) (record { before = a; after = b }) (Ok u)
+    → TextWritten (lines_after (thin_code s.program) s.history es) (taking a b) (Ok u)
     → n ≡ length s'.history → mode ≡ (replay (thin_code s'.program) s'.history).mode
-    → text ≡ end_text n mode → TextWritten text (record { before = b; after = c }) r
-    → TextWritten (run_text (tree_code program) es) (record { before = a; after = c }) r
+    → text ≡ end_text n mode → TextWritten text (taking b c) r
+    → TextWritten (run_text (tree_code program) es) (taking a c) r
 unfolding run_text
-run-ends program s s' es n mode text a b c u r begins agree applied written count stands is last =
+run-ends continues program s s' es n mode text a b c u r begins agree applied written count stands is last =
     text-then
-    (lines_after (tree_code program) [] es)
+    (lines_from (tree_code program) 0 (start (tree_code program)) es)
     (end_text (length es) (replay (tree_code program) es).mode)
     a
     b
     c
     r
-    (record { took = subst (Took a.taken b.taken) (lines-begin program s es begins agree) written.0; faults = written.1 })
-    (subst (λ (t : List ℕ). TextWritten t (record { before = b; after = c }) r) (is ∙ texts) last)
+    (record { took = subst (λ (v : List ℕ). Took a b v) (lines-begin continues program s es begins agree) written.0; faults = written.1 })
+    (subst (λ (t : List ℕ). TextWritten t (taking b c) r) (is ∙ texts) last)
   where
     h : s'.history ≡ es
     h = ap (λ (t : Recorded). t.history) applied ∙ ap (λ (d : List Entry). d ++ es) begins.1

@@ -1,231 +1,258 @@
--- What the rows of every command share: the answers over told files, the line of each, and the counts.
-use Rattle.std.proofs.Common.{◌≡◌, ◌≢◌, ◌<◌, ◌≤◌, ◌⊎◌, inl, inr, refl, sym, ◌∙◌, ap, subst, ℕ, List, ◌∷◌, length, Option, Some, None, true, arith}
-use Rattle.plc_io.specs.Contents.{Contents, Agrees, SameFiles}
+-- The table of statuses follows from how a call ends.
+use Rattle.std.proofs.Common.{◌≡◌, ◌≢◌, ◌<◌, ◌≤◌, ◌⊎◌, inl, inr, refl, sym, ◌∙◌, ap, subst, ℕ, List, Option, Some, None, Ok, Err, true, arith}
+use Rattle.plc_base.specs.declared.Refusal.{Refusal}
+use Rattle.plc_io.specs.Contents.{SameFiles}
 use Rattle.plc_io.specs.Counts.{Rose}
 use Rattle.plc_io.specs.Taken.{Took}
-use Rattle.sem_kept.specs.ThinSource.{ExcludesRefusal}
-use Rattle.s7_cli.specs.declared.answers.Answer.{Answer}
-use Rattle.s7_cli.specs.declared.answers.Answer.TheVariants.{WordsRefused, ReadFault, TooLong, SourceRefused, HistoryRefused, Done}
-use Rattle.s7_cli.specs.declared.answers.File.{File}
-use Rattle.s7_cli.specs.declared.answers.File.TheVariants.{Source, History}
-use Rattle.s7_cli.specs.Command.{Command, Input, Go, Check, limit_of}
-use Rattle.s7_cli.specs.Ends.{Disk, Taking, StopsAt, Reads, Answers, CountsReads, HoldsFront, LeavesFiles, ChangesOutputs, answer_code}
+use Rattle.s7_cli.specs.declared.failures.File.{File}
+use Rattle.s7_cli.specs.declared.failures.File.TheVariants.{Source, History}
+use Rattle.s7_cli.specs.declared.failures.Failure.{Failure}
+use Rattle.s7_cli.specs.declared.failures.Failure.TheVariants.{WordsRefused, ReadFault, TooLong, Refused, WriteFault, NoMemory}
+use Rattle.s7_cli.specs.Answer.{Answer, Outcome, done, refused, read_fault, too_long, words_refused, refused_code, code_of}
+use Rattle.s7_cli.specs.Command.{Command, Input, inputs_of}
+use Rattle.s7_cli.specs.Ends.{Taking, Answers, InputRose, OutputRose, CountsReads, LeavesFiles, ChangesOutputs, WritesOutputs, CutShort, IsSaid, IsCut, SinkFailed, OutputFailed, IsWriteFault, IsNoMemory, Ends, Ended}
 use Rattle.s7_cli.specs.Lines.{line_of}
-use Rattle.s7_cli.specs.Says.{GoSays, CheckSays, not_built}
-use Rattle.s7_cli.specs.StatusTable.{InputRose, IsAbsent, IsSource, IsNoSource, TakesLine}
+use Rattle.s7_cli.specs.Reading.{Disk, Reads, FailsOnTheWay}
+use Rattle.s7_cli.specs.Says.{Says}
+use Rattle.s7_cli.specs.StatusTable.{IsAllowed, IsDecided, IsCutOff, StatusTable}
+use Rattle.s7_cli.proofs.ComesLemmas.{same-files}
+use Rattle.s7_cli.proofs.ReadingLemmas.{reads-told, reads-kinds, allows-one, fails-rose}
+use Rattle.s7_cli.proofs.SaysLemmas.{MeansOne, IsVerdict, says-one, says-verdict}
 
--- over told contents the bytes that agree are the ones held
-pub agrees-held : (c : Contents) (name bytes held : List ℕ) → c.told ≡ true → c.at name ≡ Some held → Agrees c name bytes → bytes ≡ held
-agrees-held c name bytes held told is agrees = cc (agrees told)
+-- ---- the rows that go by the answer alone
 
--- the reading ends at a file that holds these bytes
-abbrev pub StopsOver : Disk → File → (name held : List ℕ) → Answer → Type 0
-StopsOver d file name held ReadFault = Rose (d.before.failed_reads name) (d.after.failed_reads name)
-StopsOver d file name held (TooLong f) = (f ≡ file) × (limit_of file < length held)
-StopsOver d file name held WordsRefused = ⊥
-StopsOver d file name held (SourceRefused refusal) = ⊥
-StopsOver d file name held (HistoryRefused refusal) = ⊥
-StopsOver d file name held Done = ⊥
+record Rows (c : Option Command) (d : Disk) (s : Taking) (code : ℕ) : Type 0 where
+  statuses : (code ≤ 2) ⊎ (code ≡ 4) ⊎ (code ≡ 5) ⊎ (code ≡ 6) ⊎ (code ≡ 7) ⊎ (code ≡ 8)
+  whole : IsCutOff code → ⊥
+  words_refused_only : code ≡ 1 → c ≡ None
+  words_refused : c ≡ None → code ≡ 1
+  takes_line : code ≢ 0
+      → (failure : Failure) × (line : List ℕ) × (code ≡ code_of (Err failure)) × (line_of failure ≡ Some line) × Took s.before s.after line
+  read_fault : code ≡ 5 → InputRose c d
 
-pub stops-over : (d : Disk) (file : File) (name held : List ℕ) (answer : Answer) → d.before.contents.told ≡ true
-    → d.before.contents.at name ≡ Some held → StopsAt d (record { file = file; name = name }) answer
-    → StopsOver d file name held answer
-stops-over d file name held ReadFault told is stops = stops
-stops-over d file name held (TooLong f) told is stops =
-    let same : stops.1.0 ≡ held = agrees-held d.before.contents name stops.1.0 held told is stops.1.1 in
-    (stops.0, subst (λ (b : List ℕ). limit_of file < length b) same stops.1.2)
-stops-over d file name held WordsRefused told is stops = stops
-stops-over d file name held (SourceRefused refusal) told is stops = stops
-stops-over d file name held (HistoryRefused refusal) told is stops = stops
-stops-over d file name held Done told is stops = stops
+not-cut : (code : ℕ) → code ≢ 6 → code ≢ 7 → IsCutOff code → ⊥
+not-cut code six seven (inl e) = six e
+not-cut code six seven (inr e) = seven e
 
--- over told contents no bytes agree with a file that is absent
-agrees-absent : (c : Contents) (name bytes : List ℕ) → c.told ≡ true → c.at name ≡ None → Agrees c name bytes → ⊥
-agrees-absent c name bytes told is agrees = cc (is, agrees told)
+is-command : (c : Option Command) (k : Command) → c ≡ Some k → c ≡ None → ⊥
+is-command c k is none = let e : Some k ≡ None = sym is ∙ none in cc
 
-stops-absent : (d : Disk) (i : Input) (answer : Answer) → IsAbsent d i.name → StopsAt d i answer → answer_code answer ≡ 5
-stops-absent d i ReadFault absent stops = refl
-stops-absent d i (TooLong f) absent stops = absurd (agrees-absent d.before.contents i.name stops.1.0 absent.0 absent.1 stops.1.1)
-stops-absent d i WordsRefused absent stops = absurd stops
-stops-absent d i (SourceRefused refusal) absent stops = absurd stops
-stops-absent d i (HistoryRefused refusal) absent stops = absurd stops
-stops-absent d i Done absent stops = absurd stops
-
--- the reading comes to a file that is absent: only a failed read answers
-pub no-file : (d : Disk) (i : Input) (more : List Input) (says : List (List ℕ) → Answer → List ℕ → Type 0) (answer : Answer) (text : List ℕ)
-    → IsAbsent d i.name → Reads d (i ∷ more) says answer text → answer_code answer ≡ 5
-no-file d i more says answer text absent (inl stops) = stops-absent d i answer absent stops.0
-no-file d i more says answer text absent (inr (bytes, holds, rest)) =
-    absurd (agrees-absent d.before.contents i.name bytes absent.0 absent.1 holds.agrees)
-
--- the line that goes with an answer
-abbrev pub LineIs : Answer → List ℕ → Type 0
-LineIs WordsRefused text = text ≡ line_of WordsRefused
-LineIs ReadFault text = text ≡ line_of ReadFault
-LineIs (TooLong file) text = text ≡ line_of (TooLong file)
-LineIs (SourceRefused refusal) text = text ≡ line_of (SourceRefused refusal)
-LineIs (HistoryRefused refusal) text = text ≡ line_of (HistoryRefused not_built)
-LineIs Done text = Unit {0}
-
-line-stops : (d : Disk) (file : File) (name : List ℕ) (answer : Answer) (text : List ℕ)
-    → StopsAt d (record { file = file; name = name }) answer → text ≡ line_of answer → LineIs answer text
-line-stops d file name ReadFault text stops is = is
-line-stops d file name (TooLong f) text stops is = is
-line-stops d file name WordsRefused text stops is = absurd stops
-line-stops d file name (SourceRefused refusal) text stops is = absurd stops
-line-stops d file name (HistoryRefused refusal) text stops is = absurd stops
-line-stops d file name Done text stops is = absurd stops
-
-line-go : (source history : List ℕ) (answer : Answer) (text : List ℕ) → GoSays source history answer text → LineIs answer text
-line-go source history (SourceRefused refusal) text says = says.1
-line-go source history (HistoryRefused refusal) text says = says.3 ∙ ap (λ r. line_of (HistoryRefused r)) says.0
-line-go source history Done text says = tt
-line-go source history WordsRefused text says = absurd says
-line-go source history ReadFault text says = absurd says
-line-go source history (TooLong file) text says = absurd says
-
-line-check : (source : List ℕ) (answer : Answer) (text : List ℕ) → CheckSays source answer text → LineIs answer text
-line-check source (SourceRefused refusal) text says = says.1
-line-check source Done text says = tt
-line-check source (HistoryRefused refusal) text says = absurd says
-line-check source WordsRefused text says = absurd says
-line-check source ReadFault text says = absurd says
-line-check source (TooLong file) text says = absurd says
-
-pub line-said : (c : Option Command) (d : Disk) (answer : Answer) (text : List ℕ) → Answers c d answer text → LineIs answer text
-line-said None d answer text answers = subst (λ (a : Answer). LineIs a text) (sym answers.0) answers.1
-line-said (Some (Go source history)) d answer text (inl stops) = line-stops d Source source answer text stops.0 stops.1
-line-said (Some (Go source history)) d answer text (inr (bytes, holds, inl stops)) = line-stops d History history answer text stops.0 stops.1
-line-said (Some (Go source history)) d answer text (inr (bytes, holds, inr (more, holds_more, says))) = line-go bytes more answer text says
-line-said (Some (Check source)) d answer text (inl stops) = line-stops d Source source answer text stops.0 stops.1
-line-said (Some (Check source)) d answer text (inr (bytes, holds, says)) = line-check bytes answer text says
-
-pub took-line : (s : Taking) (text line : List ℕ) → Took s.before.taken s.after.taken text → text ≡ line → Took s.before.taken s.after.taken line
-took-line s text line took is = subst (λ (t : List ℕ). Took s.before.taken s.after.taken t) is took
-
--- a status that isn't a refusal's takes no line
-pub no-line : (s : Taking) (code : ℕ) → code ≢ 1 → code ≢ 2 → code ≢ 4 → code ≢ 5 → code ≢ 8 → TakesLine s code
-no-line s code n1 n2 n4 n5 n8 = record {
-  words = λ e. absurd (n1 e);
-  source = λ e. absurd (n2 e);
-  history = λ e. absurd (n4 e);
-  read_fault = λ e. absurd (n5 e);
-  too_long = λ e. absurd (n8 e);
-}
-
-pub takes-line : (s : Taking) (answer : Answer) (text : List ℕ) → Took s.before.taken s.after.taken text → LineIs answer text
-    → TakesLine s (answer_code answer)
-takes-line s WordsRefused text took is = record {
-  words = λ e. took-line s text (line_of WordsRefused) took is;
-  source = λ e. absurd (omega arith);
-  history = λ e. absurd (omega arith);
+rows-words : (c : Option Command) (d : Disk) (s : Taking) (line : List ℕ) → line_of WordsRefused ≡ Some line → Took s.before s.after line
+    → c ≡ None → Rows c d s 1
+rows-words c d s line has took none = record {
+  statuses = inl (omega arith);
+  whole = not-cut 1 (λ e. omega arith) (λ e. omega arith);
+  words_refused_only = λ e. none;
+  words_refused = λ e. refl;
+  takes_line = λ e. (WordsRefused, line, refl, has, took);
   read_fault = λ e. absurd (omega arith);
-  too_long = λ e. absurd (omega arith);
 }
-takes-line s ReadFault text took is = record {
-  words = λ e. absurd (omega arith);
-  source = λ e. absurd (omega arith);
-  history = λ e. absurd (omega arith);
-  read_fault = λ e. took-line s text (line_of ReadFault) took is;
-  too_long = λ e. absurd (omega arith);
+
+rows-read : (c : Option Command) (d : Disk) (s : Taking) (k : Command) (line : List ℕ) → c ≡ Some k → line_of ReadFault ≡ Some line
+    → Took s.before s.after line → InputRose c d → Rows c d s 5
+rows-read c d s k line is has took rose = record {
+  statuses = inr (inr (inl refl));
+  whole = not-cut 5 (λ e. omega arith) (λ e. omega arith);
+  words_refused_only = λ e. absurd (omega arith);
+  words_refused = λ none. absurd (is-command c k is none);
+  takes_line = λ e. (ReadFault, line, refl, has, took);
+  read_fault = λ e. rose;
 }
-takes-line s (TooLong file) text took is = record {
-  words = λ e. absurd (omega arith);
-  source = λ e. absurd (omega arith);
-  history = λ e. absurd (omega arith);
+
+-- a file that is too long or refused
+rows-file : (c : Option Command) (d : Disk) (s : Taking) (k : Command) (failure : Failure) (line : List ℕ) (code : ℕ) → c ≡ Some k
+    → code ≡ code_of (Err failure) → line_of failure ≡ Some line → Took s.before s.after line
+    → ((code ≡ 2) ⊎ (code ≡ 4) ⊎ (code ≡ 8)) → Rows c d s code
+rows-file c d s k failure line code is status has took which = record {
+  statuses = elim which [ inl two ↦ inl (omega (arith, two)) | inr (inl four) ↦ inr (inl four) | inr (inr eight) ↦ inr (inr (inr (inr (inr eight)))) ];
+  whole = not-cut code (λ e. isnt 6 e (λ f. omega arith) (λ f. omega arith) (λ f. omega arith)) (λ e. isnt 7 e (λ f. omega arith) (λ f. omega arith) (λ f. omega arith));
+  words_refused_only = λ e. absurd (isnt 1 e (λ f. omega arith) (λ f. omega arith) (λ f. omega arith));
+  words_refused = λ none. absurd (is-command c k is none);
+  takes_line = λ e. (failure, line, status, has, took);
+  read_fault = λ e. absurd (isnt 5 e (λ f. omega arith) (λ f. omega arith) (λ f. omega arith));
+}
+  where
+    isnt : (n : ℕ) → code ≡ n → (n ≡ 2 → ⊥) → (n ≡ 4 → ⊥) → (n ≡ 8 → ⊥) → ⊥
+    isnt n e no2 no4 no8 =
+        elim which [ inl two ↦ no2 (sym e ∙ two) | inr (inl four) ↦ no4 (sym e ∙ four) | inr (inr eight) ↦ no8 (sym e ∙ eight) ]
+
+rows-done : (c : Option Command) (d : Disk) (s : Taking) (k : Command) → c ≡ Some k → Rows c d s 0
+rows-done c d s k is = record {
+  statuses = inl (omega arith);
+  whole = not-cut 0 (λ e. omega arith) (λ e. omega arith);
+  words_refused_only = λ e. absurd (omega arith);
+  words_refused = λ none. absurd (is-command c k is none);
+  takes_line = λ e. absurd (e refl);
   read_fault = λ e. absurd (omega arith);
-  too_long = λ e. (file, took-line s text (line_of (TooLong file)) took is);
 }
-takes-line s (SourceRefused refusal) text took is = record {
-  words = λ e. absurd (omega arith);
-  source = λ e. (refusal, took-line s text (line_of (SourceRefused refusal)) took is);
-  history = λ e. absurd (omega arith);
-  read_fault = λ e. absurd (omega arith);
-  too_long = λ e. absurd (omega arith);
-}
-takes-line s (HistoryRefused refusal) text took is = record {
-  words = λ e. absurd (omega arith);
-  source = λ e. absurd (omega arith);
-  history = λ e. took-line s text (line_of (HistoryRefused not_built)) took is;
-  read_fault = λ e. absurd (omega arith);
-  too_long = λ e. absurd (omega arith);
-}
-takes-line s Done text took is =
-    no-line s 0 (λ e. omega arith) (λ e. omega arith) (λ e. omega arith) (λ e. omega arith) (λ e. omega arith)
 
-input-rose : (c : Option Command) (d : Disk) (text : List ℕ) → Answers c d ReadFault text → InputRose c d
-input-rose None d text answers = let no : ⊥ = cc (answers.0) in absurd no
-input-rose (Some (Go source history)) d text (inl stops) = (source, (0, omega arith, refl), stops.0)
-input-rose (Some (Go source history)) d text (inr (bytes, holds, inl stops)) = (history, (1, omega arith, refl), stops.0)
-input-rose (Some (Go source history)) d text (inr (bytes, holds, inr (more, holds_more, says))) = absurd says
-input-rose (Some (Check source)) d text (inl stops) = (source, (0, omega arith, refl), stops.0)
-input-rose (Some (Check source)) d text (inr (bytes, holds, says)) = absurd says
+refused-status : (file : File) (refusal : Refusal)
+    → (code_of (Err (Refused file refusal)) ≡ 2) ⊎ (code_of (Err (Refused file refusal)) ≡ 4) ⊎ (code_of (Err (Refused file refusal)) ≡ 8)
+refused-status Source refusal = inl refl
+refused-status History refusal = inr (inl refl)
 
-pub read-fault-said : (c : Option Command) (d : Disk) (answer : Answer) (text : List ℕ) → Answers c d answer text → answer_code answer ≡ 5 → InputRose c d
-read-fault-said c d ReadFault text answers e = input-rose c d text answers
-read-fault-said c d answer text answers e = absurd (omega arith)
+rows-verdict : (c : Option Command) (d : Disk) (s : Taking) (k : Command) (a : Answer) → c ≡ Some k → IsVerdict a
+    → Took s.before s.after a.text → Rows c d s (code_of a.outcome)
+rows-verdict c d s k a is (inl (text, gives)) took =
+    subst (λ (b : Answer). Rows c d s (code_of b.outcome)) (sym gives) (rows-done c d s k is)
+rows-verdict c d s k a is (inr (file, refusal, gives)) took =
+    subst (λ (b : Answer). Rows c d s (code_of b.outcome)) (sym gives)
+    (rows-file c d s k (Refused file refusal) (refused file refusal).text (code_of (refused file refusal).outcome) is refl refl
+    (subst (λ (b : Answer). Took s.before s.after b.text) gives took) (refused-status file refusal))
 
-no-command : (c : Option Command) (d : Disk) (text : List ℕ) → Answers c d WordsRefused text → c ≡ None
-no-command None d text answers = refl
-no-command (Some (Go source history)) d text (inl stops) = absurd stops.0
-no-command (Some (Go source history)) d text (inr (bytes, holds, inl stops)) = absurd stops.0
-no-command (Some (Go source history)) d text (inr (bytes, holds, inr (more, holds_more, says))) = absurd says
-no-command (Some (Check source)) d text (inl stops) = absurd stops.0
-no-command (Some (Check source)) d text (inr (bytes, holds, says)) = absurd says
+rows-command : (k : Command) (d : Disk) (s : Taking) (a : Answer) → Reads d (inputs_of k) (Says k) a
+    → Took s.before s.after a.text → Rows (Some k) d s (code_of a.outcome)
+rows-command k d s a reads took =
+    elim (reads-kinds d (inputs_of k) (Says k) a reads) [
+      | inl (gives, rose) ↦
+          subst (λ (b : Answer). Rows (Some k) d s (code_of b.outcome)) (sym gives)
+          (rows-read (Some k) d s k read_fault.text refl refl (subst (λ (b : Answer). Took s.before s.after b.text) gives took) rose)
+      | inr (inl (i, gives)) ↦
+          subst (λ (b : Answer). Rows (Some k) d s (code_of b.outcome)) (sym gives)
+          (rows-file (Some k) d s k (TooLong i.file) (too_long i.file).text 8 refl refl refl
+          (subst (λ (b : Answer). Took s.before s.after b.text) gives took) (inr (inr refl)))
+      | inr (inr (contents, says)) ↦ rows-verdict (Some k) d s k a refl (says-verdict k contents a says) took
+    ]
 
-pub words-only-said : (c : Option Command) (d : Disk) (answer : Answer) (text : List ℕ) → Answers c d answer text → answer_code answer ≡ 1 → c ≡ None
-words-only-said c d WordsRefused text answers e = no-command c d text answers
-words-only-said c d answer text answers e = absurd (omega arith)
+rows : (c : Option Command) (d : Disk) (s : Taking) (a : Answer) → Answers c d a → Took s.before s.after a.text
+    → Rows c d s (code_of a.outcome)
+rows None d s a gives took =
+    subst (λ (b : Answer). Rows None d s (code_of b.outcome)) (sym gives)
+    (rows-words None d s words_refused.text refl (subst (λ (b : Answer). Took s.before s.after b.text) gives took) refl)
+rows (Some k) d s a reads took = rows-command k d s a reads took
 
-pub words-said : (c : Option Command) (d : Disk) (answer : Answer) (text : List ℕ) → Answers c d answer text → c ≡ None → answer_code answer ≡ 1
-words-said c d answer text answers none =
-    let of_none : Answers None d answer text = subst (λ (k : Option Command). Answers k d answer text) none answers in
-    ap answer_code of_none.0
+-- ---- the answer over files that tell what they hold
 
-pub reads-said : (d : Disk) (answer : Answer) (name : List ℕ) → CountsReads d answer → d.before.failed_reads name < d.after.failed_reads name
-    → answer_code answer ≡ 5
-reads-said d ReadFault name counts more = refl
-reads-said d answer name counts more = absurd (omega (arith, counts name))
+abbrev Decided : Command → Disk → Taking → ℕ → Type 0
+Decided k d s code = ((code ≡ 5) × FailsOnTheWay d (inputs_of k)) ⊎ IsCutOff code ⊎ IsDecided k d s code
 
-pub statuses-said : (answer : Answer)
-    → (answer_code answer ≤ 2) ⊎ (answer_code answer ≡ 4) ⊎ (answer_code answer ≡ 5) ⊎ (answer_code answer ≡ 6)
-    ⊎ (answer_code answer ≡ 7) ⊎ (answer_code answer ≡ 8)
-statuses-said Done = inl (omega arith)
-statuses-said WordsRefused = inl (omega arith)
-statuses-said (SourceRefused refusal) = inl (omega arith)
-statuses-said (HistoryRefused refusal) = inr (inl refl)
-statuses-said ReadFault = inr (inr (inl refl))
-statuses-said (TooLong file) = inr (inr (inr (inr (inr refl))))
+decided-command : MeansOne → (k : Command) (d : Disk) (s : Taking) (a : Answer) → d.before.contents.told ≡ true
+    → Reads d (inputs_of k) (Says k) a → Took s.before s.after a.text → Decided k d s (code_of a.outcome)
+decided-command one k d s a told reads took =
+    elim (reads-told d (inputs_of k) (Says k) a told reads) [
+      | inl fails ↦ inl (ap (λ (b : Answer). code_of b.outcome) fails.0, fails.1)
+      | inr allowed ↦ inr (inr (record {
+        answer = a;
+        allowed = allowed;
+        only = λ other also. allows-one d.before.contents (inputs_of k) (Says k) (says-one one k) other a also allowed;
+        status = refl;
+        took = took;
+      }))
+    ]
 
-pub not-6 : (answer : Answer) → answer_code answer ≡ 6 → ⊥
-not-6 Done e = omega arith
-not-6 answer e = omega arith
+decided : MeansOne → (c : Option Command) (d : Disk) (s : Taking) (a : Answer) → Answers c d a → Took s.before s.after a.text
+    → (k : Command) → c ≡ Some k → d.before.contents.told ≡ true → Decided k d s (code_of a.outcome)
+decided one c d s a answers took k is told =
+    decided-command one k d s a told (subst (λ (o : Option Command). Answers o d a) is answers) took
 
-pub not-7 : (answer : Answer) → answer_code answer ≡ 7 → ⊥
-not-7 Done e = omega arith
-not-7 answer e = omega arith
+-- no count rose: want of memory alone is free
+complete : (c : Option Command) (d : Disk) (s : Taking) (code : ℕ)
+    → ((k : Command) → c ≡ Some k → d.before.contents.told ≡ true → Decided k d s code)
+    → (code ≡ 6 → Rose s.before.faults s.after.faults ⊎ OutputRose c d)
+    → (k : Command) → c ≡ Some k → d.before.contents.told ≡ true
+    → (InputRose c d → ⊥) → (OutputRose c d → ⊥) → (Rose s.before.faults s.after.faults → ⊥) → (code ≡ 7) ⊎ IsDecided k d s code
+complete c d s code decides six k is told no_input no_output no_fault =
+    elim (decides k is told) [
+      | inl fails ↦ absurd (no_input (subst (λ (o : Option Command). InputRose o d) (sym is) (fails-rose d (inputs_of k) fails.1)))
+      | inr (inl (inl e)) ↦ elim (six e) [ inl rose ↦ absurd (no_fault rose) | inr rose ↦ absurd (no_output rose) ]
+      | inr (inl (inr e)) ↦ inl e
+      | inr (inr decided) ↦ inr decided
+    ]
 
-pub unchanged-said : (c : Option Command) (d : Disk) (answer : Answer) → LeavesFiles c d answer → answer_code answer ≢ 0
+-- ---- counts and files
+
+reads-said : (d : Disk) (outcome : Outcome) (name : List ℕ) → CountsReads d outcome → d.before.failed_reads name < d.after.failed_reads name
+    → code_of outcome ≡ 5
+reads-said d (Err ReadFault) name counts more = refl
+reads-said d outcome name counts more = absurd (omega (arith, counts name))
+
+not-done : (failure : Failure) → code_of (Err failure) ≡ 0 → ⊥
+not-done (Refused Source refusal) e = omega arith
+not-done (Refused History refusal) e = omega arith
+not-done failure e = omega arith
+
+unchanged-said : (c : Option Command) (d : Disk) (outcome : Outcome) → LeavesFiles c d outcome → code_of outcome ≢ 0
     → SameFiles d.before.contents d.after.contents
-unchanged-said c d Done leaves isnt = absurd (isnt refl)
-unchanged-said c d answer leaves isnt = leaves
+unchanged-said c d (Ok ok) leaves isnt = absurd (isnt refl)
+unchanged-said c d (Err failure) leaves isnt = leaves
 
-holds-front : (c : Option Command) (d : Disk) (name : List ℕ) → d.after.contents.at name ≡ d.before.contents.at name → HoldsFront c d name
-holds-front None d name is = is
-holds-front (Some c) d name is = λ told. inl is
+outputs-said : (c : Option Command) (d : Disk) (outcome : Outcome) → LeavesFiles c d outcome → ChangesOutputs c d
+outputs-said c d (Ok ok) leaves = leaves.0
+outputs-said c d (Err failure) leaves = same-files c d leaves
 
--- files that hold what they held
-pub same-files : (c : Option Command) (d : Disk) → SameFiles d.before.contents d.after.contents → ChangesOutputs c d
-same-files c d same = record {
-  told = same.told;
-  elsewhere = λ name other. same.at name;
-  outputs = λ name output. holds-front c d name (same.at name);
+whole-said : (c : Option Command) (d : Disk) (outcome : Outcome) → LeavesFiles c d outcome → code_of outcome ≡ 0 → WritesOutputs c d
+whole-said c d (Ok ok) leaves e = leaves.1
+whole-said c d (Err failure) leaves e = absurd (not-done failure e)
+
+-- ---- the table
+
+table-said : MeansOne → (c : Option Command) (d : Disk) (s : Taking) (a : Answer) → IsSaid c d s a → StatusTable c d s (code_of a.outcome)
+table-said one c d s a said =
+    let r : Rows c d s (code_of a.outcome) = rows c d s a said.answers said.took in
+    let six : code_of a.outcome ≡ 6 → Rose s.before.faults s.after.faults ⊎ OutputRose c d = λ e. absurd (r.whole (inl e)) in record {
+      statuses = r.statuses;
+      decided = decided one c d s a said.answers said.took;
+      complete = complete c d s (code_of a.outcome) (decided one c d s a said.answers said.took) six;
+      words_refused_only = r.words_refused_only;
+      words_refused = λ none. inl (r.words_refused none);
+      takes_line = λ isnt whole. r.takes_line isnt;
+      read_fault = r.read_fault;
+      write_fault = six;
+      cut_short = λ cut. absurd (r.whole cut);
+      more_failed_reads = λ name more. inl (reads-said d a.outcome name said.reads more);
+      more_failed_writes = λ name more. absurd (omega (arith, said.writes name));
+      more_faults = λ more. absurd (omega (arith, said.faults));
+      unchanged = λ isnt whole. unchanged-said c d a.outcome said.files isnt;
+      outputs_alone = outputs-said c d a.outcome said.files;
+      outputs_whole = whole-said c d a.outcome said.files;
+    }
+
+table-cut : (c : Option Command) (d : Disk) (s : Taking) (code : ℕ) → IsCutOff code → IsCut c d s
+    → (code ≡ 6 → Rose s.before.faults s.after.faults ⊎ OutputRose c d)
+    → ((name : List ℕ) → d.before.failed_writes name < d.after.failed_writes name → code ≡ 6)
+    → (s.before.faults < s.after.faults → code ≡ 6) → StatusTable c d s code
+table-cut c d s code off cut six writes faults = record {
+  statuses = elim off [ inl e ↦ inr (inr (inr (inl e))) | inr e ↦ inr (inr (inr (inr (inl e)))) ];
+  decided = λ k is told. inr (inl off);
+  complete = complete c d s code (λ k is told. inr (inl off)) six;
+  words_refused_only = λ e. absurd (elim off [ inl f ↦ omega (arith, e, f) | inr f ↦ omega (arith, e, f) ]);
+  words_refused = λ none. inr off;
+  takes_line = λ isnt whole. absurd (whole off);
+  read_fault = λ e. absurd (elim off [ inl f ↦ omega (arith, e, f) | inr f ↦ omega (arith, e, f) ]);
+  write_fault = six;
+  cut_short = λ e. cut.cut;
+  more_failed_reads = λ name more. inr off;
+  more_failed_writes = writes;
+  more_faults = faults;
+  unchanged = λ isnt whole. absurd (whole off);
+  outputs_alone = cut.files;
+  outputs_whole = λ e. absurd (elim off [ inl f ↦ omega (arith, e, f) | inr f ↦ omega (arith, e, f) ]);
 }
 
-pub outputs-said : (c : Option Command) (d : Disk) (answer : Answer) → LeavesFiles c d answer → ChangesOutputs c d
-outputs-said c d Done leaves = leaves
-outputs-said c d answer leaves = same-files c d leaves
+table-write : (c : Option Command) (d : Disk) (s : Taking) → IsWriteFault c d s → StatusTable c d s 6
+table-write c d s fault =
+    table-cut c d s 6 (inl refl) fault.cut (λ e. rose fault.failed) (λ name more. refl) (λ more. refl)
+  where
+    rose : SinkFailed d s ⊎ OutputFailed c d s → Rose s.before.faults s.after.faults ⊎ OutputRose c d
+    rose (inl sink) = inl sink.faults
+    rose (inr output) = inr output.rose
 
--- a source that is refused isn't read
-pub source-or-not : ExcludesRefusal → (source : List ℕ) → IsSource source → IsNoSource source → ⊥
-source-or-not excludes source is isnt = excludes source is.0 isnt.0 is.1 isnt.1
+table-memory : (c : Option Command) (d : Disk) (s : Taking) → IsNoMemory c d s → StatusTable c d s 7
+table-memory c d s wanting =
+    table-cut c d s 7 (inr refl) wanting.cut (λ e. absurd (omega arith)) (λ name more. absurd (omega (arith, wanting.writes name)))
+    (λ more. absurd (omega (arith, wanting.faults)))
+
+table-ends : MeansOne → (c : Option Command) (d : Disk) (s : Taking) (outcome : Outcome) → Ends c d s outcome
+    → StatusTable c d s (code_of outcome)
+table-ends one c d s (Err WriteFault) ends = table-write c d s ends
+table-ends one c d s (Err NoMemory) ends = table-memory c d s ends
+table-ends one c d s (Ok ok) ends = table-said one c d s _ ends.1
+table-ends one c d s (Err WordsRefused) ends = table-said one c d s _ ends.1
+table-ends one c d s (Err ReadFault) ends = table-said one c d s _ ends.1
+table-ends one c d s (Err (TooLong file)) ends = table-said one c d s _ ends.1
+table-ends one c d s (Err (Refused file refusal)) ends = table-said one c d s _ ends.1
+
+-- the rows of the table; that a source has one meaning makes its rows exact
+pub table : MeansOne → (c : Option Command) (d : Disk) (s : Taking) (code : ℕ) → Ended c d s code → StatusTable c d s code
+table one c d s code ended =
+    subst (λ (n : ℕ). StatusTable c d s n) (sym ended.1) (table-ends one c d s ended.0 ended.2)

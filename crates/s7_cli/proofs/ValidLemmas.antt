@@ -1,13 +1,13 @@
 -- What a history spells is valid.
-use Rattle.std.proofs.Common.{◌≡◌, refl, inr, ℕ, List, [], ◌∷◌, ◌++◌, Bool, true, false, cond, ◌&&◌, nat_le, ◌==◌, Option, Some, None, IfSome, All, replicate, bytes_eq, codes, arith, subst}
+use Rattle.std.proofs.Common.{◌≡◌, refl, inr, ℕ, List, [], ◌∷◌, ◌++◌, Bool, true, false, cond, ◌&&◌, nat_le, ◌==◌, Option, Some, None, Ok, IfSome, All, replicate, bytes_eq, codes, arith, subst}
 use Rattle.std.specs.Option.{option_map, option_and_then}
 use Rattle.std.specs.Str.Lines.{lines}
 use Rattle.std.proofs.lemmas.Grind.{common_steps}
 use Rattle.std.proofs.lemmas.List.Elements.{All-nil, All-cons, All-append, All-replicate}
 use Rattle.s7_cli.specs.Decimal.{decimal_value}
-use Rattle.var_access.specs.Entry.{IsValid, IsPeripheralByte}
+use Rattle.var_access.specs.Entry.{IsValid}
 use Rattle.var_access.specs.declared.entries.Entry.{Entry}
-use Rattle.s7_cli.specs.History.{hex_byte, one_step, steps_of, entries_of_step, is_peripheral, input_of, entries_of_in, arrival_of, entries_of_arrive, words_of, entries_of_words, is_skipped, entries_of_line, entries_of_lines, with_few_steps, history_of}
+use Rattle.s7_cli.specs.History.{hex_byte, one_step, steps_of, entries_of_step, is_peripheral, input_of, entries_of_in, arrival_of, entries_of_arrive, words_of, entries_of_words, is_skipped, entries_of_line, entries_of_lines, with_few_steps, or_refused, history_of}
 
 -- each entry is valid, where there are any
 abbrev pub AreValid : Option (List Entry) → Type 0
@@ -38,12 +38,9 @@ entries_of_step-valid [] = one-valid one_step step-valid
 entries_of_step-valid (number ∷ []) = and-then-valid (decimal_value number) steps_of steps-valid
 entries_of_step-valid (number ∷ word ∷ words) = tt
 
-peripheral : (byte : ℕ) → is_peripheral byte ≡ true → IsPeripheralByte byte
-peripheral byte is = grind (arith, common_steps)
-
 input-valid : (byte value : ℕ) → AreValid (input_of byte value)
 input-valid byte value =
-    cond-valid (is_peripheral byte) _ None (λ right. one-valid _ (omega arith, peripheral byte right)) tt
+    cond-valid (is_peripheral byte) _ None (λ right. one-valid _ (omega arith, right)) tt
 
 entries_of_in-valid : (words : List (List ℕ)) → AreValid (entries_of_in words)
 unfolding entries_of_in
@@ -94,10 +91,11 @@ few-valid : (o : Option (List Entry)) → AreValid o → AreValid (option_and_th
 few-valid None valid = tt
 few-valid (Some es) valid = cond-valid _ (Some es) None (λ few. valid) tt
 
-history_of-valid : (text : List ℕ) → AreValid (history_of text)
-unfolding history_of
-history_of-valid text = few-valid (entries_of_lines (lines text)) (entries_of_lines-valid (lines text))
+taken-valid : (o : Option (List Entry)) (es : List Entry) → AreValid o → or_refused o ≡ Ok es → All IsValid es
+taken-valid None es valid is = cc
+taken-valid (Some found) es valid is = let same : found ≡ es = cc in subst (All IsValid) same valid
 
--- the entries that a history spells are valid
-pub spelled-valid : (text : List ℕ) (es : List Entry) → history_of text ≡ Some es → All IsValid es
-spelled-valid text es is = subst AreValid is (history_of-valid text)
+-- the entries of a history are valid
+pub spelled-valid : (text : List ℕ) (es : List Entry) → history_of text ≡ Ok es → All IsValid es
+unfolding history_of
+spelled-valid text es is = taken-valid _ es (few-valid (entries_of_lines (lines text)) (entries_of_lines-valid (lines text))) is

@@ -1,7 +1,7 @@
 -- What the words of a call ask for, and which files that reads and writes.
 use Rattle.std.specs.Prelude.{ℕ, List, [], ◌∷◌}
-use Rattle.s7_cli.specs.declared.answers.File.{File}
-use Rattle.s7_cli.specs.declared.answers.File.TheVariants.{Source, History}
+use Rattle.s7_cli.specs.declared.failures.File.{File}
+use Rattle.s7_cli.specs.declared.failures.File.TheVariants.{Source, History}
 
 -- `go SRC HIST` runs a source along a history; `check SRC` judges a source
 pub data Command : Type 0 where
@@ -22,11 +22,6 @@ inputs_of (Check source) = record { file = Source; name = source } ∷ []
 abbrev pub outputs_of : Command → List (List ℕ)
 outputs_of (Go source history) = []
 outputs_of (Check source) = []
-
--- what it writes to one of them
-abbrev pub Writes : Command → List ℕ → List ℕ → Type 0
-Writes (Go source history) name bytes = ⊥
-Writes (Check source) name bytes = ⊥
 
 -- the most bytes that each file may hold
 abbrev pub limit_of : File → ℕ

@@ -1,153 +1,137 @@
 -- How a call ends: what it answers, and what it leaves of the files and the sink.
-use Rattle.std.specs.Prelude.{◌≡◌, ◌<◌, ◌≤◌, ◌⊎◌, ℕ, List, [], ◌∷◌, length, take, Contains, Option, Some, None, true}
-use Rattle.plc_io.specs.Contents.{Contents, Agrees, SameFiles}
+use Rattle.std.specs.Prelude.{◌≡◌, ◌≤◌, ◌⊎◌, ℕ, List, [], ◌∷◌, map, take, Contains, Option, Some, None, Ok, Err, true}
+use Rattle.plc_io.specs.Contents.{SameFiles}
 use Rattle.plc_io.specs.Counts.{Rose, SameCounts, NeverFell}
+use Rattle.plc_io.specs.Moments.{SinkAt}
 use Rattle.plc_io.specs.Taken.{Took, TookPrefix}
-use Rattle.s7_cli.specs.declared.answers.Answer.{Answer}
-use Rattle.s7_cli.specs.declared.answers.Answer.TheVariants.{WordsRefused, ReadFault, TooLong, SourceRefused, HistoryRefused, Done}
-use Rattle.s7_cli.specs.declared.endings.Ending.{Ending}
-use Rattle.s7_cli.specs.declared.endings.Ending.TheVariants.{Said, SinkFault, NoMemory}
-use Rattle.s7_cli.specs.Command.{Command, Input, inputs_of, outputs_of, Writes, limit_of}
-use Rattle.s7_cli.specs.Lines.{line_of}
-use Rattle.s7_cli.specs.Says.{Says}
+use Rattle.s7_cli.specs.declared.failures.Failure.TheVariants.{ReadFault, WriteFault, NoMemory}
+use Rattle.s7_cli.specs.Answer.{Answer, Outcome, words_refused, code_of}
+use Rattle.s7_cli.specs.Command.{Command, inputs_of, outputs_of}
+use Rattle.s7_cli.specs.Reading.{Disk, HoldAll, Reads}
+use Rattle.s7_cli.specs.Says.{Says, Writes}
 
--- the files at one moment: what they hold, where this is told, and the counts of failed reads and writes of each name
-pub record FilesAt : Type 0 where
-  pub contents : Contents
-  pub failed_reads : List ℕ → ℕ
-  pub failed_writes : List ℕ → ℕ
-
--- the sink at one moment: what it took, where this is told, and its count of faults
-pub record SinkAt : Type 0 where
-  pub taken : Option (List ℕ)
-  pub faults : ℕ
-
--- a call from its start to its end
-pub record Disk : Type 0 where
-  pub before : FilesAt
-  pub after : FilesAt
-
+-- the sink at the start of a call, and now
 pub record Taking : Type 0 where
   pub before : SinkAt
   pub after : SinkAt
 
--- the file holds these bytes, no more than it may
-pub record Holds (d : Disk) (i : Input) (bytes : List ℕ) : Type 0 where
-  pub agrees : Agrees d.before.contents i.name bytes
-  pub within : length bytes ≤ limit_of i.file
+abbrev pub taking : SinkAt → SinkAt → Taking
+taking before after = record { before = before; after = after }
 
--- the reading ends at a file: a read of it failed, or it holds a byte past its limit
-abbrev pub StopsAt : Disk → Input → Answer → Type 0
-StopsAt d i ReadFault = Rose (d.before.failed_reads i.name) (d.after.failed_reads i.name)
-StopsAt d i (TooLong file) =
-    (file ≡ i.file) × ((bytes : List ℕ) × Agrees d.before.contents i.name bytes × (limit_of i.file < length bytes))
-StopsAt d i WordsRefused = ⊥
-StopsAt d i (SourceRefused refusal) = ⊥
-StopsAt d i (HistoryRefused refusal) = ⊥
-StopsAt d i Done = ⊥
+-- an answer of a call
+abbrev pub Answers : Option Command → Disk → Answer → Type 0
+Answers None d answer = answer ≡ words_refused
+Answers (Some c) d answer = Reads d (inputs_of c) (Says c) answer
 
--- the files are read in their order: each holds bytes that lead on, or the reading ends at it
-abbrev pub Reads : Disk → List Input → (List (List ℕ) → Answer → List ℕ → Type 0) → Answer → List ℕ → Type 0
-Reads d [] says answer text = says [] answer text
-Reads d (i ∷ is) says answer text =
-    (StopsAt d i answer × (text ≡ line_of answer))
-    ⊎ ((bytes : List ℕ) × Holds d i bytes × Reads d is (λ files. says (bytes ∷ files)) answer text)
-
--- an answer of a call with its text
-abbrev pub Answers : Option Command → Disk → Answer → List ℕ → Type 0
-Answers None d answer text = (answer ≡ WordsRefused) × (text ≡ line_of WordsRefused)
-Answers (Some c) d answer text = Reads d (inputs_of c) (Says c) answer text
-
--- the counts of failed reads rise with a read fault alone
-abbrev pub CountsReads : Disk → Answer → Type 0
-CountsReads d ReadFault = NeverFell d.before.failed_reads d.after.failed_reads
-CountsReads d answer = SameCounts d.before.failed_reads d.after.failed_reads
+-- the names of a command's input files
+abbrev pub input_names : Option Command → List (List ℕ)
+input_names None = []
+input_names (Some c) = map (λ i. i.name) (inputs_of c)
 
 -- the files that a call may write
-abbrev pub written_names : Option Command → List (List ℕ)
-written_names None = []
-written_names (Some c) = outputs_of c
+abbrev pub output_names : Option Command → List (List ℕ)
+output_names None = []
+output_names (Some c) = outputs_of c
+
+-- the count of one of these names rose
+abbrev pub RoseAmong : (before after : List ℕ → ℕ) → List (List ℕ) → Type 0
+RoseAmong before after [] = ⊥
+RoseAmong before after (name ∷ names) = Rose (before name) (after name) ⊎ RoseAmong before after names
+
+-- some count of failed reads of an input file rose in the call
+abbrev pub InputRose : Option Command → Disk → Type 0
+InputRose c d = RoseAmong d.before.failed_reads d.after.failed_reads (input_names c)
+
+-- some count of failed writes of an output file rose
+abbrev pub OutputRose : Option Command → Disk → Type 0
+OutputRose c d = RoseAmong d.before.failed_writes d.after.failed_writes (output_names c)
+
+-- the counts of failed reads rise with a read fault alone
+abbrev pub CountsReads : Disk → Outcome → Type 0
+CountsReads d (Err ReadFault) = NeverFell d.before.failed_reads d.after.failed_reads
+CountsReads d outcome = SameCounts d.before.failed_reads d.after.failed_reads
+
+-- what the command writes to an output file, for contents of its input files that agree with what is told
+abbrev pub WritesTo : Command → Disk → (name bytes : List ℕ) → Type 0
+WritesTo c d name bytes = (contents : List (List ℕ)) × HoldAll d.before.contents (inputs_of c) contents × Writes c contents name bytes
 
 -- an output file holds what it held, or a front of what the command writes to it, or the whole of that
-abbrev pub HoldsFront : Option Command → Disk → List ℕ → Type 0
-HoldsFront None d name = d.after.contents.at name ≡ d.before.contents.at name
-HoldsFront (Some c) d name =
+abbrev pub HoldsFront : Command → Disk → List ℕ → Type 0
+HoldsFront c d name =
     d.before.contents.told ≡ true → (d.after.contents.at name ≡ d.before.contents.at name)
-    ⊎ ((bytes : List ℕ) × (n : ℕ) × Writes c name bytes × (d.after.contents.at name ≡ Some (take n bytes)))
+    ⊎ ((bytes : List ℕ) × (n : ℕ) × WritesTo c d name bytes × (d.after.contents.at name ≡ Some (take n bytes)))
+
+-- it holds the whole
+abbrev pub HoldsWhole : Command → Disk → List ℕ → Type 0
+HoldsWhole c d name =
+    d.before.contents.told ≡ true → (bytes : List ℕ) × WritesTo c d name bytes × (d.after.contents.at name ≡ Some bytes)
 
 -- no file changed but output files
 pub record ChangesOutputs (c : Option Command) (d : Disk) : Type 0 where
   pub told : d.after.contents.told ≡ d.before.contents.told
-  pub elsewhere : (name : List ℕ) → (Contains (written_names c) name → ⊥) → d.after.contents.at name ≡ d.before.contents.at name
-  pub outputs : (name : List ℕ) → Contains (written_names c) name → HoldsFront c d name
+  pub elsewhere : (name : List ℕ) → (Contains (output_names c) name → ⊥) → d.after.contents.at name ≡ d.before.contents.at name
+  pub outputs : (k : Command) → c ≡ Some k → (name : List ℕ) → Contains (outputs_of k) name → HoldsFront k d name
+
+-- each output file is written whole
+abbrev pub WritesOutputs : Option Command → Disk → Type 0
+WritesOutputs c d = (k : Command) → c ≡ Some k → (name : List ℕ) → Contains (outputs_of k) name → HoldsWhole k d name
 
 -- what an answer leaves of the files: only a result writes
-abbrev pub LeavesFiles : Option Command → Disk → Answer → Type 0
-LeavesFiles c d Done = ChangesOutputs c d
-LeavesFiles c d answer = SameFiles d.before.contents d.after.contents
+abbrev pub LeavesFiles : Option Command → Disk → Outcome → Type 0
+LeavesFiles c d (Ok done) = ChangesOutputs c d × WritesOutputs c d
+LeavesFiles c d (Err failure) = SameFiles d.before.contents d.after.contents
 
 -- the call was cut short: a front was taken of the text of an answer that these files, and these counts of failed reads, allow, or
 -- nothing was taken
 abbrev pub CutShort : Option Command → Disk → Taking → Type 0
 CutShort c d s =
     (s.after.taken ≡ s.before.taken)
-    ⊎ ((answer : Answer) × (text : List ℕ) × Answers c d answer text × CountsReads d answer × TookPrefix s.before.taken s.after.taken text)
+    ⊎ ((answer : Answer) × Answers c d answer × CountsReads d answer.outcome × TookPrefix s.before s.after answer.text)
 
--- the call said this
+-- the call said its whole text
 pub record IsSaid (c : Option Command) (d : Disk) (s : Taking) (answer : Answer) : Type 0 where
-  pub text : List ℕ
-  pub answers : Answers c d answer text
-  pub took : Took s.before.taken s.after.taken text
+  pub answers : Answers c d answer
+  pub took : Took s.before s.after answer.text
   pub faults : s.after.faults ≡ s.before.faults
-  pub reads : CountsReads d answer
+  pub reads : CountsReads d answer.outcome
   pub writes : SameCounts d.before.failed_writes d.after.failed_writes
-  pub files : LeavesFiles c d answer
+  pub files : LeavesFiles c d answer.outcome
 
--- the sink failed
-pub record IsSinkFault (c : Option Command) (d : Disk) (s : Taking) : Type 0 where
+-- it was cut short; the counts of failed reads may have risen
+pub record IsCut (c : Option Command) (d : Disk) (s : Taking) : Type 0 where
   pub cut : CutShort c d s
+  pub reads : NeverFell d.before.failed_reads d.after.failed_reads
+  pub files : ChangesOutputs c d
+
+-- the sink failed, and no write of a file
+pub record SinkFailed (d : Disk) (s : Taking) : Type 0 where
   pub faults : Rose s.before.faults s.after.faults
   pub never_fell : s.before.faults ≤ s.after.faults
-  pub reads : NeverFell d.before.failed_reads d.after.failed_reads
   pub writes : SameCounts d.before.failed_writes d.after.failed_writes
-  pub files : ChangesOutputs c d
+
+-- the write of an output file failed, and not the sink
+pub record OutputFailed (c : Option Command) (d : Disk) (s : Taking) : Type 0 where
+  pub rose : OutputRose c d
+  pub writes : NeverFell d.before.failed_writes d.after.failed_writes
+  pub faults : s.after.faults ≡ s.before.faults
+
+-- a write failed
+pub record IsWriteFault (c : Option Command) (d : Disk) (s : Taking) : Type 0 where
+  pub cut : IsCut c d s
+  pub failed : SinkFailed d s ⊎ OutputFailed c d s
 
 -- memory was wanting
 pub record IsNoMemory (c : Option Command) (d : Disk) (s : Taking) : Type 0 where
-  pub cut : CutShort c d s
+  pub cut : IsCut c d s
   pub faults : s.after.faults ≡ s.before.faults
-  pub reads : NeverFell d.before.failed_reads d.after.failed_reads
   pub writes : SameCounts d.before.failed_writes d.after.failed_writes
-  pub files : ChangesOutputs c d
 
-abbrev pub Ends : Option Command → Disk → Taking → Ending → Type 0
-Ends c d s (Said answer) = IsSaid c d s answer
-Ends c d s SinkFault = IsSinkFault c d s
-Ends c d s NoMemory = IsNoMemory c d s
+-- a call came out so
+abbrev pub Ends : Option Command → Disk → Taking → Outcome → Type 0
+Ends c d s (Err WriteFault) = IsWriteFault c d s
+Ends c d s (Err NoMemory) = IsNoMemory c d s
+Ends c d s outcome = (text : List ℕ) × IsSaid c d s (record { outcome = outcome; text = text })
 
--- the status of an ending
-abbrev pub answer_code : Answer → ℕ
-answer_code Done = 0
-answer_code WordsRefused = 1
-answer_code (SourceRefused refusal) = 2
-answer_code (HistoryRefused refusal) = 4
-answer_code ReadFault = 5
-answer_code (TooLong file) = 8
-
-abbrev pub code_of : Ending → ℕ
-code_of (Said answer) = answer_code answer
-code_of SinkFault = 6
-code_of NoMemory = 7
-
--- a call ended in some way, and this is its status
+-- and this is its status
 abbrev pub Ended : Option Command → Disk → Taking → ℕ → Type 0
-Ended c d s code = (e : Ending) × (code ≡ code_of e) × Ends c d s e
-
--- the files as a value of their trait shows them
-abbrev pub files_at : {F : Type 0} → (F → Contents) → (failed_reads failed_writes : F → List ℕ → ℕ) → F → FilesAt
-files_at contents failed_reads failed_writes files =
-    record { contents = contents files; failed_reads = failed_reads files; failed_writes = failed_writes files }
-
--- the sink as a value of its trait shows it
-abbrev pub sink_at : {K : Type 0} → (taken : K → Option (List ℕ)) → (faults : K → ℕ) → K → SinkAt
-sink_at taken faults out = record { taken = taken out; faults = faults out }
+Ended c d s code = (outcome : Outcome) × (code ≡ code_of outcome) × Ends c d s outcome

@@ -1,17 +1,30 @@
--- How a call ends by the fault of a reader.
+-- The failure of a command by the fault of a reader.
+use Rattle.std.specs.Prelude.{ℕ, List, None}
 use Rattle.plc_base.specs.declared.SourceFault.{SourceFault}
 use Rattle.plc_base.specs.declared.SourceFault.TheVariants as source
+use Rattle.stl_ast.specs.declared.Tree.{Tree}
+use Rattle.sem_kept.specs.Built.{program_of}
 use Rattle.s7_cli.specs.declared.histories.HistoryFault.{HistoryFault}
 use Rattle.s7_cli.specs.declared.histories.HistoryFault.TheVariants as history
-use Rattle.s7_cli.specs.declared.answers.Answer.TheVariants.{SourceRefused, HistoryRefused}
-use Rattle.s7_cli.specs.declared.endings.Ending.{Ending}
-use Rattle.s7_cli.specs.declared.endings.Ending.TheVariants.{Said, NoMemory}
-use Rattle.s7_cli.specs.Says.{not_built}
+use Rattle.sem_kept.specs.Meaning.{IsRefusedSource}
+use Rattle.s7_cli.specs.Unbuilt.{IsUnbuilt}
+use Rattle.s7_cli.specs.declared.failures.File.TheVariants.{Source, History}
+use Rattle.s7_cli.specs.declared.failures.Failure.{Failure}
+use Rattle.s7_cli.specs.declared.failures.Failure.TheVariants.{Refused, NoMemory}
 
-abbrev pub ends_source_fault : SourceFault → Ending
-ends_source_fault (source.Refused refusal) = Said (SourceRefused refusal)
-ends_source_fault source.NoMemory = NoMemory
+abbrev pub failure_of_source : SourceFault → Failure
+failure_of_source (source.Refused refusal) = Refused Source refusal
+failure_of_source source.NoMemory = NoMemory
 
-abbrev pub ends_history_fault : HistoryFault → Ending
-ends_history_fault history.Refused = Said (HistoryRefused not_built)
-ends_history_fault history.NoMemory = NoMemory
+abbrev pub failure_of_history : HistoryFault → Failure
+failure_of_history (history.Refused refusal) = Refused History refusal
+failure_of_history history.NoMemory = NoMemory
+
+-- a source is refused so; want of memory says nothing of it
+abbrev pub RefusesSource : List ℕ → SourceFault → Type 0
+RefusesSource bytes (source.Refused refusal) = IsRefusedSource bytes None refusal
+RefusesSource bytes source.NoMemory = Unit {0}
+
+-- a tree with a clause that isn't built
+abbrev pub RefusesTree : Tree → SourceFault → Type 0
+RefusesTree tree = IsUnbuilt (program_of tree)

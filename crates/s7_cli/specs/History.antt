@@ -1,10 +1,12 @@
 -- The text of a history: what each of its lines spells.
-use Rattle.std.specs.Prelude.{ℕ, ◌==◌, List, [], ◌∷◌, ◌++◌, length, replicate, filter, nat_eq, Bool, true, false, ◌&&◌, ◌||◌, nat_le, nat_lt, Option, Some, None, codes, bytes_eq, count_by, if◌then◌else◌}
+use Rattle.std.specs.Prelude.{ℕ, ◌==◌, List, [], ◌∷◌, ◌++◌, length, replicate, filter, nat_eq, Bool, true, false, ◌&&◌, ◌||◌, nat_le, nat_lt, Option, Some, None, Result, Ok, Err, codes, bytes_eq, count_by, if◌then◌else◌}
 use Rattle.std.specs.Option.{option_map, option_and_then}
 use Rattle.std.specs.Char.{is_ascii_hexdigit}
 use Rattle.std.specs.List.{slice_split, list_all, starts_with}
 use Rattle.std.specs.Str.Lines.{lines}
 use Rattle.std.specs.Str.Parse.{digits_value}
+use Rattle.plc_base.specs.AreaBytes.{is_peripheral_byte}
+use Rattle.plc_base.specs.declared.refusals.Refusal.{Refusal}
 use Rattle.s7_cli.specs.Decimal.{decimal_value}
 use Rattle.var_access.specs.declared.entries.Entry.{Entry}
 use Rattle.var_access.specs.declared.entries.What.{What}
@@ -52,7 +54,7 @@ entries_of_step words = None
 
 -- the peripheral input bytes that exist
 abbrev pub is_peripheral : ℕ → Bool
-is_peripheral byte = nat_lt byte 128 || (nat_le 256 byte && nat_lt byte 768)
+is_peripheral byte = is_peripheral_byte byte
 
 abbrev pub input_of : ℕ → ℕ → Option (List Entry)
 input_of byte value = if is_peripheral byte then Some (record { who = feeder; what = Input byte value } ∷ []) else None
@@ -103,6 +105,14 @@ steps_in es = count_by (λ e. is_step e.what) es
 abbrev pub with_few_steps : List Entry → Option (List Entry)
 with_few_steps es = if nat_le (steps_in es) most_steps then Some es else None
 
--- the entries that a text spells, if it is a history
-unfoldable pub history_of : List ℕ → Option (List Entry)
-history_of text = option_and_then with_few_steps (entries_of_lines (lines text))
+-- a text that is no history is refused by line 0 and rule 99: lines and rules aren't told yet
+abbrev pub not_built : Refusal
+not_built = record { line = 0; rule = 99 }
+
+abbrev pub or_refused : Option (List Entry) → Result (List Entry) Refusal
+or_refused None = Err not_built
+or_refused (Some entries) = Ok entries
+
+-- the entries that a text spells, or its refusal
+unfoldable pub history_of : List ℕ → Result (List Entry) Refusal
+history_of text = or_refused (option_and_then with_few_steps (entries_of_lines (lines text)))

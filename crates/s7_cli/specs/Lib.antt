@@ -6,7 +6,10 @@ pub mod History
 pub mod LineEntries
 pub mod HistoryFault
 pub mod RunText
+pub mod LinesAfter
+pub mod Answer
 pub mod Says
+pub mod Reading
 pub mod Ends
 pub mod StatusTable
 pub mod Decimal

@@ -1,15 +1,27 @@
 -- The one line of each refusal.
-use Rattle.std.specs.Prelude.{ℕ, List, [], ◌++◌, codes, decimal}
+use Rattle.std.specs.Prelude.{ℕ, List, ◌++◌, codes, decimal, Option, Some, None}
 use Rattle.plc_base.specs.declared.refusals.Refusal.{Refusal}
-use Rattle.s7_cli.specs.declared.answers.File.{File}
-use Rattle.s7_cli.specs.declared.answers.File.TheVariants.{Source, History}
-use Rattle.s7_cli.specs.declared.answers.Answer.{Answer}
-use Rattle.s7_cli.specs.declared.answers.Answer.TheVariants.{WordsRefused, ReadFault, TooLong, SourceRefused, HistoryRefused, Done}
+use Rattle.s7_cli.specs.declared.failures.File.{File}
+use Rattle.s7_cli.specs.declared.failures.File.TheVariants.{Source, History}
+use Rattle.s7_cli.specs.declared.failures.Failure.{Failure}
+use Rattle.s7_cli.specs.declared.failures.Failure.TheVariants.{WordsRefused, ReadFault, TooLong, Refused, WriteFault, NoMemory}
 
 -- the word for a file
 unfoldable pub file_text : File → List ℕ
 file_text Source = codes "source"
 file_text History = codes "history"
+
+-- the words of the call are refused
+unfoldable pub words_refused_text : List ℕ
+words_refused_text = codes "words refused\n"
+
+-- a file can't be read
+unfoldable pub read_fault_text : List ℕ
+read_fault_text = codes "read fault\n"
+
+-- a file holds a byte past its limit
+unfoldable pub too_long_text : File → List ℕ
+too_long_text file = codes "too long: " ++ file_text file ++ codes "\n"
 
 -- a refused file: the line and the rule that it breaks
 unfoldable pub refusal_text : File → Refusal → List ℕ
@@ -20,11 +32,11 @@ refusal_text file refusal =
 unfoldable pub ok_line : List ℕ
 ok_line = codes "OK\n"
 
--- the line of an answer that is no result
-unfoldable pub line_of : Answer → List ℕ
-line_of WordsRefused = codes "words refused\n"
-line_of ReadFault = codes "read fault\n"
-line_of (TooLong file) = codes "too long: " ++ file_text file ++ codes "\n"
-line_of (SourceRefused refusal) = refusal_text Source refusal
-line_of (HistoryRefused refusal) = refusal_text History refusal
-line_of Done = []
+-- the line of a failure; a failed write and want of memory have none of their own
+abbrev pub line_of : Failure → Option (List ℕ)
+line_of WordsRefused = Some words_refused_text
+line_of ReadFault = Some read_fault_text
+line_of (TooLong file) = Some (too_long_text file)
+line_of (Refused file refusal) = Some (refusal_text file refusal)
+line_of WriteFault = None
+line_of NoMemory = None

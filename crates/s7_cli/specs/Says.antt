@@ -1,49 +1,42 @@
--- What a command answers for what its files hold.
-use Rattle.std.specs.Prelude.{◌≡◌, ℕ, List, [], ◌∷◌, Some, None}
+-- What a command answers for what its input files hold, and what it writes to its output files.
+use Rattle.std.specs.Prelude.{◌≡◌, ℕ, List, [], ◌∷◌, None, Result, Ok, Err}
 use Rattle.plc_base.specs.declared.Refusal.{Refusal}
 use Rattle.var_access.specs.declared.Entry.{Entry}
-use Rattle.controller.specs.declared.ThinOb.{ThinOb}
-use Rattle.sem_kept.specs.ThinSource.{IsThin, IsRefused}
-use Rattle.sem_kept.specs.Tree.{tree_code}
-use Rattle.s7_cli.specs.declared.answers.Answer.{Answer}
-use Rattle.s7_cli.specs.declared.answers.Answer.TheVariants.{WordsRefused, ReadFault, TooLong, SourceRefused, HistoryRefused, Done}
+use Rattle.controller.specs.Code.{Code}
+use Rattle.sem_kept.specs.Meaning.{IsJudged}
+use Rattle.s7_cli.specs.declared.failures.File.TheVariants.{Source, History}
+use Rattle.s7_cli.specs.Answer.{Answer, done, refused}
 use Rattle.s7_cli.specs.Command.{Command, Go, Check}
 use Rattle.s7_cli.specs.History.{history_of}
-use Rattle.s7_cli.specs.Lines.{line_of, ok_line}
+use Rattle.s7_cli.specs.Lines.{ok_line}
 use Rattle.s7_cli.specs.RunText.{run_text}
 
--- a line of a history that isn't built is refused with rule 99, at line 0
-abbrev pub not_built : Refusal
-not_built = record { line = 0; rule = 99 }
-
--- the history spells no entries
-abbrev pub IsNoHistory : List ℕ → Type 0
-IsNoHistory history = history_of history ≡ None
-
--- `go`: the source is judged first, then the history; else the source's meaning along the history is told
-abbrev pub GoSays : (source history : List ℕ) → Answer → List ℕ → Type 0
-GoSays source history (SourceRefused refusal) text = IsRefused source refusal × (text ≡ line_of (SourceRefused refusal))
-GoSays source history (HistoryRefused refusal) text =
-    (refusal ≡ not_built) × ((program : List ThinOb) × IsThin source program) × IsNoHistory history
-    × (text ≡ line_of (HistoryRefused refusal))
-GoSays source history Done text =
-    (program : List ThinOb) × (entries : List Entry) × IsThin source program × (history_of history ≡ Some entries)
-    × (text ≡ run_text (tree_code program) entries)
-GoSays source history WordsRefused text = ⊥
-GoSays source history ReadFault text = ⊥
-GoSays source history (TooLong file) text = ⊥
+-- `go`: the source is judged first, then the history; else the text of the run is told
+abbrev pub go_answer : Result Code Refusal → Result (List Entry) Refusal → Answer
+go_answer (Err refusal) history = refused Source refusal
+go_answer (Ok code) (Err refusal) = refused History refusal
+go_answer (Ok code) (Ok entries) = done (run_text code entries)
 
 -- `check`: the source is judged
-abbrev pub CheckSays : (source : List ℕ) → Answer → List ℕ → Type 0
-CheckSays source (SourceRefused refusal) text = IsRefused source refusal × (text ≡ line_of (SourceRefused refusal))
-CheckSays source Done text = ((program : List ThinOb) × IsThin source program) × (text ≡ ok_line)
-CheckSays source (HistoryRefused refusal) text = ⊥
-CheckSays source WordsRefused text = ⊥
-CheckSays source ReadFault text = ⊥
-CheckSays source (TooLong file) text = ⊥
+abbrev pub check_answer : Result Code Refusal → Answer
+check_answer (Err refusal) = refused Source refusal
+check_answer (Ok code) = done ok_line
+
+-- over the contents of its files; a source has no symbols yet
+abbrev pub GoSays : (source history : List ℕ) → Answer → Type 0
+GoSays source history answer =
+    (judged : Result Code Refusal) × IsJudged source None judged × (answer ≡ go_answer judged (history_of history))
+
+abbrev pub CheckSays : (source : List ℕ) → Answer → Type 0
+CheckSays source answer = (judged : Result Code Refusal) × IsJudged source None judged × (answer ≡ check_answer judged)
 
 -- over the contents of the command's input files, in the order of reading
-abbrev pub Says : Command → List (List ℕ) → Answer → List ℕ → Type 0
-Says (Go _ _) (source ∷ history ∷ []) answer text = GoSays source history answer text
-Says (Check _) (source ∷ []) answer text = CheckSays source answer text
-Says _ files answer text = ⊥
+abbrev pub Says : Command → List (List ℕ) → Answer → Type 0
+Says (Go _ _) (source ∷ history ∷ []) answer = GoSays source history answer
+Says (Check _) (source ∷ []) answer = CheckSays source answer
+Says _ contents answer = ⊥
+
+-- what the command writes to an output file, over the same contents
+abbrev pub Writes : Command → List (List ℕ) → (name bytes : List ℕ) → Type 0
+Writes (Go _ _) contents name bytes = ⊥
+Writes (Check _) contents name bytes = ⊥

@@ -24,7 +24,7 @@ ghost use Rattle.sem_kept.specs.Built.{
   built_block,
   program_of,
 };
-ghost use Rattle.s7_cli.specs.Inner.{RefusesTree};
+ghost use Rattle.s7_cli.specs.Faults.{RefusesTree};
 ghost use Rattle.s7_cli.specs.Unbuilt.{IsUnbuilt, as_list};
 
 use controller::{Statements, Thin, ThinCode, ThinOb, ThinStatement};
@@ -72,8 +72,7 @@ fn is_image_byte(area: Area, byte: u16) -> bool
     ensures { result ≡ is_image_byte area byte }
 {
     match area {
-        Area::I | Area::Q => byte < 128,
-        Area::M => byte < 256,
+        Area::I | Area::Q | Area::M => area.has_byte(byte),
         _ => false,
     }
 }
@@ -278,8 +277,10 @@ fn new_number(before: &[ThinOb], kind: BlockKind, name: &BlockName) -> Option<u1
 /// An organization block of this number.
 #[tactic(auto, unfolding(sem_kept::specs::Built::built_parts))]
 fn built_parts(alloc: Global, number: u16, block: &Block) -> Result<ThinOb, SourceFault>
-    ensures ok { IfOk result (λ ob. built_parts number block.now.parts block.now.body block.now.end_line ≡ Ok ob) }
-    ensures refused { IfErr result (IsUnbuilt (built_parts number block.now.parts block.now.body block.now.end_line)) }
+    ensures ok { IfOk result
+        (λ ob. built_parts number block.now.parts block.now.body block.now.end_line ≡ Ok ob) }
+    ensures refused { IfErr result
+        (IsUnbuilt (built_parts number block.now.parts block.now.body block.now.end_line)) }
 {
     if let [part, ..] = block.parts.as_slice() {
         return Err(unbuilt(part.line));

@@ -1,11 +1,11 @@
 ghost use Rattle.std.specs.Prelude.{◌≡◌, Some, None};
 ghost use Rattle.s7_cli.specs.Command.{Check};
-ghost use Rattle.s7_cli.specs.Ends.{Ended, files_at, sink_at};
+ghost use Rattle.s7_cli.specs.Ends.{Ended, taking};
 ghost use Rattle.s7_cli.specs.Inner.{Comes};
+ghost use Rattle.s7_cli.specs.Reading.{disk};
 ghost use Rattle.s7_cli.specs.StatusTable.{StatusTable};
 
-use crate::answers::File;
-use crate::endings::{Ending, Status};
+use crate::failures::{Failure, File, Status};
 use crate::files::read_file;
 use crate::finish::{end_command, write_text};
 use crate::judging::judge_source;
@@ -21,8 +21,10 @@ fn check<F: Files, K: Sink>(
     src: &str,
     files: &mut F,
     out: &mut K,
-) -> Result<(), Ending>
-    ensures { Comes (Some (Check src.now)) (record { before = files_at F.contents F.failed_reads F.failed_writes files.old; after = files_at F.contents F.failed_reads F.failed_writes files.new }) (record { before = sink_at K.taken K.faults out.old; after = sink_at K.taken K.faults out.new }) result }
+) -> Result<(), Failure>
+    ensures { let files_went = disk (F.shown files.old) (F.shown files.new) in
+        Comes (Some (Check src.now)) files_went
+        (taking (K.shown out.old) (K.shown out.new)) result }
 {
     let source = read_file(alloc, files, File::Source, src)?;
     judge_source(alloc, &source)?;
@@ -39,8 +41,11 @@ pub fn cmd_check<F: Files, K: Sink>(
     out: &mut K,
 ) -> Status
     requires { symbols ≡ None }
-    ensures ends { Ended (Some (Check src.now)) (record { before = files_at F.contents F.failed_reads F.failed_writes files.old; after = files_at F.contents F.failed_reads F.failed_writes files.new }) (record { before = sink_at K.taken K.faults out.old; after = sink_at K.taken K.faults out.new }) result.code }
-    ensures table { StatusTable (Some (Check src.now)) (record { before = files_at F.contents F.failed_reads F.failed_writes files.old; after = files_at F.contents F.failed_reads F.failed_writes files.new }) (record { before = sink_at K.taken K.faults out.old; after = sink_at K.taken K.faults out.new }) result.code }
+    ensures ends { let went = disk (F.shown files.old) (F.shown files.new) in
+        Ended (Some (Check src.now)) went (taking (K.shown out.old) (K.shown out.new)) result.code }
+    ensures table { let went = disk (F.shown files.old) (F.shown files.new) in
+        let took = taking (K.shown out.old) (K.shown out.new) in
+        StatusTable (Some (Check src.now)) went took result.code }
 {
     let came = check(alloc, src, files, out);
     end_command(out, came)

@@ -7,7 +7,8 @@ pub(crate) const GREATEST_BOUND: u32 = 100_000_000;
 /// The number that a word spells in decimal digits, if it is at most `most`.
 pub(crate) fn read_number(word: &[u8], most: u32) -> Option<u32>
     requires { most ≤ GREATEST_BOUND }
-    ensures { MatchOption result ((n : ℕ) → decimal_value word.now ≡ Some n → most < n) (λ n. (decimal_value word.now ≡ Some n) × (n ≤ most)) }
+    ensures { MatchOption result ((n : ℕ) → decimal_value word.now ≡ Some n → most < n)
+        (λ n. (decimal_value word.now ≡ Some n) × (n ≤ most)) }
 {
     if word.is_empty() {
         return None;

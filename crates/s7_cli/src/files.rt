@@ -1,10 +1,9 @@
-ghost use Rattle.s7_cli.specs.Command.{Input, limit_of};
 ghost use Rattle.std.specs.Prelude.{◌≡◌};
-ghost use Rattle.s7_cli.specs.Ends.{FilesAt, files_at};
-ghost use Rattle.s7_cli.specs.Inner.{FileRead, SameMoment};
+ghost use Rattle.s7_cli.specs.Command.{Input, limit_of};
+ghost use Rattle.s7_cli.specs.Inner.{FileRead};
+ghost use Rattle.s7_cli.specs.Reading.{disk};
 
-use crate::answers::{Answer, File};
-use crate::endings::Ending;
+use crate::failures::{Failure, File};
 use plc_io::{Files, IoFault, read_to_limit};
 use std::alloc::Global;
 
@@ -30,18 +29,15 @@ pub fn read_file<F: Files>(
     files: &mut F,
     file: File,
     name: &str,
-) -> Result<Vec<u8>, Ending>
-    ensures { (start : FilesAt) → SameMoment start (files_at F.contents F.failed_reads F.failed_writes files.old) → FileRead (λ v. v.items) start (files_at F.contents F.failed_reads F.failed_writes files.new) (record { file = file; name = name.now }) result }
+) -> Result<Vec<u8>, Failure>
+    ensures { let input : Input = record { file = file; name = name.now } in
+        FileRead (λ v. v.items) (disk (F.shown files.old) (F.shown files.new)) input result }
 {
     let limit = limit_of(file);
     match read_to_limit(alloc, files, name, limit) {
         Ok(bytes) if bytes.len() <= limit => Ok(bytes),
-        Ok(_) => Err(Ending::Said {
-            answer: Answer::TooLong { file },
-        }),
-        Err(IoFault::Failed) => Err(Ending::Said {
-            answer: Answer::ReadFault,
-        }),
-        Err(IoFault::NoMemory) => Err(Ending::NoMemory),
+        Ok(_) => Err(Failure::TooLong { file }),
+        Err(IoFault::Failed) => Err(Failure::ReadFault),
+        Err(IoFault::NoMemory) => Err(Failure::NoMemory),
     }
 }

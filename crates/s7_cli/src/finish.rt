@@ -1,54 +1,63 @@
-ghost use Rattle.std.specs.Prelude.{◌≡◌, Option, Result};
+ghost use Rattle.std.specs.Prelude.{Option};
+ghost use Rattle.plc_io.specs.Moments.{SinkAt};
 ghost use Rattle.s7_cli.specs.Command.{Command};
-ghost use Rattle.s7_cli.specs.Ends.{Disk, SinkAt, Ended, Ends, sink_at};
+ghost use Rattle.s7_cli.specs.Ends.{Ended, Ends, taking};
 ghost use Rattle.s7_cli.specs.Inner.{Comes, LineWritten, TextWritten};
+ghost use Rattle.s7_cli.specs.Lines.{line_of};
+ghost use Rattle.s7_cli.specs.Reading.{Disk};
 ghost use Rattle.s7_cli.specs.StatusTable.{StatusTable};
 
-use crate::answers::Answer;
-use crate::endings::{Ending, Status};
-use crate::texts::answer_line;
+use crate::failures::{Failure, Status};
+use crate::texts::failure_line;
 use plc_io::{IoFault, Sink, push_all};
 
 /// Writes a whole text.
-pub fn write_text<K: Sink>(out: &mut K, text: &[u8]) -> Result<(), Ending>
-    ensures { TextWritten text.now (record { before = sink_at K.taken K.faults out.old; after = sink_at K.taken K.faults out.new }) result }
+pub fn write_text<K: Sink>(out: &mut K, text: &[u8]) -> Result<(), Failure>
+    ensures { TextWritten text.now (taking (K.shown out.old) (K.shown out.new)) result }
 {
     match push_all(out, text) {
         Ok(()) => Ok(()),
-        Err(IoFault::Failed) => Err(Ending::SinkFault),
-        Err(IoFault::NoMemory) => Err(Ending::NoMemory),
+        Err(IoFault::Failed) => Err(Failure::WriteFault),
+        Err(IoFault::NoMemory) => Err(Failure::NoMemory),
     }
 }
 
-/// Writes the line of an answer.
-fn say<K: Sink>(out: &mut K, answer: Answer) -> Ending
-    ensures { LineWritten answer (record { before = sink_at K.taken K.faults out.old; after = sink_at K.taken K.faults out.new }) result }
+/// Writes the line of a failure, if it has one, and answers the failure, or that of the writing.
+fn say<K: Sink>(out: &mut K, failure: Failure) -> Failure
+    ensures { LineWritten (line_of failure) failure
+        (taking (K.shown out.old) (K.shown out.new)) result }
 {
-    match write_text(out, answer_line(answer).as_slice()) {
-        Ok(()) => Ending::Said { answer },
-        Err(ending) => ending,
+    let Some(line) = failure_line(failure) else {
+        return failure;
+    };
+    match write_text(out, line.as_slice()) {
+        Ok(()) => failure,
+        Err(fault) => fault,
     }
 }
 
-/// Writes the refusal of a command, where it came out with one.
-fn finish<K: Sink>(out: &mut K, came: Result<(), Ending>) -> Ending
-    ensures { (c : Option Command) (d : Disk) (before : SinkAt) → Comes c d (record { before = before; after = sink_at K.taken K.faults out.old }) came → Ends c d (record { before = before; after = sink_at K.taken K.faults out.new }) result }
+/// Writes the line of a command's failure, where it came out with one.
+fn finish<K: Sink>(out: &mut K, came: Result<(), Failure>) -> Result<(), Failure>
+    ensures { (c : Option Command) (d : Disk) (start : SinkAt)
+        → Comes c d (taking start (K.shown out.old)) came
+        → Ends c d (taking start (K.shown out.new)) result }
 {
     match came {
-        Ok(()) => Ending::Said {
-            answer: Answer::Done,
-        },
-        Err(Ending::Said { answer }) => say(out, answer),
-        Err(ending) => ending,
+        Ok(()) => Ok(()),
+        Err(failure) => Err(say(out, failure)),
     }
 }
 
-/// Ends a command, whose refusal isn't written yet.
-pub fn end_command<K: Sink>(out: &mut K, came: Result<(), Ending>) -> Status
-    ensures ends { (c : Option Command) (d : Disk) (before : SinkAt) → Comes c d (record { before = before; after = sink_at K.taken K.faults out.old }) came → Ended c d (record { before = before; after = sink_at K.taken K.faults out.new }) result.code }
-    ensures table { (c : Option Command) (d : Disk) (before : SinkAt) → Comes c d (record { before = before; after = sink_at K.taken K.faults out.old }) came → StatusTable c d (record { before = before; after = sink_at K.taken K.faults out.new }) result.code }
+/// Ends a command, whose failure isn't written yet.
+pub fn end_command<K: Sink>(out: &mut K, came: Result<(), Failure>) -> Status
+    ensures ends { (c : Option Command) (d : Disk) (start : SinkAt)
+        → Comes c d (taking start (K.shown out.old)) came
+        → Ended c d (taking start (K.shown out.new)) result.code }
+    ensures table { (c : Option Command) (d : Disk) (start : SinkAt)
+        → Comes c d (taking start (K.shown out.old)) came
+        → StatusTable c d (taking start (K.shown out.new)) result.code }
 {
-    // no source is both accepted and refused
+    // a source has one meaning or one refusal
     sem_kept::laws::law_of_sources();
-    finish(out, came).status()
+    Status::of(finish(out, came))
 }

@@ -1,11 +1,11 @@
 ghost use Rattle.std.specs.Prelude.{◌≡◌, Some, None};
 ghost use Rattle.s7_cli.specs.Command.{Go};
-ghost use Rattle.s7_cli.specs.Ends.{Ended, files_at, sink_at};
+ghost use Rattle.s7_cli.specs.Ends.{Ended, taking};
 ghost use Rattle.s7_cli.specs.Inner.{Comes};
+ghost use Rattle.s7_cli.specs.Reading.{disk};
 ghost use Rattle.s7_cli.specs.StatusTable.{StatusTable};
 
-use crate::answers::File;
-use crate::endings::{Ending, Status};
+use crate::failures::{Failure, File, Status};
 use crate::files::read_file;
 use crate::finish::end_command;
 use crate::judging::judge;
@@ -20,8 +20,10 @@ fn go<F: Files, K: Sink>(
     hist: &str,
     files: &mut F,
     out: &mut K,
-) -> Result<(), Ending>
-    ensures { Comes (Some (Go src.now hist.now)) (record { before = files_at F.contents F.failed_reads F.failed_writes files.old; after = files_at F.contents F.failed_reads F.failed_writes files.new }) (record { before = sink_at K.taken K.faults out.old; after = sink_at K.taken K.faults out.new }) result }
+) -> Result<(), Failure>
+    ensures { let went = disk (F.shown files.old) (F.shown files.new) in
+        let took = taking (K.shown out.old) (K.shown out.new) in
+        Comes (Some (Go src.now hist.now)) went took result }
 {
     let source = read_file(alloc, files, File::Source, src)?;
     let history = read_file(alloc, files, File::History, hist)?;
@@ -40,8 +42,12 @@ pub fn cmd_go<F: Files, K: Sink>(
     out: &mut K,
 ) -> Status
     requires { symbols ≡ None }
-    ensures ends { Ended (Some (Go src.now hist.now)) (record { before = files_at F.contents F.failed_reads F.failed_writes files.old; after = files_at F.contents F.failed_reads F.failed_writes files.new }) (record { before = sink_at K.taken K.faults out.old; after = sink_at K.taken K.faults out.new }) result.code }
-    ensures table { StatusTable (Some (Go src.now hist.now)) (record { before = files_at F.contents F.failed_reads F.failed_writes files.old; after = files_at F.contents F.failed_reads F.failed_writes files.new }) (record { before = sink_at K.taken K.faults out.old; after = sink_at K.taken K.faults out.new }) result.code }
+    ensures ends { let went = disk (F.shown files.old) (F.shown files.new) in
+        let took = taking (K.shown out.old) (K.shown out.new) in
+        Ended (Some (Go src.now hist.now)) went took result.code }
+    ensures table { let went = disk (F.shown files.old) (F.shown files.new) in
+        let took = taking (K.shown out.old) (K.shown out.new) in
+        StatusTable (Some (Go src.now hist.now)) went took result.code }
 {
     let came = go(alloc, src, hist, files, out);
     end_command(out, came)

@@ -1,9 +1,11 @@
-ghost use Rattle.std.specs.Prelude.{◌≡◌, ◌<◌, ◌≤◌, [], ◌∷◌, ◌++◌, false, All, IfOk, MatchResult, OnOk};
+ghost use Rattle.std.specs.Prelude.{◌≡◌, ◌<◌, ◌≤◌, [], ◌∷◌, ◌++◌, false, All, IfErr, IfOk, OnOk};
 ghost use Rattle.var_access.specs.Entry.{IsValid};
+ghost use Rattle.var_access.specs.declared.Entry.{Entry};
 ghost use Rattle.s7_cli.specs.History.{feeder, most_steps, is_step, steps_in, history_of};
-ghost use Rattle.s7_cli.specs.HistoryFault.{IsHistoryFault};
+ghost use Rattle.s7_cli.specs.HistoryFault.{AddFault, IsHistoryFault};
 
 use crate::history_lines::{LineEntries, MOST_STEPS, first_line, read_line};
+use plc_base::Refusal;
 use std::alloc::{AllocError, Global};
 use var_access::{Entry, What};
 
@@ -17,7 +19,7 @@ const FEEDER: u8 = 2;
 #[derive(Clone, Copy, Debug, PartialEq, Eq)]
 pub enum HistoryFault {
     /// A line isn't right, or there are too many steps.
-    Refused,
+    Refused { refusal: Refusal },
     /// Memory ran out.
     NoMemory,
 }
@@ -31,6 +33,11 @@ impl From<AllocError> for HistoryFault {
         HistoryFault::NoMemory
     }
 }
+
+/// The refusal of a history: lines and rules aren't told yet.
+const NOT_BUILT: HistoryFault = HistoryFault::Refused {
+    refusal: Refusal { line: 0, rule: 99 },
+};
 
 /// One step.
 const ONE_STEP: Entry = Entry {
@@ -62,7 +69,8 @@ impl Reading {
     /// Takes one more entry of the feeder, which is no step.
     fn feed(&mut self, what: What) -> Result<(), AllocError>
         requires { is_step what ≡ false }
-        ensures { OnOk result (self.new.entries.items ≡ self.old.entries.items ++ record { who = feeder; what = what } ∷ []) }
+        ensures { let entry : Entry = record { who = feeder; what = what } in
+            OnOk result (self.new.entries.items ≡ self.old.entries.items ++ entry ∷ []) }
     {
         self.entries.push(Entry { who: FEEDER, what })?;
         Ok(())
@@ -70,14 +78,16 @@ impl Reading {
 
     /// Takes the entries of one more line.
     fn add(&mut self, line: LineEntries) -> Result<(), HistoryFault>
-        ensures ok { OnOk result (self.new.entries.items ≡ self.old.entries.items ++ entries_of line) }
-        ensures refused { result ≡ Err HistoryFault.Refused → most_steps < steps_in (self.old.entries.items ++ entries_of line) }
+        ensures ok { OnOk result
+            (self.new.entries.items ≡ self.old.entries.items ++ entries_of line) }
+        ensures refused { let entries = self.old.entries.items ++ entries_of line in
+            IfErr result (λ fault. AddFault entries fault) }
     {
         match line {
             LineEntries::Nothing => {}
             LineEntries::Steps { count } => {
                 if count > MOST_STEPS - self.steps {
-                    return Err(HistoryFault::Refused);
+                    return Err(NOT_BUILT);
                 }
                 let len = self.entries.len() + count as usize;
                 self.entries.resize(len, ONE_STEP)?;
@@ -92,9 +102,10 @@ impl Reading {
 
 /// The entries that a history spells.
 ///
-/// It is refused where a line isn't right, and where it has more than `MOST_STEPS` steps.
+/// It is refused where a line isn't right, and where it has more than 1,000,000 steps.
 pub fn read_history(alloc: Global, text: &[u8]) -> Result<Vec<Entry>, HistoryFault>
-    ensures spelled { MatchResult result (λ entries. history_of text.now ≡ Some entries.items) (IsHistoryFault text.now) }
+    ensures spelled { IfOk result (λ entries. history_of text.now ≡ Ok entries.items) }
+    ensures refused { IfErr result (IsHistoryFault text.now) }
     ensures valid { IfOk result (λ entries. All IsValid entries.items) }
 {
     let mut reading = Reading::new(alloc);
@@ -102,7 +113,7 @@ pub fn read_history(alloc: Global, text: &[u8]) -> Result<Vec<Entry>, HistoryFau
     while !rest.is_empty() {
         let (line, behind) = first_line(rest);
         let Some(entries) = read_line(line) else {
-            return Err(HistoryFault::Refused);
+            return Err(NOT_BUILT);
         };
         reading.add(entries)?;
         rest = behind;

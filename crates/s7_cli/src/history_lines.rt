@@ -16,6 +16,7 @@ ghost use Rattle.s7_cli.specs.History.{
 };
 
 use crate::decimals::read_number;
+use plc_base::Area;
 
 /// The most steps of a line, and of a history.
 pub const MOST_STEPS: u32 = 1_000_000;
@@ -64,7 +65,8 @@ fn word_len(text: &[u8]) -> usize
 
 /// The first word of a text, and what follows it.
 fn first_word(text: &[u8]) -> Option<(&[u8], &[u8])>
-    ensures { MatchOption result (words_of text.now ≡ []) (λ found. words_of text.now ≡ found.0.now ∷ words_of found.1.now) }
+    ensures { MatchOption result (words_of text.now ≡ [])
+        (λ found. words_of text.now ≡ found.0.now ∷ words_of found.1.now) }
 {
     let (_, text) = text.split_at(blanks_len(text));
     if text.is_empty() {
@@ -75,7 +77,8 @@ fn first_word(text: &[u8]) -> Option<(&[u8], &[u8])>
 
 /// The value of a hexadecimal digit.
 fn read_hex_digit(digit: u8) -> Option<u8>
-    ensures { MatchOption result (is_ascii_hexdigit digit ≡ false) (λ value. (is_ascii_hexdigit digit ≡ true) × (value ≡ digit_value digit) × (value < 16)) }
+    ensures { MatchOption result (is_ascii_hexdigit digit ≡ false)
+        (λ value. (is_ascii_hexdigit digit ≡ true) × (value ≡ digit_value digit) × (value < 16)) }
 {
     match digit {
         b'0'..=b'9' => Some(digit - b'0'),
@@ -104,7 +107,7 @@ fn read_hex_byte(word: &[u8]) -> Option<u8>
 fn is_peripheral(byte: u16) -> bool
     ensures { result ≡ is_peripheral byte }
 {
-    byte < 128 || (byte >= 256 && byte < 768)
+    Area::P.has_byte(byte)
 }
 
 /// The entries of the words behind `step`: one step, or as many as the number says.

@@ -4,15 +4,16 @@ ghost use Rattle.var_access.specs.Entry.{IsValid};
 ghost use Rattle.controller.specs.Program.{is_thin};
 ghost use Rattle.controller.specs.ThinCode.{thin_code};
 ghost use Rattle.sem_kept.specs.Tree.{tree_code};
-ghost use Rattle.s7_cli.specs.Ends.{sink_at};
+ghost use Rattle.s7_cli.specs.Ends.{taking};
 ghost use Rattle.s7_cli.specs.Inner.{TextWritten};
 ghost use Rattle.s7_cli.specs.LineText.{output_text};
-ghost use Rattle.s7_cli.specs.RunText.{changed_mode_text, entry_text, lines_after, run_text};
+ghost use Rattle.s7_cli.specs.LinesAfter.{lines_after};
+ghost use Rattle.s7_cli.specs.RunText.{changed_mode_text, run_text, shown_text};
 
-use crate::endings::Ending;
+use crate::failures::Failure;
 use crate::finish::write_text;
 use crate::texts::{end_line, mode_line, output_line};
-use controller::{Controller, Observed, Thin};
+use controller::{Controller, Observed, Thin, law_of_replay};
 use plc_base::Mode;
 use plc_io::Sink;
 use sem_kept::laws;
@@ -20,8 +21,9 @@ use std::alloc::Global;
 use var_access::Entry;
 
 /// Writes the lines of the output bytes that entry `n` changed.
-fn write_outputs<K: Sink>(out: &mut K, n: u64, outputs: &[(u16, u8)]) -> Result<(), Ending>
-    ensures { TextWritten (flat_map (output_text n) outputs.now) (record { before = sink_at K.taken K.faults out.old; after = sink_at K.taken K.faults out.new }) result }
+fn write_outputs<K: Sink>(out: &mut K, n: u64, outputs: &[(u16, u8)]) -> Result<(), Failure>
+    ensures { TextWritten (flat_map (output_text n) outputs.now)
+        (taking (K.shown out.old) (K.shown out.new)) result }
 {
     for output in outputs {
         write_text(out, output_line(n, *output).as_slice())?;
@@ -30,8 +32,9 @@ fn write_outputs<K: Sink>(out: &mut K, n: u64, outputs: &[(u16, u8)]) -> Result<
 }
 
 /// Writes the line of the mode that entry `n` began, if it began one.
-fn write_mode<K: Sink>(out: &mut K, n: u64, mode: Option<Mode>) -> Result<(), Ending>
-    ensures { TextWritten (changed_mode_text n mode) (record { before = sink_at K.taken K.faults out.old; after = sink_at K.taken K.faults out.new }) result }
+fn write_mode<K: Sink>(out: &mut K, n: u64, mode: Option<Mode>) -> Result<(), Failure>
+    ensures { TextWritten (changed_mode_text n mode)
+        (taking (K.shown out.old) (K.shown out.new)) result }
 {
     match mode {
         Some(mode) => write_text(out, mode_line(n, mode).as_slice()),
@@ -40,9 +43,10 @@ fn write_mode<K: Sink>(out: &mut K, n: u64, mode: Option<Mode>) -> Result<(), En
 }
 
 /// Writes what entry `n` showed.
-#[tactic(auto, unfolding(crate::specs::RunText::entry_text))]
-fn write_entry<K: Sink>(out: &mut K, n: u64, seen: &Observed) -> Result<(), Ending>
-    ensures { TextWritten (entry_text n seen.now) (record { before = sink_at K.taken K.faults out.old; after = sink_at K.taken K.faults out.new }) result }
+#[tactic(auto, unfolding(crate::specs::RunText::shown_text))]
+fn write_entry<K: Sink>(out: &mut K, n: u64, seen: &Observed) -> Result<(), Failure>
+    ensures { TextWritten (shown_text n seen.now)
+        (taking (K.shown out.old) (K.shown out.new)) result }
 {
     write_outputs(out, n, seen.outputs.as_slice())?;
     write_mode(out, n, seen.mode)
@@ -53,11 +57,16 @@ fn write_entries<K: Sink>(
     controller: &mut Controller,
     entries: &[Entry],
     out: &mut K,
-) -> Result<(), Ending>
+) -> Result<(), Failure>
     requires room { length entries.now ≤ controller.old.spare }
     requires valid { All IsValid entries.now }
-    ensures ok { OnOk result (controller.new ≡ record controller.old { history = controller.old.history ++ entries.now; spare = controller.old.spare - length entries.now }) }
-    ensures text { TextWritten (lines_after (thin_code controller.old.program) controller.old.history entries.now) (record { before = sink_at K.taken K.faults out.old; after = sink_at K.taken K.faults out.new }) result }
+    ensures ok { OnOk result (controller.new ≡ record controller.old {
+      history = controller.old.history ++ entries.now;
+      spare = controller.old.spare - length entries.now;
+    }) }
+    ensures text { TextWritten
+        (lines_after (thin_code controller.old.program) controller.old.history entries.now)
+        (taking (K.shown out.old) (K.shown out.new)) result }
 {
     for entry in entries {
         controller.apply(*entry);
@@ -73,12 +82,15 @@ pub fn run<K: Sink>(
     program: Thin,
     entries: &[Entry],
     out: &mut K,
-) -> Result<(), Ending>
+) -> Result<(), Failure>
     requires thin { IsTrue (is_thin program) }
     requires valid { All IsValid entries.now }
-    ensures { TextWritten (run_text (tree_code program) entries.now) (record { before = sink_at K.taken K.faults out.old; after = sink_at K.taken K.faults out.new }) result }
+    ensures { TextWritten (run_text (tree_code program) entries.now)
+        (taking (K.shown out.old) (K.shown out.new)) result }
 {
+    // the controller's program shows what the source's statements do, entry by entry
     laws::runs_as_source(&program);
+    law_of_replay();
     let mut controller = Controller::new(alloc, program)?;
     controller.reserve(entries.len() as u64)?;
     write_entries(&mut controller, entries, out)?;

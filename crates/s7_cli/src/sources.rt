@@ -1,13 +1,14 @@
-ghost use Rattle.std.specs.Prelude.{◌≤◌, length, IfOk, IfErr, IsTrue};
+ghost use Rattle.std.specs.Prelude.{◌≤◌, length, IfOk, IfErr, IsTrue, None};
 ghost use Rattle.controller.specs.Program.{is_thin};
-ghost use Rattle.sem_kept.specs.ThinSource.{IsThin};
-ghost use Rattle.s7_cli.specs.Inner.{RefusesSource};
+ghost use Rattle.sem_kept.specs.Tree.{tree_code};
+ghost use Rattle.s7_cli.specs.Faults.{RefusesSource};
+ghost use Rattle.sem_kept.specs.Meaning.{MeansCode};
 
 use crate::building::built;
 use controller::Thin;
 use plc_base::SourceFault;
 use std::alloc::Global;
-use stl_lexer::{SOURCE_LIMIT, lex};
+use stl_lexer::lex;
 use stl_parser::parse;
 
 /// Reads a source into its program.
@@ -17,8 +18,8 @@ use stl_parser::parse;
 /// The first violation of the rules of tokens, else the first of the rules of clauses, else the line
 /// of the first clause that isn't built, with rule 99; or want of memory.
 pub fn read_source(alloc: Global, source: &[u8]) -> Result<Thin, SourceFault>
-    requires { length source.now ≤ SOURCE_LIMIT }
-    ensures ok { IfOk result (IsThin source.now) }
+    requires { length source.now ≤ 1048576 }
+    ensures ok { IfOk result (λ program. MeansCode source.now None (tree_code program)) }
     ensures thin { IfOk result (λ program. IsTrue (is_thin program)) }
     ensures refused { IfErr result (RefusesSource source.now) }
 {

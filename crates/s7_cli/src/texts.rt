@@ -1,8 +1,15 @@
-ghost use Rattle.std.specs.Prelude.{◌≡◌, ◌<◌, ◌≤◌, ◌++◌, length, codes};
+ghost use Rattle.std.specs.Prelude.{◌≡◌, ◌<◌, ◌≤◌, length};
 ghost use Rattle.s7_cli.specs.LineText.{output_text, mode_text, end_text, spot_text, kind_text, hex_text, hex_digit};
-ghost use Rattle.s7_cli.specs.Lines.{line_of, refusal_text, file_text};
+ghost use Rattle.s7_cli.specs.Lines.{
+  file_text,
+  line_of,
+  read_fault_text,
+  refusal_text,
+  too_long_text,
+  words_refused_text,
+};
 
-use crate::answers::{Answer, File};
+use crate::failures::{Failure, File};
 use crate::lines::Line;
 use plc_base::{BlockKind, Mode, Refusal, Spot};
 
@@ -148,8 +155,9 @@ fn refusal_line(file: File, refusal: Refusal) -> Line
 }
 
 /// The line of a file that holds a byte past its limit.
+#[tactic(auto, unfolding(crate::specs::Lines::too_long_text))]
 fn too_long_line(file: File) -> Line
-    ensures { result ≡ codes "too long: " ++ file_text file ++ codes "\n" }
+    ensures { result ≡ too_long_text file }
 {
     let mut line = Line::new();
     line.add(b"too long: ");
@@ -168,17 +176,16 @@ fn fixed_line(text: &[u8]) -> Line
     line
 }
 
-/// The line that an answer writes; nothing where the result was written.
-#[tactic(auto, unfolding(crate::specs::Lines::line_of))]
-pub fn answer_line(answer: Answer) -> Line
-    ensures { result ≡ line_of answer }
+/// The line of a failure; none where a write failed or memory is wanting.
+#[tactic(auto, unfolding(crate::specs::Lines::words_refused_text, crate::specs::Lines::read_fault_text))]
+pub fn failure_line(failure: Failure) -> Option<Line>
+    ensures { result ≡ line_of failure }
 {
-    match answer {
-        Answer::WordsRefused => fixed_line(b"words refused\n"),
-        Answer::ReadFault => fixed_line(b"read fault\n"),
-        Answer::TooLong { file } => too_long_line(file),
-        Answer::SourceRefused { refusal } => refusal_line(File::Source, refusal),
-        Answer::HistoryRefused { refusal } => refusal_line(File::History, refusal),
-        Answer::Done => Line::new(),
+    match failure {
+        Failure::WordsRefused => Some(fixed_line(b"words refused\n")),
+        Failure::ReadFault => Some(fixed_line(b"read fault\n")),
+        Failure::TooLong { file } => Some(too_long_line(file)),
+        Failure::Refused { file, refusal } => Some(refusal_line(file, refusal)),
+        Failure::WriteFault | Failure::NoMemory => None,
     }
 }

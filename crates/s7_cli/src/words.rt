@@ -43,7 +43,8 @@ fn command_line<'a>(alloc: Global) -> Result<Command<'a>, AllocError>
 /// What is found in the words.
 fn find_matches<'a>(alloc: Global, words: &'a [String]) -> Result<ArgMatches<'a>, Error>
     ensures fails { FailsBy (fault_of the_line (map string_bytes words.now)) result }
-    ensures finds { IfOk result (λ found. rows_of (found_of found) ≡ matches_of the_line (map string_bytes words.now)) }
+    ensures finds { IfOk result
+        (λ found. rows_of (found_of found) ≡ matches_of the_line (map string_bytes words.now)) }
 {
     let line = command_line(alloc)?;
     line.try_get_matches_from(words)
@@ -56,7 +57,9 @@ fn asked_for<'a>(
     symbols: Option<&str>,
     steps: Option<&str>,
 ) -> Option<Asked<'a>>
-    ensures { option_map command_value result ≡ asked_for command.now (map (λ file. file.now) files.now) (option_map (λ s. s.now) symbols.entry) (option_map (λ s. s.now) steps.entry) }
+    ensures { option_map command_value result ≡
+        asked_for command.now (map (λ file. file.now) files.now)
+        (option_map (λ s. s.now) symbols.entry) (option_map (λ s. s.now) steps.entry) }
 {
     match (files, symbols, steps) {
         ([source, history], None, None) if command == "go" => Some(Asked::Go { source, history }),
@@ -92,7 +95,8 @@ fn refusal<'a>(error: &Error) -> Result<Option<Asked<'a>>, AllocError>
 /// Reads the words, without the program's name: `go SRC HIST` or `check SRC`. Any others are
 /// refused. Fails where memory is wanting.
 pub fn read_words(alloc: Global, words: &[String]) -> Result<Option<Asked<'_>>, AllocError>
-    ensures { IfOk result (λ asked. option_map command_value asked ≡ command_of (map string_bytes words.now)) }
+    ensures { IfOk result
+        (λ asked. option_map command_value asked ≡ command_of (map string_bytes words.now)) }
 {
     match find_matches(alloc, words) {
         Ok(matches) => Ok(asked_by(&matches)),

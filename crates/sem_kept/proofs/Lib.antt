@@ -1,3 +1,4 @@
+mod StageLemmas
 mod SourceLemmas
 mod Simulation
 mod Numbered

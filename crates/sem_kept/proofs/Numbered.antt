@@ -65,5 +65,6 @@ thin-follows program = record {
   fetch = λ block n.
       fetches n (ob_of program block)
       ∙ sym (same_fetched block (option_and_then (λ (ob : ThinOb). slice_get (numbered 0 ob.statements ob.end_line) n) (ob_of program block)));
-  is_loaded = λ block. refl;
+  head = λ block. refl;
+  blocks = refl;
 }

@@ -4,7 +4,7 @@ use Rattle.plc_base.specs.declared.BlockId.{BlockId}
 use Rattle.controller.specs.Code.{Code, Fetched}
 use Rattle.controller.specs.Frames.{Frame, Activation}
 use Rattle.controller.specs.State.{State}
-use Rattle.controller.specs.Event.{Happened}
+use Rattle.controller.specs.Replay.{Happened}
 
 -- where a position of a block goes
 abbrev pub Move : Type 0
@@ -25,8 +25,10 @@ move_state move s = record s { activations = map (move_activation move) s.activa
 abbrev pub move_happened : Move → Happened → Happened
 move_happened move h = record h { state = move_state move h.state }
 
--- the second program has at each moved position the statement that the first one has, with its next position moved
+-- the second program has at each moved position the statement that the first one has, with its next position moved; its blocks have
+-- the same heads, and its data blocks the same first bytes
 pub record Follows (move : Move) (source target : Code) : Type 0 where
   pub begins : (block : BlockId) → move block 0 ≡ 0
   pub fetch : (block : BlockId) (n : ℕ) → target.fetch block (move block n) ≡ option_map (move_fetched move block) (source.fetch block n)
-  pub is_loaded : (block : BlockId) → target.is_loaded block ≡ source.is_loaded block
+  pub head : (block : BlockId) → target.head block ≡ source.head block
+  pub blocks : target.blocks ≡ source.blocks

@@ -1,14 +1,15 @@
 //! Laws of the two meanings. Each call does nothing: its contract is the law.
 
-ghost use Rattle.std.specs.Prelude.{◌≡◌, List, [], All};
+ghost use Rattle.std.specs.Prelude.{◌≡◌, [], None, All};
+ghost use Rattle.controller.specs.Code.{Code};
 ghost use Rattle.controller.specs.ThinCode.{thin_code};
-ghost use Rattle.controller.specs.declared.ThinOb.{ThinOb};
 ghost use Rattle.var_access.specs.Entry.{IsValid};
-ghost use Rattle.sem_kept.specs.ThinSource.{
-  IsThin,
-  IsProgramUnique,
+ghost use Rattle.sem_kept.specs.Meaning.{
+  MeansCode,
+  IsMeaningUnique,
   ExcludesRefusal,
   IsRefusalUnique,
+  IsTotal,
 };
 ghost use Rattle.sem_kept.specs.Tree.{tree_code};
 ghost use Rattle.sem_kept.specs.Agreement.{Agree};
@@ -17,12 +18,13 @@ ghost use Rattle.sem_kept.specs.Resumption.{IsSuspended, Resumes};
 use controller::Thin;
 use var_access::Entry;
 
-/// A source is judged in one way: it has at most one program, none where it is refused, and at most
-/// one refusal.
+/// A source is judged in one way: it means at most one program, none where it is refused, there is
+/// at most one refusal, and each source without a file of symbols means a program or is refused.
 pub fn law_of_sources()
-    ensures one_program { IsProgramUnique }
-    ensures program_or_refusal { ExcludesRefusal }
+    ensures one_meaning { IsMeaningUnique }
+    ensures meaning_or_refusal { ExcludesRefusal }
     ensures one_refusal { IsRefusalUnique }
+    ensures total { IsTotal }
 {
     stl_lexer::law_of_tokens();
     stl_parser::law_of_clauses();
@@ -48,11 +50,12 @@ pub fn resumes_source(
 )
     requires no_symbols { symbols.now ≡ [] }
     requires valid { All IsValid entries.now }
-    requires suspended { (program : List ThinOb) × IsThin source.now program × IsSuspended (tree_code program) entries.now place from to }
-    ensures { (program : List ThinOb) → IsThin source.now program → Resumes (tree_code program) entries.now place from to }
+    requires suspended { (code : Code) × MeansCode source.now None code × IsSuspended code entries.now place from to }
+    ensures { (code : Code) → MeansCode source.now None code → Resumes code entries.now place from to }
 {
-    // the source has one program
+    // the source means one program
     law_of_sources();
+    controller::law_of_replay();
 }
 
 /// The law of resumption over the controller's own program.
@@ -60,4 +63,6 @@ pub fn resumes_program(program: &Thin, entries: &[Entry], place: u8, from: u64, 
     requires valid { All IsValid entries.now }
     requires suspended { IsSuspended (thin_code program.now) entries.now place from to }
     ensures { Resumes (thin_code program.now) entries.now place from to }
-{}
+{
+    controller::law_of_replay();
+}

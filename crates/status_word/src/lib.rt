@@ -12,6 +12,3 @@ pub use checks::Check;
 pub use nesting::{Bracket, Brackets, NESTING_DEPTH};
 pub use registers::Regs;
 pub use statuses::Status;
-
-#[cfg(test)]
-mod tests;

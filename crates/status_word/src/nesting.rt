@@ -76,7 +76,7 @@ impl Brackets {
     /// are open.
     #[tactic(auto, unfolding(crate::specs::Brackets::begun))]
     pub fn begin(&mut self, regs: &mut Regs, code: Check) -> bool
-        ensures full { IsFalse result ↔ (length self.old ≡ NESTING_DEPTH) }
+        ensures full { IsFalse result ↔ (length self.old ≡ 7) }
         ensures open { OnTrue result (self.new ≡ entry_of code regs.old ∷ self.old) }
         ensures inside { OnTrue result (regs.new ≡ begun regs.old) }
         ensures unchanged { OnFalse result (self.new ≡ self.old) }

@@ -1,1 +1,9 @@
 pub mod Outline
+pub mod Literals
+pub mod Operands
+pub mod Statements
+pub mod Declarations
+pub mod Blocks
+pub mod WellFormed
+pub mod Sizes
+pub mod Nested

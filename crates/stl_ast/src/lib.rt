@@ -2,6 +2,7 @@
 #![tactic(auto)]
 
 mod blocks;
+mod components;
 mod declarations;
 mod literals;
 mod mnemonics;
@@ -11,6 +12,7 @@ mod sequences;
 mod statements;
 
 pub use blocks::{Block, Part, PartKind, PathStep, Setting, Tree};
+pub use components::law_of_components;
 pub use declarations::{Bounds, Declaration, Declarations, ElementType, Init, Simple, TypeTree};
 pub use literals::{Characters, Literal};
 pub use mnemonics::Mnemonic;

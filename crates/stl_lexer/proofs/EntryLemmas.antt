@@ -1,16 +1,17 @@
 -- A table's entry at the front of a text.
-use Rattle.std.proofs.Common.{◌≡◌, ℕ, ◌+◌, ◌-◌, ◌<◌, ◌≤◌, true, false, ◌||◌, List, [], length, take, drop, get_or, Option, sym, ◌∙◌, ap, subst, arith}
-use Rattle.std.specs.Prelude.{nat_lt}
-use Rattle.std.specs.List.{list_all}
+use Rattle.std.proofs.Common.{◌≡◌, ℕ, ◌+◌, ◌-◌, ◌<◌, ◌≤◌, true, false, ◌||◌, List, [], ◌∷◌, length, take, drop, get_or, Option, None, Some, inl, inr, refl, sym, ◌∙◌, ap, subst, arith}
+use Rattle.std.specs.Prelude.{◌==◌, nat_lt}
+use Rattle.std.specs.List.{filter, list_all, list_any}
 use Rattle.std.specs.Str.{str_eq_ignore_ascii_case, str_to_ascii_lowercase}
 use Rattle.std.specs.Char.{to_ascii_lowercase}
 use Rattle.std.proofs.lemmas.Slice.Eq.{bytes_eq-Decides}
-use Rattle.std.proofs.lemmas.Bool.{and_parts, and_from, ltb-true, false≢true, false_from_ne_true}
+use Rattle.std.proofs.lemmas.Bool.{and_parts, and_from, cases_Bool, eq-eqb, ltb-true, or_cases, or_left, or_right, false≢true, false_from_ne_true}
 use Rattle.std.proofs.lemmas.List.{length-map, length-take, length-drop, take-take, drop-take, drop-drop, take_all}
 use Rattle.std.proofs.lemmas.List.Folds.{list_any_more}
 use Rattle.std.proofs.lemmas.List.Sums.{AllPass-from_list_all}
 use Rattle.stl_lexer.specs.declared.tables.Tail.{Tail}
-use Rattle.stl_lexer.specs.Forms.{begins_with, is_tail, is_entry, is_listed}
+use Rattle.stl_lexer.specs.Forms.{begins_with, entries_from, first_letter, is_tail, is_entry, is_listed, opens_entry, sign_words}
+use Rattle.stl_lexer.specs.Marks.{mark_text, marks}
 use Rattle.stl_lexer.specs.Longest.{IsFormAt, IsLongestOf, HasNone, FindsLongest, IsTailAt, IsLongestTail, longer_of}
 use Rattle.stl_lexer.proofs.LongestLemmas.{same_form, either_longest}
 
@@ -23,6 +24,17 @@ same_length a b e =
 pub entry_within : (entry text : List ℕ) → begins_with entry text ≡ true → length entry ≤ length text
 unfolding begins_with
 entry_within entry text e = omega (arith, same_length entry (take (length entry) text) e, length-take (length entry) text)
+
+begun : (entry text : List ℕ) → 0 < length entry → begins_with entry text ≡ true → first_letter entry ≡ first_letter text
+unfolding begins_with first_letter
+begun [] text some e = absurd (omega arith)
+begun (c ∷ entry) [] some e = absurd (omega (arith, same_length (c ∷ entry) [] e))
+begun (c ∷ entry) (b ∷ text) some e =
+    ap (λ s. get_or s 0 0) ((bytes_eq-Decides (str_to_ascii_lowercase (c ∷ entry)) (str_to_ascii_lowercase (b ∷ take (length entry) text))).0 e)
+
+-- a text begins with no entry of another letter
+pub not_begun : (entry text : List ℕ) → 0 < length entry → (first_letter entry ≡ first_letter text → ⊥) → begins_with entry text ≡ false
+not_begun entry text some h = false_from_ne_true (begins_with entry text) (λ e. h (begun entry text some e))
 
 pub too_short : (entry text : List ℕ) → length text < length entry → begins_with entry text ≡ false
 too_short entry text h = false_from_ne_true (begins_with entry text) (λ e. absurd (omega (arith, entry_within entry text e)))
@@ -87,6 +99,63 @@ listed_more tail table i text found next h f g =
 -- the whole table
 pub listed_all : (tail : Tail) (table : List (List ℕ)) (i : ℕ) (text : List ℕ) (found : Option ℕ) → length table ≤ i → FindsLongest (is_listed tail (take i table)) text found → FindsLongest (is_listed tail table) text found
 listed_all tail table i text found h f = subst (λ t. FindsLongest (is_listed tail t) text found) (take_all i table h) f
+
+-- an entry that a text begins with is opened by the text's first letter
+opened_by : (tail : Tail) (table : List (List ℕ)) (text : List ℕ) (n : ℕ) → list_all (λ entry. nat_lt 0 (length entry)) table ≡ true → list_any (λ entry. is_entry tail entry (take n text) (drop n text)) table ≡ true → 0 < n → n ≤ length text → opens_entry table (first_letter text) ≡ true
+unfolding opens_entry
+opened_by tail [] text n some e pos within = e
+opened_by tail (entry ∷ table) text n some e pos within =
+    let parts = and_parts (nat_lt 0 (length entry)) (list_all (λ entry. nat_lt 0 (length entry)) table) some in
+    elim (or_cases (is_entry tail entry (take n text) (drop n text)) (list_any (λ entry. is_entry tail entry (take n text) (drop n text)) table) e) [
+      | inl here ↦
+          let there = entry_at tail entry text n (record { some = pos; within = within; fits = here }) in
+          or_left (first_letter entry == first_letter text) (list_any (λ entry. first_letter entry == first_letter text) table) (eq-eqb (first_letter entry) (first_letter text) (begun entry text (ltb-true 0 (length entry) parts.0) there.1))
+      | inr later ↦ or_right (first_letter entry == first_letter text) (list_any (λ entry. first_letter entry == first_letter text) table) (opened_by tail table text n parts.1 later pos within)
+    ]
+
+-- a table lists nothing where no entry begins with the text's first letter
+pub not_opened : (tail : Tail) (table : List (List ℕ)) (text : List ℕ) → list_all (λ entry. nat_lt 0 (length entry)) table ≡ true → opens_entry table (first_letter text) ≡ false → HasNone (is_listed tail table) text
+unfolding is_listed
+not_opened tail table text some e n at = false≢true (sym e ∙ opened_by tail table text n some at.fits at.some at.within)
+
+-- an entry of a table at the front of a text is one of those that begin with the text's first letter
+only_from : (tail : Tail) (table : List (List ℕ)) (text : List ℕ) (n : ℕ) → list_all (λ entry. nat_lt 0 (length entry)) table ≡ true → 0 < n → n ≤ length text → list_any (λ entry. is_entry tail entry (take n text) (drop n text)) (entries_from (first_letter text) table) ≡ list_any (λ entry. is_entry tail entry (take n text) (drop n text)) table
+unfolding entries_from
+only_from tail [] text n some pos within = refl
+only_from tail (entry ∷ table) text n some pos within =
+    let parts = and_parts (nat_lt 0 (length entry)) (list_all (λ entry. nat_lt 0 (length entry)) table) some in
+    let rest = only_from tail table text n parts.1 pos within in
+    elim (cases_Bool (first_letter entry == first_letter text)) as (λ _. list_any (λ entry. is_entry tail entry (take n text) (drop n text)) (filter (λ entry. first_letter entry == first_letter text) (entry ∷ table)) ≡ list_any (λ entry. is_entry tail entry (take n text) (drop n text)) (entry ∷ table)) [
+      | inl same ↦ rw same (ap (λ b. is_entry tail entry (take n text) (drop n text) || b) rest)
+      | inr other ↦
+          let no : is_entry tail entry (take n text) (drop n text) ≡ false = false_from_ne_true (is_entry tail entry (take n text) (drop n text)) (λ here.
+          false≢true (sym other ∙ eq-eqb (first_letter entry) (first_letter text) (begun entry text (ltb-true 0 (length entry) parts.0) (entry_at tail entry text n (record { some = pos; within = within; fits = here })).1))) in
+          rw (other, no) rest
+    ]
+
+from_table : (tail : Tail) (table : List (List ℕ)) (text : List ℕ) (n : ℕ) → list_all (λ entry. nat_lt 0 (length entry)) table ≡ true → IsFormAt (is_listed tail (entries_from (first_letter text) table)) text n → IsFormAt (is_listed tail table) text n
+unfolding is_listed
+from_table tail table text n some at = record { some = at.some; within = at.within; fits = sym (only_from tail table text n some at.some at.within) ∙ at.fits }
+
+of_table : (tail : Tail) (table : List (List ℕ)) (text : List ℕ) (n : ℕ) → list_all (λ entry. nat_lt 0 (length entry)) table ≡ true → IsFormAt (is_listed tail table) text n → IsFormAt (is_listed tail (entries_from (first_letter text) table)) text n
+unfolding is_listed
+of_table tail table text n some at = record { some = at.some; within = at.within; fits = only_from tail table text n some at.some at.within ∙ at.fits }
+
+from_found : (tail : Tail) (table : List (List ℕ)) (text : List ℕ) (found : Option ℕ) → list_all (λ entry. nat_lt 0 (length entry)) table ≡ true → FindsLongest (is_listed tail (entries_from (first_letter text) table)) text found → FindsLongest (is_listed tail table) text found
+from_found tail table text None some h = λ n at. h n (of_table tail table text n some at)
+from_found tail table text (Some n) some h = record { fits = from_table tail table text n some h.fits; longest = λ m at. h.longest m (of_table tail table text m some at) }
+
+-- the longest of the entries that begin with the text's first letter is the longest of all
+pub found_from : (tail : Tail) (table entries : List (List ℕ)) (text : List ℕ) (found : Option ℕ) → list_all (λ entry. nat_lt 0 (length entry)) table ≡ true → entries ≡ entries_from (first_letter text) table → FindsLongest (is_listed tail entries) text found → FindsLongest (is_listed tail table) text found
+found_from tail table entries text found some e h = from_found tail table text found some (subst (λ l. FindsLongest (is_listed tail l) text found) e h)
+
+pub marks_some : list_all (λ entry. nat_lt 0 (length entry)) marks ≡ true
+unfolding marks mark_text
+marks_some = refl
+
+pub words_some : list_all (λ entry. nat_lt 0 (length entry)) sign_words ≡ true
+unfolding sign_words
+words_some = refl
 
 -- no entry is empty
 pub entry_some : (table : List (List ℕ)) (i : ℕ) → list_all (λ entry. nat_lt 0 (length entry)) table ≡ true → i < length table → 0 < length (get_or table i [])

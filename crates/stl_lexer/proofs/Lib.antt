@@ -1,4 +1,5 @@
 pub mod EntryLemmas
+pub mod GapLemmas
 pub mod LineLemmas
 pub mod LongestLemmas
 pub mod QuoteLemmas
@@ -8,3 +9,4 @@ pub mod RunLemmas
 pub mod TailLemmas
 pub mod TokenLemmas
 pub mod TimeLemmas
+pub mod TotalLemmas

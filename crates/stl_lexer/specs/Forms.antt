@@ -1,13 +1,14 @@
 -- The forms of the tokens.
 use Rattle.std.specs.Prelude.{ℕ, Bool, true, false, ◌&&◌, ◌||◌, not, ◌==◌, nat_lt, if◌then◌else◌, List, [], ◌∷◌, ◌++◌, length, take, drop, codes}
-use Rattle.std.specs.List.{list_all, list_any}
-use Rattle.std.specs.Char.{is_ascii_digit}
+use Rattle.std.specs.List.{filter, list_all, list_any}
+use Rattle.std.specs.Char.{is_ascii_digit, to_ascii_lowercase}
 use Rattle.std.specs.Str.{str_eq_ignore_ascii_case}
 use Rattle.stl_lexer.specs.declared.kinds.TokenKind.{TokenKind}
 use Rattle.stl_lexer.specs.declared.kinds.TokenKind.TheVariants.{Word, Number, Quoted, Local, Characters, Based, NumberLiteral, TimeLiteral, Mark, SignWord, Attribute, Title}
 use Rattle.stl_lexer.specs.declared.tables.Tail.{Tail}
 use Rattle.stl_lexer.specs.declared.tables.Tail.TheVariants.{Nothing, Apart, Run, SignedRun, Line}
 use Rattle.stl_lexer.specs.Bytes.{hash, double_quote, single_quote, open_brace, close_brace, newline, is_line_byte, is_sign, is_word_start, is_word_byte}
+use Rattle.stl_lexer.specs.Marks.{marks}
 
 -- a byte that passes the one test, then bytes that pass the other
 abbrev pub is_run : (ℕ → Bool) → (ℕ → Bool) → List ℕ → Bool
@@ -69,6 +70,19 @@ is_tail Line s after = list_all is_line_byte s && not (goes_on (s ++ after))
 unfoldable pub begins_with : List ℕ → List ℕ → Bool
 begins_with entry s = str_eq_ignore_ascii_case entry (take (length entry) s)
 
+-- the first byte of a text, in lower case
+unfoldable pub first_letter : List ℕ → ℕ
+first_letter [] = 0
+first_letter (b ∷ s) = to_ascii_lowercase b
+
+-- the entries of a table that begin with this letter
+unfoldable pub entries_from : ℕ → List (List ℕ) → List (List ℕ)
+entries_from letter table = filter (λ entry. first_letter entry == letter) table
+
+-- an entry of a table begins with this letter
+unfoldable pub opens_entry : List (List ℕ) → ℕ → Bool
+opens_entry table letter = list_any (λ entry. first_letter entry == letter) table
+
 -- an entry with its tail
 unfoldable pub is_entry : Tail → List ℕ → List ℕ → List ℕ → Bool
 is_entry tail entry s after = begins_with entry s && is_tail tail (drop (length entry) s) after
@@ -80,12 +94,6 @@ is_some_text text = nat_lt 0 (length text)
 -- one of the entries of a table, with its tail
 unfoldable pub is_listed : Tail → List (List ℕ) → List ℕ → List ℕ → Bool
 is_listed tail table s after = list_any (λ entry. is_entry tail entry s after) table
-
--- the marks
-unfoldable pub marks : List (List ℕ)
-marks =
-    codes ":=" ∷ codes ":" ∷ codes ";" ∷ codes "," ∷ codes "." ∷ codes ".." ∷ codes "(" ∷ codes ")" ∷ codes "[" ∷ codes "]"
-    ∷ codes "=" ∷ codes "+" ∷ codes "-" ∷ codes "P#" ∷ codes "B#(" ∷ []
 
 -- the sign words: arithmetic, comparison, address registers, and conditions of the status word
 unfoldable pub sign_words : List (List ℕ)

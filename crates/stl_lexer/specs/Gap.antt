@@ -1,19 +1,28 @@
 -- What stands between tokens.
-use Rattle.std.specs.Prelude.{◌≡◌, ◌<◌, ℕ, ◌+◌, Bool, true, false, ◌==◌, if◌then◌else◌, List, [], ◌∷◌, length, take, drop, Option, MatchOption, sum_by}
+use Rattle.std.specs.Prelude.{◌≡◌, ◌<◌, ℕ, ◌+◌, Bool, ◌&&◌, not, ◌==◌, if◌then◌else◌, List, [], ◌∷◌, length, take, drop, Option, MatchOption, sum_by}
+use Rattle.stl_lexer.specs.declared.gaps.GapPart.{GapPart}
+use Rattle.stl_lexer.specs.declared.gaps.GapPart.TheVariants.{Blanks, Comment}
 use Rattle.stl_lexer.specs.Bytes.{newline, is_separator, in_source, opens_comment}
 
--- what is left of a text behind separators and comments; `inside` says that a comment is open
-abbrev pub after_gap : Bool → List ℕ → List ℕ
-after_gap inside [] = []
-after_gap true (b ∷ s) =
-    if b == newline then after_gap false s else (if in_source b then after_gap true s else b ∷ s)
-after_gap false (b ∷ s) =
-    if is_separator b then after_gap false s else (if opens_comment (b ∷ s) then after_gap true s else b ∷ s)
+-- what is left of a text behind separators and comments, where this part of a gap is open
+abbrev pub after_gap : GapPart → List ℕ → List ℕ
+after_gap part [] = []
+after_gap Comment (b ∷ s) =
+    if b == newline then after_gap Blanks s else (if in_source b then after_gap Comment s else b ∷ s)
+after_gap Blanks (b ∷ s) =
+    if is_separator b then after_gap Blanks s else (if opens_comment (b ∷ s) then after_gap Comment s else b ∷ s)
 
--- the first byte belongs to the gap, and then `goes_on` says whether a comment is open behind it
-abbrev pub GoesOn : Bool → List ℕ → Option Bool → Type 0
-GoesOn inside text goes_on =
-    MatchOption goes_on (after_gap inside text ≡ text) (λ opened. (0 < length text) × (after_gap inside text ≡ after_gap opened (drop 1 text)))
+-- the first byte belongs to the gap, and behind it this part goes on
+abbrev pub GoesOn : GapPart → List ℕ → Option GapPart → Type 0
+GoesOn part text found =
+    MatchOption found (after_gap part text ≡ text) (λ next. (0 < length text) × (after_gap part text ≡ after_gap next (drop 1 text)))
+
+-- a byte that separates tokens, or may stand in a comment, and ends no line
+unfoldable pub is_blank : ℕ → Bool
+is_blank b = is_separator b && not (b == newline)
+
+unfoldable pub is_comment_byte : ℕ → Bool
+is_comment_byte b = in_source b && not (b == newline)
 
 -- 1 for the byte 10, else 0
 abbrev pub newlines_of : ℕ → ℕ

@@ -2,7 +2,9 @@ pub mod Bytes
 pub mod Decimal
 pub mod Forms
 pub mod Gap
+pub mod Limits
 pub mod Longest
+pub mod Marks
 pub mod Rules
 pub mod TimeLiteral
 pub mod Tokens

@@ -1,20 +1,16 @@
 -- Rules 1 to 4 of a source.
 use Rattle.std.specs.Prelude.{ℕ, ◌+◌, Bool, true, false, ◌&&◌, ◌||◌, not, ◌==◌, nat_lt, nat_le, if◌then◌else◌, List, [], ◌∷◌, length, position, count_by, Option, None, Some}
 use Rattle.std.specs.List.{list_all, slice_split, after_last}
-use Rattle.std.specs.Char.{is_digit, to_ascii_lowercase}
+use Rattle.std.specs.Char.{is_digit}
 use Rattle.stl_lexer.specs.declared.kinds.TokenKind.{TokenKind}
 use Rattle.stl_lexer.specs.declared.kinds.TokenKind.TheVariants.{Number, Characters, Based, NumberLiteral, TimeLiteral}
 use Rattle.stl_lexer.specs.declared.rules.Fault.{Fault}
-use Rattle.stl_lexer.specs.declared.rules.TheConstants.{NO_TOKEN, NO_END, WRONG_LITERAL, OUT_OF_RANGE, GREATEST_NUMBER, GREATEST_NEGATED, GREATEST_LONG, GREATEST_NEGATED_LONG, GREATEST_COUNT, GREATEST_S5TIME, MOST_CHARACTERS}
 use Rattle.stl_lexer.specs.Bytes.{double_quote, hash, single_quote, minus_sign, two_digit, underscore, letter_b, letter_c, letter_s, letter_w, open_brace, in_source}
 use Rattle.stl_lexer.specs.Decimal.{decimal_value}
+pub use Rattle.stl_lexer.specs.Forms.{first_letter}
 use Rattle.stl_lexer.specs.Forms.{is_number, behind_sign}
+use Rattle.stl_lexer.specs.Limits.{no_token, no_end, wrong_literal, out_of_range, greatest_number, greatest_long, greatest_count, greatest_s5time, most_characters}
 use Rattle.stl_lexer.specs.TimeLiteral.{milliseconds, units}
-
--- the first byte of a token, in lower case
-unfoldable pub first_letter : List ℕ → ℕ
-first_letter [] = 0
-first_letter (b ∷ s) = to_ascii_lowercase b
 
 -- what stands behind the prefix of a literal, which ends with `#`
 unfoldable pub behind_prefix : List ℕ → List ℕ
@@ -27,8 +23,8 @@ is_negative (b ∷ s) = b == minus_sign
 
 -- rule 4 is broken above the greatest value, and rule 3 where there is no value
 unfoldable pub value_rule : ℕ → Option ℕ → Option ℕ
-value_rule greatest None = Some WRONG_LITERAL
-value_rule greatest (Some n) = if nat_lt greatest n then Some OUT_OF_RANGE else None
+value_rule greatest None = Some wrong_literal
+value_rule greatest (Some n) = if nat_lt greatest n then Some out_of_range else None
 
 -- a value where it is at most the greatest
 unfoldable pub within : ℕ → Option ℕ → Option ℕ
@@ -64,33 +60,29 @@ most_digits s =
 unfoldable pub based_rule : List ℕ → Option ℕ
 based_rule s =
     if are_grouped (base_of s) (behind_prefix s)
-    then (if nat_lt (most_digits s) (digit_count (behind_prefix s)) then Some OUT_OF_RANGE else None)
-    else Some WRONG_LITERAL
-
--- the greatest value of 32 bits with a sign, without the sign
-unfoldable pub greatest_long : Bool → ℕ
-greatest_long negative = if negative then GREATEST_NEGATED_LONG else GREATEST_LONG
+    then (if nat_lt (most_digits s) (digit_count (behind_prefix s)) then Some out_of_range else None)
+    else Some wrong_literal
 
 -- `L#` with a sign or none, and `C#` without
 unfoldable pub number_rule : List ℕ → Option ℕ
 number_rule s =
-    if first_letter s == letter_c then value_rule GREATEST_COUNT (decimal (behind_prefix s))
+    if first_letter s == letter_c then value_rule greatest_count (decimal (behind_prefix s))
     else value_rule (greatest_long (is_negative (behind_prefix s))) (decimal (behind_sign (behind_prefix s)))
 
 -- `T#` and `TIME#` with `-` or none, `S5T#` and `S5TIME#` without
 unfoldable pub time_rule : List ℕ → Option ℕ
 time_rule s =
-    if first_letter s == letter_s then value_rule GREATEST_S5TIME (milliseconds units (behind_prefix s))
+    if first_letter s == letter_s then value_rule greatest_s5time (milliseconds units (behind_prefix s))
     else (if is_negative (behind_prefix s) then value_rule (greatest_long true) (milliseconds units (behind_sign (behind_prefix s)))
     else value_rule (greatest_long false) (milliseconds units (behind_prefix s)))
 
 -- one to four characters between the quotes
 unfoldable pub characters_rule : List ℕ → Option ℕ
-characters_rule s = if nat_lt 2 (length s) && nat_le (length s) (MOST_CHARACTERS + 2) then None else Some WRONG_LITERAL
+characters_rule s = if nat_lt 2 (length s) && nat_le (length s) (most_characters + 2) then None else Some wrong_literal
 
 -- a number of its own, where `minus` says that the mark `-` stands before it
 unfoldable pub decimal_rule : List ℕ → Bool → Option ℕ
-decimal_rule s minus = value_rule (if minus then GREATEST_NEGATED else GREATEST_NUMBER) (Some (decimal_value s))
+decimal_rule s minus = value_rule (greatest_number minus) (Some (decimal_value s))
 
 -- the rule that a token breaks by its digits, parts, length or range
 unfoldable pub rule_of : TokenKind → List ℕ → Bool → Option ℕ
@@ -104,7 +96,7 @@ rule_of _ s minus = None
 -- what is wrong first: the rule, at the token's first byte, else rule 1 at the first byte that no source holds
 abbrev pub earlier : Option ℕ → Option ℕ → Option Fault
 earlier (Some rule) foreign = Some (record { offset = 0; rule = rule })
-earlier None (Some offset) = Some (record { offset = offset; rule = NO_TOKEN })
+earlier None (Some offset) = Some (record { offset = offset; rule = no_token })
 earlier None None = None
 
 unfoldable pub fault_of : TokenKind → List ℕ → Bool → Option Fault
@@ -112,10 +104,10 @@ fault_of kind s minus = earlier (rule_of kind s minus) (position (λ b. not (in_
 
 -- rule 2 is broken by a quoted name, characters or an attribute without end, and else rule 1; `""` has an end
 abbrev pub opening_rule : ℕ → ℕ
-opening_rule b = if b == double_quote || b == single_quote || b == open_brace then NO_END else NO_TOKEN
+opening_rule b = if b == double_quote || b == single_quote || b == open_brace then no_end else no_token
 
 -- the rule that is broken where no token begins
 unfoldable pub rule_without_form : List ℕ → ℕ
-rule_without_form (b ∷ c ∷ s) = if b == double_quote && c == double_quote then NO_TOKEN else opening_rule b
+rule_without_form (b ∷ c ∷ s) = if b == double_quote && c == double_quote then no_token else opening_rule b
 rule_without_form (b ∷ []) = opening_rule b
-rule_without_form [] = NO_TOKEN
+rule_without_form [] = no_token

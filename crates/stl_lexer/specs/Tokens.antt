@@ -4,6 +4,7 @@ use Rattle.std.specs.Str.{bytes_eq}
 use Rattle.plc_base.specs.declared.refusals.Refusal.{Refusal}
 use Rattle.plc_base.specs.declared.refusals.SourceFault.{SourceFault}
 use Rattle.plc_base.specs.declared.refusals.SourceFault.TheVariants.{Refused, NoMemory}
+use Rattle.stl_lexer.specs.declared.gaps.GapPart.TheVariants.{Blanks}
 use Rattle.stl_lexer.specs.declared.kinds.TokenKind.{TokenKind}
 use Rattle.stl_lexer.specs.declared.kinds.TokenKind.TheVariants.{Mark}
 use Rattle.stl_lexer.specs.declared.kinds.Token.{Token}
@@ -25,7 +26,7 @@ is_minus _ s = false
 pub record IsBehindGap (source : List ℕ) (from at : ℕ) : Type 0 where
   pub forward : from ≤ at
   pub within : at < length source
-  pub gap : drop at source ≡ after_gap false (drop from source)
+  pub gap : drop at source ≡ after_gap Blanks (drop from source)
 
 -- t is the next token behind `from`, where `minus` says that the mark `-` stands before it: only separators and comments
 -- lie before it, it is the longest token at its place, it breaks no rule, and its line is that of its place
@@ -39,7 +40,7 @@ pub record IsNext (source : List ℕ) (from : ℕ) (minus : Bool) (t : Token) : 
 
 -- only separators and comments stand behind `from`
 abbrev pub IsEnd : List ℕ → ℕ → Type 0
-IsEnd source from = after_gap false (drop from source) ≡ []
+IsEnd source from = after_gap Blanks (drop from source) ≡ []
 
 -- no token begins at `at`
 pub record NoneBegins (source : List ℕ) (at line rule : ℕ) : Type 0 where
@@ -97,3 +98,10 @@ ExcludesViolation = (source : List ℕ) (ts : List Token) (line rule : ℕ) → 
 -- one line and one rule are the first violation
 abbrev pub IsViolationUnique : Type 0
 IsViolationUnique = (source : List ℕ) (line rule line' rule' : ℕ) → IsViolation source line rule → IsViolation source line' rule' → (line ≡ line') × (rule ≡ rule')
+
+-- each source has tokens, or a violation
+abbrev pub HasTokensOrViolation : List ℕ → Type 0
+HasTokensOrViolation source = ((ts : List Token) × AreTokens source ts) ⊎ ((line : ℕ) × (rule : ℕ) × IsViolation source line rule)
+
+abbrev pub IsTotal : Type 0
+IsTotal = (source : List ℕ) → HasTokensOrViolation source

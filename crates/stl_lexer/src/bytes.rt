@@ -2,6 +2,7 @@ ghost use Rattle.std.specs.Prelude.{◌≡◌, ◌≤◌, length, drop};
 ghost use Rattle.std.specs.List.{prefix_len};
 ghost use Rattle.std.specs.Char.{is_ascii_alphabetic, is_ascii_digit};
 ghost use Rattle.std.specs.Str.{str_eq_ignore_ascii_case};
+ghost use Rattle.stl_lexer.specs.Forms.{first_letter};
 ghost use Rattle.stl_lexer.specs.Bytes.{
   in_source,
   is_line_byte,
@@ -50,6 +51,17 @@ pub(crate) fn in_source(b: u8) -> bool
     ensures { result ≡ in_source b }
 {
     is_separator(b) || (b >= b' ' && b != 127)
+}
+
+/// The first byte of a text, in lower case, or 0 where there is none.
+#[tactic(auto, unfolding(crate::specs::Forms::first_letter))]
+pub fn first_letter(text: &[u8]) -> u8
+    ensures { result ≡ first_letter text.now }
+{
+    match text {
+        [first, ..] => first.to_ascii_lowercase(),
+        [] => 0,
+    }
 }
 
 /// Whether a comment begins here.

@@ -7,22 +7,29 @@ ghost use Rattle.stl_lexer.specs.Forms.{
   based_prefixes,
   begins_with,
   behind_sign,
+  count_prefixes,
+  first_letter,
   goes_on,
   is_entry,
   is_listed,
   is_number_literal,
   is_some_text,
   is_time_literal,
-  marks,
+  long_prefixes,
+  opens_entry,
+  s5time_prefixes,
   sign_words,
+  time_prefixes,
   title_words,
 };
+ghost use Rattle.stl_lexer.specs.Marks.{marks};
 ghost use Rattle.stl_lexer.specs.Longest.{FindsLongest, FindsTail, longer_of};
 
-use crate::bytes::{behind, is_sign, is_word_byte, line_run, word_run};
+use crate::bytes::{behind, first_letter, is_sign, is_word_byte, line_run, word_run};
+use crate::marks::marks_from;
 use crate::tables::{
-    BASED_PREFIXES, COUNT_PREFIXES, LONG_PREFIXES, MARKS, S5TIME_PREFIXES, SIGN_WORDS,
-    TIME_PREFIXES, TITLE_WORDS, Tail,
+    BASED_PREFIXES, COUNT_PREFIXES, LONG_PREFIXES, S5TIME_PREFIXES, TIME_PREFIXES, TITLE_WORDS,
+    Tail, sign_words_from,
 };
 
 /// Whether a letter, a digit or `_` stands here.
@@ -71,11 +78,15 @@ fn tail_length(tail: Tail, text: &[u8]) -> Option<usize>
 }
 
 /// Whether a text begins with an entry, without case of ASCII letters.
-#[tactic(auto, unfolding(crate::specs::Forms::begins_with), using(crate::proofs::EntryLemmas::entry_within, crate::proofs::EntryLemmas::too_short))]
-pub(crate) fn begins_with(entry: &[u8], text: &[u8]) -> bool
+#[tactic(auto, unfolding(crate::specs::Forms::begins_with), using(crate::proofs::EntryLemmas::entry_within, crate::proofs::EntryLemmas::too_short, crate::proofs::EntryLemmas::not_begun))]
+fn begins_with(entry: &[u8], text: &[u8]) -> bool
+    requires { 0 < length entry.now }
     ensures value { result ≡ begins_with entry.now text.now }
     ensures within { OnTrue result (length entry.now ≤ length text.now) }
 {
+    if first_letter(entry) != first_letter(text) {
+        return false;
+    }
     entry.len() <= text.len() && entry.eq_ignore_ascii_case(&text[..entry.len()])
 }
 
@@ -116,20 +127,80 @@ fn longest_entry(tail: Tail, table: &[&[u8]], text: &[u8]) -> Option<usize>
     longest
 }
 
+/// The same, where it is known whether an entry of the table begins with the text's first letter.
+fn longest_listed(tail: Tail, table: &[&[u8]], opened: bool, text: &[u8]) -> Option<usize>
+    requires some { IsTrue (list_all is_some_text (map (λ entry. entry.now) table.now)) }
+    requires opened { opened
+        ≡ opens_entry (map (λ entry. entry.now) table.now) (first_letter text.now) }
+    ensures { FindsLongest (is_listed tail (map (λ entry. entry.now) table.now)) text.now result }
+{
+    if opened {
+        longest_entry(tail, table, text)
+    } else {
+        None
+    }
+}
+
+/// Whether the prefix of a binary or hexadecimal literal begins with this letter.
+#[tactic(auto, unfolding(crate::specs::Forms::opens_entry, crate::specs::Forms::first_letter, crate::specs::Forms::based_prefixes))]
+fn opens_based(letter: u8) -> bool
+    ensures { result ≡ opens_entry based_prefixes letter }
+{
+    matches!(letter, b'2' | b'b' | b'w' | b'd')
+}
+
+/// Whether the prefix of a literal of 32 bits begins with this letter.
+#[tactic(auto, unfolding(crate::specs::Forms::opens_entry, crate::specs::Forms::first_letter, crate::specs::Forms::long_prefixes))]
+fn opens_long(letter: u8) -> bool
+    ensures { result ≡ opens_entry long_prefixes letter }
+{
+    letter == b'l'
+}
+
+/// Whether the prefix of a count value begins with this letter.
+#[tactic(auto, unfolding(crate::specs::Forms::opens_entry, crate::specs::Forms::first_letter, crate::specs::Forms::count_prefixes))]
+fn opens_count(letter: u8) -> bool
+    ensures { result ≡ opens_entry count_prefixes letter }
+{
+    letter == b'c'
+}
+
+/// Whether the prefix of a time of 32 bits begins with this letter.
+#[tactic(auto, unfolding(crate::specs::Forms::opens_entry, crate::specs::Forms::first_letter, crate::specs::Forms::time_prefixes))]
+fn opens_time(letter: u8) -> bool
+    ensures { result ≡ opens_entry time_prefixes letter }
+{
+    letter == b't'
+}
+
+/// Whether the prefix of a time in the format S5TIME begins with this letter.
+#[tactic(auto, unfolding(crate::specs::Forms::opens_entry, crate::specs::Forms::first_letter, crate::specs::Forms::s5time_prefixes))]
+fn opens_s5time(letter: u8) -> bool
+    ensures { result ≡ opens_entry s5time_prefixes letter }
+{
+    letter == b's'
+}
+
+/// Whether the word of a title begins with this letter.
+#[tactic(auto, unfolding(crate::specs::Forms::opens_entry, crate::specs::Forms::first_letter, crate::specs::Forms::title_words))]
+fn opens_title(letter: u8) -> bool
+    ensures { result ≡ opens_entry title_words letter }
+{
+    letter == b't'
+}
+
 /// The length of the longest mark at the front of the text.
-#[tactic(auto, unfolding(crate::specs::Forms::marks))]
 pub(crate) fn longest_mark(text: &[u8]) -> Option<usize>
     ensures { FindsLongest (is_listed Nothing marks) text.now result }
 {
-    longest_entry(Tail::Nothing, &MARKS, text)
+    longest_entry(Tail::Nothing, marks_from(first_letter(text)), text)
 }
 
 /// The length of the longest sign word at the front of the text.
-#[tactic(auto, unfolding(crate::specs::Forms::sign_words))]
 pub(crate) fn longest_sign_word(text: &[u8]) -> Option<usize>
     ensures { FindsLongest (is_listed Apart sign_words) text.now result }
 {
-    longest_entry(Tail::Apart, &SIGN_WORDS, text)
+    longest_entry(Tail::Apart, sign_words_from(first_letter(text)), text)
 }
 
 /// The length of the longest binary or hexadecimal literal at the front of the text, right or wrong.
@@ -137,7 +208,8 @@ pub(crate) fn longest_sign_word(text: &[u8]) -> Option<usize>
 pub(crate) fn longest_based(text: &[u8]) -> Option<usize>
     ensures { FindsLongest (is_listed Run based_prefixes) text.now result }
 {
-    longest_entry(Tail::Run, &BASED_PREFIXES, text)
+    let opened = opens_based(first_letter(text));
+    longest_listed(Tail::Run, &BASED_PREFIXES, opened, text)
 }
 
 /// The length of the longest literal `L#` or `C#` at the front of the text, right or wrong.
@@ -145,8 +217,9 @@ pub(crate) fn longest_based(text: &[u8]) -> Option<usize>
 pub(crate) fn longest_number_literal(text: &[u8]) -> Option<usize>
     ensures { FindsLongest is_number_literal text.now result }
 {
-    let long = longest_entry(Tail::SignedRun, &LONG_PREFIXES, text);
-    let count = longest_entry(Tail::Run, &COUNT_PREFIXES, text);
+    let letter = first_letter(text);
+    let long = longest_listed(Tail::SignedRun, &LONG_PREFIXES, opens_long(letter), text);
+    let count = longest_listed(Tail::Run, &COUNT_PREFIXES, opens_count(letter), text);
     longer(long, count)
 }
 
@@ -155,8 +228,9 @@ pub(crate) fn longest_number_literal(text: &[u8]) -> Option<usize>
 pub(crate) fn longest_time_literal(text: &[u8]) -> Option<usize>
     ensures { FindsLongest is_time_literal text.now result }
 {
-    let time = longest_entry(Tail::SignedRun, &TIME_PREFIXES, text);
-    let s5time = longest_entry(Tail::Run, &S5TIME_PREFIXES, text);
+    let letter = first_letter(text);
+    let time = longest_listed(Tail::SignedRun, &TIME_PREFIXES, opens_time(letter), text);
+    let s5time = longest_listed(Tail::Run, &S5TIME_PREFIXES, opens_s5time(letter), text);
     longer(time, s5time)
 }
 
@@ -165,5 +239,10 @@ pub(crate) fn longest_time_literal(text: &[u8]) -> Option<usize>
 pub(crate) fn longest_title(text: &[u8]) -> Option<usize>
     ensures { FindsLongest (is_listed Line title_words) text.now result }
 {
-    longest_entry(Tail::Line, &TITLE_WORDS, text)
+    longest_listed(
+        Tail::Line,
+        &TITLE_WORDS,
+        opens_title(first_letter(text)),
+        text,
+    )
 }

@@ -1,14 +1,32 @@
-ghost use Rattle.std.specs.Prelude.{◌≡◌, ◌≤◌, length, drop, false, sum_by};
-ghost use Rattle.stl_lexer.specs.Gap.{GoesOn, after_gap, line_at, newlines_of};
+ghost use Rattle.std.specs.Prelude.{◌≡◌, ◌≤◌, length, drop, sum_by, take};
+ghost use Rattle.std.specs.List.{prefix_len};
+ghost use Rattle.stl_lexer.specs.declared.gaps.GapPart.TheVariants.{Blanks};
+ghost use Rattle.stl_lexer.specs.Gap.{
+  GoesOn,
+  after_gap,
+  is_blank,
+  is_comment_byte,
+  line_at,
+  newlines_of,
+};
+ghost use Rattle.stl_lexer.specs.Limits.{source_limit};
 
-use crate::SOURCE_LIMIT;
 use crate::bytes::{behind, in_source, is_separator, opens_comment};
 
-/// A place in the source, with its line.
+/// A place in a source: how many bytes stand before it, and its line.
 #[derive(Clone, Copy, Debug, PartialEq, Eq)]
-pub(crate) struct Spot {
-    pub(crate) at: usize,
+pub(crate) struct Position {
+    pub(crate) offset: usize,
     pub(crate) line: u32,
+}
+
+/// A part of what stands between tokens.
+#[derive(Clone, Copy, Debug, PartialEq, Eq)]
+pub(crate) enum GapPart {
+    /// Separators.
+    Blanks,
+    /// A comment, up to its line's end.
+    Comment,
 }
 
 /// 1 for the byte that ends a line, else 0.
@@ -20,26 +38,32 @@ fn newline(b: u8) -> u32
 
 /// How many lines end in a text.
 pub(crate) fn newlines(text: &[u8]) -> u32
-    requires { length text.now ≤ SOURCE_LIMIT }
+    requires { length text.now ≤ source_limit }
     ensures { result ≡ sum_by newlines_of text.now }
 {
     text.iter().map(|b| newline(*b)).sum()
 }
 
-/// Whether the first byte belongs to the gap, and then whether a comment is open behind it.
+/// The part of the gap that goes on behind the first byte, or None where the gap ends before it.
 #[tactic(auto, unfolding(crate::specs::Bytes::is_separator))]
-fn gap_byte(in_comment: bool, text: &[u8]) -> Option<bool>
-    ensures { GoesOn in_comment text.now result }
+fn gap_byte(part: GapPart, text: &[u8]) -> Option<GapPart>
+    ensures { GoesOn part text.now result }
 {
-    match text {
-        [] => None,
-        [b'\n', ..] => Some(false),
-        [first, ..] if in_comment => { if in_source(*first) { Some(true) } else { None } }
-        [first, ..] => {
+    match (part, text) {
+        (_, []) => None,
+        (_, [b'\n', ..]) => Some(GapPart::Blanks),
+        (GapPart::Comment, [first, ..]) => {
+            if in_source(*first) {
+                Some(GapPart::Comment)
+            } else {
+                None
+            }
+        }
+        (GapPart::Blanks, [first, ..]) => {
             if is_separator(*first) {
-                Some(false)
+                Some(GapPart::Blanks)
             } else if opens_comment(text) {
-                Some(true)
+                Some(GapPart::Comment)
             } else {
                 None
             }
@@ -47,24 +71,69 @@ fn gap_byte(in_comment: bool, text: &[u8]) -> Option<bool>
     }
 }
 
-/// The spot behind separators and comments.
-#[tactic(auto, using(crate::proofs::LineLemmas::line_at_more, crate::proofs::LineLemmas::line_at_limit, crate::proofs::LineLemmas::drop_more))]
-pub(crate) fn skip_gap(source: &[u8], from: Spot) -> Spot
-    requires limit { length source.now ≤ SOURCE_LIMIT }
-    requires within { from.at ≤ length source.now }
-    requires line { from.line ≡ line_at source.now from.at }
-    ensures forward { from.at ≤ result.at }
-    ensures within { result.at ≤ length source.now }
-    ensures rest { drop result.at source.now ≡ after_gap false (drop from.at source.now) }
-    ensures line { result.line ≡ line_at source.now result.at }
+/// Whether a byte separates tokens and ends no line.
+#[tactic(auto, unfolding(crate::specs::Gap::is_blank))]
+fn is_blank(b: u8) -> bool
+    ensures { result ≡ is_blank b }
 {
-    let mut at = from.at;
-    let mut line = from.line;
-    let mut in_comment = false;
-    while let Some(open) = gap_byte(in_comment, behind(source, at)) {
-        line += newline(source[at]);
-        in_comment = open;
-        at += 1;
+    is_separator(b) && b != b'\n'
+}
+
+/// Whether a byte may stand in a comment and ends no line.
+#[tactic(auto, unfolding(crate::specs::Gap::is_comment_byte))]
+fn is_comment_byte(b: u8) -> bool
+    ensures { result ≡ is_comment_byte b }
+{
+    in_source(b) && b != b'\n'
+}
+
+/// How many bytes at the front are separators that end no line.
+fn blank_run(text: &[u8]) -> usize
+    ensures value { result ≡ prefix_len is_blank text.now }
+    ensures within { result ≤ length text.now }
+{
+    text.iter().take_while(|b| is_blank(**b)).count()
+}
+
+/// How many bytes at the front may stand in a comment and end no line.
+fn comment_run(text: &[u8]) -> usize
+    ensures value { result ≡ prefix_len is_comment_byte text.now }
+    ensures within { result ≤ length text.now }
+{
+    text.iter().take_while(|b| is_comment_byte(**b)).count()
+}
+
+/// How many bytes at the front go on a part of a gap and end no line.
+fn part_run(part: GapPart, text: &[u8]) -> usize
+    ensures rest { after_gap part text.now ≡ after_gap part (drop result text.now) }
+    ensures line { sum_by newlines_of (take result text.now) ≡ 0 }
+    ensures within { result ≤ length text.now }
+{
+    match part {
+        GapPart::Blanks => blank_run(text),
+        GapPart::Comment => comment_run(text),
     }
-    Spot { at, line }
+}
+
+/// The position behind separators and comments.
+#[tactic(auto, using(crate::proofs::LineLemmas::line_at_more, crate::proofs::LineLemmas::line_at_limit, crate::proofs::LineLemmas::drop_more))]
+pub(crate) fn skip_gap(source: &[u8], from: Position) -> Position
+    requires limit { length source.now ≤ source_limit }
+    requires within { from.offset ≤ length source.now }
+    requires line { from.line ≡ line_at source.now from.offset }
+    ensures forward { from.offset ≤ result.offset }
+    ensures within { result.offset ≤ length source.now }
+    ensures rest { drop result.offset source.now
+        ≡ after_gap Blanks (drop from.offset source.now) }
+    ensures line { result.line ≡ line_at source.now result.offset }
+{
+    let mut at = from.offset;
+    let mut line = from.line;
+    let mut part = GapPart::Blanks;
+    while let Some(next) = gap_byte(part, behind(source, at)) {
+        line += newline(source[at]);
+        part = next;
+        at += 1 + part_run(next, behind(source, at + 1));
+    }
+    Position { offset: at, line }
 }

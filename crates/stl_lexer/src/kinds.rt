@@ -24,3 +24,17 @@ pub struct Token {
     pub end: u32,
     pub line: u32,
 }
+
+impl Token {
+    ghost use Rattle.std.specs.Prelude.{◌≡◌};
+    ghost use Rattle.stl_lexer.specs.Tokens.{text_of};
+
+    /// The bytes of the token in its source; in another text, what of its slice lies there.
+    pub fn text<'a>(&self, source: &'a [u8]) -> &'a [u8]
+        ensures { result.now ≡ text_of source.now self.now }
+    {
+        let length = self.end.saturating_sub(self.start) as usize;
+        let behind = source.get(self.start as usize..).unwrap_or(&[]);
+        behind.get(..length).unwrap_or(behind)
+    }
+}

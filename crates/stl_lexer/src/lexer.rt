@@ -1,9 +1,9 @@
 ghost use Rattle.std.specs.Prelude.{◌≡◌, ◌≤◌, length, IfOk, IfErr};
+ghost use Rattle.stl_lexer.specs.Limits.{source_limit};
 ghost use Rattle.stl_lexer.specs.TimeLiteral.{ReadsTimes};
-ghost use Rattle.stl_lexer.specs.Tokens.{AreTokens, AreTokensUnique, ExcludesViolation, IsRefused, IsViolationUnique};
+ghost use Rattle.stl_lexer.specs.Tokens.{AreTokens, AreTokensUnique, ExcludesViolation, IsRefused, IsTotal, IsViolationUnique};
 
-use crate::SOURCE_LIMIT;
-use crate::gaps::{Spot, newlines};
+use crate::gaps::{Position, newlines};
 use crate::lists::Tokens;
 use crate::places::{is_minus, next_token};
 use plc_base::SourceFault;
@@ -16,21 +16,21 @@ use std::alloc::Global;
 /// The line and the rule, 1 to 4, of the first place that breaks one, exactly where there is such a
 /// place; or want of memory.
 pub fn lex(alloc: Global, bytes: &[u8]) -> Result<Tokens, SourceFault>
-    requires { length bytes.now ≤ SOURCE_LIMIT }
+    requires { length bytes.now ≤ source_limit }
     ensures source { IfOk result (λ tokens. tokens.source.items ≡ bytes.now) }
     ensures tokens { IfOk result (λ tokens. AreTokens bytes.now tokens.list.items) }
     ensures refused { IfErr result (IsRefused bytes.now) }
 {
     let source = Vec::from_slice(alloc, bytes)?;
     let mut list = Vec::new(alloc);
-    let mut from = Spot { at: 0, line: 1 };
+    let mut from = Position { offset: 0, line: 1 };
     let mut minus = false;
     loop {
         match next_token(bytes, from, minus) {
             Ok(Some(token)) => {
                 let text = &bytes[token.start as usize..token.end as usize];
-                from = Spot {
-                    at: token.end as usize,
+                from = Position {
+                    offset: token.end as usize,
                     line: token.line + newlines(text),
                 };
                 minus = is_minus(token.kind, text);
@@ -42,12 +42,13 @@ pub fn lex(alloc: Global, bytes: &[u8]) -> Result<Tokens, SourceFault>
     }
 }
 
-/// There is at most one list of tokens for a source, none where there is a violation, and one first
-/// violation: so `lex` refuses exactly the sources without tokens, with exactly that line and rule.
+/// A source has one list of tokens, or no list and one first violation: so `lex` refuses exactly the
+/// sources without tokens, with exactly that line and rule.
 pub fn law_of_tokens()
     ensures one_list { AreTokensUnique }
     ensures list_or_violation { ExcludesViolation }
     ensures one_violation { IsViolationUnique }
+    ensures total { IsTotal }
 {}
 
 /// A time literal means the sum of its parts, whose units fall.

@@ -10,6 +10,7 @@ mod kinds;
 mod lexer;
 mod lists;
 mod literals;
+mod marks;
 mod places;
 mod quotes;
 mod rules;
@@ -17,13 +18,12 @@ mod tables;
 mod times;
 mod words;
 
+pub use bytes::first_letter;
 pub use kinds::{Token, TokenKind};
 pub use lexer::{law_of_time_literals, law_of_tokens, lex};
 pub use lists::Tokens;
-pub use literals::{behind_prefix, first_letter, milliseconds_within};
+pub use literals::{behind_prefix, milliseconds_within};
+pub use marks::{Mark, mark_text};
 
 /// The most bytes that a source may have.
 pub const SOURCE_LIMIT: usize = 1_048_576;
-
-#[cfg(test)]
-mod tests;

@@ -1,8 +1,7 @@
 ghost use Rattle.std.specs.Prelude.{◌≤◌, length};
 ghost use Rattle.stl_lexer.specs.Tokens.{AreTokens};
-ghost use Rattle.stl_lexer.specs.declared.TheConstants.{SOURCE_LIMIT};
+ghost use Rattle.stl_lexer.specs.Limits.{source_limit};
 
-use crate::SOURCE_LIMIT;
 use crate::kinds::Token;
 
 /// A source with its tokens: `cut` keeps that the list is that of the definition for the source.
@@ -11,7 +10,7 @@ pub struct Tokens {
     pub source: Vec<u8>,
     pub list: Vec<Token>,
     pub ghost cut: { ∥ AreTokens source.items list.items ∥₁ },
-    pub ghost limited: { length source.items ≤ SOURCE_LIMIT },
+    pub ghost limited: { length source.items ≤ source_limit },
 }
 
 impl Tokens {

@@ -1,7 +1,8 @@
-ghost use Rattle.std.specs.Prelude.{◌≡◌, ◌<◌, ◌≤◌, ℕ, Option, IfSome, if◌then◌else◌, min, option_map};
+ghost use Rattle.std.specs.Prelude.{◌≡◌, ◌<◌, ◌≤◌, ℕ, Option, IfSome, min, option_map};
 ghost use Rattle.std.specs.List.{list_all};
 ghost use Rattle.std.specs.Char.{is_digit};
 ghost use Rattle.stl_lexer.specs.Forms.{is_number};
+ghost use Rattle.stl_lexer.specs.Limits.{greatest_long, greatest_number, value_cap};
 ghost use Rattle.stl_lexer.specs.Rules.{
   are_digits,
   are_grouped,
@@ -11,8 +12,6 @@ ghost use Rattle.stl_lexer.specs.Rules.{
   decimal,
   decimal_rule,
   digit_count,
-  first_letter,
-  greatest_long,
   is_negative,
   most_digits,
   number_rule,
@@ -22,25 +21,14 @@ ghost use Rattle.stl_lexer.specs.Rules.{
 };
 ghost use Rattle.stl_lexer.specs.TimeLiteral.{milliseconds, units};
 
-use crate::bytes::{behind, digit_run};
-use crate::decimals::{VALUE_CAP, decimal_value};
+use crate::bytes::{behind, digit_run, first_letter};
+use crate::decimals::decimal_value;
 use crate::entries::sign_length;
 use crate::rules::{
     GREATEST_COUNT, GREATEST_LONG, GREATEST_NEGATED, GREATEST_NEGATED_LONG, GREATEST_NUMBER,
     GREATEST_S5TIME, OUT_OF_RANGE, WRONG_LITERAL,
 };
 use crate::times::{UNITS, milliseconds};
-
-/// The first byte of a token, in lower case.
-#[tactic(auto, unfolding(crate::specs::Rules::first_letter))]
-pub fn first_letter(token: &[u8]) -> u8
-    ensures { result ≡ first_letter token.now }
-{
-    match token {
-        [first, ..] => first.to_ascii_lowercase(),
-        [] => 0,
-    }
-}
 
 /// What stands behind the prefix of a literal, which ends with `#`.
 pub fn behind_prefix(token: &[u8]) -> &[u8]
@@ -61,12 +49,12 @@ fn is_negative(text: &[u8]) -> bool
     matches!(text, [b'-', ..])
 }
 
-/// Rule 4 above the greatest value, rule 3 where there is no value; a value may be cut off at
-/// `VALUE_CAP`.
+/// Rule 4 above the greatest value, rule 3 where there is no value; a value may be cut off above
+/// every limit.
 #[tactic(auto, unfolding(crate::specs::Rules::value_rule))]
 fn value_rule(greatest: u64, value: Option<u64>) -> Option<u16>
-    requires { greatest < VALUE_CAP }
-    ensures { (exact : Option ℕ) → value ≡ option_map (λ n. min n VALUE_CAP) exact
+    requires { greatest < value_cap }
+    ensures { (exact : Option ℕ) → value ≡ option_map (λ n. min n value_cap) exact
         → result ≡ value_rule greatest exact }
 {
     match value {
@@ -89,10 +77,10 @@ fn is_number(text: &[u8]) -> bool
     !text.is_empty() && digit_run(text) == text.len()
 }
 
-/// The value of decimal digits, cut off at `VALUE_CAP`.
+/// The value of decimal digits, cut off above every limit.
 #[tactic(auto, unfolding(crate::specs::Rules::decimal))]
 fn decimal(text: &[u8]) -> Option<u64>
-    ensures { result ≡ option_map (λ n. min n VALUE_CAP) (decimal text.now) }
+    ensures { result ≡ option_map (λ n. min n value_cap) (decimal text.now) }
 {
     if is_number(text) {
         Some(decimal_value(text))
@@ -187,10 +175,10 @@ pub(crate) fn based_rule(token: &[u8]) -> Option<u16>
 }
 
 /// The greatest value of 32 bits with a sign, without the sign.
-#[tactic(auto, unfolding(crate::specs::Rules::greatest_long))]
+#[tactic(auto, unfolding(crate::specs::Limits::greatest_long))]
 fn greatest_long(negative: bool) -> u64
     ensures value { result ≡ greatest_long negative }
-    ensures below { result < VALUE_CAP }
+    ensures below { result < value_cap }
 {
     if negative {
         GREATEST_NEGATED_LONG
@@ -231,7 +219,7 @@ pub(crate) fn time_rule(token: &[u8]) -> Option<u16>
 
 /// The greatest decimal number, behind the mark `-` or not.
 fn greatest_number(minus: bool) -> u64
-    ensures { result ≡ (if minus then GREATEST_NEGATED else GREATEST_NUMBER) }
+    ensures { result ≡ greatest_number minus }
 {
     if minus {
         GREATEST_NEGATED
@@ -252,10 +240,11 @@ pub(crate) fn decimal_rule(token: &[u8], minus: bool) -> Option<u16>
     }
 }
 
-/// A value where it is at most `greatest`; a value may be cut off at `VALUE_CAP`.
+/// A value where it is at most `greatest`; a value may be cut off above every limit.
 #[tactic(auto, unfolding(crate::specs::Rules::within))]
 fn within(greatest: u32, value: Option<u64>) -> Option<u32>
-    ensures { (exact : Option ℕ) → value ≡ option_map (λ n. min n VALUE_CAP) exact → result ≡ within greatest exact }
+    ensures { (exact : Option ℕ) → value ≡ option_map (λ n. min n value_cap) exact
+        → result ≡ within greatest exact }
 {
     match value {
         None => None,

@@ -1,15 +1,15 @@
 ghost use Rattle.std.specs.Prelude.{◌≡◌, ◌≤◌, length};
 ghost use Rattle.stl_lexer.specs.Gap.{line_at};
+ghost use Rattle.stl_lexer.specs.Limits.{source_limit};
 ghost use Rattle.stl_lexer.specs.Longest.{FindsToken, better_of};
 ghost use Rattle.stl_lexer.specs.Tokens.{FindsNext, is_minus};
 
-use crate::SOURCE_LIMIT;
 use crate::bytes::behind;
 use crate::entries::{
     longest_based, longest_mark, longest_number_literal, longest_sign_word, longest_time_literal,
     longest_title,
 };
-use crate::gaps::{Spot, newlines, skip_gap};
+use crate::gaps::{Position, newlines, skip_gap};
 use crate::kinds::{Token, TokenKind};
 use crate::quotes::{longest_attribute, longest_characters, longest_quoted};
 use crate::rules::{fault_of, rule_without_form};
@@ -74,14 +74,18 @@ pub(crate) fn is_minus(kind: TokenKind, token: &[u8]) -> bool
 /// # Errors
 ///
 /// The rule that is broken there, with its line.
-pub(crate) fn next_token(source: &[u8], from: Spot, minus: bool) -> Result<Option<Token>, Refusal>
-    requires limit { length source.now ≤ SOURCE_LIMIT }
-    requires within { from.at ≤ length source.now }
-    requires line { from.line ≡ line_at source.now from.at }
-    ensures { FindsNext source.now from.at minus result }
+pub(crate) fn next_token(
+    source: &[u8],
+    from: Position,
+    minus: bool,
+) -> Result<Option<Token>, Refusal>
+    requires limit { length source.now ≤ source_limit }
+    requires within { from.offset ≤ length source.now }
+    requires line { from.line ≡ line_at source.now from.offset }
+    ensures { FindsNext source.now from.offset minus result }
 {
     let start = skip_gap(source, from);
-    let text = behind(source, start.at);
+    let text = behind(source, start.offset);
     if text.is_empty() {
         return Ok(None);
     }
@@ -102,8 +106,8 @@ pub(crate) fn next_token(source: &[u8], from: Spot, minus: bool) -> Result<Optio
         }
         None => Ok(Some(Token {
             kind: found.kind,
-            start: start.at as u32,
-            end: (start.at + found.length) as u32,
+            start: start.offset as u32,
+            end: (start.offset + found.length) as u32,
             line: start.line,
         })),
     }

@@ -1,5 +1,6 @@
 ghost use Rattle.std.specs.Prelude.{◌≡◌, ◌<◌, ◌≤◌, min, option_map};
 ghost use Rattle.stl_lexer.specs.Decimal.{decimal_value};
+ghost use Rattle.stl_lexer.specs.Limits.{value_cap};
 ghost use Rattle.stl_lexer.specs.TimeLiteral.{
   behind_digits,
   behind_part,
@@ -116,7 +117,7 @@ fn behind_underscore(text: &[u8]) -> &[u8]
 /// The milliseconds of a text that is parts of these units, cut off at `VALUE_CAP`.
 #[tactic(auto, unfolding(crate::specs::TimeLiteral::milliseconds))]
 pub(crate) fn milliseconds(units: &[TimeUnit], text: &[u8]) -> Option<u64>
-    ensures { result ≡ option_map (λ n. min n VALUE_CAP) (milliseconds units.now text.now) }
+    ensures { result ≡ option_map (λ n. min n value_cap) (milliseconds units.now text.now) }
 {
     let [unit, smaller @ ..] = units else {
         return None;

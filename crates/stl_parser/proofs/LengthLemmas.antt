@@ -56,7 +56,7 @@ separate_rest : {X : Type 0} (table : List (List ℕ × X)) (source text : List 
 unfolding separate_at
 separate_rest table source text rest r h = grind arith
 
-numbered_rest : {X : Type 0} (table : List (List ℕ × X)) (source : List ℕ) (tokens : List Token) (r : X × ℕ × List Token) →
+pub numbered_rest : {X : Type 0} (table : List (List ℕ × X)) (source : List ℕ) (tokens : List Token) (r : X × ℕ × List Token) →
     numbered_at table source tokens ≡ Some r → length r.2 < length tokens
 unfolding numbered_at
 numbered_rest table source tokens r h = grind (arith, glued_rest, separate_rest)
@@ -71,7 +71,7 @@ quoted_rest : (source : List ℕ) (tokens : List Token) (r : BlockName × List T
 unfolding quoted_at
 quoted_rest source tokens r h = grind arith
 
-block_rest : (source : List ℕ) (tokens : List Token) (r : BlockName × List Token) → block_at source tokens ≡ Some r →
+pub block_rest : (source : List ℕ) (tokens : List Token) (r : BlockName × List Token) → block_at source tokens ≡ Some r →
     length r.1 < length tokens
 unfolding block_at
 block_rest source tokens r h = grind (arith, block_number_rest, quoted_rest)
@@ -96,7 +96,7 @@ function_result_rest source tokens r h =
     chain (after_colon source tokens) (λ rest. result_type source rest) length (λ y. length y.1) (length tokens) r h
     (colon_rest source tokens) (type_rest source)
 
-result_rest : (source : List ℕ) (k : BlockKind) (tokens : List Token) (r : Option Simple × List Token) → result_at source k tokens ≡ Some r →
+pub result_rest : (source : List ℕ) (k : BlockKind) (tokens : List Token) (r : Option Simple × List Token) → result_at source k tokens ≡ Some r →
     length r.1 ≤ length tokens
 unfolding result_at
 result_rest source k tokens r h = grind (arith, function_result_rest)

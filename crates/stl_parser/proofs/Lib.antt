@@ -9,3 +9,12 @@ pub mod FrameLemmas
 pub mod LevelLemmas
 pub mod LengthLemmas
 pub mod TotalLemmas
+pub mod OptionLemmas
+pub mod RangeLemmas
+pub mod LiteralLemmas
+pub mod AddressLemmas
+pub mod OperandLemmas
+pub mod TypeLemmas
+pub mod StatementLemmas
+pub mod ClauseLemmas
+pub mod SizeLemmas

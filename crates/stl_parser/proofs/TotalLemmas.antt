@@ -30,7 +30,7 @@ in_front source p ts last c behind q read (inr h) = inr (c ∷ h.0, h.1, h.2, h.
 shorter : (source : List ℕ) (p : Place) (t : Token) (ts : List Token) (c : Clause) (behind : List Token) (q : Place) →
     step_of source p (t ∷ ts) ≡ Ok (c, behind, q) → length behind ≤ length ts
 shorter source p t ts c behind q read =
-    let right = right_clause source p (t ∷ ts) c behind q read in read_rest source p t ts (c, behind, right.0) right.1
+    let right = right_clause source p (t ∷ ts) c behind q read in read_rest source p t ts (c, behind, false) right.0
 
 -- fewer tokens are left behind a right clause
 pub fewer_left : (source : List ℕ) (p : Place) (ts : List Token) (c : Clause) (behind : List Token) (q : Place) →

@@ -7,17 +7,14 @@ use Rattle.stl_lexer.specs.declared.kinds.Token.{Token}
 use Rattle.stl_lexer.specs.declared.kinds.TokenKind.{TokenKind}
 use Rattle.stl_lexer.specs.declared.kinds.TokenKind.TheVariants as kind
 use Rattle.stl_lexer.specs.Tokens.{text_of}
-use Rattle.stl_ast.specs.declared.blocks.PartKind.TheVariants as part
 use Rattle.stl_ast.specs.declared.blocks.PathStep.{PathStep}
 use Rattle.stl_ast.specs.declared.blocks.PathStep.TheVariants as step
 use Rattle.stl_ast.specs.declared.blocks.Setting.{Setting}
-use Rattle.stl_ast.specs.declared.declarations.Bounds.{Bounds}
-use Rattle.stl_ast.specs.declared.declarations.Declaration.{Declaration}
-use Rattle.stl_ast.specs.declared.declarations.ElementType.{ElementType}
-use Rattle.stl_ast.specs.declared.declarations.ElementType.TheVariants as element
 use Rattle.stl_ast.specs.declared.declarations.Simple.{Simple}
 use Rattle.stl_ast.specs.declared.names.BlockName.{BlockName}
 use Rattle.stl_ast.specs.declared.names.BlockName.TheVariants as block
+use Rattle.stl_ast.specs.Blocks.{is_parameter}
+use Rattle.stl_ast.specs.Declarations.{is_elementary}
 use Rattle.stl_parser.specs.declared.clauses.Clause.{Clause}
 use Rattle.stl_parser.specs.declared.clauses.Clause.TheVariants as clause
 use Rattle.stl_parser.specs.declared.keywords.Mark.TheVariants as mark
@@ -75,9 +72,7 @@ level_at _ = 0
 
 -- the parameters of a block are declared here
 abbrev pub takes_parameters : Place → Bool
-takes_parameters (place.Section k part.Input level) = true
-takes_parameters (place.Section k part.Output level) = true
-takes_parameters (place.Section k part.InOut level) = true
+takes_parameters (place.Section k p level) = is_parameter p
 takes_parameters _ = false
 
 abbrev pub block_rank : BlockKind → ℕ
@@ -184,14 +179,6 @@ unfoldable pub structure_clause : List ℕ → Place → List Token → Read
 structure_clause source p tokens =
     if takes_parameters p then None
     else option_map (λ r. (clause.Declares r.0, r.1, false)) (structure_at source (level_at p) tokens)
-
-abbrev pub is_plain : List Bounds → ElementType → Bool
-is_plain [] (element.Plain k) = true
-is_plain _ _ = false
-
--- the declaration is of an elementary type
-abbrev pub is_elementary : Declaration → Bool
-is_elementary d = is_plain d.of.arrays d.of.of
 
 -- a declaration before its `;`; a parameter has an elementary type
 unfoldable pub declaration_clause : List ℕ → Place → List Token → Option (Clause × Bool)

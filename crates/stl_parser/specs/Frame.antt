@@ -1,78 +1,15 @@
 -- The frame: which kind of clause may follow where.
-use Rattle.std.specs.Prelude.{ℕ, zero, suc, nat_lt, nat_eq, Bool, true, false, ◌&&◌, ◌||◌, not, if◌then◌else◌, List, [], ◌∷◌, Option, Some, None}
+use Rattle.std.specs.Prelude.{ℕ, zero, suc, nat_lt, nat_eq, ◌&&◌, if◌then◌else◌, Option, Some, None}
 use Rattle.plc_base.specs.declared.blocks.BlockKind.{BlockKind}
 use Rattle.plc_base.specs.declared.blocks.BlockKind.TheVariants as kinds
 use Rattle.stl_ast.specs.declared.blocks.PartKind.{PartKind}
-use Rattle.stl_ast.specs.declared.blocks.PartKind.TheVariants as part
-use Rattle.stl_ast.specs.declared.declarations.Bounds.{Bounds}
-use Rattle.stl_ast.specs.declared.declarations.Declaration.{Declaration}
-use Rattle.stl_ast.specs.declared.declarations.ElementType.{ElementType}
-use Rattle.stl_ast.specs.declared.declarations.ElementType.TheVariants as element
-use Rattle.stl_ast.specs.declared.declarations.Init.{Init}
+use Rattle.stl_ast.specs.Blocks.{has_body, has_shape, part_rank, may_have, may_declare, is_date_and_time}
 use Rattle.stl_ast.specs.Outline.{level_behind}
 use Rattle.stl_parser.specs.declared.clauses.Clause.{Clause}
 use Rattle.stl_parser.specs.declared.clauses.Clause.TheVariants as clause
 use Rattle.stl_parser.specs.declared.places.Place.{Place}
 use Rattle.stl_parser.specs.declared.places.Place.TheVariants as place
 use Rattle.stl_parser.specs.Clauses.{block_rank}
-
--- a block of this kind has a body
-abbrev pub has_body : BlockKind → Bool
-has_body kinds.Ob = true
-has_body kinds.Fc = true
-has_body kinds.Fb = true
-has_body _ = false
-
--- a block of this kind has a structure
-abbrev pub has_shape : BlockKind → Bool
-has_shape kinds.Db = true
-has_shape kinds.Udt = true
-has_shape _ = false
-
--- the place of a section among those of a block
-abbrev pub part_rank : PartKind → ℕ
-part_rank part.Input = 0
-part_rank part.Output = 1
-part_rank part.InOut = 2
-part_rank part.Static = 3
-part_rank part.Temp = 4
-
--- a block of this kind has such a section: an organization block VAR_TEMP alone, a function all but VAR
-unfoldable pub may_have : BlockKind → PartKind → Bool
-may_have kinds.Ob p = nat_eq (part_rank p) 4
-may_have kinds.Fc p = not (nat_eq (part_rank p) 3)
-may_have kinds.Fb p = true
-may_have _ p = false
-
--- a declaration without initial values
-abbrev pub has_no_init : List Init → Bool
-has_no_init [] = true
-has_no_init (i ∷ is) = false
-
--- DATE_AND_TIME, as a type or as the elements of an array
-abbrev pub is_date_and_time : ElementType → Bool
-is_date_and_time element.DateAndTime = true
-is_date_and_time _ = false
-
-abbrev pub is_single : List Bounds → Bool
-is_single [] = true
-is_single (b ∷ bs) = false
-
--- initial values stand in a function block's sections but VAR_TEMP
-unfoldable pub may_init : BlockKind → PartKind → Bool
-may_init kinds.Fb part.Temp = false
-may_init kinds.Fb _ = true
-may_init _ _ = false
-
--- DATE_AND_TIME stands directly in VAR_TEMP, in no array and no structure
-unfoldable pub may_date : PartKind → ℕ → List Bounds → Bool
-may_date part.Temp level arrays = nat_eq level 0 && is_single arrays
-may_date _ level arrays = false
-
--- a declaration may stand in this section, inside so many structures
-unfoldable pub may_declare : BlockKind → PartKind → ℕ → Declaration → Bool
-may_declare k p level d =
-    (has_no_init d.init || may_init k p) && (not (is_date_and_time d.of.of) || may_date p level d.of.arrays)
 
 -- where the clauses behind an END_STRUCT stand
 abbrev pub section_behind : BlockKind → PartKind → ℕ → Option Place

@@ -1,17 +1,14 @@
 -- The clauses of a source, and its first violation.
 use Rattle.std.specs.Prelude.{◌≡◌, ◌⊎◌, ℕ, Bool, true, false, List, [], ◌∷◌, filter, Option, Some, None, Result, Ok, Err}
-use Rattle.std.specs.List.{flat_map, AllByRecursion}
-use Rattle.stl_ast.specs.declared.blocks.Block.{Block}
-use Rattle.stl_ast.specs.declared.blocks.Part.{Part}
+use Rattle.std.specs.List.{flat_map}
 use Rattle.stl_ast.specs.declared.blocks.Tree.{Tree}
-use Rattle.stl_ast.specs.Outline.{IsOutline}
+use Rattle.stl_ast.specs.WellFormed.{IsWellFormed}
 use Rattle.plc_base.specs.declared.refusals.SourceFault.{SourceFault}
 use Rattle.plc_base.specs.declared.refusals.SourceFault.TheVariants as fault
 use Rattle.stl_lexer.specs.declared.kinds.Token.{Token}
 use Rattle.stl_parser.specs.declared.clauses.Clause.{Clause}
 use Rattle.stl_parser.specs.declared.places.Place.{Place}
 use Rattle.stl_parser.specs.declared.places.Place.TheVariants as place
-use Rattle.stl_parser.specs.declared.sources.TheConstants.{NO_CLAUSE, MISPLACED, LONG_LABEL, OPEN_BLOCK}
 use Rattle.stl_parser.specs.declared.sources.Step as Sources
 use Rattle.stl_parser.specs.declared.sources.Step.TheVariants as step
 use Rattle.stl_parser.specs.declared.sources.Outcome.{Outcome}
@@ -26,13 +23,13 @@ Step = Clause × List Token × Place
 
 -- a clause in the grammar: it breaks rule 11 where its kind may not stand here, else rule 12 where a label is too long
 abbrev pub placed : Clause → List Token → Bool → Option Place → Result Step ℕ
-placed c rest long None = Err MISPLACED
-placed c rest true (Some next) = Err LONG_LABEL
+placed c rest long None = Err 11
+placed c rest true (Some next) = Err 12
 placed c rest false (Some next) = Ok (c, rest, next)
 
 -- a clause that isn't in the grammar breaks rule 10, whatever else it breaks
 abbrev pub judged : Place → Read → Result Step ℕ
-judged p None = Err NO_CLAUSE
+judged p None = Err 10
 judged p (Some r) = placed r.0 r.1 r.2 (follow p r.0)
 
 -- the clause at the front of the tokens, or the rule that it breaks
@@ -63,7 +60,7 @@ is_outside _ = false
 
 -- at this place the clause at the front breaks the rule; where no token is left, the source ends inside a block
 abbrev pub Breaks : List ℕ → Place → List Token → ℕ → ℕ → ℕ → Type 0
-Breaks source p [] last line rule = (is_outside p ≡ false) × (line ≡ last) × (rule ≡ OPEN_BLOCK)
+Breaks source p [] last line rule = (is_outside p ≡ false) × (line ≡ last) × (rule ≡ 13)
 Breaks source p (t ∷ ts) last line rule = (line ≡ t.line) × (step_of source p (t ∷ ts) ≡ Err rule)
 
 -- the first violation of a source by its clauses: all the clauses before it are right
@@ -118,23 +115,16 @@ IsViolationUnique =
     (source : List ℕ) (tokens : List Token) (line rule line' rule' : ℕ) → IsViolation source tokens line rule →
     IsViolation source tokens line' rule' → (line ≡ line') × (rule ≡ rule')
 
--- each section, and each structure of a block, is an outline
-abbrev pub ArePartsOutlined : List Part → Type 0
-ArePartsOutlined ps = AllByRecursion (λ p. IsOutline 0 p.items) ps
-
-abbrev pub AreBlocksOutlined : List Block → Type 0
-AreBlocksOutlined bs = AllByRecursion (λ b. ArePartsOutlined b.parts × IsOutline 0 b.components) bs
-
--- there is a tree where all clauses are right, and its declarations are outlines
+-- there is a tree where all clauses are right, and it is well-formed
 abbrev pub ClausesHaveTree : Type 0
 ClausesHaveTree =
     (source : List ℕ) (tokens : List Token) (cs : List Clause) → AreClauses source tokens cs →
-    (t : Tree) × IsTree source tokens t × AreBlocksOutlined t.blocks
+    (t : Tree) × IsTree source tokens t × IsWellFormed t
 
--- the tokens have a tree, of outlines, or a violation; and so has each source
+-- the tokens have a tree, which is well-formed, or a violation; and so has each source
 abbrev pub HasTreeOrViolation : List ℕ → List Token → Type 0
 HasTreeOrViolation source tokens =
-    ((t : Tree) × IsTree source tokens t × AreBlocksOutlined t.blocks) ⊎ ((line : ℕ) × (rule : ℕ) × IsViolation source tokens line rule)
+    ((t : Tree) × IsTree source tokens t × IsWellFormed t) ⊎ ((line : ℕ) × (rule : ℕ) × IsViolation source tokens line rule)
 
 abbrev pub IsTotal : Type 0
 IsTotal = (source : List ℕ) (tokens : List Token) → HasTreeOrViolation source tokens

@@ -16,7 +16,6 @@ use Rattle.stl_ast.specs.declared.statements.Actual.{Actual}
 use Rattle.stl_ast.specs.declared.statements.Statement.{Statement}
 use Rattle.stl_parser.specs.declared.keywords.Mark.TheVariants as mark
 use Rattle.stl_parser.specs.declared.statements.Instruction.{Instruction}
-use Rattle.stl_parser.specs.declared.statements.TheConstants.{LABEL_LENGTH}
 use Rattle.stl_parser.specs.declared.tables.Form.{Form}
 use Rattle.stl_parser.specs.declared.tables.Form.TheVariants as form
 use Rattle.stl_parser.specs.Terminals.{has_kind, is_mark}
@@ -117,7 +116,7 @@ with_operand source code tokens = option_map (plain code) (operand_of source tok
 
 -- a label has at most four characters
 unfoldable pub is_long : List ℕ → Token → Bool
-is_long source t = nat_lt LABEL_LENGTH (length (text_of source t))
+is_long source t = nat_lt 4 (length (text_of source t))
 
 -- a jump, behind the word: a word that stands alone is its label
 unfoldable pub jump_of : List ℕ → Mnemonic → List Token → Option Instruction

@@ -1,5 +1,5 @@
 -- Values of literals.
-use Rattle.std.specs.Prelude.{ℕ, ◌+◌, ◌*◌, nat_lt, nat_le, ◌&&◌, ◌==◌, if◌then◌else◌, List, [], ◌∷◌, Option, Some, None, ℤ, pos, ◌-ℤ◌}
+use Rattle.std.specs.Prelude.{ℕ, ◌+◌, ◌-◌, ◌*◌, ◌^◌, nat_lt, nat_le, ◌&&◌, ◌==◌, if◌then◌else◌, List, [], ◌∷◌, Option, Some, None, ℤ, pos, ◌-ℤ◌}
 use Rattle.std.specs.Option.{option_map}
 use Rattle.std.specs.Char.{digit_value}
 use Rattle.stl_lexer.specs.Bytes.{underscore, minus_sign, plus, two_digit, letter_b, letter_c, letter_s, letter_w}
@@ -7,7 +7,6 @@ use Rattle.stl_lexer.specs.Rules.{first_letter, behind_prefix, within}
 use Rattle.stl_lexer.specs.TimeLiteral.{milliseconds, units}
 use Rattle.stl_ast.specs.declared.literals.Literal.{Literal}
 use Rattle.stl_ast.specs.declared.literals.Literal.TheVariants as literal
-use Rattle.stl_parser.specs.declared.values.TheConstants.{GREATEST_BYTE, GREATEST_WORD, GREATEST_DWORD, GREATEST_COUNT, GREATEST_LONG, GREATEST_NEGATED_LONG, GREATEST_S5TIME}
 
 -- the value of the digits of a base behind the number n, `_` left out, where it is at most `greatest`
 unfoldable pub value_from : ℕ → ℕ → ℕ → List ℕ → Option ℕ
@@ -20,10 +19,10 @@ value_from greatest base n (b ∷ bs) =
 -- the constant of a binary or hexadecimal literal: its first letter and its digits
 unfoldable pub based_literal : ℕ → List ℕ → Option Literal
 based_literal letter digits =
-    if letter == two_digit then option_map literal.Binary (value_from GREATEST_DWORD 2 0 digits)
-    else (if letter == letter_b then option_map literal.Byte (value_from GREATEST_BYTE 16 0 digits)
-    else (if letter == letter_w then option_map literal.Word (value_from GREATEST_WORD 16 0 digits)
-    else option_map literal.Dword (value_from GREATEST_DWORD 16 0 digits)))
+    if letter == two_digit then option_map literal.Binary (value_from (2 ^ 32 - 1) 2 0 digits)
+    else (if letter == letter_b then option_map literal.Byte (value_from 255 16 0 digits)
+    else (if letter == letter_w then option_map literal.Word (value_from 65535 16 0 digits)
+    else option_map literal.Dword (value_from (2 ^ 32 - 1) 16 0 digits)))
 
 -- `2#`, `B#16#`, `W#16#` or `DW#16#` and digits
 unfoldable pub based_value : List ℕ → Option Literal
@@ -33,25 +32,25 @@ based_value text = based_literal (first_letter text) (behind_prefix text)
 unfoldable pub long_value : List ℕ → Option ℤ
 long_value [] = None
 long_value (b ∷ bs) =
-    if b == minus_sign then option_map (λ n. pos 0 -ℤ pos n) (value_from GREATEST_NEGATED_LONG 10 0 bs)
-    else (if b == plus then option_map pos (value_from GREATEST_LONG 10 0 bs)
-    else option_map pos (value_from GREATEST_LONG 10 0 (b ∷ bs)))
+    if b == minus_sign then option_map (λ n. pos 0 -ℤ pos n) (value_from (2 ^ 31) 10 0 bs)
+    else (if b == plus then option_map pos (value_from (2 ^ 31 - 1) 10 0 bs)
+    else option_map pos (value_from (2 ^ 31 - 1) 10 0 (b ∷ bs)))
 
 -- `C#` or `L#` and a number
 unfoldable pub long_or_count : List ℕ → Option Literal
 long_or_count text =
-    if first_letter text == letter_c then option_map literal.Count (value_from GREATEST_COUNT 10 0 (behind_prefix text))
+    if first_letter text == letter_c then option_map literal.Count (value_from 999 10 0 (behind_prefix text))
     else option_map literal.Long (long_value (behind_prefix text))
 
 -- the milliseconds of `T#`, with a sign or none
 unfoldable pub time_value : List ℕ → Option ℤ
 time_value [] = None
 time_value (b ∷ bs) =
-    if b == minus_sign then option_map (λ n. pos 0 -ℤ pos n) (within GREATEST_NEGATED_LONG (milliseconds units bs))
-    else option_map pos (within GREATEST_LONG (milliseconds units (b ∷ bs)))
+    if b == minus_sign then option_map (λ n. pos 0 -ℤ pos n) (within (2 ^ 31) (milliseconds units bs))
+    else option_map pos (within (2 ^ 31 - 1) (milliseconds units (b ∷ bs)))
 
 -- `S5T#` or `T#` and the parts of a time
 unfoldable pub duration : List ℕ → Option Literal
 duration text =
-    if first_letter text == letter_s then option_map literal.S5time (within GREATEST_S5TIME (milliseconds units (behind_prefix text)))
+    if first_letter text == letter_s then option_map literal.S5time (within 9990000 (milliseconds units (behind_prefix text)))
     else option_map literal.Time (time_value (behind_prefix text))

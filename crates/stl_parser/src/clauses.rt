@@ -1,6 +1,7 @@
 ghost use Rattle.std.specs.Prelude.{◌≡◌, ◌<◌, length, IfOk, IfSome};
 ghost use Rattle.std.specs.Option.{option_map, option_and_then};
 ghost use Rattle.stl_lexer.specs.Tokens.{text_of};
+ghost use Rattle.stl_ast.specs.Declarations.{is_plain, is_elementary};
 ghost use Rattle.stl_parser.specs.Declarations.{after_colon};
 ghost use Rattle.stl_parser.specs.Tables.{look_up, keywords, head_words};
 ghost use Rattle.stl_parser.specs.Clauses.{
@@ -29,8 +30,6 @@ ghost use Rattle.stl_parser.specs.Clauses.{
   is_base,
   based_at,
   structure_clause,
-  is_plain,
-  is_elementary,
   declaration_clause,
   first_step,
   value_behind,

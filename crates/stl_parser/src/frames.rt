@@ -1,28 +1,7 @@
 ghost use Rattle.std.specs.Prelude.{◌≡◌, IfOk};
 ghost use Rattle.stl_ast.specs.Outline.{level_behind};
-ghost use Rattle.stl_parser.specs.Frame.{
-  has_body,
-  has_shape,
-  part_rank,
-  may_have,
-  has_no_init,
-  is_date_and_time,
-  is_single,
-  may_init,
-  may_date,
-  may_declare,
-  section_behind,
-  shape_behind,
-  follow_head,
-  follow_section,
-  follow_between,
-  follow_shape,
-  follow_shaped,
-  follow_body,
-  follow_settings,
-  follow_outside,
-  follow,
-};
+ghost use Rattle.stl_ast.specs.Blocks as blocks;
+ghost use Rattle.stl_parser.specs.Frame as frame;
 
 use crate::clauses::{Clause, block_rank};
 use crate::places::Place;
@@ -32,21 +11,21 @@ use stl_ast::{Bounds, Declaration, ElementType, Init, PartKind};
 
 /// Whether a block of this kind has a body.
 fn has_body(kind: BlockKind) -> bool
-    ensures { result ≡ has_body kind }
+    ensures { result ≡ blocks.has_body kind }
 {
     matches!(kind, BlockKind::Ob | BlockKind::Fc | BlockKind::Fb)
 }
 
 /// Whether a block of this kind has a structure.
 fn has_shape(kind: BlockKind) -> bool
-    ensures { result ≡ has_shape kind }
+    ensures { result ≡ blocks.has_shape kind }
 {
     matches!(kind, BlockKind::Db | BlockKind::Udt)
 }
 
 /// The place of a section among those of a block.
 fn part_rank(part: PartKind) -> u8
-    ensures { result ≡ part_rank part }
+    ensures { result ≡ blocks.part_rank part }
 {
     match part {
         PartKind::Input => 0,
@@ -59,9 +38,9 @@ fn part_rank(part: PartKind) -> u8
 
 /// Whether a block of this kind has such a section: an organization block VAR_TEMP alone, a
 /// function all but VAR.
-#[tactic(auto, unfolding(crate::specs::Frame::may_have))]
+#[tactic(auto, unfolding(stl_ast::specs::Blocks::may_have))]
 fn may_have(kind: BlockKind, part: PartKind) -> bool
-    ensures { result ≡ may_have kind part }
+    ensures { result ≡ blocks.may_have kind part }
 {
     match kind {
         BlockKind::Ob => part_rank(part) == 4,
@@ -73,7 +52,7 @@ fn may_have(kind: BlockKind, part: PartKind) -> bool
 
 /// Whether there are no initial values.
 fn has_no_init(init: &[Init]) -> bool
-    ensures { result ≡ has_no_init init.now }
+    ensures { result ≡ blocks.has_no_init init.now }
 {
     match init {
         [] => true,
@@ -83,14 +62,14 @@ fn has_no_init(init: &[Init]) -> bool
 
 /// Whether this is DATE_AND_TIME, as a type or as the elements of an array.
 fn is_date_and_time(of: &ElementType) -> bool
-    ensures { result ≡ is_date_and_time of.now }
+    ensures { result ≡ blocks.is_date_and_time of.now }
 {
     matches!(of, ElementType::DateAndTime)
 }
 
 /// Whether a type is no array.
 fn is_single(arrays: &[Bounds]) -> bool
-    ensures { result ≡ is_single arrays.now }
+    ensures { result ≡ blocks.is_single arrays.now }
 {
     match arrays {
         [] => true,
@@ -99,9 +78,9 @@ fn is_single(arrays: &[Bounds]) -> bool
 }
 
 /// Whether initial values may stand in this section: in those of a function block but VAR_TEMP.
-#[tactic(auto, unfolding(crate::specs::Frame::may_init))]
+#[tactic(auto, unfolding(stl_ast::specs::Blocks::may_init))]
 fn may_init(kind: BlockKind, part: PartKind) -> bool
-    ensures { result ≡ may_init kind part }
+    ensures { result ≡ blocks.may_init kind part }
 {
     match kind {
         BlockKind::Fb => !matches!(part, PartKind::Temp),
@@ -110,9 +89,9 @@ fn may_init(kind: BlockKind, part: PartKind) -> bool
 }
 
 /// Whether DATE_AND_TIME may stand here: directly in VAR_TEMP, in no array and no structure.
-#[tactic(auto, unfolding(crate::specs::Frame::may_date))]
+#[tactic(auto, unfolding(stl_ast::specs::Blocks::may_date))]
 fn may_date(part: PartKind, level: u32, arrays: &[Bounds]) -> bool
-    ensures { result ≡ may_date part level arrays.now }
+    ensures { result ≡ blocks.may_date part level arrays.now }
 {
     match part {
         PartKind::Temp => level == 0 && is_single(arrays),
@@ -121,9 +100,9 @@ fn may_date(part: PartKind, level: u32, arrays: &[Bounds]) -> bool
 }
 
 /// Whether a declaration may stand in this section, inside so many structures.
-#[tactic(auto, unfolding(crate::specs::Frame::may_declare))]
+#[tactic(auto, unfolding(stl_ast::specs::Blocks::may_declare))]
 fn may_declare(kind: BlockKind, part: PartKind, level: u32, declaration: &Declaration) -> bool
-    ensures { result ≡ may_declare kind part level declaration.now }
+    ensures { result ≡ blocks.may_declare kind part level declaration.now }
 {
     (has_no_init(declaration.init.as_slice()) || may_init(kind, part))
         && (!is_date_and_time(&declaration.of.of)
@@ -142,7 +121,7 @@ pub(crate) fn level_behind(level: u32, of: &ElementType) -> Result<u32, AllocErr
 
 /// Where the clauses behind an END_STRUCT stand, in a section.
 fn section_behind(kind: BlockKind, part: PartKind, level: u32) -> Option<Place>
-    ensures { result ≡ section_behind kind part level }
+    ensures { result ≡ frame.section_behind kind part level }
 {
     if level == 0 {
         None
@@ -157,7 +136,7 @@ fn section_behind(kind: BlockKind, part: PartKind, level: u32) -> Option<Place>
 
 /// Where the clauses behind an END_STRUCT stand, in a data block or a `TYPE` block.
 fn shape_behind(kind: BlockKind, level: u32) -> Option<Place>
-    ensures { result ≡ shape_behind kind level }
+    ensures { result ≡ frame.shape_behind kind level }
 {
     if level == 0 {
         Some(Place::Shaped { kind })
@@ -172,7 +151,7 @@ fn shape_behind(kind: BlockKind, level: u32) -> Option<Place>
 /// What may stand in the head of a block.
 #[tactic(auto, unfolding(crate::specs::Frame::follow_head))]
 fn follow_head(kind: BlockKind, clause: &Clause) -> Option<Place>
-    ensures { result ≡ follow_head kind clause.now }
+    ensures { result ≡ frame.follow_head kind clause.now }
 {
     match clause {
         Clause::Note => Some(Place::Head { kind }),
@@ -224,7 +203,7 @@ fn follow_section(
     level: u32,
     clause: &Clause,
 ) -> Result<Option<Place>, AllocError>
-    ensures { IfOk result (λ next. next ≡ follow_section kind part level clause.now) }
+    ensures { IfOk result (λ next. next ≡ frame.follow_section kind part level clause.now) }
 {
     match clause {
         Clause::EndSection => {
@@ -249,7 +228,7 @@ fn follow_section(
 /// What may stand behind a section: a later section, or the body.
 #[tactic(auto, unfolding(crate::specs::Frame::follow_between))]
 fn follow_between(kind: BlockKind, last: PartKind, clause: &Clause) -> Option<Place>
-    ensures { result ≡ follow_between kind last clause.now }
+    ensures { result ≡ frame.follow_between kind last clause.now }
 {
     match clause {
         Clause::Section {
@@ -274,7 +253,7 @@ fn follow_between(kind: BlockKind, last: PartKind, clause: &Clause) -> Option<Pl
 /// What may stand in the structure of a data block or of a `TYPE` block.
 #[tactic(auto, unfolding(crate::specs::Frame::follow_shape))]
 fn follow_shape(kind: BlockKind, level: u32, clause: &Clause) -> Result<Option<Place>, AllocError>
-    ensures { IfOk result (λ next. next ≡ follow_shape kind level clause.now) }
+    ensures { IfOk result (λ next. next ≡ frame.follow_shape kind level clause.now) }
 {
     match clause {
         Clause::Declares { declaration } => {
@@ -292,7 +271,7 @@ fn follow_shape(kind: BlockKind, level: u32, clause: &Clause) -> Result<Option<P
 /// What may stand behind it: the settings of a data block, or the end of a `TYPE` block.
 #[tactic(auto, unfolding(crate::specs::Frame::follow_shaped))]
 fn follow_shaped(kind: BlockKind, clause: &Clause) -> Option<Place>
-    ensures { result ≡ follow_shaped kind clause.now }
+    ensures { result ≡ frame.follow_shaped kind clause.now }
 {
     match kind {
         BlockKind::Db => match clause {
@@ -313,7 +292,7 @@ fn follow_shaped(kind: BlockKind, clause: &Clause) -> Option<Place>
 /// What may stand in a body.
 #[tactic(auto, unfolding(crate::specs::Frame::follow_body))]
 fn follow_body(kind: BlockKind, clause: &Clause) -> Option<Place>
-    ensures { result ≡ follow_body kind clause.now }
+    ensures { result ≡ frame.follow_body kind clause.now }
 {
     match clause {
         Clause::Runs { statement: _ } => Some(Place::Body { kind }),
@@ -336,7 +315,7 @@ fn follow_body(kind: BlockKind, clause: &Clause) -> Option<Place>
 /// What may stand in the BEGIN part of a data block.
 #[tactic(auto, unfolding(crate::specs::Frame::follow_settings))]
 fn follow_settings(clause: &Clause) -> Option<Place>
-    ensures { result ≡ follow_settings clause.now }
+    ensures { result ≡ frame.follow_settings clause.now }
 {
     match clause {
         Clause::Sets { setting: _ } => Some(Place::Settings),
@@ -351,7 +330,7 @@ fn follow_settings(clause: &Clause) -> Option<Place>
 /// What may stand between blocks.
 #[tactic(auto, unfolding(crate::specs::Frame::follow_outside))]
 fn follow_outside(clause: &Clause) -> Option<Place>
-    ensures { result ≡ follow_outside clause.now }
+    ensures { result ≡ frame.follow_outside clause.now }
 {
     match clause {
         Clause::Head {
@@ -367,7 +346,7 @@ fn follow_outside(clause: &Clause) -> Option<Place>
 /// Where the next clause stands, or None where such a clause may not stand here.
 #[tactic(auto, unfolding(crate::specs::Frame::follow))]
 pub(crate) fn follow(at: Place, clause: &Clause) -> Result<Option<Place>, AllocError>
-    ensures { IfOk result (λ next. next ≡ follow at clause.now) }
+    ensures { IfOk result (λ next. next ≡ frame.follow at clause.now) }
 {
     match at {
         Place::Outside => Ok(follow_outside(clause)),

@@ -20,6 +20,3 @@ mod types;
 mod values;
 
 pub use sources::{law_of_clauses, parse};
-
-#[cfg(test)]
-mod tests;

@@ -3,7 +3,7 @@ ghost use Rattle.std.specs.List.{list_all};
 ghost use Rattle.std.specs.Char.{is_ascii_digit};
 ghost use Rattle.stl_lexer.specs.Decimal.{decimal_value};
 ghost use Rattle.std.specs.Option.{option_map};
-ghost use Rattle.stl_parser.specs.Numbers.{decimal_of, number_of, signed_at, int_at};
+ghost use Rattle.stl_parser.specs.Numbers.{decimal_of, number_of, negated_of, signed_at, int_at};
 
 use crate::keywords::{Mark, has_kind, is_mark, text};
 use stl_lexer::{Token, TokenKind};
@@ -11,13 +11,16 @@ use stl_lexer::{Token, TokenKind};
 /// The greatest number of a decimal literal, of an address and of a block.
 pub const GREATEST_NUMBER: u32 = 65_535;
 
+/// The greatest number of a decimal literal behind a `-`.
+const GREATEST_NEGATED: u16 = 32_768;
+
 /// Where numbers are cut off.
 const NUMBER_CAP: u32 = GREATEST_NUMBER + 1;
 
 /// The number that decimal digits write, or `NUMBER_CAP` where it is greater.
 #[tactic(auto, using(crate::proofs::NumberLemmas::decimal_value_more, crate::proofs::NumberLemmas::decimal_value_none))]
 fn decimal_value(digits: &[u8]) -> u32
-    ensures { result ≡ min (decimal_value digits.now) NUMBER_CAP }
+    ensures { result ≡ min (decimal_value digits.now) 65536 }
 {
     let mut value: u32 = 0;
     for digit in digits {
@@ -35,7 +38,7 @@ pub(crate) fn all_digits(bytes: &[u8]) -> bool
 
 /// The number of these decimal digits, up to 65,535.
 fn number_of_digits(digits: &[u8]) -> Option<u16>
-    ensures { result ≡ (if list_all is_ascii_digit digits.now && nat_le (decimal_value digits.now) GREATEST_NUMBER then Some (decimal_value digits.now) else None) }
+    ensures { result ≡ (if list_all is_ascii_digit digits.now && nat_le (decimal_value digits.now) 65535 then Some (decimal_value digits.now) else None) }
 {
     let value = decimal_value(digits);
     if all_digits(digits) && value <= GREATEST_NUMBER {
@@ -68,6 +71,19 @@ pub(crate) fn number(source: &[u8], token: &Token) -> Option<u16>
     }
 }
 
+/// The number of a number token behind a `-`, up to 32,768.
+#[tactic(auto, unfolding(crate::specs::Numbers::negated_of))]
+fn negated(source: &[u8], token: &Token) -> Option<u16>
+    ensures { result ≡ negated_of source.now token.now }
+{
+    let number = number(source, token)?;
+    if number <= GREATEST_NEGATED {
+        Some(number)
+    } else {
+        None
+    }
+}
+
 /// A number behind its sign, and what follows.
 #[tactic(auto, unfolding(crate::specs::Numbers::signed_at))]
 pub(crate) fn signed<'a>(
@@ -81,7 +97,7 @@ pub(crate) fn signed<'a>(
         return None;
     };
     if is_mark(source, sign, Mark::Minus) {
-        let number = number(source, token)?;
+        let number = negated(source, token)?;
         Some((0 - i32::from(number), rest))
     } else if is_mark(source, sign, Mark::Plus) {
         let number = number(source, token)?;

@@ -1,11 +1,14 @@
-ghost use Rattle.std.specs.Prelude.{◌≡◌, ◌++◌, ◌∷◌, [], filter, IfOk, IfErr};
+ghost use Rattle.std.specs.Prelude.{◌≡◌, ◌≤◌, ◌*◌, ◌++◌, ◌∷◌, [], filter, length, IfOk, IfErr};
 ghost use Rattle.std.specs.List.{flat_map};
+ghost use Rattle.stl_ast.specs.Sizes.{tree_size};
+ghost use Rattle.stl_ast.specs.WellFormed.{IsWellFormed};
 ghost use Rattle.stl_parser.specs.Source.{
   seen,
   step_of,
   is_outside,
   last_line,
   IsOutcome,
+  AreKept,
   IsTree,
   IsRefusedBy,
   AreClausesUnique,
@@ -189,6 +192,16 @@ fn tree_of(alloc: Global, kept: Vec<Clause>) -> Result<Tree, AllocError>
     tree(alloc, reversed)
 }
 
+/// The tree of the clauses that a source keeps.
+fn kept_tree(alloc: Global, t: &Tokens, kept: Vec<Clause>) -> Result<Tree, AllocError>
+    requires { AreKept t.now.source.items t.now.list.items kept.items }
+    ensures tree { IfOk result (IsTree t.now.source.items t.now.list.items) }
+    ensures well_formed { IfOk result IsWellFormed }
+    ensures bounded { IfOk result (λ tree. tree_size tree ≤ 4 * length t.now.source.items) }
+{
+    tree_of(alloc, kept)
+}
+
 /// There is at most one list of clauses for the tokens of a source, none where there is a
 /// violation, and one first violation. Right clauses have a tree; there is at most one, and none
 /// where there is a violation. So a source has one tree, or no tree and one first violation, and
@@ -203,7 +216,8 @@ pub fn law_of_clauses()
     ensures tree_or_violation { TreeExcludesViolation }
 {}
 
-/// The one tree of a source.
+/// The one tree of a source. It is well-formed, and the code of its statements takes at most four
+/// times the bytes of the source.
 ///
 /// # Errors
 ///
@@ -212,11 +226,13 @@ pub fn law_of_clauses()
 pub fn parse(alloc: Global, t: &Tokens) -> Result<Tree, SourceFault>
     ensures tree { IfOk result (IsTree t.now.source.items t.now.list.items) }
     ensures refused { IfErr result (IsRefusedBy t.now.source.items t.now.list.items) }
+    ensures well_formed { IfOk result IsWellFormed }
+    ensures bounded { IfOk result (λ tree. tree_size tree ≤ 4 * length t.now.source.items) }
 {
     match judged_source(alloc, t.source.as_slice(), t.list.as_slice()) {
         Err(_) => Err(SourceFault::NoMemory),
         Ok(Outcome::Refused { refusal }) => Err(SourceFault::Refused { refusal }),
-        Ok(Outcome::Right { kept }) => match tree_of(alloc, kept) {
+        Ok(Outcome::Right { kept }) => match kept_tree(alloc, t, kept) {
             Err(_) => Err(SourceFault::NoMemory),
             Ok(tree) => Ok(tree),
         },

@@ -16,6 +16,7 @@ ghost use Rattle.stl_parser.specs.Tables.{
 
 use plc_base::{BlockKind, Flag, Width};
 use stl_ast::{Letters, Mnemonic, PartKind, Simple};
+use stl_lexer::first_letter;
 
 /// What the letters of an address name.
 #[derive(Clone, Copy, Debug, PartialEq, Eq)]
@@ -60,7 +61,7 @@ pub enum Form {
 }
 
 /// The keywords that begin a clause (manual: block keywords of a source file).
-pub const KEYWORDS: [(&[u8], Keyword); 20] = [
+pub static KEYWORDS: [(&[u8], Keyword); 20] = [
     (
         b"ORGANIZATION_BLOCK",
         Keyword::Opens {
@@ -159,7 +160,7 @@ pub const KEYWORDS: [(&[u8], Keyword); 20] = [
 ];
 
 /// The words of a block's head.
-pub const HEAD_WORDS: [(&[u8], HeadWord); 6] = [
+pub static HEAD_WORDS: [(&[u8], HeadWord); 6] = [
     (b"VERSION", HeadWord::Version),
     (b"AUTHOR", HeadWord::Named),
     (b"FAMILY", HeadWord::Named),
@@ -169,7 +170,7 @@ pub const HEAD_WORDS: [(&[u8], HeadWord); 6] = [
 ];
 
 /// The letters of a block's number.
-pub const BLOCK_KINDS: [(&[u8], BlockKind); 6] = [
+pub static BLOCK_KINDS: [(&[u8], BlockKind); 6] = [
     (b"OB", BlockKind::Ob),
     (b"FC", BlockKind::Fc),
     (b"FB", BlockKind::Fb),
@@ -179,7 +180,7 @@ pub const BLOCK_KINDS: [(&[u8], BlockKind); 6] = [
 ];
 
 /// The elementary data types.
-pub const SIMPLE_TYPES: [(&[u8], Simple); 9] = [
+pub static SIMPLE_TYPES: [(&[u8], Simple); 9] = [
     (b"BOOL", Simple::Bool),
     (b"BYTE", Simple::Byte),
     (b"CHAR", Simple::Char),
@@ -192,7 +193,7 @@ pub const SIMPLE_TYPES: [(&[u8], Simple); 9] = [
 ];
 
 /// The letters of addresses.
-pub const ADDRESSES: [(&[u8], Address); 34] = [
+pub static ADDRESSES: [(&[u8], Address); 34] = [
     (
         b"I",
         Address::Area {
@@ -412,7 +413,7 @@ pub const ADDRESSES: [(&[u8], Address); 34] = [
 /// The instruction words, with the marks and sign words that are instructions, and what may stand
 /// behind each. A second language's
 /// words would stand in a table of their own beside this one.
-pub const MNEMONICS: [(&[u8], (Mnemonic, Form)); 116] = [
+pub static MNEMONICS: [(&[u8], (Mnemonic, Form)); 116] = [
     (b"NOP", (Mnemonic::Nop, Form::Operand)),
     (b"BLD", (Mnemonic::Bld, Form::Operand)),
     (b"A", (Mnemonic::A, Form::Operand)),
@@ -532,7 +533,7 @@ pub const MNEMONICS: [(&[u8], (Mnemonic, Form)); 116] = [
 ];
 
 /// The instruction words that open a bracket, with the `(` behind them.
-pub const OPENING_MNEMONICS: [(&[u8], Mnemonic); 6] = [
+pub static OPENING_MNEMONICS: [(&[u8], Mnemonic); 6] = [
     (b"A", Mnemonic::AOpen),
     (b"AN", Mnemonic::AnOpen),
     (b"O", Mnemonic::OOpen),
@@ -542,7 +543,7 @@ pub const OPENING_MNEMONICS: [(&[u8], Mnemonic); 6] = [
 ];
 
 /// The conditions of the status word that stand as an operand.
-pub const FLAGS: [(&[u8], Flag); 10] = [
+pub static FLAGS: [(&[u8], Flag); 10] = [
     (b"BR", Flag::Br),
     (b"OV", Flag::Ov),
     (b"OS", Flag::Os),
@@ -556,7 +557,7 @@ pub const FLAGS: [(&[u8], Flag); 10] = [
 ];
 
 /// The registers that stand as an operand, and whether an instruction has them as one.
-pub const REGISTERS: [(&[u8], bool); 7] = [
+pub static REGISTERS: [(&[u8], bool); 7] = [
     (b"STW", true),
     (b"DBLG", true),
     (b"DBNO", true),
@@ -566,13 +567,24 @@ pub const REGISTERS: [(&[u8], bool); 7] = [
     (b"AR1", false),
 ];
 
+/// Whether two words are the same without case of ASCII letters.
+#[tactic(auto, using(crate::proofs::TableLemmas::other_letter))]
+fn same_word(a: &[u8], b: &[u8]) -> bool
+    ensures { result ≡ str_eq_ignore_ascii_case a.now b.now }
+{
+    if first_letter(a) != first_letter(b) {
+        return false;
+    }
+    a.eq_ignore_ascii_case(b)
+}
+
 /// The value that stands beside a text in a table, compared without case of ASCII letters.
 fn entry_of<X: Copy + Drop>(table: &[(&[u8], X)], word: &[u8]) -> Option<X>
     ensures { result ≡ option_map (λ e. e.1) (find (λ e. str_eq_ignore_ascii_case word.now e.0.now) table.now) }
 {
     table
         .iter()
-        .find(|entry| word.eq_ignore_ascii_case(entry.0))
+        .find(|entry| same_word(word, entry.0))
         .map(|entry| entry.1)
 }
 

@@ -1,7 +1,6 @@
 -- A counter of STEP 7.
 use Rattle.std.specs.Prelude.{ℕ, ◌+◌, ◌-◌, ◌≤◌, min, nat_lt, Bool, false, not, ◌&&◌, if◌then◌else◌, Option, Some, option_map}
 use Rattle.plc_base.specs.Bcd.{unsigned_of_bcd, bcd_digits}
-use Rattle.timers_counters.specs.declared.counting.TheConstants.{MOST_COUNT}
 
 -- the value, 0 to 999, and the edge bits of CU, CD, S and FR
 pub record Counter : Type 0 where
@@ -25,7 +24,7 @@ counter_at_rest = record {
 unfoldable pub counted_up : Bool → Counter → Counter
 counted_up rlo counter =
     record counter {
-      value = if rlo && not counter.up_edge then min (counter.value + 1) MOST_COUNT else counter.value;
+      value = if rlo && not counter.up_edge then min (counter.value + 1) 999 else counter.value;
       up_edge = rlo;
     }
 
@@ -71,4 +70,4 @@ count_bcd counter = bcd_digits 3 counter.value
 
 -- the value is one of a counter
 abbrev pub IsCounter : Counter → Type 0
-IsCounter counter = counter.value ≤ MOST_COUNT
+IsCounter counter = counter.value ≤ 999

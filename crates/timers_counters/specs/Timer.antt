@@ -2,7 +2,6 @@
 use Rattle.std.specs.Prelude.{◌≡◌, ℕ, ◌-◌, ◌*◌, ◌<◌, ◌≤◌, nat_le, Bool, true, false, not, ◌&&◌, ◌==◌, if◌then◌else◌, Option, Some, option_map}
 use Rattle.std.specs.Int.{div_ceil}
 use Rattle.plc_base.specs.S5Time.{unit_of, base_of_s5time, s5time_of_units, ms_of}
-use Rattle.plc_base.specs.declared.s5times.TheConstants.{MOST_UNITS}
 use Rattle.plc_base.specs.declared.s5times.TimeBase.{TimeBase}
 use Rattle.plc_base.specs.declared.s5times.TimeBase.TheVariants.{TenMs}
 use Rattle.timers_counters.specs.declared.kinds.TimerKind.{TimerKind}
@@ -31,10 +30,11 @@ timer_at_rest = record {
   free_edge = false;
 }
 
--- RLO 1 and start edge 0; RLO 0 and start edge 1
+-- a rising RLO: 1 with start edge 0
 abbrev pub is_rising : Bool → Timer → Bool
 is_rising rlo timer = rlo && not timer.start_edge
 
+-- a falling RLO: 0 with start edge 1
 abbrev pub is_falling : Bool → Timer → Bool
 is_falling rlo timer = not rlo && timer.start_edge
 
@@ -136,4 +136,4 @@ time_left timer = s5time_of_units timer.base (units_left timer)
 -- a timer that runs has time left, and the time left is an S5TIME of its base
 pub record IsTimer (timer : Timer) : Type 0 where
   pub runs : timer.running ≡ true → 0 < timer.left
-  pub fits : timer.left ≤ MOST_UNITS * unit_of timer.base
+  pub fits : timer.left ≤ 999 * unit_of timer.base

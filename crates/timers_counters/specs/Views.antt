@@ -4,6 +4,7 @@ use Rattle.timers_counters.specs.Timer.{Timer, IsTimer}
 use Rattle.timers_counters.specs.declared.counting.Counter.TheInside.{Inside as InsideCounter}
 use Rattle.timers_counters.specs.declared.timing.Timer.TheInside.{Inside}
 
+-- the timer of the fields
 abbrev pub timer_of : Inside → Timer
 timer_of t = record {
   kind = t.kind;
@@ -15,6 +16,7 @@ timer_of t = record {
   free_edge = t.free_edge;
 }
 
+-- the fields of a timer
 abbrev pub inside_of : Timer → Inside
 inside_of t = record {
   kind = t.kind;
@@ -26,9 +28,11 @@ inside_of t = record {
   free_edge = t.free_edge;
 }
 
+-- the fields are those of a timer
 abbrev pub KeepsTimer : Inside → Type 0
 KeepsTimer t = IsTimer (timer_of t)
 
+-- the counter of the fields
 abbrev pub counter_of : InsideCounter → Counter
 counter_of c = record {
   value = c.value;
@@ -38,6 +42,7 @@ counter_of c = record {
   free_edge = c.free_edge;
 }
 
+-- the fields of a counter
 abbrev pub inside_of_counter : Counter → InsideCounter
 inside_of_counter c = record {
   value = c.value;
@@ -47,5 +52,6 @@ inside_of_counter c = record {
   free_edge = c.free_edge;
 }
 
+-- the fields are those of a counter
 abbrev pub KeepsCounter : InsideCounter → Type 0
 KeepsCounter c = IsCounter (counter_of c)

@@ -19,19 +19,18 @@ pub struct Counters {
 impl Model for Counters {
     ghost use Rattle.std.specs.Prelude.{◌≡◌, List, length};
     ghost use Rattle.timers_counters.specs.Counter.{Counter as CounterValue};
-    ghost use Rattle.timers_counters.specs.declared.counter_table.TheConstants.{COUNTERS};
 
     ghost Value = { List CounterValue };
 
     ghost view = { λ t. t.counters };
 
-    ghost invariant = { λ t. length t.counters ≡ COUNTERS };
+    ghost invariant = { λ t. length t.counters ≡ 64 };
 }
 
 impl Counters {
     /// All counters at rest.
     pub fn new() -> Counters
-        ensures { result ≡ replicate COUNTERS counter_at_rest }
+        ensures { result ≡ replicate 64 counter_at_rest }
     {
         Counters {
             counters: [Counter::new(); COUNTERS],
@@ -43,7 +42,7 @@ impl Counters {
         ensures found { MatchResult result
             (λ counter. slice_get self.now number ≡ Some counter)
             (λ fault. (slice_get self.now number ≡ None) × (fault ≡ NoNumber)) }
-        ensures in_range { MatchResult result (λ _. number < COUNTERS) (λ _. COUNTERS ≤ number) }
+        ensures in_range { MatchResult result (λ _. number < 64) (λ _. 64 ≤ number) }
     {
         match self.counters.get(usize::from(number)) {
             Some(counter) => Ok(*counter),
@@ -57,8 +56,9 @@ impl Counters {
     ///
     /// `NoNumber` exactly for a number above 63.
     pub fn up(&mut self, number: u16, rlo: bool) -> Result<(), TimerFault>
-        ensures outcome { Leaves self.old self.new result (change_always (counted_up rlo) self.old number) }
-        ensures no_number { result ≡ Err NoNumber ↔ (COUNTERS ≤ number) }
+        ensures outcome { Leaves self.old self.new result
+            (change_always (counted_up rlo) self.old number) }
+        ensures no_number { result ≡ Err NoNumber ↔ (64 ≤ number) }
     {
         let mut counter = self.counter(number)?;
         counter.up(rlo);
@@ -72,8 +72,9 @@ impl Counters {
     ///
     /// `NoNumber` exactly for a number above 63.
     pub fn down(&mut self, number: u16, rlo: bool) -> Result<(), TimerFault>
-        ensures outcome { Leaves self.old self.new result (change_always (counted_down rlo) self.old number) }
-        ensures no_number { result ≡ Err NoNumber ↔ (COUNTERS ≤ number) }
+        ensures outcome { Leaves self.old self.new result
+            (change_always (counted_down rlo) self.old number) }
+        ensures no_number { result ≡ Err NoNumber ↔ (64 ≤ number) }
     {
         let mut counter = self.counter(number)?;
         counter.down(rlo);
@@ -89,8 +90,9 @@ impl Counters {
     /// `NoNumber` exactly for a number above 63, else `BadBcd` exactly where the RLO rises and a digit
     /// is above 9.
     pub fn set(&mut self, number: u16, rlo: bool, value: u16) -> Result<(), TimerFault>
-        ensures outcome { Leaves self.old self.new result (change (set_to rlo value) self.old number) }
-        ensures no_number { result ≡ Err NoNumber ↔ (COUNTERS ≤ number) }
+        ensures outcome { Leaves self.old self.new result
+            (change (set_to rlo value) self.old number) }
+        ensures no_number { result ≡ Err NoNumber ↔ (64 ≤ number) }
     {
         let mut counter = self.counter(number)?;
         counter.set(rlo, value)?;
@@ -104,8 +106,9 @@ impl Counters {
     ///
     /// `NoNumber` exactly for a number above 63.
     pub fn reset(&mut self, number: u16, rlo: bool) -> Result<(), TimerFault>
-        ensures outcome { Leaves self.old self.new result (change_always (reset_counter rlo) self.old number) }
-        ensures no_number { result ≡ Err NoNumber ↔ (COUNTERS ≤ number) }
+        ensures outcome { Leaves self.old self.new result
+            (change_always (reset_counter rlo) self.old number) }
+        ensures no_number { result ≡ Err NoNumber ↔ (64 ≤ number) }
     {
         let mut counter = self.counter(number)?;
         counter.reset(rlo);
@@ -119,8 +122,9 @@ impl Counters {
     ///
     /// `NoNumber` exactly for a number above 63.
     pub fn free(&mut self, number: u16, rlo: bool) -> Result<(), TimerFault>
-        ensures outcome { Leaves self.old self.new result (change_always (freed_counter rlo) self.old number) }
-        ensures no_number { result ≡ Err NoNumber ↔ (COUNTERS ≤ number) }
+        ensures outcome { Leaves self.old self.new result
+            (change_always (freed_counter rlo) self.old number) }
+        ensures no_number { result ≡ Err NoNumber ↔ (64 ≤ number) }
     {
         let mut counter = self.counter(number)?;
         counter.free(rlo);
@@ -135,7 +139,7 @@ impl Counters {
     /// `NoNumber` exactly for a number above 63.
     pub fn output(&self, number: u16) -> Result<bool, TimerFault>
         ensures value { result ≡ reading (is_counting) self.now number }
-        ensures no_number { result ≡ Err NoNumber ↔ (COUNTERS ≤ number) }
+        ensures no_number { result ≡ Err NoNumber ↔ (64 ≤ number) }
     {
         Ok(self.counter(number)?.output())
     }
@@ -146,8 +150,9 @@ impl Counters {
     ///
     /// `NoNumber` exactly for a number above 63.
     pub fn value(&self, number: u16) -> Result<u16, TimerFault>
-        ensures value { result ≡ reading (λ (counter : CounterValue). counter.value) self.now number }
-        ensures no_number { result ≡ Err NoNumber ↔ (COUNTERS ≤ number) }
+        ensures value { result ≡ reading (λ (counter : CounterValue). counter.value)
+            self.now number }
+        ensures no_number { result ≡ Err NoNumber ↔ (64 ≤ number) }
     {
         Ok(self.counter(number)?.value())
     }
@@ -159,7 +164,7 @@ impl Counters {
     /// `NoNumber` exactly for a number above 63.
     pub fn bcd(&self, number: u16) -> Result<u16, TimerFault>
         ensures value { result ≡ reading (count_bcd) self.now number }
-        ensures no_number { result ≡ Err NoNumber ↔ (COUNTERS ≤ number) }
+        ensures no_number { result ≡ Err NoNumber ↔ (64 ≤ number) }
     {
         Ok(self.counter(number)?.bcd())
     }

@@ -1,4 +1,5 @@
-ghost use Rattle.std.specs.Prelude.{◌≡◌, ◌≤◌, MatchResult, Some, None};
+ghost use Rattle.std.specs.Prelude.{◌≡◌, ◌≤◌};
+ghost use Rattle.plc_base.specs.Changes.{ChangesOrStays};
 ghost use Rattle.timers_counters.specs.Counter.{counter_at_rest, counted_up, counted_down, set_to, reset_counter, freed_counter, is_counting, count_bcd};
 
 use plc_base::{BadBcd, bcd_to_unsigned, unsigned_to_bcd};
@@ -70,9 +71,7 @@ impl Counter {
     /// `S`: loads three BCD digits.
     #[tactic(auto, unfolding(crate::specs::Counter::set_to))]
     pub fn set(&mut self, rlo: bool, word: u16) -> Result<(), BadBcd>
-        ensures { MatchResult result
-            (λ _. set_to rlo word self.old ≡ Some self.new)
-            (λ _. (set_to rlo word self.old ≡ None) × (self.new ≡ self.old)) }
+        ensures { ChangesOrStays (set_to rlo word self.old) self.old self.new result }
     {
         if rlo && !self.set_edge {
             match bcd_to_unsigned(u32::from(word), 3) {

@@ -5,8 +5,6 @@ mod counter_table;
 mod counting;
 mod faults;
 mod kinds;
-#[cfg(test)]
-mod tests;
 mod timer_table;
 mod timing;
 

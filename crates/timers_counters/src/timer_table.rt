@@ -20,20 +20,19 @@ pub struct Timers {
 
 impl Model for Timers {
     ghost use Rattle.std.specs.Prelude.{◌≡◌, List, length};
-    ghost use Rattle.timers_counters.specs.declared.timer_table.TheConstants.{TIMERS};
     ghost use Rattle.timers_counters.specs.Timer.{Timer as TimerValue};
 
     ghost Value = { List TimerValue };
 
     ghost view = { λ t. t.timers };
 
-    ghost invariant = { λ t. length t.timers ≡ TIMERS };
+    ghost invariant = { λ t. length t.timers ≡ 128 };
 }
 
 impl Timers {
     /// All timers at rest.
     pub fn new() -> Timers
-        ensures { result ≡ replicate TIMERS timer_at_rest }
+        ensures { result ≡ replicate 128 timer_at_rest }
     {
         Timers {
             timers: [Timer::new(); TIMERS],
@@ -45,7 +44,7 @@ impl Timers {
         ensures found { MatchResult result
             (λ timer. slice_get self.now number ≡ Some timer)
             (λ fault. (slice_get self.now number ≡ None) × (fault ≡ NoNumber)) }
-        ensures in_range { MatchResult result (λ _. number < TIMERS) (λ _. TIMERS ≤ number) }
+        ensures in_range { MatchResult result (λ _. number < 128) (λ _. 128 ≤ number) }
     {
         match self.timers.get(usize::from(number)) {
             Some(timer) => Ok(*timer),
@@ -67,8 +66,9 @@ impl Timers {
         rlo: bool,
         value: u16,
     ) -> Result<(), TimerFault>
-        ensures outcome { Leaves self.old self.new result (change (started kind rlo value) self.old number) }
-        ensures no_number { result ≡ Err NoNumber ↔ (TIMERS ≤ number) }
+        ensures outcome { Leaves self.old self.new result
+            (change (started kind rlo value) self.old number) }
+        ensures no_number { result ≡ Err NoNumber ↔ (128 ≤ number) }
     {
         let mut timer = self.timer(number)?;
         timer.start(kind, rlo, value)?;
@@ -82,8 +82,9 @@ impl Timers {
     ///
     /// `NoNumber` exactly for a number above 127.
     pub fn reset(&mut self, number: u16, rlo: bool) -> Result<(), TimerFault>
-        ensures outcome { Leaves self.old self.new result (change_always (reset_timer rlo) self.old number) }
-        ensures no_number { result ≡ Err NoNumber ↔ (TIMERS ≤ number) }
+        ensures outcome { Leaves self.old self.new result
+            (change_always (reset_timer rlo) self.old number) }
+        ensures no_number { result ≡ Err NoNumber ↔ (128 ≤ number) }
     {
         let mut timer = self.timer(number)?;
         timer.reset(rlo);
@@ -98,8 +99,9 @@ impl Timers {
     ///
     /// `NoNumber` exactly for a number above 127.
     pub fn free(&mut self, number: u16, rlo: bool) -> Result<(), TimerFault>
-        ensures outcome { Leaves self.old self.new result (change_always (freed_timer rlo) self.old number) }
-        ensures no_number { result ≡ Err NoNumber ↔ (TIMERS ≤ number) }
+        ensures outcome { Leaves self.old self.new result
+            (change_always (freed_timer rlo) self.old number) }
+        ensures no_number { result ≡ Err NoNumber ↔ (128 ≤ number) }
     {
         let mut timer = self.timer(number)?;
         timer.free(rlo);
@@ -114,7 +116,7 @@ impl Timers {
     /// `NoNumber` exactly for a number above 127.
     pub fn output(&self, number: u16) -> Result<bool, TimerFault>
         ensures value { result ≡ reading (λ (timer : TimerValue). timer.output) self.now number }
-        ensures no_number { result ≡ Err NoNumber ↔ (TIMERS ≤ number) }
+        ensures no_number { result ≡ Err NoNumber ↔ (128 ≤ number) }
     {
         Ok(self.timer(number)?.output())
     }
@@ -126,7 +128,7 @@ impl Timers {
     /// `NoNumber` exactly for a number above 127.
     pub fn value(&self, number: u16) -> Result<u16, TimerFault>
         ensures value { result ≡ reading (units_left) self.now number }
-        ensures no_number { result ≡ Err NoNumber ↔ (TIMERS ≤ number) }
+        ensures no_number { result ≡ Err NoNumber ↔ (128 ≤ number) }
     {
         Ok(self.timer(number)?.value())
     }
@@ -138,7 +140,7 @@ impl Timers {
     /// `NoNumber` exactly for a number above 127.
     pub fn bcd(&self, number: u16) -> Result<u16, TimerFault>
         ensures value { result ≡ reading (time_left) self.now number }
-        ensures no_number { result ≡ Err NoNumber ↔ (TIMERS ≤ number) }
+        ensures no_number { result ≡ Err NoNumber ↔ (128 ≤ number) }
     {
         Ok(self.timer(number)?.bcd())
     }

@@ -1,5 +1,6 @@
-ghost use Rattle.std.specs.Prelude.{◌≡◌, ◌≤◌, IsTrue, MatchResult, Some, None};
+ghost use Rattle.std.specs.Prelude.{◌≡◌, ◌≤◌, IsTrue};
 ghost use Rattle.std.specs.Fn.{iterate};
+ghost use Rattle.plc_base.specs.Changes.{ChangesOrStays};
 ghost use Rattle.timers_counters.specs.Timer.{timer_at_rest, output_at_end, run, ended, stopped, acted, started, reset_timer, freed_timer, one_ms, units_left, time_left};
 
 use crate::kinds::TimerKind;
@@ -60,9 +61,7 @@ impl Timer {
 
     /// Starts the timer with an S5TIME and the output. With a time of 0 it ends at once.
     fn run(&mut self, kind: TimerKind, value: u16, output: bool) -> Result<(), BadBcd>
-        ensures { MatchResult result
-            (λ _. run kind value output self.old ≡ Some self.new)
-            (λ _. (run kind value output self.old ≡ None) × (self.new ≡ self.old)) }
+        ensures { ChangesOrStays (run kind value output self.old) self.old self.new result }
     {
         let left = ms_of_s5time(value)?;
         self.kind = kind;
@@ -96,9 +95,7 @@ impl Timer {
 
     /// A start instruction but for its edge.
     fn act(&mut self, kind: TimerKind, rlo: bool, value: u16) -> Result<(), BadBcd>
-        ensures { MatchResult result
-            (λ _. acted kind rlo value self.old ≡ Some self.new)
-            (λ _. (acted kind rlo value self.old ≡ None) × (self.new ≡ self.old)) }
+        ensures { ChangesOrStays (acted kind rlo value self.old) self.old self.new result }
     {
         let rising = rlo && !self.start_edge;
         let falling = !rlo && self.start_edge;
@@ -122,9 +119,7 @@ impl Timer {
     /// A start instruction.
     #[tactic(auto, unfolding(crate::specs::Timer::started))]
     pub fn start(&mut self, kind: TimerKind, rlo: bool, value: u16) -> Result<(), BadBcd>
-        ensures { MatchResult result
-            (λ _. started kind rlo value self.old ≡ Some self.new)
-            (λ _. (started kind rlo value self.old ≡ None) × (self.new ≡ self.old)) }
+        ensures { ChangesOrStays (started kind rlo value self.old) self.old self.new result }
     {
         self.act(kind, rlo, value)?;
         self.start_edge = rlo;
@@ -165,7 +160,7 @@ impl Timer {
     /// The units of the base that are left, rounded up, as `L` loads them.
     pub fn value(&self) -> u16
         ensures units { result ≡ units_left self.now }
-        ensures bound { result ≤ MOST_UNITS }
+        ensures bound { result ≤ 999 }
     {
         self.left.div_ceil(self.base.unit_ms()) as u16
     }

@@ -1,6 +1,8 @@
 ghost use Rattle.std.specs.Prelude.{◌↔◌, IsTrue};
 ghost use Rattle.var_access.specs.Entry.{IsValid};
 
+use plc_base::Area;
+
 /// What one entry of a history does.
 #[derive(Clone, Copy, Debug, PartialEq, Eq)]
 pub enum What {
@@ -35,7 +37,7 @@ impl Entry {
         self.who >= 1
             && match self.what {
                 What::Step => true,
-                What::Input { byte, .. } => byte < 128 || (256..768).contains(&byte),
+                What::Input { byte, .. } => Area::P.has_byte(byte),
                 What::Arrive { ob, .. } => (10..18).contains(&ob) || (40..48).contains(&ob),
             }
     }

@@ -1,29 +1,34 @@
-use Rattle.std.proofs.Common.{ap, refl, ◌∙◌, List, ℕ, Vec, Global, Err}
+use Rattle.std.proofs.Common.{ap, refl, ◌∙◌, subst, List, [], ◌∷◌, ℕ, Vec, Global, None, Ok, Err}
 use Rattle.std.proofs.lemmas.Result.{err_from_is_err_and}
 use Rattle.controller.specs.declared.ThinOb.{ThinOb}
+use Rattle.sem_kept.specs.Tree.{tree_code}
+use Rattle.s7_cli.specs.Command.{Check}
 use Rattle.s7_cli.specs.Lines.{ok_line}
-use Rattle.s7_cli.proofs.ComesLemmas.{source-fails}
-use Rattle.s7_cli.proofs.CheckLemmas.{source-read, check-refuses, ok-comes}
+use Rattle.sem_kept.specs.Meaning.{MeansCode}
+use Rattle.s7_cli.proofs.ComesLemmas.{comes-unread, comes-refused, comes-written, read-none, one-read}
 use Rattle.s7_cli.proofs.checking.check.Goals as goal
 
 pub returns-in_err-source : goal.returns-in_err-source
 returns-in_err-source g c =
     let fault = err_from_is_err_and c.from_residual.result c.from_residual.ensures.1 in
-    source-fails (λ (v : Vec ℕ Global). v.items) _ _ _ _ _ _ _ _ refl (fault.1 ∙ ap Err fault.2) c.in_err-source.ensures
+    comes-unread (λ (v : Vec ℕ Global). v.items) (Check _) _ _ _ _ [] [] _ [] _ _ refl (fault.1 ∙ ap Err fault.2) (read-none _) c.in_err-source.ensures
 
 pub judge_source-requires : goal.judge_source-requires
-judge_source-requires g c =
-    let was = source-read (λ (v : Vec ℕ Global). v.items) _ _ _ c.in_ok-source.source c.in_ok-source.ensures in
-    rw c.deref.ensures.value was.1.within
+judge_source-requires g c = rw c.deref.ensures.value c.in_ok-source.ensures.1.within
 
 pub returns-in_err-judge_source : goal.returns-in_err-judge_source
 returns-in_err-judge_source g c =
     let fault = err_from_is_err_and c.from_residual-in_err-judge_source.result c.from_residual-in_err-judge_source.ensures.1 in
-    let was = source-read (λ (v : Vec ℕ Global). v.items) _ _ _ c.in_ok-source.source c.in_ok-source.ensures in
-    check-refuses {V = List ThinOb} (λ program. program) _ _ _ _ _ _ _ _ (fault.1 ∙ ap Err fault.2) was c.deref.ensures.value c.in_err-judge_source.ensures.judged
+    comes-refused (List ThinOb) (Check _) _ _ _ _ _ _ _ (fault.1 ∙ ap Err fault.2)
+    (one-read _ _ _ c.in_ok-source.source.items c.in_ok-source.ensures)
+    (ap (λ (b : List ℕ). b ∷ []) c.deref.ensures.value)
+    c.in_err-judge_source.ensures.refused
 
 pub returns : goal.returns
 unfolding ok_line
 returns g c =
-    let was = source-read (λ (v : Vec ℕ Global). v.items) _ _ _ c.in_ok-source.source c.in_ok-source.ensures in
-    ok-comes {V = List ThinOb} (λ program. program) c.in_ok-judge_source.field-0 _ _ _ _ _ _ _ _ was c.deref.ensures.value c.in_ok-judge_source.ensures.judged refl c.write_text.ensures
+    comes-written (Check _) _ _ _ _ ok_line _ _ refl
+    (one-read _ _ _ c.in_ok-source.source.items c.in_ok-source.ensures)
+    (Ok (tree_code c.in_ok-judge_source.field-0), subst (λ (b : List ℕ). MeansCode b None (tree_code c.in_ok-judge_source.field-0)) c.deref.ensures.value c.in_ok-judge_source.ensures.means, refl)
+    refl
+    c.write_text.ensures

@@ -7,7 +7,7 @@ use Rattle.s7_cli.proofs.running.run.Goals as goal
 pub returns-in_err-write_entries : goal.returns-in_err-write_entries
 returns-in_err-write_entries g c =
     let handed = err_from_is_err_and c.from_residual-in_err-write_entries.result c.from_residual-in_err-write_entries.ensures.1 in
-    run-cut c.args.program c.reserve.new.self c.args.entries.now _ _ _ _ (
+    run-cut c.law_of_replay.ensures c.args.program c.reserve.new.self c.args.entries.now _ _ _ _ (
       ap (λ (s : Recorded). s.program) c.in_ok-reserve.ensures.ok ∙ ap (λ (s : Recorded). s.program) c.in_ok-controller.ensures,
       ap (λ (s : Recorded). s.history) c.in_ok-reserve.ensures.ok ∙ ap (λ (s : Recorded). s.history) c.in_ok-controller.ensures,
     )
@@ -17,7 +17,7 @@ returns-in_err-write_entries g c =
 
 pub returns : goal.returns
 returns g c =
-    run-ends c.args.program c.reserve.new.self c.write_entries.new.controller c.args.entries.now c.history_len.result c.mode.result _ _ _ _ _ _ (
+    run-ends c.law_of_replay.ensures c.args.program c.reserve.new.self c.write_entries.new.controller c.args.entries.now c.history_len.result c.mode.result _ _ _ _ _ _ (
       ap (λ (s : Recorded). s.program) c.in_ok-reserve.ensures.ok ∙ ap (λ (s : Recorded). s.program) c.in_ok-controller.ensures,
       ap (λ (s : Recorded). s.history) c.in_ok-reserve.ensures.ok ∙ ap (λ (s : Recorded). s.history) c.in_ok-controller.ensures,
     )

@@ -1,4 +1,4 @@
-use Rattle.sem_kept.proofs.SourceLemmas.{Laws, one_program, program_or_refusal, one_refusal}
+use Rattle.sem_kept.proofs.SourceLemmas.{Laws, one_meaning, meaning_or_refusal, one_refusal, each_judged}
 use Rattle.sem_kept.proofs.laws.law_of_sources.Goals as goal
 
 pub returns : goal.returns
@@ -11,5 +11,7 @@ returns c =
       one_tree = c.law_of_clauses.ensures.one_tree;
       tree_excludes = c.law_of_clauses.ensures.tree_or_violation;
       one_clause_violation = c.law_of_clauses.ensures.one_violation;
+      tokens_or_violation = c.law_of_tokens.ensures.total;
+      tree_or_violation = c.law_of_clauses.ensures.total;
     } in
-    record { one_program = one_program laws; program_or_refusal = program_or_refusal laws; one_refusal = one_refusal laws }
+    record { one_meaning = one_meaning laws; meaning_or_refusal = meaning_or_refusal laws; one_refusal = one_refusal laws; total = each_judged laws }

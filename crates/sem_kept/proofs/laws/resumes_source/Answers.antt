@@ -1,18 +1,18 @@
-use Rattle.std.proofs.Common.{◌≡◌, subst, List}
-use Rattle.controller.specs.declared.ThinOb.{ThinOb}
-use Rattle.sem_kept.specs.Tree.{tree_code}
+use Rattle.std.proofs.Common.{◌≡◌, subst, None}
+use Rattle.controller.specs.Code.{Code}
 use Rattle.sem_kept.specs.Resumption.{IsSuspended}
 use Rattle.sem_kept.proofs.Suspended.{resumes}
 use Rattle.sem_kept.proofs.laws.resumes_source.Goals as goal
 
 pub returns : goal.returns
-returns c q is_q =
-    let p : List ThinOb = c.requires.suspended.0 in
-    let e : p ≡ q = c.law_of_sources.ensures.one_program c.args.source.now p q c.requires.suspended.1 is_q in
+returns c d means_d =
+    let b : Code = c.requires.suspended.0 in
+    let e : b ≡ d = c.law_of_sources.ensures.one_meaning c.args.source.now None b d c.requires.suspended.1 means_d in
     resumes
-    (tree_code q)
+    c.law_of_replay.ensures
+    d
     c.args.entries.now
     c.args.place
     c.args.from
     c.args.to
-    (subst (λ (r : List ThinOb). IsSuspended (tree_code r) c.args.entries.now c.args.place c.args.from c.args.to) e c.requires.suspended.2)
+    (subst (λ (x : Code). IsSuspended x c.args.entries.now c.args.place c.args.from c.args.to) e c.requires.suspended.2)

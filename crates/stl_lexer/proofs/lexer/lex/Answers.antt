@@ -19,18 +19,18 @@ pub overflow_add-from : goal.overflow_add-from
 overflow_add-from c =
     let s = c.args.bytes.now in
     let t = c.in-Ok-Some.token in
-    let next : IsNext s c.loop-token.from.at c.loop-token.minus t = rw c.in-Ok-Some.field-0-is at c.in-Ok-Some.ensures in
+    let next : IsNext s c.loop-token.from.offset c.loop-token.minus t = rw c.in-Ok-Some.field-0-is at c.in-Ok-Some.ensures in
     omega (arith, line_at_end s t.start t.end (omega (arith, next.forward)), next.line, c.newlines.ensures, line_at_limit s t.end, c.requires)
 
 pub loop-token-preserved : goal.loop-token-preserved
 loop-token-preserved c =
     let s = c.args.bytes.now in
     let t = c.in-Ok-Some.token in
-    let next : IsNext s c.loop-token.from.at c.loop-token.minus t = rw c.in-Ok-Some.field-0-is at c.in-Ok-Some.ensures in
+    let next : IsNext s c.loop-token.from.offset c.loop-token.minus t = rw c.in-Ok-Some.field-0-is at c.in-Ok-Some.ensures in
     let pushed = chosen _ _ _ _ c.push.ensures.items (ap is_ok c.in_ok-push-in-Ok-Some.was) in
     record {
       source = c.loop-token.invariant.source;
-      tokens = rw (pushed, c.is_minus-minus.ensures) (leads_more s c.loop-token.from.at c.loop-token.minus 0 false c.loop-token.list.items t c.loop-token.invariant.tokens next);
+      tokens = rw (pushed, c.is_minus-minus.ensures) (leads_more s c.loop-token.from.offset c.loop-token.minus 0 false c.loop-token.list.items t c.loop-token.invariant.tokens next);
       within = next.within;
       line = omega (arith, line_at_end s t.start t.end (omega (arith, next.forward)), next.line, c.newlines.ensures);
     }
@@ -39,19 +39,19 @@ pub invariant_of-result-clause-cut : goal.invariant_of-result-clause-cut
 unfolding AreTokens
 invariant_of-result-clause-cut c =
     let s = c.args.bytes.now in
-    let end : IsEnd s c.loop-token.from.at = rw c.in-Ok-None.field-0-is at c.in-Ok-None.ensures in
+    let end : IsEnd s c.loop-token.from.offset = rw c.in-Ok-None.field-0-is at c.in-Ok-None.ensures in
     ∣ subst (λ source. AreTokens source c.loop-token.list.items) (sym c.loop-token.invariant.source)
-    (leads_then s c.loop-token.from.at c.loop-token.minus (λ at m. IsEnd s at) 0 false c.loop-token.list.items c.loop-token.invariant.tokens end) ∣₁
+    (leads_then s c.loop-token.from.offset c.loop-token.minus (λ at m. IsEnd s at) 0 false c.loop-token.list.items c.loop-token.invariant.tokens end) ∣₁
 
 pub returns-in-Ok-None-clause-tokens : goal.returns-in-Ok-None-clause-tokens
 unfolding AreTokens
 returns-in-Ok-None-clause-tokens c =
     let s = c.args.bytes.now in
-    let end : IsEnd s c.loop-token.from.at = rw c.in-Ok-None.field-0-is at c.in-Ok-None.ensures in
-    leads_then s c.loop-token.from.at c.loop-token.minus (λ at m. IsEnd s at) 0 false c.loop-token.list.items c.loop-token.invariant.tokens end
+    let end : IsEnd s c.loop-token.from.offset = rw c.in-Ok-None.field-0-is at c.in-Ok-None.ensures in
+    leads_then s c.loop-token.from.offset c.loop-token.minus (λ at m. IsEnd s at) 0 false c.loop-token.list.items c.loop-token.invariant.tokens end
 
 pub returns-in-Err-clause-refused : goal.returns-in-Err-clause-refused
 unfolding IsViolation
 returns-in-Err-clause-refused c =
     let s = c.args.bytes.now in
-    (c.loop-token.list.items, leads_then s c.loop-token.from.at c.loop-token.minus (λ at m. Breaks s at m c.in-Err.refusal.line c.in-Err.refusal.rule) 0 false c.loop-token.list.items c.loop-token.invariant.tokens c.in-Err.ensures)
+    (c.loop-token.list.items, leads_then s c.loop-token.from.offset c.loop-token.minus (λ at m. Breaks s at m c.in-Err.refusal.line c.in-Err.refusal.rule) 0 false c.loop-token.list.items c.loop-token.invariant.tokens c.in-Err.ensures)

@@ -6,10 +6,10 @@ use Rattle.stl_lexer.proofs.lexer.lex.Given as goal
 abbrev pub invariant-loop-token : goal.invariant-loop-token
 invariant-loop-token l = record {
   source : l.source.items ≡ l.bytes;
-  tokens : Leads l.bytes l.from.at l.minus 0 false l.list.items;
-  within : l.from.at ≤ length l.bytes;
-  line : l.from.line ≡ line_at l.bytes l.from.at;
+  tokens : Leads l.bytes l.from.offset l.minus 0 false l.list.items;
+  within : l.from.offset ≤ length l.bytes;
+  line : l.from.line ≡ line_at l.bytes l.from.offset;
 }
 
 abbrev pub decreases-loop-token : goal.decreases-loop-token
-decreases-loop-token l = length l.bytes - l.from.at
+decreases-loop-token l = length l.bytes - l.from.offset

@@ -2,7 +2,8 @@ use Rattle.std.proofs.Common.{ℕ, List, true, false, ◌||◌, Option, None, Ma
 use Rattle.stl_lexer.specs.declared.kinds.TokenKind.TheVariants.{Word, Number, Quoted, Local, Characters, Based, NumberLiteral, TimeLiteral, Mark, SignWord, Attribute, Title}
 use Rattle.stl_lexer.specs.declared.tables.Tail.TheVariants.{Nothing, Apart, Run, SignedRun, Line}
 use Rattle.stl_lexer.specs.Bytes.{single_quote, open_brace, close_brace}
-use Rattle.stl_lexer.specs.Forms.{has_form, is_word, is_number, is_quoted, is_local, is_enclosed, is_listed, marks, sign_words, based_prefixes, long_prefixes, count_prefixes, time_prefixes, s5time_prefixes, title_words}
+use Rattle.stl_lexer.specs.Forms.{has_form, is_word, is_number, is_quoted, is_local, is_enclosed, is_listed, sign_words, based_prefixes, long_prefixes, count_prefixes, time_prefixes, s5time_prefixes, title_words}
+use Rattle.stl_lexer.specs.Marks.{marks}
 use Rattle.stl_lexer.specs.Longest.{FindsLongest, HasNoForm, IsLongest, better_of}
 use Rattle.stl_lexer.proofs.RankLemmas.{best_none, best_more, best_of_all}
 use Rattle.stl_lexer.proofs.places.longest_token.Goals as goal

@@ -1,10 +1,14 @@
-use Rattle.std.proofs.Common.{◌≡◌, ◌+◌, ◌≤◌, ◌++◌, length, drop}
-use Rattle.controller.specs.Observing.{changes_from}
+use Rattle.std.proofs.Common.{◌≡◌, ◌≤◌, ◌+◌, ◌-◌, ◌++◌, length, min}
+use Rattle.controller.specs.ChangedOutputs.{changed_outputs}
+use Rattle.controller.proofs.ObservingLemmas.{changes_from}
 use Rattle.controller.proofs.observing.Outputs.add_changes.Given as goal
 
--- what was added, and then the changes of the bytes that are left, are the changes of all
-abbrev pub invariant-loop-value : goal.invariant-loop-value
-invariant-loop-value l =
-    (l.self ++ changes_from l.byte (drop l.value-index l.before) l.memory ≡ l.initial.self ++ changes_from l.first l.before l.memory)
-    × (length l.self ≤ length l.initial.self + l.value-index)
-    × (l.byte ≡ l.first + l.value-index)
+-- the changes so far, and then those from the next byte on, are all of them; there are no more than peripheral bytes before that byte
+abbrev pub invariant-loop-byte : goal.invariant-loop-byte
+invariant-loop-byte l =
+    (l.self-inside.list.items ++ changes_from l.before l.after l.from ≡ changed_outputs l.before l.after)
+    × (length l.self-inside.list.items ≤ min l.from 128 + (l.from - 256))
+    × (l.from ≤ 768)
+
+abbrev pub decreases-loop-byte : goal.decreases-loop-byte
+decreases-loop-byte l = 768 - l.from

@@ -2,12 +2,14 @@ use Rattle.std.proofs.Common.{refl, sym, ap, subst, ◌∙◌, take, drop, suc, 
 use Rattle.std.specs.FinMap as map
 use Rattle.std.specs.List.{IsDistinct}
 use Rattle.plc_mem.specs.Blocks.{blocks_of, bytes_of, numbers_of}
-use Rattle.plc_mem.proofs.BlockLemmas.{one_more, split_at_item, take_item}
+use Rattle.plc_mem.specs.Places.{AreBytes}
+use Rattle.plc_mem.proofs.Kept.{no_blocks, block_more}
+use Rattle.plc_mem.proofs.BlockLemmas.{inserted, one_more, split_at_item, take_item}
 use Rattle.plc_mem.proofs.data_blocks.DataBlocks.new.Goals as goal
 
 pub loop-number-init : goal.loop-number-init
 unfolding blocks_of
-loop-number-init c = rw c.new-by_number.ensures.empty refl
+loop-number-init c = rw c.new-by_number.ensures.empty (record { entries = refl; bytes = no_blocks })
 
 pub loop-number-preserved : goal.loop-number-preserved
 loop-number-preserved c =
@@ -15,5 +17,15 @@ loop-number-preserved c =
     let i = c.loop-number.number-index in
     let x = c.loop-number-item.result in
     let differ = subst (λ es. IsDistinct nat_eq (numbers_of es)) (sym (split_at_item xs i x c.loop-number-test.true c.loop-number-item.is)) c.requires in
-    one_more c.loop-number.by_number c.insert.new.self x.0 x.1 c.in_ok-from_slice.field-0 (take i xs) (drop (suc i) xs) differ c.loop-number.invariant c.in_ok-insert.ensures.updates (c.in_ok-from_slice.ensures.items ∙ c.deref.ensures.value)
-    ∙ ap (λ es. map.from_entries (bytes_of es)) (take_item xs i x c.loop-number-test.true c.loop-number-item.is)
+    let items = c.in_ok-copied.ensures.items ∙ c.deref.ensures.value in
+    let small = subst AreBytes (sym c.in_ok-copied.ensures.items) c.in_ok-copied.ensures.bytes in
+    let more = one_more c.loop-number.by_number c.insert.new.self x.0 x.1 c.in_ok-copied.field-0 (take i xs) (drop (suc i) xs) differ c.loop-number.invariant.entries c.in_ok-insert.ensures.updates items in
+    record {
+      entries = more ∙ ap (λ es. map.from_entries (bytes_of es)) (take_item xs i x c.loop-number-test.true c.loop-number-item.is);
+      bytes =
+          rw (inserted c.loop-number.by_number c.insert.new.self x.0 c.in_ok-copied.field-0 c.in_ok-insert.ensures.updates)
+          (block_more (blocks_of c.loop-number.by_number.entries) x.0 c.in_ok-copied.field-0.items c.loop-number.invariant.bytes small);
+    }
+
+pub returns-clause-bytes : goal.returns-clause-bytes
+returns-clause-bytes c = c.loop-number.invariant.bytes

@@ -1,0 +1,16 @@
+//! Tests of the controller's base crates, by their public items: values worked out by hand from the
+//! rules, which judge the definitions that the proofs rest on.
+#![tactic(auto)]
+
+#[cfg(test)]
+mod bit_logic;
+#[cfg(test)]
+mod entries;
+#[cfg(test)]
+mod memory_areas;
+#[cfg(test)]
+mod number_formats;
+#[cfg(test)]
+mod number_instructions;
+#[cfg(test)]
+mod timers_and_counters;

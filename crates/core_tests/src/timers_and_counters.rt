@@ -1,0 +1,225 @@
+use timers_counters::TimerKind::{Sd, Se, Sf, Sp, Ss};
+use timers_counters::{Counters, TimerFault, TimerKind, Timers};
+
+/// What happens to a timer.
+#[derive(Clone, Copy)]
+enum Event {
+    Start(TimerKind, bool, u16),
+    Pass(u32),
+    Reset(bool),
+    Free(bool),
+}
+
+use Event::{Free, Pass, Reset, Start};
+
+impl Event {
+    fn happen(self, timers: &mut Timers, number: u16) -> Result<(), TimerFault> {
+        match self {
+            Start(kind, rlo, value) => timers.start(number, kind, rlo, value),
+            Pass(ms) => {
+                timers.pass_ms(ms);
+                Ok(())
+            }
+            Reset(rlo) => timers.reset(number, rlo),
+            Free(rlo) => timers.free(number, rlo),
+        }
+    }
+}
+
+// 16#0005 is S5T#50MS, 5 units of 10 ms; 16#1002 is S5T#200MS, 2 units of 100 ms. Each row has the
+// event, and then the output and the units left, rounded up. Each list has a timer of its own, and
+// its last one ends: a list begins where the timers before it stand still.
+#[test]
+fn timers(rt: HostRuntime) {
+    let stories: [&[(Event, bool, u16)]; 9] = [
+        // pulse: RLO 0 ends it, with the time left kept
+        &[
+            (Start(Sp, true, 0x0005), true, 5),
+            (Pass(10), true, 4),
+            (Start(Sp, false, 0x0005), false, 4),
+            (Pass(1_000), false, 4),
+            (Start(Sp, true, 0x1002), true, 2),
+            (Start(Sp, true, 0x0005), true, 2),
+            (Pass(199), true, 1),
+            (Pass(1), false, 0),
+        ],
+        // extended pulse: RLO 0 does nothing, the next rising RLO starts it again
+        &[
+            (Start(Se, true, 0x0005), true, 5),
+            (Start(Se, false, 0x0005), true, 5),
+            (Pass(49), true, 1),
+            (Start(Se, true, 0x0005), true, 5),
+            (Pass(4_000_000_000), false, 0),
+        ],
+        // on-delay
+        &[
+            (Start(Sd, true, 0x0005), false, 5),
+            (Pass(49), false, 1),
+            (Pass(1), true, 0),
+            (Start(Sd, true, 0x0005), true, 0),
+            (Start(Sd, false, 0x0005), false, 0),
+            (Start(Sd, true, 0x0005), false, 5),
+            (Pass(20), false, 3),
+            (Start(Sd, false, 0x0005), false, 3),
+            (Pass(100), false, 3),
+        ],
+        // retentive on-delay: only R clears the output
+        &[
+            (Start(Ss, true, 0x0005), false, 5),
+            (Start(Ss, false, 0x0005), false, 5),
+            (Pass(50), true, 0),
+            (Start(Ss, true, 0x0005), true, 5),
+            (Pass(60), true, 0),
+            (Start(Ss, false, 0x0005), true, 0),
+            (Reset(false), true, 0),
+            (Reset(true), false, 0),
+        ],
+        // off-delay: the falling RLO starts it
+        &[
+            (Start(Sf, false, 0x0005), false, 0),
+            (Start(Sf, true, 0x0005), true, 0),
+            (Pass(100), true, 0),
+            (Start(Sf, false, 0x0005), true, 5),
+            (Pass(49), true, 1),
+            (Start(Sf, true, 0x0005), true, 1),
+            (Pass(100), true, 1),
+            (Start(Sf, false, 0x0005), true, 5),
+            (Pass(50), false, 0),
+        ],
+        // a time of 0 ends at once
+        &[
+            (Start(Sd, true, 0x0000), true, 0),
+            (Start(Sd, false, 0x0000), false, 0),
+            (Start(Sp, true, 0x3000), false, 0),
+        ],
+        // FR on its rising RLO lets the start instruction start again
+        &[
+            (Start(Se, true, 0x0005), true, 5),
+            (Pass(20), true, 3),
+            (Free(true), true, 3),
+            (Start(Se, true, 0x0005), true, 5),
+            (Pass(20), true, 3),
+            (Free(true), true, 3),
+            (Start(Se, true, 0x0005), true, 3),
+            (Free(false), true, 3),
+            (Free(true), true, 3),
+            (Start(Se, true, 0x0005), true, 5),
+            (Pass(50), false, 0),
+        ],
+        // R keeps the start edge
+        &[
+            (Start(Se, true, 0x0005), true, 5),
+            (Reset(true), false, 0),
+            (Start(Se, true, 0x0005), false, 0),
+        ],
+        // a digit above 9 counts only where it is read
+        &[
+            (Start(Se, false, 0x00A0), false, 0),
+            (Start(Se, true, 0x0005), true, 5),
+            (Start(Se, true, 0x00A0), true, 5),
+            (Pass(50), false, 0),
+        ],
+    ];
+    let mut timers = Timers::new();
+    let mut number = 0;
+    for story in stories {
+        for (event, output, value) in story {
+            assert_eq!(rt; event.happen(&mut timers, number), Ok(()));
+            assert_eq!(rt; timers.output(number), Ok(*output));
+            assert_eq!(rt; timers.value(number), Ok(*value));
+        }
+        number = if number < 126 { number + 1 } else { 0 };
+    }
+
+    assert_eq!(rt;
+        timers.start(127, Sp, true, 0x000A),
+        Err(TimerFault::BadBcd)
+    );
+    assert_eq!(rt; timers.output(127), Ok(false));
+    assert_eq!(rt; timers.start(127, Sp, true, 0x1123), Ok(()));
+    assert_eq!(rt; timers.bcd(127), Ok(0x1123));
+    timers.pass_ms(101);
+    assert_eq!(rt; timers.bcd(127), Ok(0x1122));
+
+    assert_eq!(rt;
+        timers.start(128, Sp, true, 0x000A),
+        Err(TimerFault::NoNumber)
+    );
+    assert_eq!(rt; timers.reset(128, true), Err(TimerFault::NoNumber));
+    assert_eq!(rt; timers.free(128, true), Err(TimerFault::NoNumber));
+    assert_eq!(rt; timers.output(128), Err(TimerFault::NoNumber));
+    assert_eq!(rt; timers.value(128), Err(TimerFault::NoNumber));
+    assert_eq!(rt; timers.bcd(128), Err(TimerFault::NoNumber));
+}
+
+/// An instruction on a counter.
+#[derive(Clone, Copy)]
+enum Count {
+    Up(bool),
+    Down(bool),
+    Set(bool, u16),
+    Clear(bool),
+    Release(bool),
+}
+
+use Count::{Clear, Down, Release, Set, Up};
+
+impl Count {
+    fn happen(self, counters: &mut Counters, number: u16) -> Result<(), TimerFault> {
+        match self {
+            Up(rlo) => counters.up(number, rlo),
+            Down(rlo) => counters.down(number, rlo),
+            Set(rlo, value) => counters.set(number, rlo, value),
+            Clear(rlo) => counters.reset(number, rlo),
+            Release(rlo) => counters.free(number, rlo),
+        }
+    }
+}
+
+// Each row has the instruction, its answer, and then the value.
+#[test]
+fn counters(rt: HostRuntime) {
+    let mut counters = Counters::new();
+    for (count, answer, value) in [
+        (Down(true), Ok(()), 0),
+        (Up(true), Ok(()), 1),
+        (Up(true), Ok(()), 1),
+        (Up(false), Ok(()), 1),
+        (Up(true), Ok(()), 2),
+        (Down(true), Ok(()), 2),
+        (Down(false), Ok(()), 2),
+        (Down(true), Ok(()), 1),
+        (Set(true, 0xF998), Ok(()), 998),
+        (Set(true, 0x0005), Ok(()), 998),
+        (Up(false), Ok(()), 998),
+        (Up(true), Ok(()), 999),
+        (Up(false), Ok(()), 999),
+        (Up(true), Ok(()), 999),
+        // FR on its rising RLO clears the edges of CU, CD and S
+        (Release(true), Ok(()), 999),
+        (Set(true, 0x0345), Ok(()), 345),
+        (Release(true), Ok(()), 345),
+        (Set(true, 0x0111), Ok(()), 345),
+        // a digit above 9 counts only where it is read
+        (Set(false, 0x00A0), Ok(()), 345),
+        (Set(true, 0x00A0), Err(TimerFault::BadBcd), 345),
+        (Set(true, 0x0012), Ok(()), 12),
+        (Clear(false), Ok(()), 12),
+        (Clear(true), Ok(()), 0),
+    ] {
+        assert_eq!(rt; count.happen(&mut counters, 63), answer);
+        assert_eq!(rt; counters.value(63), Ok(value));
+        assert_eq!(rt; counters.output(63), Ok(value > 0));
+    }
+    assert_eq!(rt; counters.set(0, true, 0x0345), Ok(()));
+    assert_eq!(rt; counters.bcd(0), Ok(0x0345));
+
+    assert_eq!(rt; counters.up(64, true), Err(TimerFault::NoNumber));
+    assert_eq!(rt; counters.down(64, true), Err(TimerFault::NoNumber));
+    assert_eq!(rt; counters.set(64, true, 0x00A0), Err(TimerFault::NoNumber));
+    assert_eq!(rt; counters.reset(64, true), Err(TimerFault::NoNumber));
+    assert_eq!(rt; counters.free(64, true), Err(TimerFault::NoNumber));
+    assert_eq!(rt; counters.output(64), Err(TimerFault::NoNumber));
+    assert_eq!(rt; counters.value(64), Err(TimerFault::NoNumber));
+    assert_eq!(rt; counters.bcd(64), Err(TimerFault::NoNumber));
+}

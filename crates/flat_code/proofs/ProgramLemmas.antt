@@ -1,0 +1,41 @@
+-- The names of a program are in order, since no name of its image is a fault.
+use Rattle.std.proofs.Common.{◌≡◌, ℕ, Bool, true, false, ◌&&◌, List, [], ◌∷◌, length, map, refl}
+use Rattle.std.proofs.lemmas.Bool.{and_parts, and_from}
+use Rattle.flat_code.specs.Programs.{Program, NameEntry}
+use Rattle.flat_code.specs.Layout.{is_fine, good_many}
+use Rattle.flat_code.specs.Faults.{is_before, is_upper, unless, name_fault}
+use Rattle.flat_code.specs.Names.{names_rise}
+use Rattle.flat_code.specs.Image.{name_bytes, raw_name, name_record, after_name, names, counts, code_blocks, data_blocks, raw_records, records, body, raw_of_records, records_of, name_of_entry, IsProgram}
+
+is_met : (test : Bool) (code : ℕ) → is_fine (unless test code) ≡ true → test ≡ true
+is_met true code h = refl
+is_met false code h = absurd cc
+
+first : (a b : Bool) → (a && b) ≡ true → a ≡ true
+first a b h = (and_parts a b h).0
+
+second : (a b : Bool) → (a && b) ≡ true → b ≡ true
+second a b h = (and_parts a b h).1
+
+name_is_fine : (before : List ℕ) (entry : NameEntry) → (name_record before).good (name_of_entry entry) ≡ true → is_fine (name_fault before entry.name) ≡ true
+unfolding name_record raw_name name_bytes
+name_is_fine before entry h = second _ _ (first _ _ (second _ _ h))
+
+name_is_next : (before : List ℕ) (entry : NameEntry) → (name_record before).good (name_of_entry entry) ≡ true → (is_before before entry.name && is_upper entry.name) ≡ true
+unfolding name_fault
+name_is_next before entry h = first _ _ (is_met _ 4 (name_is_fine before entry h))
+
+good_names : (before : List ℕ) (entries : List NameEntry) → good_many name_record after_name before (length (map name_of_entry entries)) (map name_of_entry entries) ≡ true → names_rise before entries ≡ true
+good_names before [] h = refl
+good_names before (entry ∷ entries) h =
+    let p = and_parts ((name_record before).good (name_of_entry entry)) (good_many name_record after_name entry.name (length (map name_of_entry entries)) (map name_of_entry entries)) h in
+    and_from _ _ (name_is_next before entry p.0) (good_names entry.name entries p.1)
+
+pub names_of_program : (p : Program) → IsProgram p → names_rise [] p.names ≡ true
+unfolding body records raw_records names
+names_of_program p h =
+    let r = raw_of_records (records_of p) in
+    let codes = (code_blocks false r.0.0).good r.1.0 in
+    let datas = (data_blocks r.0.1.0).good r.1.1.0 in
+    let named = (names r.0.1.1.0).good r.1.1.1 in
+    good_names [] p.names (second datas named (second codes (datas && named) (second (counts.good r.0) (codes && (datas && named)) h.good)))

@@ -1,0 +1,110 @@
+//! The numbers that operands have for jumps and for conditions of the status word.
+ghost use Rattle.std.specs.Prelude.{◌≡◌, ◌<◌, ◌≤◌};
+ghost use Rattle.flat_code.specs.Kinds.{jump_of as jump_of_kind, kind_of, flag_of as flag_of_condition, condition_of as condition_of_flag};
+
+use plc_base::Flag;
+
+/// The jump instructions (manual: logic control instructions).
+#[derive(Clone, Copy, Debug, PartialEq, Eq)]
+pub enum JumpWord {
+    Ju,
+    Jl,
+    Jc,
+    Jcn,
+    Jcb,
+    Jnb,
+    Jbi,
+    Jnbi,
+    Jo,
+    Jos,
+    Jz,
+    Jn,
+    Jp,
+    Jm,
+    Jpz,
+    Jmz,
+    Juo,
+    Loop,
+}
+
+/// The jumps by their kinds.
+pub static JUMPS: [JumpWord; 18] = [
+    JumpWord::Ju,
+    JumpWord::Jl,
+    JumpWord::Jc,
+    JumpWord::Jcn,
+    JumpWord::Jcb,
+    JumpWord::Jnb,
+    JumpWord::Jbi,
+    JumpWord::Jnbi,
+    JumpWord::Jo,
+    JumpWord::Jos,
+    JumpWord::Jz,
+    JumpWord::Jn,
+    JumpWord::Jp,
+    JumpWord::Jm,
+    JumpWord::Jpz,
+    JumpWord::Jmz,
+    JumpWord::Juo,
+    JumpWord::Loop,
+];
+
+/// The jump of a kind.
+#[tactic(auto, unfolding(crate::specs::Kinds::jump_of))]
+pub fn jump_of(kind: u8) -> JumpWord
+    requires { kind < 18 }
+    ensures { result ≡ jump_of_kind kind }
+{
+    JUMPS[kind as usize]
+}
+
+impl JumpWord {
+    /// The kind of the jump.
+    pub fn kind(self) -> u8
+        ensures { result ≡ kind_of self }
+    {
+        self as u8
+    }
+}
+
+/// The conditions by their numbers, the first of which is 1.
+pub static CONDITIONS: [Flag; 10] = [
+    Flag::Br,
+    Flag::Ov,
+    Flag::Os,
+    Flag::EqZero,
+    Flag::NeZero,
+    Flag::GtZero,
+    Flag::LtZero,
+    Flag::GeZero,
+    Flag::LeZero,
+    Flag::Uo,
+];
+
+/// What the condition of a number asks of the status word.
+#[tactic(auto, unfolding(crate::specs::Kinds::flag_of))]
+pub fn flag_of(condition: u8) -> Flag
+    requires from_1 { 1 ≤ condition }
+    requires to_10 { condition ≤ 10 }
+    ensures { result ≡ flag_of_condition condition }
+{
+    CONDITIONS[condition as usize - 1]
+}
+
+/// The number of a condition.
+pub fn condition_of(flag: Flag) -> u8
+    ensures { result ≡ condition_of_flag flag }
+{
+    match flag {
+        Flag::Br => 1,
+        Flag::Ov => 2,
+        Flag::Os => 3,
+        Flag::EqZero => 4,
+        Flag::NeZero => 5,
+        Flag::GtZero => 6,
+        Flag::LtZero => 7,
+        Flag::GeZero => 8,
+        Flag::LeZero => 9,
+        Flag::Uo => 10,
+    }
+}

@@ -1,0 +1,178 @@
+//! Ops as bytes, both ways: the least and the greatest payload of each form of each instruction,
+//! and bytes that are no op.
+
+use crate::{BadOp, Op, Operand, decode_op, encode_op};
+use plc_base::{Area, Width};
+use std::alloc::Global;
+use std::test::*;
+
+// Each line has op codes and, behind |, form bytes with their payloads.
+const OPS: &str = "\
+01 | 01 00 00 00 00 ; 01 00 00 00 01
+02 | 0A 00 00 ; 0A FF FF
+03 | 01 00 00 00 00 ; 01 00 00 00 FF
+04 | 0B 00 01 00 00 00 00 ; 0B FF 01 FF FF FF FF ; 0B 00 02 80 01 00 00 00 ; 0B FF 02 86 04 FF FF 07
+04 | 0B 00 05 00 01 ; 0B FF 05 FF 04 ; 0B 00 0C 00 00 80 01 00 00 00 ; 0B FF 0C FF FF 86 04 FF FF 07
+10 11 12 13 14 15 | 02 80 01 00 00 00 ; 02 86 04 FF FF 07 ; 03 81 01 83 00 00 ; 03 86 04 86 FF FF
+10 11 12 13 14 15 | 04 00 01 01 00 00 00 00 ; 04 81 01 01 00 00 00 00 ; 04 86 04 02 FF FF FF FF
+10 11 12 13 14 15 | 05 00 01 ; 05 FF 04 ; 06 01 00 00 ; 06 02 FF FF ; 09 01 ; 09 0A
+10 11 12 13 14 15 | 07 01 83 00 00 ; 07 02 86 FF FF
+16 18 19 1A 1B 1C 1D 1E | 00
+17 | 01 00 00 00 00 ; 01 FF FF FF FF
+20 21 22 23 24 25 26 | 02 80 01 00 00 00 ; 02 86 04 FF FF 07 ; 03 81 01 83 00 00 ; 03 86 04 86 FF FF
+20 21 22 23 24 25 26 | 04 00 01 01 00 00 00 00 ; 04 86 04 02 FF FF FF FF ; 05 00 01 ; 05 FF 04
+20 | 01 00 00 00 00 ; 01 FF FF FF FF ; 06 01 00 00 ; 06 02 FF FF ; 07 01 83 00 00 ; 07 02 86 FF FF
+23 | 06 02 00 00 ; 06 02 FF FF ; 07 02 83 00 00 ; 07 02 86 FF FF
+24 2B 75 | 06 01 00 00 ; 06 02 FF FF ; 07 01 83 00 00 ; 07 02 86 FF FF
+27 28 29 2A 2C 2D 34 35 36 39 3A 3B 3C 3D | 00
+2E | 01 00 00 00 00 ; 01 00 00 00 03
+30 31 | 00 ; 01 00 00 00 00 ; 01 FF FF FF FF ; 02 80 01 00 00 00 ; 02 86 04 FF FF 07
+32 33 | 00 ; 02 80 01 00 00 00 ; 02 86 04 FF FF 07
+37 38 | 00 ; 01 00 00 00 00 ; 01 FF FF FF FF
+3E 3F | 01 00 00 00 00 ; 01 00 00 00 FF
+40 | 01 00 00 00 00 ; 01 00 00 FF FF
+41 42 43 44 45 46 47 48 49 4A 4B 4C 4D 4E 4F 50 51 52 53 54 55 | 00
+56 57 58 59 5A 5B 5C 5D 5E 6D 6E 7B 7C 7D 7F | 00
+5F 60 61 | 00 ; 01 00 00 00 00 ; 01 00 00 FF FF
+62 63 64 | 00 ; 01 00 00 00 00 ; 01 FF FF FF FF
+65 67 68 | 00 ; 01 00 00 00 00 ; 01 00 00 00 0F
+66 69 6A 6B 6C | 00 ; 01 00 00 00 00 ; 01 00 00 00 20
+6F | 08 00 00 00 00 00 ; 08 11 FF FF FF FF
+70 71 72 73 74 | 06 01 00 00 ; 06 01 FF FF ; 07 01 83 00 00 ; 07 01 86 FF FF
+76 77 | 06 02 00 00 ; 06 02 FF FF ; 07 02 83 00 00 ; 07 02 86 FF FF
+78 79 7A | 0D 02 00 00 00 00 ; 0D 03 FF FF FF FF ; 0D 05 00 2E 00 00
+7E | 0E 01 00 00 ; 0E 02 FF FF ; 0F 01 83 00 00 ; 0F 02 86 FF FF
+";
+
+// The same, of bytes that are no op.
+const NO_OPS: &str = "\
+00 05 06 07 08 09 0A 0B 0C 0D 0E 0F 1F 2F | 00 ; 01 00 00 00 00 ; 02 83 01 00 00 00 ; 09 01
+01 | 00 ; 01 00 00 00 02 ; 02 83 01 00 00 00 ; 01 00 00 00
+02 | 00 ; 0A 00 ; 01 00 00 00 00 ; 0E 01 00 00
+03 3E 3F | 00 ; 01 00 00 01 00
+04 | 0B 00 ; 0B 00 00 ; 0B 00 03 81 01 83 00 00 ; 0B 00 04 00 01 01 00 00 00 00 ; 0B 00 01 00 00 00
+04 | 0B 00 02 83 01 00 00 08 ; 0B 00 0C 00 0A 84 00 00 00 00 ; 0B 00 06 01 00 00 ; 01 00 00 00 00
+10 22 | 00 ; 01 00 00 00 00 ; 02 7F 01 00 00 00 ; 02 87 01 00 00 00 ; 02 83 00 00 00 00
+10 22 | 02 83 05 00 00 00 ; 02 83 01 00 00 08 ; 02 83 01 00 00
+10 22 | 03 80 01 83 00 00 ; 03 83 01 82 00 00
+10 22 | 03 83 01 87 00 00 ; 03 83 00 83 00 00 ; 04 80 01 01 00 00 00 00 ; 04 83 01 00 00 00 00 00
+10 22 | 04 83 01 03 00 00 00 00 ; 04 83 05 01 00 00 00 00 ; 05 00 00 ; 05 00 05 ; 08 00 00 00 00 00
+10 22 | 0A 00 0A ; 0B 00 01 00 00 00 00 ; 0C 00 0A 84 01 00 00 00
+10 22 | 0D 02 00 01 00 00 ; 0E 01 00 0A ; 10
+10 20 | 06 00 00 00 ; 06 03 00 00 ; 07 00 83 00 00 ; 07 01 82 00 00 ; 07 01 83 00
+10 | 09 00 ; 09 0B ; 09
+20 21 22 23 24 25 26 | 00 ; 09 01
+21 22 25 26 | 01 00 00 00 00 ; 06 01 00 00 ; 06 02 00 00 ; 07 02 83 00 00
+23 | 06 01 00 00 ; 07 01 83 00 00
+2B 75 | 00 ; 02 83 01 00 00 00
+2E | 00 ; 01 00 00 00 04
+30 31 | 03 83 04 83 00 00 ; 04 83 04 01 00 00 00 00 ; 05 00 04
+32 33 | 01 00 00 00 00 ; 03 83 04 83 00 00
+40 5F 60 61 | 01 00 01 00 00
+40 17 | 00
+65 67 68 | 01 00 00 00 10
+66 69 6A 6B 6C | 01 00 00 00 21
+6D 6E | 01 00 00 00 01
+6F | 00 ; 08 12 00 00 00 00 ; 08 00 00 00 00
+70 71 72 73 74 | 06 02 00 00 ; 07 02 83 00 00
+76 77 | 06 01 00 00 ; 07 01 83 00 00
+78 79 7A | 0D 00 00 01 00 00 ; 0D 01 00 01 00 00 ; 0D 04 00 01 00 00 ; 0D 06 00 01 00 00
+78 79 7A | 0D 02 00 01 00
+7B 7C 7D 7F | 01 00 00 00 00
+7E | 00 ; 0E 00 00 0A ; 0E 03 00 0A ; 0F 01 82 00 00 ; 0F 03 83 00 00 ; 0A 00 0A
+";
+
+fn byte_of(word: &str) -> u8 {
+    u8::from_str_radix(word, 16).unwrap_or(0)
+}
+
+/// The bytes of an op: its code, with the end mark where it has one, and what stands behind it.
+fn op_bytes(alloc: Global, first: u8, text: &str) -> Result<Vec<u8>, Fail> {
+    let mut bytes = Vec::new(alloc);
+    bytes.push(first)?;
+    for word in text.split_ascii_whitespace() {
+        bytes.push(byte_of(word))?;
+    }
+    Ok(bytes)
+}
+
+/// The op that a few bytes begin with.
+fn decoded(bytes: &[u8]) -> Result<(Op, u32), BadOp> {
+    if bytes.len() > 64 {
+        return Err(BadOp);
+    }
+    decode_op(bytes, 0)
+}
+
+#[test]
+fn each_op_is_read_and_spelled(rt: HostRuntime) -> Result<(), Fail> {
+    for line in OPS.lines() {
+        let (codes, payloads) = line.split_once('|').unwrap_or(("", ""));
+        for code in codes.split_ascii_whitespace() {
+            for payload in payloads.split(';') {
+                for mark in [0u8, 128] {
+                    let first = byte_of(code) | mark;
+                    let mut bytes = op_bytes(rt.alloc(), first, payload)?;
+                    let len = bytes.len();
+                    bytes.push(0xEF)?;
+                    let Ok((op, end)) = decoded(bytes.as_slice()) else {
+                        assert!(rt; false, "{code} {payload}");
+                        continue;
+                    };
+                    assert_eq!(rt; end as usize, len, "{code} {payload}");
+                    assert_eq!(rt; op.last, mark == 128);
+                    let mut spelled = Vec::new(rt.alloc());
+                    encode_op(&op, &mut spelled)?;
+                    assert_eq!(rt; spelled.as_slice(), &bytes[..len], "{code} {payload}");
+                }
+            }
+        }
+    }
+    Ok(())
+}
+
+#[test]
+fn other_bytes_are_no_op(rt: HostRuntime) -> Result<(), Fail> {
+    for line in NO_OPS.lines() {
+        let (codes, payloads) = line.split_once('|').unwrap_or(("", ""));
+        for code in codes.split_ascii_whitespace() {
+            for payload in payloads.split(';') {
+                let bytes = op_bytes(rt.alloc(), byte_of(code), payload)?;
+                assert!(rt; decoded(bytes.as_slice()).is_err(), "{code} {payload}");
+            }
+        }
+    }
+    assert!(rt; decode_op(&[0x16, 0], 1).is_err());
+    assert!(rt; decode_op(&[0x16, 0], 2).is_err());
+    assert!(rt; decode_op(&[0x16, 0], 3).is_err());
+    Ok(())
+}
+
+// JU to the offset 7; the data block 10 of a T; T DB10.DBW 2; BE.
+#[test]
+fn parts_of_ops(rt: HostRuntime) -> Result<(), Fail> {
+    let code = [
+        0xEF, 8, 0, 0, 0, 0, 7, 2, 10, 0, 10, 0xA1, 2, 0x84, 3, 0, 2, 0, 0xFB, 0,
+    ];
+    let place = Operand::Direct {
+        area: Area::Db,
+        width: Width::Word,
+        byte: 2,
+        bit: 0,
+    };
+    let mut at = 0;
+    for (code_of_op, last, operand) in [
+        (0x6F, true, Operand::Jump { kind: 0, target: 7 }),
+        (0x02, false, Operand::UseDb { number: 10 }),
+        (0x21, true, place),
+        (0x7B, true, Operand::Nothing),
+    ] {
+        let (op, end): (Op, u32) = decode_op(&code, at)?;
+        assert_eq!(rt; op.code, code_of_op);
+        assert_eq!(rt; op.last, last);
+        assert!(rt; op.operand == operand);
+        at = end;
+    }
+    assert_eq!(rt; at, 20);
+    Ok(())
+}

@@ -1,0 +1,102 @@
+//! What names find, and the names of jumps and conditions.
+
+use crate::{JUMPS, NameEntry, Names, condition_of, flag_of, jump_of};
+use plc_base::{Area, Place, Width};
+use std::alloc::{AllocError, Global};
+use std::test::*;
+
+fn entry(alloc: Global, name: &[u8], byte: u16) -> Result<NameEntry, AllocError> {
+    let mut own = Vec::new(alloc);
+    own.extend_from_slice(name)?;
+    Ok(NameEntry {
+        name: own,
+        place: Place {
+            area: Area::M,
+            number: 0,
+            byte,
+            bit: 0,
+        },
+        width: Width::Word,
+    })
+}
+
+#[test]
+fn names_without_case(rt: HostRuntime) -> Result<(), Fail> {
+    let mut list = Vec::new(rt.alloc());
+    let spelled: [&[u8]; 5] = [b"A", b"A B", b"MOTOR_1", b"MOTOR_10", b"Z\xC4"];
+    for (byte, name) in spelled.iter().enumerate() {
+        list.push(entry(rt.alloc(), name, byte as u16)?)?;
+    }
+    assert!(rt; Names::are_in_order(list.as_slice()));
+    let names = Names::new(list);
+    assert_eq!(rt; names.as_slice().len(), 5);
+    let rows: [(&[u8], Option<u16>); 12] = [
+        (b"a", Some(0)),
+        (b"A", Some(0)),
+        (b"a b", Some(1)),
+        (b"Motor_1", Some(2)),
+        (b"MOTOR_10", Some(3)),
+        (b"z\xC4", Some(4)),
+        (b"z\xE4", None),
+        (b"", None),
+        (b"A ", None),
+        (b"MOTOR", None),
+        (b"MOTOR_2", None),
+        (b"ZZ", None),
+    ];
+    for (name, byte) in rows {
+        assert!(rt; names.find(name).map(|found| found.0.byte) == byte);
+    }
+    Ok(())
+}
+
+#[test]
+fn names_in_order(rt: HostRuntime) -> Result<(), Fail> {
+    let rows: [(&[&[u8]], bool); 7] = [
+        (&[], true),
+        (&[b""], false),
+        (&[b"A", b"B"], true),
+        (&[b"B", b"A"], false),
+        (&[b"A", b"A"], false),
+        (&[b"a"], false),
+        (&[b"A", b"Bz"], false),
+    ];
+    for (names, right) in rows {
+        let mut list = Vec::new(rt.alloc());
+        for name in names {
+            list.push(entry(rt.alloc(), name, 0)?)?;
+        }
+        assert_eq!(rt; Names::are_in_order(list.as_slice()), right);
+    }
+    Ok(())
+}
+
+// JU JL JC JCN JCB JNB JBI JNBI JO JOS JZ JN JP JM JPZ JMZ JUO LOOP, from 0.
+#[test]
+fn numbers_of_jumps_and_conditions(rt: HostRuntime) -> Result<(), Fail> {
+    let jumps = [
+        "Ju", "Jl", "Jc", "Jcn", "Jcb", "Jnb", "Jbi", "Jnbi", "Jo", "Jos", "Jz", "Jn", "Jp", "Jm",
+        "Jpz", "Jmz", "Juo", "Loop",
+    ];
+    assert_eq!(rt; JUMPS.len(), jumps.len());
+    for kind in 0..18u8 {
+        let jump = jump_of(kind);
+        assert_eq!(rt;
+            format!(in rt.alloc(); "{jump:?}")?.as_str(),
+            jumps[kind as usize]
+        );
+        assert_eq!(rt; jump.kind(), kind);
+    }
+    let flags = [
+        "Br", "Ov", "Os", "EqZero", "NeZero", "GtZero", "LtZero", "GeZero", "LeZero", "Uo",
+    ];
+    for condition in 1..11u8 {
+        let flag = flag_of(condition);
+        assert_eq!(rt;
+            format!(in rt.alloc(); "{flag:?}")?.as_str(),
+            flags[condition as usize - 1]
+        );
+        assert_eq!(rt; condition_of(flag), condition);
+    }
+    Ok(())
+}

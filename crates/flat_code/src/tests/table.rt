@@ -1,0 +1,507 @@
+//! The table of op codes, cell by cell: each code with its instruction and what it takes, against a
+//! list that was typed from the instruction set by hand.
+
+ghost use Rattle.std.specs.Prelude.{◌<◌};
+
+use crate::{
+    Adding, CallWord, Comparison, EndWord, Joined, Logic, Number, Operand, Passed, PointerWord,
+    Shift, StartWord, Takes, Word, taken_by, word_of,
+};
+use plc_base::{Area, Width};
+use std::alloc::{AllocError, Global};
+use std::test::*;
+
+// Code, instruction, the forms of its operand; behind 01 the greatest literal, behind 06 and 07
+// timer or counter, behind / the widths in bits.
+const LIST: &str = "\
+00 -
+01 NOP 01:1
+02 USEDB 0A
+03 BLD 01:255
+04 PASS 0B
+05 -
+06 -
+07 -
+08 -
+09 -
+0A -
+0B -
+0C -
+0D -
+0E -
+0F -
+10 A 02 03 04 05 06T 07T 06C 07C 09 / 1
+11 AN 02 03 04 05 06T 07T 06C 07C 09 / 1
+12 O 02 03 04 05 06T 07T 06C 07C 09 / 1
+13 ON 02 03 04 05 06T 07T 06C 07C 09 / 1
+14 X 02 03 04 05 06T 07T 06C 07C 09 / 1
+15 XN 02 03 04 05 06T 07T 06C 07C 09 / 1
+16 O 00
+17 + 01:4294967295
+18 A( 00
+19 AN( 00
+1A O( 00
+1B ON( 00
+1C X( 00
+1D XN( 00
+1E ) 00
+1F -
+20 L 01:4294967295 02 03 04 05 06T 07T 06C 07C / 8 16 32
+21 T 02 03 04 05 / 8 16 32
+22 = 02 03 04 05 / 1
+23 S 02 03 04 05 06C 07C / 1
+24 R 02 03 04 05 06T 07T 06C 07C / 1
+25 FP 02 03 04 05 / 1
+26 FN 02 03 04 05 / 1
+27 SET 00
+28 CLR 00
+29 NOT 00
+2A SAVE 00
+2B LC 06T 07T 06C 07C
+2C L STW 00
+2D T STW 00
+2E L DBLG 01:3
+2F -
+30 LAR1 00 01:4294967295 02 / 32
+31 LAR2 00 01:4294967295 02 / 32
+32 TAR1 00 02 / 32
+33 TAR2 00 02 / 32
+34 LAR1 AR2 00
+35 TAR1 AR2 00
+36 CAR 00
+37 +AR1 00 01:4294967295
+38 +AR2 00 01:4294967295
+39 TAK 00
+3A PUSH 00
+3B POP 00
+3C CAW 00
+3D CAD 00
+3E INC 01:255
+3F DEC 01:255
+40 + 01:65535
+41 +I 00
+42 -I 00
+43 *I 00
+44 /I 00
+45 +D 00
+46 -D 00
+47 *D 00
+48 /D 00
+49 MOD 00
+4A ==I 00
+4B <>I 00
+4C >I 00
+4D <I 00
+4E >=I 00
+4F <=I 00
+50 ==D 00
+51 <>D 00
+52 >D 00
+53 <D 00
+54 >=D 00
+55 <=D 00
+56 BTI 00
+57 ITB 00
+58 BTD 00
+59 DTB 00
+5A ITD 00
+5B INVI 00
+5C INVD 00
+5D NEGI 00
+5E NEGD 00
+5F AW 00 01:65535
+60 OW 00 01:65535
+61 XOW 00 01:65535
+62 AD 00 01:4294967295
+63 OD 00 01:4294967295
+64 XOD 00 01:4294967295
+65 SSI 00 01:15
+66 SSD 00 01:32
+67 SLW 00 01:15
+68 SRW 00 01:15
+69 SLD 00 01:32
+6A SRD 00 01:32
+6B RLD 00 01:32
+6C RRD 00 01:32
+6D RLDA 00
+6E RRDA 00
+6F JUMP 08
+70 SP 06T 07T
+71 SE 06T 07T
+72 SD 06T 07T
+73 SS 06T 07T
+74 SF 06T 07T
+75 FR 06T 07T 06C 07C
+76 CU 06C 07C
+77 CD 06C 07C
+78 CALL 0D
+79 UC 0D
+7A CC 0D
+7B BE 00
+7C BEC 00
+7D BEU 00
+7E OPN 0E 0F
+7F CDB 00
+";
+
+fn check_name(with: Joined) -> &'static str {
+    match with {
+        Joined::A => "A",
+        Joined::An => "AN",
+        Joined::O => "O",
+        Joined::On => "ON",
+        Joined::X => "X",
+        Joined::Xn => "XN",
+    }
+}
+
+fn nest_name(with: Joined) -> &'static str {
+    match with {
+        Joined::A => "A(",
+        Joined::An => "AN(",
+        Joined::O => "O(",
+        Joined::On => "ON(",
+        Joined::X => "X(",
+        Joined::Xn => "XN(",
+    }
+}
+
+fn number_name(what: Number) -> &'static str {
+    match what {
+        Number::Tak => "TAK",
+        Number::Push => "PUSH",
+        Number::Pop => "POP",
+        Number::Caw => "CAW",
+        Number::Cad => "CAD",
+        Number::AddI => "+I",
+        Number::SubI => "-I",
+        Number::MulI => "*I",
+        Number::DivI => "/I",
+        Number::AddD => "+D",
+        Number::SubD => "-D",
+        Number::MulD => "*D",
+        Number::DivD => "/D",
+        Number::Mod => "MOD",
+        Number::Bti => "BTI",
+        Number::Itb => "ITB",
+        Number::Btd => "BTD",
+        Number::Dtb => "DTB",
+        Number::Itd => "ITD",
+        Number::Invi => "INVI",
+        Number::Invd => "INVD",
+        Number::Negi => "NEGI",
+        Number::Negd => "NEGD",
+        Number::Rlda => "RLDA",
+        Number::Rrda => "RRDA",
+    }
+}
+
+fn adding_name(what: Adding) -> &'static str {
+    match what {
+        Adding::Inc => "INC",
+        Adding::Dec => "DEC",
+        Adding::Word | Adding::Dword => "+",
+    }
+}
+
+fn comparison_name(how: Comparison) -> &'static str {
+    match how {
+        Comparison::Eq => "==",
+        Comparison::Ne => "<>",
+        Comparison::Gt => ">",
+        Comparison::Lt => "<",
+        Comparison::Ge => ">=",
+        Comparison::Le => "<=",
+    }
+}
+
+fn logic_name(what: Logic) -> &'static str {
+    match what {
+        Logic::Aw => "AW",
+        Logic::Ow => "OW",
+        Logic::Xow => "XOW",
+        Logic::Ad => "AD",
+        Logic::Od => "OD",
+        Logic::Xod => "XOD",
+    }
+}
+
+fn shift_name(what: Shift) -> &'static str {
+    match what {
+        Shift::Ssi => "SSI",
+        Shift::Ssd => "SSD",
+        Shift::Slw => "SLW",
+        Shift::Srw => "SRW",
+        Shift::Sld => "SLD",
+        Shift::Srd => "SRD",
+        Shift::Rld => "RLD",
+        Shift::Rrd => "RRD",
+    }
+}
+
+fn pointer_name(what: PointerWord) -> &'static str {
+    match what {
+        PointerWord::Lar1 => "LAR1",
+        PointerWord::Lar2 => "LAR2",
+        PointerWord::Tar1 => "TAR1",
+        PointerWord::Tar2 => "TAR2",
+        PointerWord::Lar1Ar2 => "LAR1 AR2",
+        PointerWord::Tar1Ar2 => "TAR1 AR2",
+        PointerWord::Car => "CAR",
+        PointerWord::AddAr1 => "+AR1",
+        PointerWord::AddAr2 => "+AR2",
+    }
+}
+
+fn start_name(kind: StartWord) -> &'static str {
+    match kind {
+        StartWord::Sp => "SP",
+        StartWord::Se => "SE",
+        StartWord::Sd => "SD",
+        StartWord::Ss => "SS",
+        StartWord::Sf => "SF",
+    }
+}
+
+fn call_name(how: CallWord) -> &'static str {
+    match how {
+        CallWord::Call => "CALL",
+        CallWord::Uc => "UC",
+        CallWord::Cc => "CC",
+    }
+}
+
+fn end_name(how: EndWord) -> &'static str {
+    match how {
+        EndWord::Be => "BE",
+        EndWord::Bec => "BEC",
+        EndWord::Beu => "BEU",
+    }
+}
+
+/// The instruction of a word, a comparison without its type.
+fn name(word: Word) -> &'static str {
+    match word {
+        Word::CompareInt(how) | Word::CompareDint(how) => comparison_name(how),
+        Word::NoWord => "-",
+        Word::Nop => "NOP",
+        Word::Bld => "BLD",
+        Word::UseDb => "USEDB",
+        Word::Pass => "PASS",
+        Word::Check(with) => check_name(with),
+        Word::OrBare => "O",
+        Word::Nest(with) => nest_name(with),
+        Word::Unnest => ")",
+        Word::Load => "L",
+        Word::Transfer => "T",
+        Word::Assign => "=",
+        Word::Set => "S",
+        Word::Reset => "R",
+        Word::Edge { rising: true } => "FP",
+        Word::Edge { rising: false } => "FN",
+        Word::SetRlo => "SET",
+        Word::ClearRlo => "CLR",
+        Word::NegateRlo => "NOT",
+        Word::SaveRlo => "SAVE",
+        Word::LoadBcd => "LC",
+        Word::LoadStatus => "L STW",
+        Word::TransferStatus => "T STW",
+        Word::LoadOpenBlock => "L DBLG",
+        Word::Pointer(what) => pointer_name(what),
+        Word::Number(what) => number_name(what),
+        Word::Add(what) => adding_name(what),
+        Word::Logic(what) => logic_name(what),
+        Word::Shift(what) => shift_name(what),
+        Word::Jump => "JUMP",
+        Word::Start(kind) => start_name(kind),
+        Word::Free => "FR",
+        Word::CountUp => "CU",
+        Word::CountDown => "CD",
+        Word::Call(how) => call_name(how),
+        Word::End(how) => end_name(how),
+        Word::OpenBlock => "OPN",
+        Word::Exchange => "CDB",
+    }
+}
+
+/// The type behind a comparison.
+fn type_behind(word: Word) -> &'static str {
+    match word {
+        Word::CompareInt(_) => "I",
+        Word::CompareDint(_) => "D",
+        _ => "",
+    }
+}
+
+/// The greatest literal that is taken, of those beside which the limits of the list lie.
+fn greatest_literal(takes: Takes) -> Option<u32> {
+    let mut greatest = None;
+    for value in [
+        0,
+        1,
+        2,
+        3,
+        4,
+        14,
+        15,
+        16,
+        31,
+        32,
+        33,
+        254,
+        255,
+        256,
+        65_534,
+        65_535,
+        65_536,
+        4_294_967_294,
+        4_294_967_295,
+    ] {
+        if takes.admits(&Operand::Literal { value }) {
+            greatest = Some(value);
+        }
+    }
+    greatest
+}
+
+/// An operand of each form but 00 and 01, in the order of the list.
+fn operands() -> [Operand; 15] {
+    let (area, width, byte, bit) = (Area::M, Width::Word, 2, 0);
+    let from = Area::L;
+    let actual = Passed::Literal { value: 7 };
+    [
+        Operand::Direct {
+            area,
+            width,
+            byte,
+            bit,
+        },
+        Operand::ByMemory {
+            area,
+            width,
+            from,
+            byte,
+        },
+        Operand::ByRegister {
+            area: None,
+            width,
+            register: 1,
+            bits: 8,
+        },
+        Operand::Parameter { index: 0, width },
+        Operand::Numbered { kind: 1, number: 3 },
+        Operand::NumberedBy {
+            kind: 1,
+            from,
+            byte,
+        },
+        Operand::Numbered { kind: 2, number: 3 },
+        Operand::NumberedBy {
+            kind: 2,
+            from,
+            byte,
+        },
+        Operand::Jump { kind: 0, target: 6 },
+        Operand::OfStatus { condition: 1 },
+        Operand::UseDb { number: 10 },
+        Operand::Pass { index: 0, actual },
+        Operand::Called {
+            kind: 2,
+            number: 1,
+            instance: 0,
+        },
+        Operand::OpenBlock {
+            register: 1,
+            number: 10,
+        },
+        Operand::OpenBy {
+            register: 1,
+            from,
+            byte,
+        },
+    ]
+}
+
+/// The form of an operand as the list writes it.
+fn form(operand: &Operand) -> &'static str {
+    match *operand {
+        Operand::Nothing => "00",
+        Operand::Literal { .. } => "01",
+        Operand::Direct { .. } => "02",
+        Operand::ByMemory { .. } => "03",
+        Operand::ByRegister { .. } => "04",
+        Operand::Parameter { .. } => "05",
+        Operand::Numbered { kind: 1, .. } => "06T",
+        Operand::Numbered { .. } => "06C",
+        Operand::NumberedBy { kind: 1, .. } => "07T",
+        Operand::NumberedBy { .. } => "07C",
+        Operand::Jump { .. } => "08",
+        Operand::OfStatus { .. } => "09",
+        Operand::UseDb { .. } => "0A",
+        Operand::Pass { .. } => "0B",
+        Operand::Called { .. } => "0D",
+        Operand::OpenBlock { .. } => "0E",
+        Operand::OpenBy { .. } => "0F",
+    }
+}
+
+/// The widths of operands in memory.
+fn put_widths(out: &mut String, takes: Takes) -> Result<(), AllocError> {
+    out.push_str(" /")?;
+    for (width, bits) in [
+        (Width::Bit, 1),
+        (Width::Byte, 8),
+        (Width::Word, 16),
+        (Width::Dword, 32),
+    ] {
+        if takes.has_width(width) {
+            write!(out, " {bits}")?;
+        }
+    }
+    Ok(())
+}
+
+/// A line of the list as the table of the crate has it.
+fn line(alloc: Global, code: u8) -> Result<String, AllocError>
+    requires { code < 128 }
+{
+    let mut out = String::new(alloc);
+    let word = word_of(code);
+    let takes = taken_by(code);
+    let name = name(word);
+    let of = type_behind(word);
+    write!(out, "{code:02X} {name}{of}")?;
+    if takes.admits(&Operand::Nothing) {
+        out.push_str(" 00")?;
+    }
+    if let Some(most) = greatest_literal(takes) {
+        write!(out, " 01:{most}")?;
+    }
+    for operand in operands() {
+        if takes.admits(&operand) {
+            let form = form(&operand);
+            write!(out, " {form}")?;
+        }
+    }
+    let [place, ..] = operands();
+    if takes.admits(&place) {
+        put_widths(&mut out, takes)?;
+    }
+    Ok(out)
+}
+
+#[test]
+fn each_code_takes_what_the_list_says(rt: HostRuntime) -> Result<(), Fail> {
+    let mut lines = LIST.lines();
+    for code in 0..128u8 {
+        let want = lines.next().unwrap_or("no line");
+        let line = line(rt.alloc(), code)?;
+        assert_eq!(rt; line.as_str(), want);
+        assert!(rt;
+            code == word_of(code).code() || want.ends_with('-'),
+            "code {code}"
+        );
+    }
+    assert!(rt; lines.next().is_none());
+    Ok(())
+}

@@ -1,0 +1,90 @@
+-- Activations: the list of frames, entering and leaving blocks.
+use Rattle.std.specs.Prelude.{◌≡◌, ℕ, ◌+◌, nat_le, List, [], ◌∷◌, length, reverse, slice_get, Option, Some, None, Result, Ok, Err, false, ◌==◌, if◌then◌else◌}
+use Rattle.std.specs.Option.{option_map}
+use Rattle.std.specs.Borrow.{Bor}
+use Rattle.status_word.specs.Registers.{regs_at_rest}
+use Rattle.frames.specs.Locals.{opened, closed, no_locals, byte_at, byte_set}
+use Rattle.frames.specs.declared.activation.Activation.{Activation}
+use Rattle.frames.specs.declared.activation.FrameFault.{FrameFault}
+use Rattle.frames.specs.declared.activation.FrameFault.TheVariants.{Depth, LocalFull}
+use Rattle.frames.specs.declared.frame.Frame.{Frame}
+
+-- the frames of an activation, the innermost one first; where the last one was left none stands
+abbrev pub frames_of : Activation → List Frame
+frames_of a = if a.left then [] else a.running.frame ∷ a.below
+
+-- the frame at a place of the list, counted from 0 at the outermost one
+abbrev pub frame_at : Activation → ℕ → Option Frame
+frame_at a place = slice_get (reverse (frames_of a)) place
+
+-- it is the frame at a place
+abbrev pub IsFrameIn : List Frame → ℕ → Option (Bor Frame) → Type 0
+IsFrameIn frames place result = option_map (λ f. f.now) result ≡ slice_get (reverse frames) place
+
+abbrev pub IsFrame : Activation → ℕ → Option (Bor Frame) → Type 0
+IsFrame a place result = IsFrameIn (frames_of a) place result
+
+-- an activation as its organization block begins: registers and status word 0, nothing delayed, one frame, its local bytes 0
+abbrev pub begun : (class ob : ℕ) → Frame → Activation
+begun class ob f = record {
+  class = class;
+  ob = ob;
+  delay = 0;
+  running = record { regs = regs_at_rest; frame = f; locals = opened f.local_len no_locals };
+  below = [];
+  left = false;
+}
+
+-- a local byte of the frame at a place
+abbrev pub local_byte : Activation → (frame byte : ℕ) → Option ℕ
+local_byte a frame byte = byte_at a.running.locals frame byte
+
+-- another one there
+abbrev pub with_local_byte : (frame byte value : ℕ) → Activation → Option Activation
+with_local_byte frame byte value a =
+    option_map (λ locals. record a { running = record a.running { locals = locals } }) (byte_set a.running.locals frame byte value)
+
+-- a block is entered: its frame is the innermost one, and its local bytes are 0
+abbrev pub entered : Frame → Activation → Activation
+entered f a = record a {
+  running = record a.running { frame = f; locals = opened f.local_len a.running.locals };
+  below = frames_of a;
+  left = false;
+}
+
+-- why a block can't be entered: sixteen frames stand, or its local bytes have no room in 1,024
+abbrev pub refused : (local_len : ℕ) → Activation → Option FrameFault
+refused local_len a =
+    if length (frames_of a) == 16 then Some Depth
+    else if nat_le (length a.running.locals.bytes + local_len) 1024 then None
+    else Some LocalFull
+
+abbrev pub EntersBy : Option FrameFault → (old new : Activation) → Frame → Result (Unit {0}) FrameFault → Type 0
+EntersBy None old new f (Ok answer) = new ≡ entered f old
+EntersBy (Some why) old new f (Err fault) = (fault ≡ why) × (new ≡ old)
+EntersBy why old new f answer = ⊥
+
+-- a block is entered, or it can't be
+abbrev pub Enters : (old new : Activation) → Frame → Result (Unit {0}) FrameFault → Type 0
+Enters old new f answer = EntersBy (refused f.local_len old) old new f answer
+
+-- a block is left: its local bytes end, and the frame below is the innermost one
+abbrev pub LeavesTo : (standing : List Frame) → (old new : Activation) → Option Frame → Type 0
+LeavesTo [] old new None = new ≡ old
+LeavesTo (f ∷ rest) old new (Some frame) =
+    (frame ≡ f) × (frames_of new ≡ rest) × (new.running.locals ≡ closed old.running.locals)
+    × (new.running.regs ≡ old.running.regs) × (new.class ≡ old.class) × (new.ob ≡ old.ob) × (new.delay ≡ old.delay)
+LeavesTo standing old new answer = ⊥
+
+abbrev pub Leaves : (old new : Activation) → Option Frame → Type 0
+Leaves old new answer = LeavesTo (frames_of old) old new answer
+
+-- a frame in the place of the innermost one, whose local bytes stay
+abbrev pub with_frame : Frame → Activation → Activation
+with_frame f a = record a { running = record a.running { frame = f } }
+
+-- one of the frames below is taken off
+abbrev pub Pops : (old new : List Frame) → Option Frame → Type 0
+Pops [] new None = new ≡ []
+Pops (f ∷ rest) new (Some frame) = (frame ≡ f) × (new ≡ rest)
+Pops old new answer = ⊥

@@ -1,0 +1,103 @@
+ghost use Rattle.frames.specs.Bound.{set_at};
+ghost use Rattle.std.specs.Prelude.{◌≡◌, ◌<◌, ◌++◌, [], ◌∷◌, length, slice_get};
+
+use arrayvec::ArrayVec;
+use plc_base::{Place, Width};
+use std::marker::Model;
+
+/// How many parameters a block has at most.
+const PARAMETERS: usize = 60;
+
+/// What a parameter of a block stands for, fixed at the call.
+#[derive(Clone, Copy, Debug, PartialEq, Eq)]
+pub enum Binding {
+    /// A place with its width. For local data `frame` says whose local bytes are meant, by the place
+    /// in the list of frames, counted from 0 at the outermost one.
+    Bound {
+        place: Place,
+        width: Width,
+        frame: u8,
+    },
+    /// The value of a constant.
+    Constant {
+        value: u32,
+    },
+    /// A parameter of a function block that its call doesn't supply.
+    Unsupplied,
+}
+
+impl Default for Binding {
+    /// Nothing is supplied.
+    fn default() -> Binding {
+        Binding::Unsupplied
+    }
+}
+
+/// The bindings of a frame by the index of the parameter, 60 at most. A contract sees the list.
+#[derive(Drop)]
+pub struct Bindings {
+    all: ArrayVec<Binding, PARAMETERS>,
+}
+
+impl Model for Bindings {
+    ghost use Rattle.std.specs.Prelude.{List};
+    ghost use Rattle.frames.specs.declared.bindings.Binding.{Binding};
+
+    ghost Value = { List Binding };
+
+    ghost view = { λ b. b.all.items };
+}
+
+impl Bindings {
+    /// No binding.
+    pub fn new() -> Bindings
+        ensures { result ≡ [] }
+    {
+        Bindings {
+            all: ArrayVec::new(),
+        }
+    }
+
+    /// How many parameters are bound.
+    pub fn len(&self) -> usize
+        ensures { result ≡ length self.now }
+    {
+        self.all.len()
+    }
+
+    /// What the parameter of this index stands for; `None` exactly where there is none.
+    pub fn get(&self, index: u8) -> Option<Binding>
+        ensures { result ≡ slice_get self.now index }
+    {
+        self.all.as_slice().get(usize::from(index)).copied()
+    }
+
+    /// Binds the next parameter.
+    pub fn push(&mut self, binding: Binding)
+        requires { length self.old < 60 }
+        ensures { self.new ≡ self.old ++ binding ∷ [] }
+    {
+        self.all.push(binding);
+    }
+
+    /// Sets what a parameter stands for, if there is such a parameter.
+    pub fn set(&mut self, index: u8, binding: Binding)
+        ensures { self.new ≡ set_at self.old index binding }
+    {
+        let at = usize::from(index);
+        if at < self.all.len() {
+            self.all.as_mut_slice()[at] = binding;
+        }
+    }
+
+    /// The same bindings again.
+    pub fn copied(&self) -> Bindings
+        ensures { result ≡ self.now }
+    {
+        let mut all = ArrayVec::new();
+        for binding in self.all.as_slice() {
+            all.push(*binding);
+        }
+        Bindings { all }
+    }
+}

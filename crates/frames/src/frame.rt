@@ -1,0 +1,41 @@
+use crate::bindings::Bindings;
+use plc_base::{BlockId, BlockKind};
+use status_word::Brackets;
+
+/// A block that was entered.
+#[derive(Drop)]
+pub struct Frame {
+    pub block: BlockId,
+    /// The byte offset of its next statement in its code.
+    pub at: u32,
+    /// The data blocks in the DB and in the DI register.
+    pub db: Option<u16>,
+    pub di: Option<u16>,
+    /// The instance data block, if a CALL of a function block made the frame.
+    pub instance: Option<u16>,
+    /// The open brackets (manual: nesting stack).
+    pub brackets: Brackets,
+    /// How many local bytes it has.
+    pub local_len: u16,
+    /// What its parameters stand for.
+    pub bindings: Bindings,
+}
+
+impl Default for Frame {
+    /// The frame of no block, where none stands.
+    fn default() -> Frame {
+        Frame {
+            block: BlockId {
+                kind: BlockKind::Ob,
+                number: 0,
+            },
+            at: 0,
+            db: None,
+            di: None,
+            instance: None,
+            brackets: Brackets::new(),
+            local_len: 0,
+            bindings: Bindings::new(),
+        }
+    }
+}

@@ -1,0 +1,14 @@
+//! Frames of blocks and activations of organization blocks.
+#![tactic(auto)]
+
+mod activation;
+mod bindings;
+mod frame;
+mod locals;
+mod running;
+
+pub use activation::{Activation, Below, FrameFault};
+pub use bindings::{Binding, Bindings};
+pub use frame::Frame;
+pub use locals::Locals;
+pub use running::Running;

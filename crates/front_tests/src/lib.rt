@@ -1,0 +1,15 @@
+//! Tests of the public calls of the front end. The library itself is empty.
+#![tactic(auto)]
+
+#[cfg(test)]
+mod clause_tests;
+#[cfg(test)]
+mod describe;
+#[cfg(test)]
+mod refusal_tests;
+#[cfg(test)]
+mod rows;
+#[cfg(test)]
+mod token_tests;
+#[cfg(test)]
+mod tree_tests;

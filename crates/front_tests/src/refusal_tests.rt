@@ -1,0 +1,304 @@
+use crate::rows::verdict;
+use std::alloc::{AllocError, Global};
+use std::test::Fail;
+use stl_ast::law_of_components;
+use stl_parser::law_of_clauses;
+
+/// Each source with the line and the rule of its refusal, worked out by hand from the grammar and
+/// docs/REFUSALS.md.
+static REFUSALS: [(&str, u32, u16); 50] = [
+    // Rule 10: not in the grammar.
+    (
+        "FUNCTION FC 1 : VOID\nBEGIN\nL DB10.DBW 2.x;\nEND_FUNCTION",
+        3,
+        10,
+    ),
+    (
+        "ORGANIZATION_BLOCK OB 1\nBEGIN\nL M 0.8;\nEND_ORGANIZATION_BLOCK",
+        3,
+        10,
+    ),
+    (
+        "ORGANIZATION_BLOCK OB 1\nBEGIN\nL P#0.8;\nEND_ORGANIZATION_BLOCK",
+        3,
+        10,
+    ),
+    (
+        "ORGANIZATION_BLOCK OB 1\nBEGIN\nA [AR1, P#0.8];\nEND_ORGANIZATION_BLOCK",
+        3,
+        10,
+    ),
+    (
+        "ORGANIZATION_BLOCK FC 1\nBEGIN\nEND_ORGANIZATION_BLOCK",
+        1,
+        10,
+    ),
+    ("FUNCTION FC 1\nBEGIN\nEND_FUNCTION", 1, 10),
+    (
+        "ORGANIZATION_BLOCK OB 1\nBEGIN\nx:= Q 4.0;\nEND_ORGANIZATION_BLOCK",
+        3,
+        10,
+    ),
+    (
+        "ORGANIZATION_BLOCK OB 1\nBEGIN\nCALL FC 1, DB 5;\nEND_ORGANIZATION_BLOCK",
+        3,
+        10,
+    ),
+    (
+        "ORGANIZATION_BLOCK OB 1\nBEGIN\nUC FC 1 (a := 5);\nEND_ORGANIZATION_BLOCK",
+        3,
+        10,
+    ),
+    (
+        "ORGANIZATION_BLOCK OB 1\nBEGIN\nCALL FC 1 (a := 5,);\nEND_ORGANIZATION_BLOCK",
+        3,
+        10,
+    ),
+    (
+        "ORGANIZATION_BLOCK OB 1\nBEGIN\nCALL FC 1 ();\nEND_ORGANIZATION_BLOCK",
+        3,
+        10,
+    ),
+    (
+        "ORGANIZATION_BLOCK OB 1\nBEGIN\nx: ;\nEND_ORGANIZATION_BLOCK",
+        3,
+        10,
+    ),
+    (
+        "ORGANIZATION_BLOCK OB 1\nBEGIN\nSET\nEND_ORGANIZATION_BLOCK",
+        3,
+        10,
+    ),
+    (
+        "ORGANIZATION_BLOCK OB 1\nBEGIN\nL M 5;\nEND_ORGANIZATION_BLOCK",
+        3,
+        10,
+    ),
+    (
+        "ORGANIZATION_BLOCK OB 1\nBEGIN\nL MW [MW 4];\nEND_ORGANIZATION_BLOCK",
+        3,
+        10,
+    ),
+    (
+        "ORGANIZATION_BLOCK OB 1\nBEGIN\nL B#(1,256);\nEND_ORGANIZATION_BLOCK",
+        3,
+        10,
+    ),
+    (
+        "ORGANIZATION_BLOCK OB 1\nBEGIN\nL B#(1,2,3);\nEND_ORGANIZATION_BLOCK",
+        3,
+        10,
+    ),
+    (
+        "FUNCTION_BLOCK FB 1\nVAR_INPUT\na : ARRAY[0..1] OF INT;\nEND_VAR\nBEGIN\nEND_FUNCTION_BLOCK",
+        3,
+        10,
+    ),
+    (
+        "FUNCTION_BLOCK FB 1\nVAR_INPUT\na : STRUCT\nb : INT;\nEND_STRUCT;\nEND_VAR\nBEGIN\nEND_FUNCTION_BLOCK",
+        3,
+        10,
+    ),
+    (
+        "FUNCTION_BLOCK FB 1\nVAR_INPUT\na : DATE_AND_TIME;\nEND_VAR\nBEGIN\nEND_FUNCTION_BLOCK",
+        3,
+        10,
+    ),
+    (
+        "FUNCTION_BLOCK FB 1\nVAR\na : STRUCT\nb : INT;\nEND_STRUCT\nEND_VAR\nBEGIN\nEND_FUNCTION_BLOCK",
+        5,
+        10,
+    ),
+    (
+        "FUNCTION_BLOCK FB 1\nVAR\na : INT := 1, 2;\nEND_VAR\nBEGIN\nEND_FUNCTION_BLOCK",
+        3,
+        10,
+    ),
+    (
+        "DATA_BLOCK DB 1\nSTRUCT\na : INT;\nEND_STRUCT;\nBEGIN\nDB 5.a := 1;\nEND_DATA_BLOCK",
+        6,
+        10,
+    ),
+    // Rule 11: where its kind may not follow.
+    (
+        "ORGANIZATION_BLOCK OB 1\nBEGIN\na : INT;\nEND_ORGANIZATION_BLOCK",
+        3,
+        11,
+    ),
+    (
+        "FUNCTION_BLOCK FB 1\nVAR\nSET;\nEND_VAR\nBEGIN\nEND_FUNCTION_BLOCK",
+        3,
+        11,
+    ),
+    (
+        "FUNCTION_BLOCK FB 1\nVAR_OUTPUT\nEND_VAR\nVAR_INPUT\nEND_VAR\nBEGIN\nEND_FUNCTION_BLOCK",
+        4,
+        11,
+    ),
+    (
+        "FUNCTION_BLOCK FB 1\nVAR\nEND_VAR\nVAR\nEND_VAR\nBEGIN\nEND_FUNCTION_BLOCK",
+        4,
+        11,
+    ),
+    (
+        "FUNCTION_BLOCK FB 1\nVAR\nEND_VAR;\nBEGIN\nEND_FUNCTION_BLOCK",
+        3,
+        11,
+    ),
+    (
+        "ORGANIZATION_BLOCK OB 1\nVAR\nEND_VAR\nBEGIN\nEND_ORGANIZATION_BLOCK",
+        2,
+        11,
+    ),
+    (
+        "FUNCTION FC 1 : VOID\nVAR\nEND_VAR\nBEGIN\nEND_FUNCTION",
+        2,
+        11,
+    ),
+    (
+        "FUNCTION FC 1 : VOID\nVAR_INPUT\na : INT := 5;\nEND_VAR\nBEGIN\nEND_FUNCTION",
+        3,
+        11,
+    ),
+    (
+        "ORGANIZATION_BLOCK OB 1\nVAR_TEMP\na : INT := 5;\nEND_VAR\nBEGIN\nEND_ORGANIZATION_BLOCK",
+        3,
+        11,
+    ),
+    (
+        "FUNCTION_BLOCK FB 1\nVAR_TEMP\na : STRUCT\nb : INT := 5;\nEND_STRUCT;\nEND_VAR\nBEGIN\nEND_FUNCTION_BLOCK",
+        4,
+        11,
+    ),
+    (
+        "ORGANIZATION_BLOCK OB 1\nVAR_TEMP\na : ARRAY[0..1] OF DATE_AND_TIME;\nEND_VAR\nBEGIN\nEND_ORGANIZATION_BLOCK",
+        3,
+        11,
+    ),
+    (
+        "FUNCTION_BLOCK FB 1\nVAR\na : STRUCT\nEND_VAR\nBEGIN\nEND_FUNCTION_BLOCK",
+        4,
+        11,
+    ),
+    ("ORGANIZATION_BLOCK OB 1\nBEGIN\nEND_FUNCTION", 3, 11),
+    ("DATA_BLOCK DB 1\nBEGIN\nEND_DATA_BLOCK", 2, 11),
+    ("SET;", 1, 11),
+    // Rule 12: a label is too long, in a clause that would be right with a shorter one.
+    (
+        "ORGANIZATION_BLOCK OB 1\nBEGIN\nabcde: SET;\nL M 0.8;\nEND_ORGANIZATION_BLOCK",
+        3,
+        12,
+    ),
+    (
+        "ORGANIZATION_BLOCK OB 1\nBEGIN\nJU abcde;\nEND_ORGANIZATION_BLOCK",
+        3,
+        12,
+    ),
+    ("ORGANIZATION_BLOCK OB 1\nBEGIN\nabcde: JU abcd;\n", 3, 12),
+    (
+        "ORGANIZATION_BLOCK OB 1\nBEGIN\nabcde: L M 0.8;\nEND_ORGANIZATION_BLOCK",
+        3,
+        10,
+    ),
+    (
+        "FUNCTION_BLOCK FB 1\nVAR\nabcde: SET;\nEND_VAR\nBEGIN\nEND_FUNCTION_BLOCK",
+        3,
+        11,
+    ),
+    // Rule 13: the source ends inside a block, and every clause is right.
+    ("ORGANIZATION_BLOCK OB 1\nBEGIN\nSET;\n", 3, 13),
+    (
+        "DATA_BLOCK DB 1\nSTRUCT a : STRUCT\nb : INT;\nEND_STRUCT;\n",
+        4,
+        13,
+    ),
+    ("ORGANIZATION_BLOCK OB 1\n\nTITLE = x", 3, 13),
+    ("ORGANIZATION_BLOCK OB 1\nBEGIN\nL M 0.8;\n", 3, 10),
+    ("ORGANIZATION_BLOCK OB 1\nBEGIN\nL M 0.8;\nSET;\n", 3, 10),
+    // A rule of tokens.
+    (
+        "ORGANIZATION_BLOCK OB 1\nBEGIN\nL S5T#2H46M31S;\nEND_ORGANIZATION_BLOCK",
+        3,
+        4,
+    ),
+    (
+        "ORGANIZATION_BLOCK FC 1\nBEGIN\nL 65536;\nEND_ORGANIZATION_BLOCK",
+        3,
+        4,
+    ),
+];
+
+#[test]
+fn names_the_first_violation(rt: HostRuntime) {
+    for (source, line, rule) in REFUSALS.iter() {
+        let got = verdict(rt.alloc(), source.as_bytes());
+        assert_eq!(rt; got, (*line, *rule), "{source}");
+    }
+    law_of_clauses();
+    law_of_components();
+}
+
+/// A source of one piece many times between a head and a tail.
+fn repeated(
+    alloc: Global,
+    head: &[u8],
+    piece: &[u8],
+    count: u32,
+    tail: &[u8],
+) -> Result<Vec<u8>, AllocError> {
+    let mut source = Vec::new(alloc);
+    source.extend_from_slice(head)?;
+    for _ in 0..count {
+        source.extend_from_slice(piece)?;
+    }
+    source.extend_from_slice(tail)?;
+    Ok(source)
+}
+
+/// Structures and arrays as deep as 1 MiB allows: no step goes down them by a call.
+#[test]
+fn open_structures(rt: HostRuntime) -> Result<(), Fail> {
+    let open = repeated(
+        rt.alloc(),
+        b"DATA_BLOCK DB 1 STRUCT ",
+        b"a:STRUCT ",
+        100_000,
+        b"",
+    )?;
+    assert_eq!(rt; verdict(rt.alloc(), open.as_slice()), (1, 13));
+    Ok(())
+}
+
+#[test]
+fn closed_structures(rt: HostRuntime) -> Result<(), Fail> {
+    let mut source = repeated(
+        rt.alloc(),
+        b"DATA_BLOCK DB 1 STRUCT ",
+        b"a:STRUCT ",
+        52_000,
+        b"",
+    )?;
+    let ends = repeated(
+        rt.alloc(),
+        b"",
+        b"END_STRUCT;",
+        52_000,
+        b"END_STRUCT BEGIN END_DATA_BLOCK",
+    )?;
+    source.extend_from_slice(ends.as_slice())?;
+    assert_eq!(rt; verdict(rt.alloc(), source.as_slice()), (0, 0));
+    Ok(())
+}
+
+#[test]
+fn nested_arrays(rt: HostRuntime) -> Result<(), Fail> {
+    let source = repeated(
+        rt.alloc(),
+        b"DATA_BLOCK DB 1 STRUCT a:",
+        b"ARRAY[0..0]OF ",
+        74_000,
+        b"INT;END_STRUCT BEGIN END_DATA_BLOCK",
+    )?;
+    assert_eq!(rt; verdict(rt.alloc(), source.as_slice()), (0, 0));
+    Ok(())
+}

@@ -1,0 +1,10 @@
+pub mod BinLemmas
+pub mod BitmapLemmas
+pub mod ChangeLemmas
+pub mod CountLemmas
+pub mod CountdownLemmas
+pub mod ListedLemmas
+pub mod QueueLemmas
+pub mod QuietLemmas
+pub mod RankingLemmas
+pub mod RoomLemmas

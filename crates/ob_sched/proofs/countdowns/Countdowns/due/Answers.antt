@@ -1,0 +1,38 @@
+use Rattle.std.proofs.Common.{◌∙◌, ◌<◌, ◌+◌, ap, length, arith}
+use Rattle.ob_sched.specs.Millisecond.{due_from}
+use Rattle.ob_sched.specs.Scheduler.{Countdowns}
+use Rattle.ob_sched.proofs.CountdownLemmas.{due_found, due_passed, due_all, due_known, cyclic_number, length_found}
+use Rattle.std.specs.List.{list_all}
+use Rattle.std.proofs.lemmas.List.Sums.{AllPass-from_list_all}
+use Rattle.ob_sched.specs.OrganizationBlock.{is_cyclic}
+use Rattle.ob_sched.proofs.countdowns.Countdowns.due.Goals as goal
+use Rattle.ob_sched.proofs.countdowns.Countdowns.due.Goals.{then-left-le1, else-left-le1}
+
+pub push-requires : goal.push-requires
+push-requires c = (omega arith, omega (arith, c.loop-i.invariant.0, c.loop-i-test.true))
+
+pub loop-i-preserved : goal.loop-i-preserved
+loop-i-preserved c =
+    let within : c.loop-i.i < length c.self.inside.periods = omega (arith, c.loop-i-test.true, c.self.invariant.1) in
+    elim c.if-left-le1.branch [
+      | then-left-le1 w ↦
+          rw (w.obs-is, w.push.ensures.items) (
+            length_found c.loop-i.obs.items (30 + c.loop-i.i) c.loop-i.i c.loop-i.invariant.0,
+            due_found c.loop-i.obs.items _ 30 c.self.inside.periods c.loop-i.i within c.loop-i.invariant.1 w.if-left-le1.true,
+          )
+      | else-left-le1 w ↦
+          rw w.obs-is (
+            omega (arith, c.loop-i.invariant.0),
+            due_passed c.loop-i.obs.items _ 30 c.self.inside.periods c.loop-i.i within c.loop-i.invariant.1 w.if-left-le1.false,
+          )
+    ]
+
+pub returns : goal.returns
+returns c =
+    let all =
+    due_all c.loop-i.obs.items _ 30 c.self.inside.periods c.loop-i.i (omega (arith, c.loop-i-test.false, c.self.invariant.1)) c.loop-i.invariant.1 in
+    let each = due_known is_cyclic 30 c.self.inside.periods (λ k h. cyclic_number k (omega (arith, h, c.self.invariant.1))) in
+    record {
+      due = all ∙ ap (λ (v : Countdowns). due_from 30 v.periods) c.self.view_is;
+      known = AllPass-from_list_all is_cyclic c.loop-i.obs.items (ap (list_all is_cyclic) all ∙ each);
+    }

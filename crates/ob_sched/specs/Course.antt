@@ -1,0 +1,71 @@
+-- What requests lead to: records of diagnostics, error OBs and a stop cause.
+use Rattle.std.specs.Prelude.{ℕ, List, [], ◌∷◌, ◌++◌, Some, length, drop, nat_lt, if◌then◌else◌}
+use Rattle.plc_base.specs.declared.Mode.{Mode}
+use Rattle.ob_sched.specs.OrganizationBlock.{class_in, is_hardware}
+use Rattle.ob_sched.specs.Scheduler.{Scheduler, arrival, arrived}
+use Rattle.ob_sched.specs.StartInformation.{start_info}
+use Rattle.ob_sched.specs.declared.passed.Passed.{Passed}
+use Rattle.ob_sched.specs.declared.requests.Arrived.{Arrived}
+use Rattle.ob_sched.specs.declared.requests.Arrived.TheVariants.{Queued, Dropped, NotLoaded, Full}
+use Rattle.ob_sched.specs.declared.start_infos.StartInfo.{StartInfo}
+use Rattle.ob_sched.specs.declared.start_infos.StartEvent.{StartEvent}
+use Rattle.ob_sched.specs.declared.start_infos.StartEvent.TheVariants.{Missed, QueueFull, NotLoaded as OfNotLoaded}
+
+-- the scheduler, and what passed so far: milliseconds, stop cause, the last 100 records
+pub record Course : Type 0 where
+  pub sched : Scheduler
+  pub passed : Passed
+
+-- one more record, a code and its detail; of more than 100 the oldest goes
+abbrev pub latest : List (ℕ × ℕ) → ℕ × ℕ → List (ℕ × ℕ)
+latest records one = (if nat_lt (length records) 100 then records else drop 1 records) ++ one ∷ []
+
+abbrev pub with_record : ℕ → ℕ → Passed → Passed
+with_record code info passed = record passed { records = record { items = latest passed.records.items (code, info) } }
+
+abbrev pub recorded : ℕ → ℕ → Course → Course
+recorded code info c = record c { passed = with_record code info c.passed }
+
+-- STOP with a cause
+abbrev pub with_stop : ℕ → Passed → Passed
+with_stop cause passed = record passed { stop = Some cause }
+
+abbrev pub stopped_by : ℕ → Course → Course
+stopped_by cause c = record c { passed = with_stop cause c.passed }
+
+-- after a request of an error OB: without that OB the controller stops; a request that is lost, since
+-- one waits already, is only recorded, by code 2
+abbrev pub after_error : ℕ → ℕ → Arrived → Course → Course
+after_error ob cause Queued c = c
+after_error ob cause Dropped c = c
+after_error ob cause NotLoaded c = stopped_by cause c
+after_error ob cause Full c = recorded 2 ob c
+
+abbrev pub error_requested : Mode → ℕ → ℕ → StartEvent → Course → Course
+error_requested mode ob cause event c =
+    after_error ob cause (arrival c.sched ob)
+    (record c { sched = arrived ob (start_info event (class_in mode ob)) c.sched })
+
+-- a time error is recorded by code 1 with the OB that it concerns, and requests OB 80; without OB 80
+-- the stop cause is 9
+unfoldable pub time_error : Mode → StartEvent → ℕ → Course → Course
+time_error mode event ob c = error_requested mode 80 9 event (recorded 1 ob c)
+
+-- an OB that isn't loaded is recorded by code 3, and requests OB 85; without OB 85 the stop cause is 8
+unfoldable pub not_loaded : Mode → ℕ → Course → Course
+not_loaded mode ob c = error_requested mode 85 8 (OfNotLoaded ob) (recorded 3 ob c)
+
+-- a queue that is full: that of a hardware interrupt has a start code of its own
+abbrev pub lost_event : ℕ → StartEvent
+lost_event ob = if is_hardware ob then QueueFull ob else Missed ob
+
+abbrev pub after_request : Mode → ℕ → Arrived → Course → Course
+after_request mode ob Queued c = c
+after_request mode ob Dropped c = c
+after_request mode ob NotLoaded c = not_loaded mode ob c
+after_request mode ob Full c = time_error mode (lost_event ob) ob c
+
+-- a request of an OB that isn't an error OB, with what follows where it isn't queued
+unfoldable pub requested : Mode → ℕ → StartInfo → Course → Course
+requested mode ob info c =
+    after_request mode ob (arrival c.sched ob) (record c { sched = arrived ob info c.sched })

@@ -1,0 +1,10 @@
+pub mod Bin
+pub mod Course
+pub mod Millisecond
+pub mod OrganizationBlock
+pub mod Quiet
+pub mod Ranking
+pub mod Request
+pub mod Scheduler
+pub mod StartInformation
+pub mod Views

@@ -1,0 +1,143 @@
+-- What passing time does: single milliseconds.
+use Rattle.std.specs.Prelude.{ℕ, ◌+◌, ◌-◌, ◌%◌, ◌^◌, Bool, true, false, not, ◌||◌, ◌==◌, nat_le, nat_lt, List, [], ◌∷◌, Option, Some, None, is_some, map, if◌then◌else◌}
+use Rattle.std.specs.Fn.{iterate}
+use Rattle.std.specs.List.{list_any}
+use Rattle.plc_base.specs.declared.Mode.{Mode}
+use Rattle.plc_base.specs.declared.Mode.TheVariants.{Run, Startup, Stop}
+use Rattle.ob_sched.specs.OrganizationBlock.{class_in, period_of}
+use Rattle.ob_sched.specs.Request.{waiting, queued}
+use Rattle.ob_sched.specs.Scheduler.{Scheduler, Countdowns, is_loaded, is_disabled}
+use Rattle.ob_sched.specs.StartInformation.{start_info}
+use Rattle.ob_sched.specs.Course.{Course, stopped_by, time_error, requested}
+use Rattle.ob_sched.specs.declared.start_infos.StartEvent.TheVariants.{Delay, Period, CycleTime, Missed}
+
+-- nothing more happens once there is a stop cause
+abbrev pub unless_stopped : (Course → Course) → Course → Course
+unless_stopped next c = if is_some c.passed.stop then c else next c
+
+-- for each of the OBs in turn
+abbrev pub each_of : (ℕ → Course → Course) → List ℕ → Course → Course
+each_of next [] c = c
+each_of next (ob ∷ rest) c = each_of next rest (unless_stopped (next ob) c)
+
+-- a delay that is started has one millisecond less, and ends with the last one
+abbrev pub delay_counted : Option ℕ → Option ℕ
+delay_counted None = None
+delay_counted (Some left) = if nat_le left 1 then None else Some (left - 1)
+
+abbrev pub is_ending : Option ℕ → Bool
+is_ending None = false
+is_ending (Some left) = nat_le left 1
+
+-- the OBs, from a number on, whose delays end with this millisecond
+abbrev pub ending_from : ℕ → List (Option ℕ) → List ℕ
+ending_from ob [] = []
+ending_from ob (delay ∷ rest) =
+    if is_ending delay then ob ∷ ending_from (ob + 1) rest else ending_from (ob + 1) rest
+
+-- a period has one millisecond less, and begins anew after the last one
+abbrev pub period_counted : ℕ → ℕ → ℕ
+period_counted ob left = if nat_le left 1 then period_of ob else left - 1
+
+abbrev pub periods_counted_from : ℕ → List ℕ → List ℕ
+periods_counted_from ob [] = []
+periods_counted_from ob (left ∷ rest) = period_counted ob left ∷ periods_counted_from (ob + 1) rest
+
+-- the OBs, from a number on, whose periods end with this millisecond
+abbrev pub due_from : ℕ → List ℕ → List ℕ
+due_from ob [] = []
+due_from ob (left ∷ rest) =
+    if nat_le left 1 then ob ∷ due_from (ob + 1) rest else due_from (ob + 1) rest
+
+-- the clock of TIME_TCK counts from 0 to 2^31 - 1
+abbrev pub clock_counted : ℕ → ℕ
+clock_counted clock = (clock + 1) % 2 ^ 31
+
+-- the end of a delay requests its OB
+abbrev pub delay_ended : Mode → ℕ → Course → Course
+delay_ended mode ob c = requested mode ob (start_info (Delay ob) (class_in mode ob)) c
+
+-- a cyclic OB that is due: one that is disabled, or isn't loaded, makes no request; one that is still
+-- pending or active is a time error
+abbrev pub is_waiting_or_active : List ℕ → ℕ → Scheduler → Bool
+is_waiting_or_active active ob s =
+    nat_lt 0 (waiting ob s.pending) || list_any (λ number. number == ob) active
+
+abbrev pub period_queued : Mode → ℕ → Course → Course
+period_queued mode ob c =
+    record c {
+      sched = record c.sched {
+        pending = queued (ob, start_info (Period ob) (class_in mode ob)) c.sched.pending;
+      };
+    }
+
+unfoldable pub period_ended : Mode → List ℕ → ℕ → Course → Course
+period_ended mode active ob c =
+    if is_disabled c.sched ob then c
+    else if not (is_loaded c.sched ob) then c
+    else if is_waiting_or_active active ob c.sched then time_error mode (Missed ob) ob c
+    else period_queued mode ob c
+
+-- the cycle counter: at 151 ms it begins anew. The first time in a cycle is a time error of OB 1, the
+-- second is stop cause 10
+abbrev pub with_cycle : ℕ → Bool → Course → Course
+with_cycle counter exceeded c =
+    record c { sched = record c.sched { cycle = record { counter = counter; exceeded = exceeded } } }
+
+unfoldable pub cycle_counted : Mode → Course → Course
+cycle_counted mode c =
+    let counter : ℕ = c.sched.cycle.counter + 1 in
+    if nat_lt counter 151 then with_cycle counter c.sched.cycle.exceeded c
+    else if c.sched.cycle.exceeded then stopped_by 10 (with_cycle 0 true c)
+    else time_error mode CycleTime 1 (with_cycle 0 true c)
+
+-- the millisecond is counted, and the clock
+abbrev pub time_counted : Course → Course
+time_counted c = record {
+  sched = record c.sched { clock = clock_counted c.sched.clock };
+  passed = record c.passed { ms = c.passed.ms + 1 };
+}
+
+-- the started delays, by OB number
+abbrev pub delays_passed : Mode → Course → Course
+delays_passed mode c =
+    let countdowns : Countdowns = c.sched.countdowns in
+    each_of (delay_ended mode) (ending_from 20 countdowns.delays)
+    (record c {
+      sched = record c.sched {
+        countdowns = record countdowns { delays = map delay_counted countdowns.delays };
+      };
+    })
+
+-- the cyclic OBs, by number
+abbrev pub periods_passed : Mode → List ℕ → Course → Course
+periods_passed mode active c =
+    let countdowns : Countdowns = c.sched.countdowns in
+    each_of (period_ended mode active) (due_from 30 countdowns.periods)
+    (record c {
+      sched = record c.sched {
+        countdowns = record countdowns { periods = periods_counted_from 30 countdowns.periods };
+      };
+    })
+
+-- in RUN also the cyclic OBs and the cycle counter move
+abbrev pub run_passed : Mode → List ℕ → Course → Course
+run_passed Run active c =
+    unless_stopped (cycle_counted Run) (unless_stopped (periods_passed Run active) c)
+run_passed Startup active c = c
+run_passed (Stop cause at) active c = c
+
+-- one millisecond: the clock, the started delays, and in RUN the cyclic OBs and the cycle counter. A
+-- stop ends it
+unfoldable pub one_ms : Mode → List ℕ → Course → Course
+one_ms mode active c =
+    unless_stopped (λ c. run_passed mode active (delays_passed mode (time_counted c))) c
+
+abbrev pub begun : Scheduler → Course
+begun s = record { sched = s; passed = record { ms = 0; stop = None; records = record { items = [] } } }
+
+-- a tick of n milliseconds; in STOP it does nothing
+abbrev pub ticked : Mode → List ℕ → ℕ → Scheduler → Course
+ticked Run active n s = iterate (one_ms Run active) n (begun s)
+ticked Startup active n s = iterate (one_ms Startup active) n (begun s)
+ticked (Stop cause at) active n s = begun s

@@ -1,0 +1,75 @@
+-- The organization blocks: which there are, their priority classes, their queues and their periods.
+use Rattle.std.specs.Prelude.{ℕ, ◌-◌, Bool, ◌&&◌, ◌||◌, ◌==◌, nat_le, nat_lt, if◌then◌else◌}
+use Rattle.plc_base.specs.declared.Mode.{Mode}
+use Rattle.plc_base.specs.declared.Mode.TheVariants.{Run, Startup, Stop}
+
+-- OB 10 to 17, time of day
+abbrev pub is_time_of_day : ℕ → Bool
+is_time_of_day ob = nat_le 10 ob && nat_le ob 17
+
+-- OB 20 to 23, time delay
+abbrev pub is_delay : ℕ → Bool
+is_delay ob = nat_le 20 ob && nat_le ob 23
+
+-- OB 30 to 38, cyclic
+abbrev pub is_cyclic : ℕ → Bool
+is_cyclic ob = nat_le 30 ob && nat_le ob 38
+
+-- OB 40 to 47, hardware interrupts
+abbrev pub is_hardware : ℕ → Bool
+is_hardware ob = nat_le 40 ob && nat_le ob 47
+
+-- the interrupts, which DIS_IRT and EN_IRT speak of
+abbrev pub is_interrupt : ℕ → Bool
+is_interrupt ob = is_time_of_day ob || is_delay ob || is_cyclic ob || is_hardware ob
+
+-- the asynchronous error OBs: OB 80, time error, and OB 85, program sequence error
+abbrev pub is_error : ℕ → Bool
+is_error ob = ob == 80 || ob == 85
+
+-- those that can wait for their start: the program cycle OB 1, the interrupts, OB 80 and OB 85
+abbrev pub can_wait : ℕ → Bool
+can_wait ob = ob == 1 || is_interrupt ob || is_error ob
+
+-- those with a priority class of their own: also OB 100, startup, which starts at once
+abbrev pub has_class : ℕ → Bool
+has_class ob = can_wait ob || ob == 100
+
+-- all of them: also OB 121 and 122, synchronous errors, which start at once in the class of the
+-- activation in which the error came
+abbrev pub is_ob : ℕ → Bool
+is_ob ob = has_class ob || ob == 121 || ob == 122
+
+-- the priority class in RUN
+abbrev pub class_of : ℕ → ℕ
+class_of ob =
+    if nat_lt ob 10 then 1
+    else if nat_lt ob 20 then 2
+    else if nat_lt ob 30 then ob - 17
+    else if nat_lt ob 40 then ob - 23
+    else if nat_lt ob 80 then ob - 24
+    else if ob == 100 then 27
+    else 26
+
+-- the priority class in an operating mode: in STARTUP that of OB 80 and OB 85 is 28
+abbrev pub class_in : Mode → ℕ → ℕ
+class_in Run ob = class_of ob
+class_in Startup ob = if is_error ob then 28 else class_of ob
+class_in (Stop cause at) ob = class_of ob
+
+-- how many requests of one may wait
+abbrev pub queue_length : ℕ → ℕ
+queue_length ob = if is_hardware ob then 8 else 1
+
+-- the period of a cyclic OB in milliseconds
+abbrev pub period_of : ℕ → ℕ
+period_of ob =
+    if ob == 30 then 5000
+    else if ob == 31 then 2000
+    else if ob == 32 then 1000
+    else if ob == 33 then 500
+    else if ob == 34 then 200
+    else if ob == 35 then 100
+    else if ob == 36 then 50
+    else if ob == 37 then 20
+    else 10

@@ -1,0 +1,56 @@
+-- Milliseconds in which nothing ends and nothing is due.
+use Rattle.std.specs.Prelude.{ℕ, ◌+◌, ◌-◌, ◌%◌, ◌^◌, ◌≤◌, All, Option, Some, None, map, option_map}
+use Rattle.plc_base.specs.declared.Mode.{Mode}
+use Rattle.plc_base.specs.declared.Mode.TheVariants.{Run, Startup, Stop}
+use Rattle.ob_sched.specs.Course.{Course}
+use Rattle.ob_sched.specs.Scheduler.{Scheduler, Countdowns}
+
+-- a delay that is started has so many milliseconds left
+abbrev pub DelayLasts : ℕ → Option ℕ → Type 0
+DelayLasts ms None = Unit {0}
+DelayLasts ms (Some left) = ms ≤ left
+
+-- the periods and the cycle time last that long, in RUN
+pub record RunLasts (ms : ℕ) (s : Scheduler) : Type 0 where
+  pub periods : All (λ left. ms ≤ left) s.countdowns.periods
+  pub cycle : s.cycle.counter + ms ≤ 151
+
+abbrev pub RunLastsIn : Mode → ℕ → Scheduler → Type 0
+RunLastsIn Run ms s = RunLasts ms s
+RunLastsIn Startup ms s = Unit {0}
+RunLastsIn (Stop cause at) ms s = Unit {0}
+
+-- nothing ends and nothing is due before so many milliseconds have passed
+pub record Lasts (mode : Mode) (ms : ℕ) (s : Scheduler) : Type 0 where
+  pub delays : All (DelayLasts ms) s.countdowns.delays
+  pub run : RunLastsIn mode ms s
+
+-- what such milliseconds do
+abbrev pub delays_shortened : ℕ → Countdowns → Countdowns
+delays_shortened ms c = record c { delays = map (option_map (λ left. left - ms)) c.delays }
+
+abbrev pub periods_shortened : ℕ → Countdowns → Countdowns
+periods_shortened ms c = record c { periods = map (λ left. left - ms) c.periods }
+
+abbrev pub run_shortened : ℕ → Scheduler → Scheduler
+run_shortened ms s =
+    record s {
+      countdowns = periods_shortened ms s.countdowns;
+      cycle = record s.cycle { counter = s.cycle.counter + ms };
+    }
+
+abbrev pub run_shortened_in : Mode → ℕ → Scheduler → Scheduler
+run_shortened_in Run ms s = run_shortened ms s
+run_shortened_in Startup ms s = s
+run_shortened_in (Stop cause at) ms s = s
+
+abbrev pub waited : Mode → ℕ → Course → Course
+waited mode ms c = record {
+  sched =
+      run_shortened_in mode ms
+      (record c.sched {
+        countdowns = delays_shortened ms c.sched.countdowns;
+        clock = (c.sched.clock + ms) % 2 ^ 31;
+      });
+  passed = record c.passed { ms = c.passed.ms + ms };
+}

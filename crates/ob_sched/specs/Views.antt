@@ -1,0 +1,25 @@
+-- The state that the fields of the scheduler stand for.
+use Rattle.std.specs.Prelude.{List}
+use Rattle.ob_sched.specs.Bin.{ranked}
+use Rattle.ob_sched.specs.Course.{Course}
+use Rattle.ob_sched.specs.Request.{Request}
+use Rattle.ob_sched.specs.Scheduler.{Scheduler}
+use Rattle.ob_sched.specs.declared.bins.Bins.{Bins}
+use Rattle.ob_sched.specs.declared.passed.Passed.{Passed}
+use Rattle.ob_sched.specs.declared.sched.Sched.{Sched}
+
+abbrev pub pending_of : Bins → List Request
+pending_of bins = ranked bins.bins.items
+
+abbrev pub scheduler_of : Sched → Scheduler
+scheduler_of s = record {
+  loaded = s.loaded.items;
+  disabled = s.disabled;
+  pending = pending_of s.pending;
+  countdowns = s.countdowns;
+  clock = s.clock;
+  cycle = s.cycle;
+}
+
+abbrev pub course_of : Sched → Passed → Course
+course_of s passed = record { sched = scheduler_of s; passed = passed }

@@ -1,0 +1,9 @@
+use crate::start_infos::StartInfo;
+use arrayvec::ArrayVec;
+
+/// The requests of one priority class that wait: organization blocks with their start information,
+/// in the order of their arrival.
+#[derive(Drop)]
+pub struct Bin {
+    pub waiting: ArrayVec<(u16, StartInfo), 8>,
+}

@@ -1,0 +1,18 @@
+ghost use Rattle.std.specs.Prelude.{◌≡◌, ◌≤◌, ℕ, IsTrue, length};
+ghost use Rattle.ob_sched.specs.Bin.{ranked, bitmap_of, are_placed_from};
+ghost use Rattle.ob_sched.specs.OrganizationBlock.{queue_length};
+ghost use Rattle.ob_sched.specs.Request.{waiting};
+
+use crate::bin::Bin;
+
+/// The pending requests in 32 bins, one for each priority class in RUN, with a bitmap whose bit n is
+/// 1 exactly where bin n holds a request.
+#[derive(Drop)]
+pub struct Bins {
+    pub map: u32,
+    pub bins: Vec<Bin>,
+    ghost count: { length bins.items ≡ 32 },
+    ghost bitmap: { map ≡ bitmap_of bins.items },
+    ghost placed: { IsTrue (are_placed_from 0 bins.items) },
+    ghost within: { (ob : ℕ) → waiting ob (ranked bins.items) ≤ queue_length ob },
+}

@@ -1,0 +1,263 @@
+ghost use Rattle.std.specs.Prelude.{◌≡◌, ◌≤◌, ◌-◌, IsTrue, All, Some, None, length, map, option_map};
+ghost use Rattle.std.specs.List.{AllPass};
+ghost use Rattle.ob_sched.specs.Millisecond.{delay_counted, is_ending, ending_from, period_counted, periods_counted_from, due_from};
+ghost use Rattle.ob_sched.specs.OrganizationBlock.{is_delay, is_cyclic};
+ghost use Rattle.ob_sched.specs.Quiet.{DelayLasts, delays_shortened, periods_shortened};
+ghost use Rattle.ob_sched.specs.Scheduler.{no_delays, whole_periods, delay_set, delay_of};
+
+use crate::organization_blocks::period_of;
+use arrayvec::ArrayVec;
+use std::marker::Model;
+
+/// The first time delay interrupt.
+const FIRST_DELAY: u16 = 20;
+
+/// How many there are.
+const DELAYS: usize = 4;
+
+/// The first cyclic interrupt.
+const FIRST_CYCLIC: u16 = 30;
+
+/// How many there are.
+const CYCLIC: usize = 9;
+
+/// The periods of the cyclic interrupts in milliseconds.
+const PERIODS: [u32; CYCLIC] = [5000, 2000, 1000, 500, 200, 100, 50, 20, 10];
+
+/// The milliseconds left of the started delays and of the periods of the cyclic interrupts.
+#[derive(Drop)]
+pub(crate) struct Countdowns {
+    delays: [Option<u32>; DELAYS],
+    periods: [u32; CYCLIC],
+}
+
+impl Model for Countdowns {
+    ghost use Rattle.std.specs.Prelude.{◌≡◌, length};
+    ghost use Rattle.ob_sched.specs.Scheduler.{Countdowns as CountdownsValue};
+
+    ghost Value = { CountdownsValue };
+
+    ghost view = { λ c. record { delays = c.delays; periods = c.periods } };
+
+    ghost invariant = { λ c. (length c.delays ≡ 4) × (length c.periods ≡ 9) };
+}
+
+/// Whether a delay ends with a millisecond.
+fn is_ending(delay: Option<u32>) -> bool
+    ensures { result ≡ is_ending delay }
+{
+    match delay {
+        None => false,
+        Some(left) => left <= 1,
+    }
+}
+
+/// A delay after a millisecond.
+fn delay_counted(delay: Option<u32>) -> Option<u32>
+    ensures { result ≡ delay_counted delay }
+{
+    match delay {
+        Some(left) if left > 1 => Some(left - 1),
+        _ => None,
+    }
+}
+
+/// A delay after milliseconds in which it doesn't end.
+fn delay_shortened(delay: Option<u32>, ms: u32) -> Option<u32>
+    ensures { result ≡ option_map (λ left. left - ms) delay }
+{
+    match delay {
+        None => None,
+        Some(left) => Some(left.saturating_sub(ms)),
+    }
+}
+
+/// A millisecond of the delays.
+fn count_delays(delays: &mut [Option<u32>])
+    ensures { delays.new ≡ map delay_counted delays.old }
+{
+    for delay in delays.iter_mut() {
+        *delay = delay_counted(*delay);
+    }
+}
+
+/// Milliseconds of the delays, in which none ends.
+fn shorten_delays(delays: &mut [Option<u32>], ms: u32)
+    ensures { delays.new ≡ map (option_map (λ left. left - ms)) delays.old }
+{
+    for delay in delays.iter_mut() {
+        *delay = delay_shortened(*delay, ms);
+    }
+}
+
+/// A millisecond of the periods of the cyclic interrupts.
+fn count_periods(periods: &mut [u32])
+    requires { length periods.old ≤ 9 }
+    ensures { periods.new ≡ periods_counted_from 30 periods.old }
+{
+    for (i, left) in periods.iter_mut().enumerate() {
+        *left = period_counted(FIRST_CYCLIC + i as u16, *left);
+    }
+}
+
+/// A period after a millisecond.
+fn period_counted(ob: u16, left: u32) -> u32
+    ensures { result ≡ period_counted ob left }
+{
+    if left <= 1 { period_of(ob) } else { left - 1 }
+}
+
+/// Milliseconds of the periods, in which none ends.
+fn shorten_periods(periods: &mut [u32], ms: u32)
+    ensures { periods.new ≡ map (λ left. left - ms) periods.old }
+{
+    for left in periods.iter_mut() {
+        *left = left.saturating_sub(ms);
+    }
+}
+
+/// The lesser of a number and the milliseconds left of a delay that is started.
+fn lesser(least: u32, delay: Option<u32>) -> u32
+    ensures bound { result ≤ least }
+    ensures lasts { DelayLasts result delay }
+{
+    match delay {
+        None => least,
+        Some(left) => least.min(left),
+    }
+}
+
+/// No started delay has fewer milliseconds left than this.
+fn least_delay(delays: &[Option<u32>]) -> u32
+    ensures { All (DelayLasts result) delays.now }
+{
+    let mut least = u32::MAX;
+    for delay in delays {
+        least = lesser(least, *delay);
+    }
+    least
+}
+
+/// No period has fewer milliseconds left than this.
+fn least_period(periods: &[u32]) -> u32
+    ensures { All (λ left. result ≤ left) periods.now }
+{
+    let mut least = u32::MAX;
+    for left in periods {
+        least = least.min(*left);
+    }
+    least
+}
+
+impl Countdowns {
+    /// No delay is started, and the periods begin.
+    pub(crate) fn new() -> Countdowns
+        ensures { result ≡ record { delays = no_delays; periods = whole_periods } }
+    {
+        Countdowns {
+            delays: [None; DELAYS],
+            periods: PERIODS,
+        }
+    }
+
+    /// The milliseconds left of a delay, if it is started.
+    pub(crate) fn delay(&self, ob: u16) -> Option<u32>
+        requires { IsTrue (is_delay ob) }
+        ensures { result ≡ delay_of self.now ob }
+    {
+        self.delays[usize::from(ob - FIRST_DELAY)]
+    }
+
+    /// A delay starts, or ends.
+    pub(crate) fn set_delay(&mut self, ob: u16, left: Option<u32>)
+        requires { IsTrue (is_delay ob) }
+        ensures { self.new ≡ delay_set left ob self.old }
+    {
+        self.delays[usize::from(ob - FIRST_DELAY)] = left;
+    }
+
+    /// All delays end.
+    pub(crate) fn end_delays(&mut self)
+        ensures { self.new ≡ record self.old { delays = no_delays } }
+    {
+        self.delays = [None; DELAYS];
+    }
+
+    /// The periods begin.
+    pub(crate) fn begin_periods(&mut self)
+        ensures { self.new ≡ record self.old { periods = whole_periods } }
+    {
+        self.periods = PERIODS;
+    }
+
+    /// The organization blocks whose delays end with the next millisecond, by number.
+    pub(crate) fn ending(&self) -> ArrayVec<u16, 4>
+        ensures ending { result.items ≡ ending_from 20 self.now.delays }
+        ensures known { AllPass is_delay result.items }
+    {
+        let mut obs = ArrayVec::new();
+        for (i, delay) in self.delays.iter().enumerate() {
+            if is_ending(*delay) {
+                obs.push(FIRST_DELAY + i as u16);
+            }
+        }
+        obs
+    }
+
+    /// A millisecond of the started delays.
+    pub(crate) fn count_delays(&mut self)
+        ensures { self.new ≡ record self.old { delays = map delay_counted self.old.delays } }
+    {
+        count_delays(&mut self.delays);
+    }
+
+    /// The organization blocks whose periods end with the next millisecond, by number.
+    pub(crate) fn due(&self) -> ArrayVec<u16, 9>
+        ensures due { result.items ≡ due_from 30 self.now.periods }
+        ensures known { AllPass is_cyclic result.items }
+    {
+        let mut obs = ArrayVec::new();
+        for (i, left) in self.periods.iter().enumerate() {
+            if *left <= 1 {
+                obs.push(FIRST_CYCLIC + i as u16);
+            }
+        }
+        obs
+    }
+
+    /// A millisecond of the periods.
+    pub(crate) fn count_periods(&mut self)
+        ensures { self.new
+            ≡ record self.old { periods = periods_counted_from 30 self.old.periods } }
+    {
+        count_periods(&mut self.periods);
+    }
+
+    /// No started delay has fewer milliseconds left than this.
+    pub(crate) fn least_delay(&self) -> u32
+        ensures { All (DelayLasts result) self.now.delays }
+    {
+        least_delay(&self.delays)
+    }
+
+    /// No period has fewer milliseconds left than this.
+    pub(crate) fn least_period(&self) -> u32
+        ensures { All (λ left. result ≤ left) self.now.periods }
+    {
+        least_period(&self.periods)
+    }
+
+    /// Milliseconds of the delays, in which none ends.
+    pub(crate) fn shorten_delays(&mut self, ms: u32)
+        ensures { self.new ≡ delays_shortened ms self.old }
+    {
+        shorten_delays(&mut self.delays, ms);
+    }
+
+    /// Milliseconds of the periods, in which none ends.
+    pub(crate) fn shorten_periods(&mut self, ms: u32)
+        ensures { self.new ≡ periods_shortened ms self.old }
+    {
+        shorten_periods(&mut self.periods, ms);
+    }
+}

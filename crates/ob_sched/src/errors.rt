@@ -1,0 +1,101 @@
+ghost use Rattle.std.specs.Prelude.{◌≡◌, IsTrue};
+ghost use Rattle.ob_sched.specs.Course.{time_error, not_loaded, requested, error_requested, lost_event};
+ghost use Rattle.ob_sched.specs.OrganizationBlock.{can_wait, is_error};
+ghost use Rattle.ob_sched.specs.StartInformation.{IsEvent};
+ghost use Rattle.ob_sched.specs.Views.{course_of};
+
+use crate::organization_blocks::{class_in, is_hardware};
+use crate::passed::Passed;
+use crate::requests::Arrived;
+use crate::sched::Sched;
+use crate::start_infos::{StartEvent, StartInfo};
+use plc_base::Mode;
+
+/// Stop cause: an organization block that isn't loaded, without OB 85.
+const NO_OB_85: u8 = 8;
+
+/// Stop cause: a time error without OB 80.
+const NO_OB_80: u8 = 9;
+
+/// Record of diagnostics: a time error, with the organization block that it concerns.
+const TIME_ERROR: u16 = 1;
+
+/// Record of diagnostics: a lost request of OB 80 or 85.
+const LOST_REQUEST: u16 = 2;
+
+/// Record of diagnostics: an organization block that isn't loaded.
+const NOT_LOADED: u16 = 3;
+
+/// What a request that found its queue full is for OB 80.
+fn lost_event(ob: u16) -> StartEvent
+    ensures event { result ≡ lost_event ob }
+    ensures known { IsEvent result }
+{
+    if is_hardware(ob) {
+        StartEvent::QueueFull { ob }
+    } else {
+        StartEvent::Missed { ob }
+    }
+}
+
+impl Sched {
+    /// Requests OB 80 or OB 85. Without it the controller stops with the cause; a request that is
+    /// lost is recorded.
+    fn request_error(
+        &mut self,
+        mode: Mode,
+        ob: u16,
+        cause: u8,
+        event: StartEvent,
+        passed: &mut Passed,
+    )
+        requires error { IsTrue (is_error ob) }
+        requires event { IsEvent event }
+        ensures { course_of self.new passed.new
+            ≡ error_requested mode ob cause event (course_of self.old passed.old) }
+    {
+        let info = StartInfo::new(event, class_in(mode, ob));
+        match self.arrive(ob, info) {
+            Arrived::Queued | Arrived::Dropped => {}
+            Arrived::NotLoaded => passed.halt(cause),
+            Arrived::Full => passed.record(LOST_REQUEST, ob),
+        }
+    }
+
+    /// A time error: it is recorded, and requests OB 80.
+    #[tactic(auto, unfolding(crate::specs::Course::time_error))]
+    pub(crate) fn time_error(&mut self, mode: Mode, event: StartEvent, ob: u16, passed: &mut Passed)
+        requires { IsEvent event }
+        ensures { course_of self.new passed.new
+            ≡ time_error mode event ob (course_of self.old passed.old) }
+    {
+        passed.record(TIME_ERROR, ob);
+        self.request_error(mode, 80, NO_OB_80, event, passed);
+    }
+
+    /// An organization block isn't loaded: this is recorded, and requests OB 85.
+    #[tactic(auto, unfolding(crate::specs::Course::not_loaded))]
+    fn not_loaded(&mut self, mode: Mode, ob: u16, passed: &mut Passed)
+        ensures { course_of self.new passed.new
+            ≡ not_loaded mode ob (course_of self.old passed.old) }
+    {
+        passed.record(NOT_LOADED, ob);
+        self.request_error(mode, 85, NO_OB_85, StartEvent::NotLoaded { ob }, passed);
+    }
+
+    /// A request in an operating mode, with all that follows where it isn't queued: one of an
+    /// organization block that isn't loaded requests OB 85, and one that finds its queue full is a time
+    /// error, which requests OB 80. `passed` gains the records of diagnostics and the stop cause.
+    #[tactic(auto, unfolding(crate::specs::Course::requested))]
+    pub fn request(&mut self, mode: Mode, ob: u16, info: StartInfo, passed: &mut Passed)
+        requires { IsTrue (can_wait ob) }
+        ensures { course_of self.new passed.new
+            ≡ requested mode ob info (course_of self.old passed.old) }
+    {
+        match self.arrive(ob, info) {
+            Arrived::Queued | Arrived::Dropped => {}
+            Arrived::NotLoaded => self.not_loaded(mode, ob, passed),
+            Arrived::Full => self.time_error(mode, lost_event(ob), ob, passed),
+        }
+    }
+}

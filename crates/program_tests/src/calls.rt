@@ -1,0 +1,294 @@
+use arrayvec::ArrayVec;
+use plc_io::{MemFiles, MemSink, OpenGate};
+use s7_cli::s7_main;
+use std::alloc::Global;
+use std::sync::Wait;
+use std::test::Fail;
+use std::thread::Threads;
+
+const GO: [&str; 3] = ["go", "source", "history"];
+
+const CHECK: [&str; 2] = ["check", "source"];
+
+/// OB 1 with one rung: output 4.0 is input 0.0 and not input 0.1.
+pub(crate) const RUNG: &[u8] =
+    b"ORGANIZATION_BLOCK OB 1\nBEGIN\nA I 0.0;\nAN I 0.1;\n= Q 4.0;\nEND_ORGANIZATION_BLOCK\n";
+
+/// Input 0.0 comes on, then the program starts, runs once, and starts again.
+pub(crate) const ONE_RUN: &[u8] = b"in 0 01\nstep 6\n";
+
+/// The files of a call.
+pub(crate) fn two_files(alloc: Global, source: &[u8], history: &[u8]) -> Result<MemFiles, Fail> {
+    let mut files = MemFiles::new(alloc);
+    files.put("source", source)?;
+    files.put("history", history)?;
+    Ok(files)
+}
+
+/// The status of a call with these words.
+pub(crate) fn call<R: Threads + Wait + Sync>(
+    rt: &R,
+    alloc: Global,
+    words: &[&str],
+    files: &mut MemFiles,
+    out: &mut MemSink,
+) -> Result<u8, Fail> {
+    let mut list = Vec::new(alloc);
+    for word in words {
+        list.push(String::from_str(alloc, *word)?)?;
+    }
+    Ok(s7_main(rt, alloc, &list, files, out, &OpenGate).code)
+}
+
+// What was taken of each run, worked out by hand. The sink takes one byte of each piece.
+#[test]
+fn runs_and_refusals(rt: HostRuntime) -> Result<(), Fail> {
+    // source, history, status, text
+    let table: [(&[u8], &[u8], u8, &[u8]); 15] = [
+        (RUNG, ONE_RUN, 0, b"@7 PQ 4 = 01\nEND 7 RUN\n"),
+        (RUNG, b"in 0 01\nstep 5\n", 0, b"END 6 RUN\n"),
+        (b"", b"step 2\n", 0, b"END 2 RUN\n"),
+        // Two branches of A before =, joined by O: 0.2 is on, and 0.3 too.
+        (
+            b"ORGANIZATION_BLOCK OB 1\nBEGIN\nA I 0.0;\nA I 0.1;\nO;\nA I 0.2;\nA I 0.3;\n= Q 4.0;\nEND_ORGANIZATION_BLOCK\n",
+            b"in 0 0E\nstep 9\n",
+            0,
+            b"@10 PQ 4 = 01\nEND 10 RUN\n",
+        ),
+        // OB 40 interrupts behind the first A, whose result comes back.
+        (
+            b"ORGANIZATION_BLOCK OB 1\nBEGIN\nA I 0.0;\n= Q 4.0;\nEND_ORGANIZATION_BLOCK\nORGANIZATION_BLOCK OB 40\nBEGIN\nA I 0.1;\n= Q 5.0;\nEND_ORGANIZATION_BLOCK\n",
+            b"in 0 01\nstep 2\narrive 40\nstep 6\n",
+            0,
+            b"@10 PQ 4 = 01\nEND 10 RUN\n",
+        ),
+        // OB 40 isn't loaded.
+        (
+            RUNG,
+            b"in 0 01\nstep 6\narrive 40\n",
+            0,
+            b"@7 PQ 4 = 01\n@8 PQ 4 = 00\n@8 MODE STOP 8 AT OB 1 LINE 3\nEND 8 STOP 8\n",
+        ),
+        // The first interrupt starts OB 40, eight wait, and the tenth is one too many.
+        (
+            b"ORGANIZATION_BLOCK OB 40\nBEGIN\nSET;\nEND_ORGANIZATION_BLOCK\n",
+            b"arrive 40\narrive 40\narrive 40\narrive 40\narrive 40\narrive 40\narrive 40\narrive 40\narrive 40\narrive 40\n",
+            0,
+            b"@10 MODE STOP 9 AT OB 40 LINE 3\nEND 10 STOP 9\n",
+        ),
+        // A network with a title, which holds a `;`, words in lower case, a comment, no last line end.
+        (
+            b"ORGANIZATION_BLOCK OB 1\nBEGIN\nNETWORK\nTITLE = x ; y\na I 0.0 ; // c\n= Q 4.0;\nEND_ORGANIZATION_BLOCK",
+            b"in 0 01\nstep 5\n",
+            0,
+            b"@6 PQ 4 = 01\nEND 6 RUN\n",
+        ),
+        // M0.0 and M 0.0 are one bit, and `;` alone is no step.
+        (
+            b"ORGANIZATION_BLOCK OB 1\nBEGIN\nAN M0.0;\n= M 0.0;\n;\nA M0.0;\n= Q4.0;\nEND_ORGANIZATION_BLOCK\n",
+            b"step 7\n",
+            0,
+            b"@7 PQ 4 = 01\nEND 7 RUN\n",
+        ),
+        // A history that isn't built; a statement outside of a block, whatever the history is; one that isn't built.
+        (RUNG, b"tick 1\n", 4, b"history refused: line 0 rule 99\n"),
+        (b"L 1;\n", ONE_RUN, 2, b"source refused: line 1 rule 11\n"),
+        (
+            b"L 1;\n",
+            b"tick 1\n",
+            2,
+            b"source refused: line 1 rule 11\n",
+        ),
+        (
+            b"ORGANIZATION_BLOCK OB 1\nBEGIN\nL 1;\nEND_ORGANIZATION_BLOCK",
+            ONE_RUN,
+            2,
+            b"source refused: line 3 rule 99\n",
+        ),
+        // Of two that aren't built, the history is judged only with a source that is.
+        (
+            b"ORGANIZATION_BLOCK OB 1\nBEGIN\nL 1;\nEND_ORGANIZATION_BLOCK",
+            b"tick 1\n",
+            2,
+            b"source refused: line 3 rule 99\n",
+        ),
+        (b"", b"", 0, b"END 0 RUN\n"),
+    ];
+    for (source, history, status, text) in table {
+        let mut files = two_files(rt.alloc(), source, history)?;
+        let mut out = MemSink::new(rt.alloc(), 1);
+        let code = call(&rt, rt.alloc(), &GO, &mut files, &mut out)?;
+        assert_eq!(rt; code, status);
+        assert_eq!(rt; out.taken.as_slice(), text);
+    }
+    Ok(())
+}
+
+// What `check` answers: the rules of tokens come first, then those of clauses, then rule 99; of each
+// the first place in the text.
+#[test]
+fn checks(rt: HostRuntime) -> Result<(), Fail> {
+    // source, status, text
+    let table: [(&[u8], u8, &[u8]); 16] = [
+        (RUNG, 0, b"OK\n"),
+        (b"", 0, b"OK\n"),
+        (b"// nothing\n", 0, b"OK\n"),
+        // 2H46M31S is 9,991,000 ms, one second too much.
+        (
+            b"ORGANIZATION_BLOCK OB 1\nBEGIN\nL S5T#2H46M31S;\nEND_ORGANIZATION_BLOCK",
+            2,
+            b"source refused: line 3 rule 4\n",
+        ),
+        (
+            b"L 1;\n\nA I 0.0 $;\n",
+            2,
+            b"source refused: line 3 rule 1\n",
+        ),
+        (b"A \"Motor\n", 2, b"source refused: line 1 rule 2\n"),
+        (b"\nL T#5;\n", 2, b"source refused: line 2 rule 3\n"),
+        // There is no bit 8.
+        (
+            b"ORGANIZATION_BLOCK OB 1\nBEGIN\nL 1;\nL M 0.8;\nEND_ORGANIZATION_BLOCK\n",
+            2,
+            b"source refused: line 4 rule 10\n",
+        ),
+        (b"\n\nSET;\n", 2, b"source refused: line 3 rule 11\n"),
+        (
+            b"ORGANIZATION_BLOCK OB 1\nBEGIN\nabcde: SET;\nEND_ORGANIZATION_BLOCK\n",
+            2,
+            b"source refused: line 3 rule 12\n",
+        ),
+        // The line of the last token, and not of the comment.
+        (
+            b"ORGANIZATION_BLOCK OB 1\nBEGIN\n// and no end\n",
+            2,
+            b"source refused: line 2 rule 13\n",
+        ),
+        // A label, a section, another block, and a second OB 1 aren't built.
+        (
+            b"ORGANIZATION_BLOCK OB 1\nBEGIN\nSET;\nabcd: SET;\nEND_ORGANIZATION_BLOCK\n",
+            2,
+            b"source refused: line 4 rule 99\n",
+        ),
+        (
+            b"ORGANIZATION_BLOCK OB 1\nVAR_TEMP\nEND_VAR\nBEGIN\nEND_ORGANIZATION_BLOCK\n",
+            2,
+            b"source refused: line 2 rule 99\n",
+        ),
+        (
+            b"ORGANIZATION_BLOCK OB 35\nBEGIN\nL 1;\nEND_ORGANIZATION_BLOCK\n",
+            2,
+            b"source refused: line 1 rule 99\n",
+        ),
+        (
+            b"ORGANIZATION_BLOCK OB 1\nBEGIN\nEND_ORGANIZATION_BLOCK\nORGANIZATION_BLOCK OB 1\nBEGIN\nEND_ORGANIZATION_BLOCK\n",
+            2,
+            b"source refused: line 4 rule 99\n",
+        ),
+        // M has 256 bytes.
+        (
+            b"ORGANIZATION_BLOCK OB 40\nBEGIN\nA M 255.7;\nA M 256.0;\nEND_ORGANIZATION_BLOCK\n",
+            2,
+            b"source refused: line 4 rule 99\n",
+        ),
+    ];
+    for (source, status, text) in table {
+        let mut files = two_files(rt.alloc(), source, b"tick 1\n")?;
+        let mut out = MemSink::new(rt.alloc(), 1);
+        let code = call(&rt, rt.alloc(), &CHECK, &mut files, &mut out)?;
+        assert_eq!(rt; code, status);
+        assert_eq!(rt; out.taken.as_slice(), text);
+    }
+    Ok(())
+}
+
+// The file of a name is missing, or one of the first reads fails: the first comes to the source,
+// the second to its end, the third to the history.
+#[test]
+fn failed_reads(rt: HostRuntime) -> Result<(), Fail> {
+    for failing in [1, 2, 3] {
+        let mut files = two_files(rt.alloc(), RUNG, ONE_RUN)?;
+        let mut calls = ArrayVec::new();
+        calls.push(failing);
+        files.fail_reads(calls);
+        let mut out = MemSink::new(rt.alloc(), 64);
+        let code = call(&rt, rt.alloc(), &GO, &mut files, &mut out)?;
+        assert_eq!(rt; code, 5);
+        assert_eq!(rt; out.taken.as_slice(), b"read fault\n".as_slice());
+    }
+    for failing in [1, 2] {
+        let mut files = two_files(rt.alloc(), RUNG, ONE_RUN)?;
+        let mut calls = ArrayVec::new();
+        calls.push(failing);
+        files.fail_reads(calls);
+        let mut out = MemSink::new(rt.alloc(), 64);
+        let code = call(&rt, rt.alloc(), &CHECK, &mut files, &mut out)?;
+        assert_eq!(rt; code, 5);
+        assert_eq!(rt; out.taken.as_slice(), b"read fault\n".as_slice());
+    }
+    let missing: [&[&str]; 3] = [
+        &["go", "none", "history"],
+        &["go", "source", "none"],
+        &["check", "none"],
+    ];
+    for list in missing {
+        let mut files = two_files(rt.alloc(), RUNG, ONE_RUN)?;
+        let mut out = MemSink::new(rt.alloc(), 64);
+        let code = call(&rt, rt.alloc(), list, &mut files, &mut out)?;
+        assert_eq!(rt; code, 5);
+        assert_eq!(rt; out.taken.as_slice(), b"read fault\n".as_slice());
+    }
+    Ok(())
+}
+
+// The sink takes some bytes, and fails then.
+#[test]
+fn failed_push(rt: HostRuntime) -> Result<(), Fail> {
+    // words, source, bytes that are taken, text
+    let table: [(&[&str], &[u8], usize, &[u8]); 3] = [
+        (&GO, RUNG, 9, b"@7 PQ 4 ="),
+        (&CHECK, RUNG, 2, b"OK"),
+        (&CHECK, b"SET;", 6, b"source"),
+    ];
+    for (list, source, len, text) in table {
+        let mut files = two_files(rt.alloc(), source, ONE_RUN)?;
+        let mut calls = ArrayVec::new();
+        calls.push(2);
+        let mut out = MemSink::new(rt.alloc(), len);
+        out.fail_pushes(calls);
+        let code = call(&rt, rt.alloc(), list, &mut files, &mut out)?;
+        assert_eq!(rt; code, 6);
+        assert_eq!(rt; out.taken.as_slice(), text);
+    }
+    Ok(())
+}
+
+// The longest files, and one byte more; then the history needn't be there.
+#[test]
+fn long_files(rt: HostRuntime) -> Result<(), Fail> {
+    // words, bytes of the source, of the history, status, text
+    let table: [(&[&str], usize, usize, u8, &[u8]); 6] = [
+        (&GO, 1_048_576, 0, 0, b"END 0 RUN\n"),
+        (&GO, 1_048_577, 0, 8, b"too long: source\n"),
+        (&GO, 0, 4_194_305, 8, b"too long: history\n"),
+        (
+            &["go", "source", "none"],
+            1_048_577,
+            0,
+            8,
+            b"too long: source\n",
+        ),
+        (&CHECK, 1_048_576, 0, 0, b"OK\n"),
+        (&CHECK, 1_048_577, 0, 8, b"too long: source\n"),
+    ];
+    for (list, source_len, history_len, status, text) in table {
+        let source = vec![in rt.alloc(); b' '; source_len]?;
+        let history = vec![in rt.alloc(); b'\n'; history_len]?;
+        let mut files = two_files(rt.alloc(), &source, &history)?;
+        let mut out = MemSink::new(rt.alloc(), 64);
+        let code = call(&rt, rt.alloc(), list, &mut files, &mut out)?;
+        assert_eq!(rt; code, status);
+        assert_eq!(rt; out.taken.as_slice(), text);
+    }
+    Ok(())
+}

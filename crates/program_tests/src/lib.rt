@@ -1,0 +1,14 @@
+//! Tests of the public calls of the edge: files and sinks, the reading of sources and histories, the
+//! lines of a text, and whole calls of the program. The library itself is empty.
+#![tactic(auto)]
+
+#[cfg(test)]
+mod built_tests;
+#[cfg(test)]
+mod calls;
+#[cfg(test)]
+mod edge_tests;
+#[cfg(test)]
+mod outside_tests;
+#[cfg(test)]
+mod words_tests;

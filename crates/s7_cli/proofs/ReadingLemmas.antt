@@ -1,0 +1,108 @@
+-- The reading of a command's input files, one after the other.
+use Rattle.std.proofs.Common.{◌≡◌, ◌<◌, ◌≤◌, ◌⊎◌, inl, inr, refl, sym, ◌∙◌, ap, subst, ℕ, List, [], ◌∷◌, ◌++◌, length, map, Option, Some, None, Err, true, arith}
+use Rattle.plc_io.specs.Contents.{Contents, Agrees}
+use Rattle.plc_io.specs.Counts.{Rose}
+use Rattle.s7_cli.specs.Answer.{Answer, read_fault, too_long}
+use Rattle.s7_cli.specs.Command.{Input, limit_of}
+use Rattle.s7_cli.specs.Ends.{RoseAmong}
+use Rattle.s7_cli.specs.Reading.{Disk, Holds, HoldAll, StopsAt, Reads, IsHeld, StopsTold, Allows, FailsOnTheWay}
+
+-- what is said of the contents of the files behind these
+abbrev pub Saying : Type 1
+Saying = List (List ℕ) → Answer → Type 0
+
+-- ---- files that were read hold bytes of which this is said
+
+pub reads-all : (d : Disk) (is : List Input) (contents : List (List ℕ)) (says : Saying) (a : Answer)
+    → HoldAll d.before.contents is contents → says contents a → Reads d is says a
+reads-all d [] [] says a hold said = said
+reads-all d [] (bytes ∷ more) says a hold said = absurd hold
+reads-all d (i ∷ is) [] says a hold said = absurd hold
+reads-all d (i ∷ is) (bytes ∷ more) says a hold said =
+    inr (bytes, hold.0, reads-all d is more (λ files. says (bytes ∷ files)) a hold.1 said)
+
+-- the reading goes on behind files that were read
+pub reads-behind : (d : Disk) (is more : List Input) (contents : List (List ℕ)) (says : Saying) (a : Answer)
+    → HoldAll d.before.contents is contents → Reads d more (λ files. says (contents ++ files)) a → Reads d (is ++ more) says a
+reads-behind d [] more [] says a hold reads = reads
+reads-behind d [] more (bytes ∷ rest) says a hold reads = absurd hold
+reads-behind d (i ∷ is) more [] says a hold reads = absurd hold
+reads-behind d (i ∷ is) more (bytes ∷ rest) says a hold reads =
+    inr (bytes, hold.0, reads-behind d is more rest (λ files. says (bytes ∷ files)) a hold.1 reads)
+
+-- one more file was read
+pub hold-more : (c : Contents) (is : List Input) (contents : List (List ℕ)) (i : Input) (bytes : List ℕ) → HoldAll c is contents → Holds c i bytes
+    → HoldAll c (is ++ i ∷ []) (contents ++ bytes ∷ [])
+hold-more c [] [] i bytes hold holds = (holds, tt)
+hold-more c [] (b ∷ more) i bytes hold holds = absurd hold
+hold-more c (j ∷ is) [] i bytes hold holds = absurd hold
+hold-more c (j ∷ is) (b ∷ more) i bytes hold holds = (hold.0, hold-more c is more i bytes hold.1 holds)
+
+-- ---- over files that tell what they hold
+
+-- a read on the way failed, or the answer is one that the files allow
+pub reads-told : (d : Disk) (is : List Input) (says : Saying) (a : Answer) → d.before.contents.told ≡ true
+    → Reads d is says a → ((a ≡ read_fault) × FailsOnTheWay d is) ⊎ Allows d.before.contents is says a
+reads-told d [] says a told said = inr said
+reads-told d (i ∷ is) says a told (inl (inl (rose, gives))) = inl (gives, inl rose)
+reads-told d (i ∷ is) says a told (inl (inr (bytes, agrees, long, gives))) = inr (inl (inr (bytes, agrees told, long, gives)))
+reads-told d (i ∷ is) says a told (inr (bytes, holds, more)) =
+    elim (reads-told d is (λ files. says (bytes ∷ files)) a told more) [
+      | inl fails ↦ inl (fails.0, inr (bytes, held, fails.1))
+      | inr allowed ↦ inr (inr (bytes, held, allowed))
+    ]
+  where
+    held : IsHeld d.before.contents i bytes
+    held = record { there = holds.agrees told; within = holds.within }
+
+-- of any contents one thing is said at most
+abbrev pub SaysOne : Saying → Type 0
+SaysOne says = (contents : List (List ℕ)) (a b : Answer) → says contents a → says contents b → a ≡ b
+
+one_file : (c : Contents) (name xs ys : List ℕ) → c.at name ≡ Some xs → c.at name ≡ Some ys → xs ≡ ys
+one_file c name xs ys p q = let e : Some xs ≡ Some ys = sym p ∙ q in cc
+
+no_file : (c : Contents) (name xs : List ℕ) → c.at name ≡ None → c.at name ≡ Some xs → ⊥
+no_file c name xs p q = let e : None ≡ Some xs = sym p ∙ q in cc
+
+not_both : (i : Input) (xs ys : List ℕ) → xs ≡ ys → limit_of i.file < length xs → length ys ≤ limit_of i.file → ⊥
+not_both i xs ys same long within = omega (arith, ap length same)
+
+-- told files allow one answer
+pub allows-one : (c : Contents) (is : List Input) (says : Saying) → SaysOne says → (a b : Answer) → Allows c is says a → Allows c is says b → a ≡ b
+allows-one c [] says one a b p q = one [] a b p q
+allows-one c (i ∷ is) says one a b (inl (inl p)) (inl (inl q)) = p.1 ∙ sym q.1
+allows-one c (i ∷ is) says one a b (inl (inl p)) (inl (inr q)) = absurd (no_file c i.name q.0 p.0 q.1)
+allows-one c (i ∷ is) says one a b (inl (inl p)) (inr q) = absurd (no_file c i.name q.0 p.0 q.1.there)
+allows-one c (i ∷ is) says one a b (inl (inr p)) (inl (inl q)) = absurd (no_file c i.name p.0 q.0 p.1)
+allows-one c (i ∷ is) says one a b (inl (inr p)) (inl (inr q)) = p.3 ∙ sym q.3
+allows-one c (i ∷ is) says one a b (inl (inr p)) (inr q) = absurd (not_both i p.0 q.0 (one_file c i.name p.0 q.0 p.1 q.1.there) p.2 q.1.within)
+allows-one c (i ∷ is) says one a b (inr p) (inl (inl q)) = absurd (no_file c i.name p.0 q.0 p.1.there)
+allows-one c (i ∷ is) says one a b (inr p) (inl (inr q)) = absurd (not_both i q.0 p.0 (one_file c i.name q.0 p.0 q.1 p.1.there) q.2 p.1.within)
+allows-one c (i ∷ is) says one a b (inr p) (inr q) =
+    let same : q.0 ≡ p.0 = one_file c i.name q.0 p.0 q.1.there p.1.there in
+    allows-one c is (λ files. says (p.0 ∷ files)) (λ contents. one (p.0 ∷ contents)) a b p.2
+    (subst (λ (bytes : List ℕ). Allows c is (λ files. says (bytes ∷ files)) b) same q.2)
+
+-- a read on the way is one of an input file
+pub fails-rose : (d : Disk) (is : List Input) → FailsOnTheWay d is
+    → RoseAmong d.before.failed_reads d.after.failed_reads (map (λ i. i.name) is)
+fails-rose d [] fails = fails
+fails-rose d (i ∷ is) (inl rose) = inl rose
+fails-rose d (i ∷ is) (inr (bytes, held, more)) = inr (fails-rose d is more)
+
+-- ---- which answers there are
+
+-- a read of an input file failed, a file is too long, or this is said of some contents
+pub reads-kinds : (d : Disk) (is : List Input) (says : Saying) (a : Answer) → Reads d is says a
+    → ((a ≡ read_fault) × RoseAmong d.before.failed_reads d.after.failed_reads (map (λ i. i.name) is))
+    ⊎ ((i : Input) × (a ≡ too_long i.file)) ⊎ ((contents : List (List ℕ)) × says contents a)
+reads-kinds d [] says a said = inr (inr ([], said))
+reads-kinds d (i ∷ is) says a (inl (inl (rose, gives))) = inl (gives, inl rose)
+reads-kinds d (i ∷ is) says a (inl (inr stops)) = inr (inl (i, stops.3))
+reads-kinds d (i ∷ is) says a (inr (bytes, holds, more)) =
+    elim (reads-kinds d is (λ files. says (bytes ∷ files)) a more) [
+      | inl fault ↦ inl (fault.0, inr fault.1)
+      | inr (inl long) ↦ inr (inl long)
+      | inr (inr said) ↦ inr (inr (bytes ∷ said.0, said.1))
+    ]

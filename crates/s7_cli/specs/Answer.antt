@@ -1,0 +1,52 @@
+-- What a call answers: how it comes out, its text, and its exit status.
+use Rattle.std.specs.Prelude.{ℕ, List, Result, Ok, Err}
+use Rattle.plc_base.specs.declared.refusals.Refusal.{Refusal}
+use Rattle.s7_cli.specs.declared.failures.File.{File}
+use Rattle.s7_cli.specs.declared.failures.File.TheVariants.{Source, History}
+use Rattle.s7_cli.specs.declared.failures.Failure.{Failure}
+use Rattle.s7_cli.specs.declared.failures.Failure.TheVariants.{WordsRefused, ReadFault, TooLong, Refused, WriteFault, NoMemory}
+use Rattle.s7_cli.specs.Lines.{words_refused_text, read_fault_text, too_long_text, refusal_text}
+
+-- done, or why not
+abbrev pub Outcome : Type 0
+Outcome = Result Unit Failure
+
+-- with the whole text that goes with it
+pub record Answer : Type 0 where
+  pub outcome : Outcome
+  pub text : List ℕ
+
+-- done, with a text as the result
+abbrev pub done : List ℕ → Answer
+done text = record { outcome = Ok tt; text = text }
+
+-- a file breaks a rule
+abbrev pub refused : File → Refusal → Answer
+refused file refusal = record { outcome = Err (Refused file refusal); text = refusal_text file refusal }
+
+-- a file holds a byte past its limit
+abbrev pub too_long : File → Answer
+too_long file = record { outcome = Err (TooLong file); text = too_long_text file }
+
+-- a file can't be read
+abbrev pub read_fault : Answer
+read_fault = record { outcome = Err ReadFault; text = read_fault_text }
+
+-- the words aren't those of a command
+abbrev pub words_refused : Answer
+words_refused = record { outcome = Err WordsRefused; text = words_refused_text }
+
+-- the status of a refused file
+abbrev pub refused_code : File → ℕ
+refused_code Source = 2
+refused_code History = 4
+
+-- the exit status
+abbrev pub code_of : Outcome → ℕ
+code_of (Ok done) = 0
+code_of (Err WordsRefused) = 1
+code_of (Err (Refused file refusal)) = refused_code file
+code_of (Err ReadFault) = 5
+code_of (Err WriteFault) = 6
+code_of (Err NoMemory) = 7
+code_of (Err (TooLong file)) = 8

@@ -1,0 +1,103 @@
+ghost use Rattle.std.specs.Prelude.{◌≡◌};
+ghost use Rattle.s7_cli.specs.Answer.{code_of, refused_code};
+ghost use Rattle.s7_cli.specs.Faults.{failure_of_history, failure_of_source};
+
+use crate::histories::HistoryFault;
+use plc_base::{Refusal, SourceFault};
+use std::alloc::AllocError;
+
+/// A file that a command reads.
+#[derive(Clone, Copy, Debug, PartialEq, Eq)]
+pub enum File {
+    Source,
+    History,
+}
+
+/// Why a command wasn't done.
+#[derive(Clone, Copy, Debug, PartialEq, Eq)]
+pub enum Failure {
+    /// The words of the call aren't those of a command.
+    WordsRefused,
+    /// A file can't be read.
+    ReadFault,
+    /// A file holds a byte past its limit.
+    TooLong { file: File },
+    /// A file breaks a rule.
+    Refused { file: File, refusal: Refusal },
+    /// The sink or an output file couldn't be written.
+    WriteFault,
+    /// Memory ran out.
+    NoMemory,
+}
+
+impl From<AllocError> for Failure {
+    ghost use Rattle.s7_cli.specs.declared.failures.Failure.TheVariants.{NoMemory};
+
+    ghost from_gives = { λ _ failure. failure ≡ NoMemory };
+
+    fn from(_error: AllocError) -> Failure {
+        Failure::NoMemory
+    }
+}
+
+impl From<SourceFault> for Failure {
+    ghost from_gives = { λ fault failure. failure ≡ failure_of_source fault };
+
+    fn from(fault: SourceFault) -> Failure {
+        match fault {
+            SourceFault::Refused { refusal } => Failure::Refused {
+                file: File::Source,
+                refusal,
+            },
+            SourceFault::NoMemory => Failure::NoMemory,
+        }
+    }
+}
+
+impl From<HistoryFault> for Failure {
+    ghost from_gives = { λ fault failure. failure ≡ failure_of_history fault };
+
+    fn from(fault: HistoryFault) -> Failure {
+        match fault {
+            HistoryFault::Refused { refusal } => Failure::Refused {
+                file: File::History,
+                refusal,
+            },
+            HistoryFault::NoMemory => Failure::NoMemory,
+        }
+    }
+}
+
+/// The exit status of a call.
+#[derive(Clone, Copy, Debug, PartialEq, Eq)]
+pub struct Status {
+    pub code: u8,
+}
+
+/// The exit status where this file breaks a rule.
+fn refused_code(file: File) -> u8
+    ensures { result ≡ refused_code file }
+{
+    match file {
+        File::Source => 2,
+        File::History => 4,
+    }
+}
+
+impl Status {
+    /// The exit status of a command that came out so.
+    pub fn of(outcome: Result<(), Failure>) -> Status
+        ensures { result.code ≡ code_of outcome }
+    {
+        let code = match outcome {
+            Ok(()) => 0,
+            Err(Failure::WordsRefused) => 1,
+            Err(Failure::Refused { file, .. }) => refused_code(file),
+            Err(Failure::ReadFault) => 5,
+            Err(Failure::WriteFault) => 6,
+            Err(Failure::NoMemory) => 7,
+            Err(Failure::TooLong { .. }) => 8,
+        };
+        Status { code }
+    }
+}

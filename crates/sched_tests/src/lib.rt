@@ -1,0 +1,12 @@
+//! Tests of the scheduler by its public items: values worked out by hand from the rules, which judge
+//! the definitions that the proofs rest on.
+#![tactic(auto)]
+
+#[cfg(test)]
+mod requests;
+#[cfg(test)]
+mod start_information;
+#[cfg(test)]
+mod ticks;
+#[cfg(test)]
+mod tools;

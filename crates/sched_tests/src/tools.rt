@@ -1,0 +1,36 @@
+use ob_sched::{Arrived, Sched, StartInfo, can_wait};
+use plc_base::Mode;
+use std::alloc::Global;
+use std::process::Abort;
+
+/// A scheduler in RUN, with these organization blocks loaded.
+pub(crate) fn running(rt: &impl Abort, alloc: Global, loaded: &[u16]) -> Sched {
+    let mut sched = Sched::new(alloc, loaded).expect(rt, "memory");
+    sched.begin_run();
+    sched
+}
+
+/// A request with this number in its start information.
+pub(crate) fn arrive(rt: &impl Abort, sched: &mut Sched, ob: u16, number: u8) -> Arrived {
+    assert!(rt; can_wait(ob));
+    sched.arrive(ob, numbered(number))
+}
+
+/// A start information with this number in its first byte.
+fn numbered(number: u8) -> StartInfo {
+    let mut bytes = [0; 20];
+    bytes[0] = number;
+    StartInfo { bytes }
+}
+
+/// Starts the best request: its organization block, its priority class and the first byte of its start
+/// information, or zeros where none is pending.
+pub(crate) fn start_best(sched: &mut Sched, mode: Mode) -> (u16, u8, u8) {
+    match sched.best(mode) {
+        None => (0, 0, 0),
+        Some(best) => {
+            sched.start(best);
+            (best.ob, best.class, best.info.bytes[0])
+        }
+    }
+}

@@ -1,0 +1,54 @@
+-- What a declaration keeps.
+use Rattle.std.specs.Prelude.{◌≡◌, ℕ, ◌≤◌, Bool, true, false, List, [], ◌∷◌, Option, Some, None}
+use Rattle.std.specs.List.{AllByRecursion}
+use Rattle.plc_base.specs.declared.blocks.BlockKind.TheVariants as kind
+use Rattle.stl_ast.specs.declared.declarations.Bounds.{Bounds}
+use Rattle.stl_ast.specs.declared.declarations.Declaration.{Declaration}
+use Rattle.stl_ast.specs.declared.declarations.ElementType.{ElementType}
+use Rattle.stl_ast.specs.declared.declarations.ElementType.TheVariants as element
+use Rattle.stl_ast.specs.declared.declarations.Init.{Init}
+use Rattle.stl_ast.specs.Literals.{IsDecimal, IsLiteral}
+use Rattle.stl_ast.specs.Operands.{IsNumber, IsNameOf}
+
+abbrev pub AreBounds : Bounds → Type 0
+AreBounds b = IsDecimal b.low × IsDecimal b.high
+
+-- a user-defined data type by its number, or by a quoted name
+abbrev pub IsElement : ElementType → Type 0
+IsElement (element.Udt name) = IsNameOf (λ k. k ≡ kind.Udt) name
+IsElement _ = Unit {0}
+
+abbrev pub IsCount : Option ℕ → Type 0
+IsCount None = Unit {0}
+IsCount (Some n) = IsNumber n
+
+-- an initial value, `value` or `count (value)`
+abbrev pub IsInit : Init → Type 0
+IsInit i = IsCount i.count × IsLiteral i.value
+
+-- no initial value, or one without a count
+abbrev pub IsSingle : List Init → Type 0
+IsSingle [] = Unit {0}
+IsSingle (i ∷ []) = i.count ≡ None
+IsSingle _ = ⊥
+
+-- a list of initial values stands at an array of elementary type alone, and none at a structure
+abbrev pub FitsType : List Bounds → ElementType → List Init → Type 0
+FitsType (b ∷ []) (element.Plain kind) init = Unit {0}
+FitsType arrays element.Structure init = init ≡ []
+FitsType arrays of_ init = IsSingle init
+
+-- a declaration: bounds, count and values are in their ranges, and the initial values fit the form of the type
+pub record IsDeclaration (d : Declaration) : Type 0 where
+  pub arrays : AllByRecursion AreBounds d.of.arrays
+  pub element : IsElement d.of.of
+  pub init : AllByRecursion IsInit d.init
+  pub fits : FitsType d.of.arrays d.of.of d.init
+
+-- a type that is an elementary one
+abbrev pub is_plain : List Bounds → ElementType → Bool
+is_plain [] (element.Plain kind) = true
+is_plain _ _ = false
+
+abbrev pub is_elementary : Declaration → Bool
+is_elementary d = is_plain d.of.arrays d.of.of

@@ -1,0 +1,63 @@
+-- The most bytes that the code of a tree can take.
+use Rattle.std.specs.Prelude.{ℕ, ◌+◌, ◌*◌, if◌then◌else◌, length, sum_by, Option, Some, None}
+use Rattle.plc_base.specs.declared.blocks.BlockKind.{BlockKind}
+use Rattle.stl_ast.specs.declared.blocks.Block.{Block}
+use Rattle.stl_ast.specs.declared.blocks.Tree.{Tree}
+use Rattle.stl_ast.specs.declared.mnemonics.Mnemonic.{Mnemonic}
+use Rattle.stl_ast.specs.declared.mnemonics.Mnemonic.TheVariants as code
+use Rattle.stl_ast.specs.declared.names.BlockName.{BlockName}
+use Rattle.stl_ast.specs.declared.operands.Operand.{Operand}
+use Rattle.stl_ast.specs.declared.operands.Operand.TheVariants as operand
+use Rattle.stl_ast.specs.declared.operands.PathHead.{PathHead}
+use Rattle.stl_ast.specs.declared.operands.PathHead.TheVariants as head
+use Rattle.stl_ast.specs.declared.statements.Statement.{Statement}
+use Rattle.stl_ast.specs.Blocks.{has_body}
+
+-- an op has its code and its form in a byte each, and then its operand. These are the most bytes of a statement's ops,
+-- actual parameters left out: a place takes 7 in all, an op that opens the data block before it 4 more, a place by an
+-- address register 9
+abbrev pub block_size : Option BlockName → ℕ
+block_size None = 0
+block_size (Some name) = 4
+
+abbrev pub path_size : PathHead → ℕ
+path_size (head.Local name) = 7
+path_size (head.InBlock name) = 11
+path_size (head.Symbol name) = 7
+
+abbrev pub op_size : Operand → ℕ
+op_size operand.Nothing = 2
+op_size (operand.Direct name area w byte bit) = 7 + block_size name
+op_size (operand.Timer number) = 5
+op_size (operand.Counter number) = 5
+op_size (operand.Named path steps) = path_size path
+op_size (operand.ByMemory area w from byte) = 7
+op_size (operand.NumberBy what from byte) = 6
+op_size (operand.ByRegister area w register bits) = 9
+op_size (operand.Pointer area byte bit) = 6
+op_size (operand.Constant value) = 6
+op_size (operand.Label name) = 7
+op_size (operand.OfStatus flag) = 3
+op_size (operand.Other name) = 6
+op_size (operand.OpenBlock di name) = 5
+op_size (operand.Called name instance) = 7
+
+abbrev pub code_size : Mnemonic → Operand → ℕ → ℕ
+code_size code.Empty o count = 0
+code_size _ o count = 4 + op_size o + 11 * count
+
+-- a statement: the entry of its line, its ops, and an op of at most 11 bytes for each actual parameter; the empty
+-- statement has no code
+abbrev pub statement_size : Statement → ℕ
+statement_size s = code_size s.code s.operand (length s.actuals)
+
+-- the statement that returns, behind the last one of a body
+abbrev pub return_size : BlockKind → ℕ
+return_size k = if has_body k then 6 else 0
+
+abbrev pub body_size : Block → ℕ
+body_size b = return_size b.kind + sum_by statement_size b.body
+
+-- all statements of a tree, and those that return
+abbrev pub tree_size : Tree → ℕ
+tree_size t = sum_by body_size t.blocks

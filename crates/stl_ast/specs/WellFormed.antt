@@ -1,0 +1,112 @@
+-- What the tree of a source keeps.
+use Rattle.std.specs.Prelude.{◌≡◌, ◌⊎◌, ℕ, ◌+◌, ◌≤◌, Bool, true, false, List, [], ◌∷◌, Option, Some, None}
+use Rattle.std.specs.List.{AllByRecursion}
+use Rattle.plc_base.specs.declared.blocks.BlockKind.{BlockKind}
+use Rattle.plc_base.specs.declared.blocks.BlockKind.TheVariants as kinds
+use Rattle.stl_ast.specs.declared.blocks.Block.{Block}
+use Rattle.stl_ast.specs.declared.blocks.Part.{Part}
+use Rattle.stl_ast.specs.declared.blocks.PartKind.{PartKind}
+use Rattle.stl_ast.specs.declared.blocks.Setting.{Setting}
+use Rattle.stl_ast.specs.declared.blocks.Tree.{Tree}
+use Rattle.stl_ast.specs.declared.declarations.Declaration.{Declaration}
+use Rattle.stl_ast.specs.declared.declarations.ElementType.{ElementType}
+use Rattle.stl_ast.specs.declared.declarations.ElementType.TheVariants as element
+use Rattle.stl_ast.specs.declared.declarations.Simple.{Simple}
+use Rattle.stl_ast.specs.declared.declarations.TypeTree.{TypeTree}
+use Rattle.stl_ast.specs.declared.names.BlockName.{BlockName}
+use Rattle.stl_ast.specs.declared.statements.Statement.{Statement}
+use Rattle.stl_ast.specs.Blocks.{has_body, has_settings, part_rank, is_parameter, may_have, may_declare, is_date_and_time}
+use Rattle.stl_ast.specs.Declarations.{IsDeclaration, is_elementary}
+use Rattle.stl_ast.specs.Literals.{IsLiteral}
+use Rattle.stl_ast.specs.Operands.{IsNameOf, AreSteps, BeginsByName}
+use Rattle.stl_ast.specs.Outline.{IsOutline}
+use Rattle.stl_ast.specs.Statements.{IsStatement}
+
+-- a block that a source declares: an organization block, a function, a function block, a data block or a data type
+abbrev pub IsSourceKind : BlockKind → Type 0
+IsSourceKind kinds.Sfc = ⊥
+IsSourceKind _ = Unit {0}
+
+-- a block by its number has the kind of its head
+abbrev pub IsHeadName : BlockKind → BlockName → Type 0
+IsHeadName k name = IsNameOf (λ j. j ≡ k) name
+
+-- a function alone has a return value
+abbrev pub MayReturn : BlockKind → Option Simple → Type 0
+MayReturn kinds.Fc result = Unit {0}
+MayReturn _ result = result ≡ None
+
+-- a declaration that may stand in this section; a parameter is of an elementary type
+abbrev pub IsDeclaredIn : BlockKind → PartKind → Declaration → Type 0
+IsDeclaredIn k p d =
+    IsDeclaration d × (may_declare k p d.level d ≡ true) × (is_parameter p ≡ true → is_elementary d ≡ true)
+
+abbrev pub AreDeclaredIn : BlockKind → PartKind → List Declaration → Type 0
+AreDeclaredIn k p ds = AllByRecursion (IsDeclaredIn k p) ds
+
+-- a section that a block of this kind has; levels rise by one into a structure, and by no more
+abbrev pub IsSection : BlockKind → Part → Type 0
+IsSection k p = (may_have k p.kind ≡ true) × IsOutline 0 p.items × AreDeclaredIn k p.kind p.items
+
+-- the sections stand in their order, each kind at most once: none before the rank `least`
+abbrev pub AreInOrder : ℕ → List Part → Type 0
+AreInOrder least [] = Unit {0}
+AreInOrder least (p ∷ ps) = (least ≤ part_rank p.kind) × AreInOrder (part_rank p.kind + 1) ps
+
+abbrev pub AreSections : BlockKind → List Part → Type 0
+AreSections k ps = AreInOrder 0 ps × AllByRecursion (IsSection k) ps
+
+-- the components of a structure that is the type of a block
+abbrev pub IsComponent : Declaration → Type 0
+IsComponent d = IsDeclaration d × (is_date_and_time d.of.of ≡ false)
+
+abbrev pub AreComponents : List Declaration → Type 0
+AreComponents ds = IsOutline 0 ds × AllByRecursion IsComponent ds
+
+-- the type of a data block: a structure with its components, or a user-defined data type
+abbrev pub IsDataType : ElementType → List Declaration → Type 0
+IsDataType element.Structure components = AreComponents components
+IsDataType (element.Udt name) components = IsNameOf (λ k. k ≡ kinds.Udt) name × (components ≡ [])
+IsDataType _ components = ⊥
+
+-- a data block has a type, or is the instance of a function block
+abbrev pub IsDataShape : Option TypeTree → Option BlockName → List Declaration → Type 0
+IsDataShape (Some t) None components = (t.arrays ≡ []) × IsDataType t.of components
+IsDataShape None (Some name) components = IsNameOf (λ k. k ≡ kinds.Fb) name × (components ≡ [])
+IsDataShape _ _ components = ⊥
+
+-- a data type is a structure
+abbrev pub IsTypeShape : Option TypeTree → Option BlockName → List Declaration → Type 0
+IsTypeShape (Some t) None components = (t.arrays ≡ []) × (t.of ≡ element.Structure) × AreComponents components
+IsTypeShape _ _ components = ⊥
+
+-- what a block is of, by its kind
+abbrev pub IsShapeOf : BlockKind → Option TypeTree → Option BlockName → List Declaration → Type 0
+IsShapeOf kinds.Db shape instance components = IsDataShape shape instance components
+IsShapeOf kinds.Udt shape instance components = IsTypeShape shape instance components
+IsShapeOf _ shape instance components = (shape ≡ None) × (instance ≡ None) × (components ≡ [])
+
+-- a setting: its path begins with a name
+abbrev pub IsSetting : Setting → Type 0
+IsSetting s = BeginsByName s.path × AreSteps s.path × IsLiteral s.value
+
+-- a data block alone has settings
+abbrev pub AreSettings : BlockKind → List Setting → Type 0
+AreSettings k ss = AllByRecursion IsSetting ss × (has_settings k ≡ false → ss ≡ [])
+
+-- organization blocks, functions and function blocks alone have statements
+abbrev pub IsBody : BlockKind → List Statement → Type 0
+IsBody k body = AllByRecursion IsStatement body × (has_body k ≡ false → body ≡ [])
+
+pub record IsBlock (b : Block) : Type 0 where
+  pub head : IsSourceKind b.kind
+  pub named : IsHeadName b.kind b.name
+  pub returns : MayReturn b.kind b.result
+  pub sections : AreSections b.kind b.parts
+  pub shaped : IsShapeOf b.kind b.shape b.instance_of b.components
+  pub set : AreSettings b.kind b.settings
+  pub runs : IsBody b.kind b.body
+
+-- the tree of a source: what its grammar and its frame keep of each block
+abbrev pub IsWellFormed : Tree → Type 0
+IsWellFormed t = AllByRecursion IsBlock t.blocks

@@ -1,0 +1,59 @@
+-- The ranges of the numbers that are read.
+use Rattle.std.proofs.Common.{arith, ℕ, zero, suc, ◌≡◌, ◌≤◌, ◌<◌, Bool, true, false, List, [], ◌∷◌, length, Option, Some, None, ℤ, pos, negsuc, if◌then◌else◌, refl}
+use Rattle.std.specs.Prelude.{◌-ℤ◌, ◌-◌, nat_le, nat_lt}
+use Rattle.std.proofs.lemmas.Bool.Decides.{nat_tests}
+use Rattle.std.specs.Option.{option_map, option_or, option_and_then, IfSome}
+use Rattle.stl_lexer.specs.declared.kinds.Token.{Token}
+use Rattle.stl_ast.specs.Literals.{IsBetween, IsDecimal, IsLiteral}
+use Rattle.stl_ast.specs.Operands.{IsNumber}
+use Rattle.stl_parser.specs.declared.keywords.Mark.TheVariants as mark
+use Rattle.stl_parser.specs.Terminals.{is_mark}
+use Rattle.stl_parser.specs.Numbers.{decimal_of, number_of, negated_of, signed_at, int_at}
+use Rattle.stl_parser.proofs.OptionLemmas.{found, mapped, chained, either, both, passed}
+
+pub decimal_range : (text : List ℕ) (n : ℕ) → decimal_of text ≡ Some n → n ≤ 65535
+unfolding decimal_of
+decimal_range [] n found = cc
+decimal_range (d ∷ ds) n found = grind (arith, nat_tests)
+
+pub number_range : (source : List ℕ) (t : Token) (n : ℕ) → number_of source t ≡ Some n → n ≤ 65535
+unfolding number_of
+number_range source t n found = grind (arith, decimal_range)
+
+negated_range : (source : List ℕ) (t : Token) (n : ℕ) → negated_of source t ≡ Some n → n ≤ 32768
+unfolding negated_of
+negated_range source t n found = grind (arith, nat_tests)
+
+-- a number with its sign, by whichever test
+signed : (b : Bool) (low high m n : ℕ) → m < low → n ≤ high → IsBetween low high (if b then negsuc m else pos n)
+signed true low high m n h k = h
+signed false low high m n h k = k
+
+pub negated : (low high n : ℕ) → n ≤ low → IsBetween low high (pos 0 -ℤ pos n)
+negated low high zero within = omega arith
+negated low high (suc n) within = signed (nat_lt 0 (suc n)) low high (suc n - 1) (0 - suc n) (omega (arith, within)) (omega arith)
+
+pub number_holds : (source : List ℕ) (t : Token) → IfSome (number_of source t) IsNumber
+number_holds source t = found (number_of source t) IsNumber (number_range source t)
+
+abbrev pub FirstIsDecimal : ℤ × List Token → Type 0
+FirstIsDecimal r = IsDecimal r.0
+
+plain_decimal : (source : List ℕ) (t : Token) (rest : List Token) →
+    IfSome (option_map (λ n. (pos n, rest)) (number_of source t)) FirstIsDecimal
+plain_decimal source t rest = mapped (number_of source t) _ IsNumber FirstIsDecimal (number_holds source t) (λ n h. h)
+
+pub signed_holds : (source : List ℕ) (sign : Token) (tokens : List Token) → IfSome (signed_at source sign tokens) FirstIsDecimal
+unfolding signed_at
+signed_holds source sign [] = tt
+signed_holds source sign (t ∷ rest) =
+    both (is_mark source sign mark.Minus) _ _ FirstIsDecimal
+    (mapped (negated_of source t) _ (λ n. n ≤ 32768) FirstIsDecimal (found (negated_of source t) _ (negated_range source t))
+    (λ n h. negated 32768 65535 n h))
+    (both (is_mark source sign mark.Plus) _ _ FirstIsDecimal (plain_decimal source t rest) tt)
+
+pub int_holds : (source : List ℕ) (tokens : List Token) → IfSome (int_at source tokens) FirstIsDecimal
+unfolding int_at
+int_holds source [] = tt
+int_holds source (t ∷ rest) =
+    either (option_map (λ n. (pos n, rest)) (number_of source t)) _ FirstIsDecimal (plain_decimal source t rest) (signed_holds source t rest)

@@ -1,0 +1,37 @@
+-- Which organization blocks DIS_IRT and EN_IRT mean by MODE and OB_NR.
+use Rattle.std.specs.Prelude.{ℕ, zero, suc, ◌+◌, ◌*◌, ◌/◌, Bool, ◌&&◌, ◌||◌, ◌==◌, nat_lt, Option, Some, None, if◌then◌else◌}
+use Rattle.ob_sched.specs.OrganizationBlock.{is_interrupt}
+use Rattle.ob_sched.specs.Scheduler.{Scheduler, disabled_as}
+
+-- the first of its group: of OB 10 to 17, 20 to 23, 30 to 38 or 40 to 47
+abbrev pub first_of_group : ℕ → ℕ
+first_of_group ob = ob / 10 * 10
+
+-- MODE 0 means all interrupts and doesn't look at OB_NR, MODE 1 the group whose first number is OB_NR, MODE 2 the one of OB_NR
+abbrev pub is_meant : (mode ob_nr ob : ℕ) → Bool
+is_meant mode ob_nr ob =
+    is_interrupt ob && (mode == 0 || (mode == 1 && first_of_group ob == ob_nr) || (mode == 2 && ob == ob_nr))
+
+-- the error code: 16#8091 for another MODE; after that 16#8090 for an OB_NR that means none
+abbrev pub names_one : (mode ob_nr : ℕ) → Bool
+names_one mode ob_nr =
+    mode == 0 || (mode == 1 && is_interrupt ob_nr && first_of_group ob_nr == ob_nr) || (mode == 2 && is_interrupt ob_nr)
+
+abbrev pub refusal : (mode ob_nr : ℕ) → Option ℕ
+refusal mode ob_nr =
+    if nat_lt 2 mode then Some 0x8091
+    else if names_one mode ob_nr then None
+    else Some 0x8090
+
+-- each organization block that is meant is disabled, or enabled: of so many, from this number on
+abbrev pub set_if : Bool → Bool → ℕ → Scheduler → Scheduler
+set_if meant disabled ob s = if meant then disabled_as disabled ob s else s
+
+abbrev pub each_set : (disabled : Bool) (mode ob_nr ob count : ℕ) → Scheduler → Scheduler
+each_set disabled mode ob_nr ob zero s = s
+each_set disabled mode ob_nr ob (suc n) s =
+    each_set disabled mode ob_nr (ob + 1) n (set_if (is_meant mode ob_nr ob) disabled ob s)
+
+-- the interrupts have the numbers 10 to 47
+unfoldable pub all_set : (disabled : Bool) (mode ob_nr : ℕ) → Scheduler → Scheduler
+all_set disabled mode ob_nr s = each_set disabled mode ob_nr 10 38 s

@@ -1,0 +1,56 @@
+-- The nine system functions.
+use Rattle.std.specs.Prelude.{◌≡◌, ℕ, ◌+◌, ◌-◌, min, Bool, true, false, ◌&&◌, not, nat_le, ◌==◌, is_some, Option, Some, None, if◌then◌else◌}
+use Rattle.frames.specs.declared.activation.Activation.{Activation}
+use Rattle.ob_sched.specs.OrganizationBlock.{is_delay}
+use Rattle.ob_sched.specs.Scheduler.{Scheduler, delay_of, delay_started, delay_cancelled}
+use Rattle.sys_funcs.specs.Disabling.{refusal, all_set}
+use Rattle.sys_funcs.specs.Returned.{Returned, returned, passed}
+
+-- the running delay count
+abbrev pub with_delay : ℕ → Activation → Activation
+with_delay n a = record a { delay = n }
+
+-- SFC 41 DIS_AIRT: the delay count is one more, 32,767 at most, and is returned
+unfoldable pub dis_airt : Scheduler → Activation → Returned
+dis_airt s a = let n : ℕ = min (a.delay + 1) 32767 in returned s (with_delay n a) n
+
+-- SFC 42 EN_AIRT: the delay count is one less, and is returned; where it is 0, 16#8080 and nothing changes
+unfoldable pub en_airt : Scheduler → Activation → Returned
+en_airt s a =
+    if a.delay == 0 then returned s a 0x8080
+    else returned s (with_delay (a.delay - 1) a) (a.delay - 1)
+
+-- SFC 39 DIS_IRT and SFC 40 EN_IRT: an error code, or the organization blocks that are meant are disabled or enabled, and 0
+abbrev pub set_unless : Option ℕ → (disabled : Bool) (mode ob_nr : ℕ) → Scheduler → Activation → Returned
+set_unless (Some code) disabled mode ob_nr s a = returned s a code
+set_unless None disabled mode ob_nr s a = returned (all_set disabled mode ob_nr s) a 0
+
+unfoldable pub dis_irt : Scheduler → Activation → (mode ob_nr : ℕ) → Returned
+dis_irt s a mode ob_nr = set_unless (refusal mode ob_nr) true mode ob_nr s a
+
+unfoldable pub en_irt : Scheduler → Activation → (mode ob_nr : ℕ) → Returned
+en_irt s a mode ob_nr = set_unless (refusal mode ob_nr) false mode ob_nr s a
+
+-- the number of a time delay interrupt is that of its organization block
+abbrev pub IsDelayOb : ℕ → Option ℕ → Type 0
+IsDelayOb ob_nr (Some ob) = (is_delay ob_nr ≡ true) × (ob ≡ ob_nr)
+IsDelayOb ob_nr None = is_delay ob_nr ≡ false
+
+-- SFC 32 SRT_DINT: 16#8090 for another OB_NR than 20 to 23; after that 16#8091 for a DTIME other than 1 to 60,000 ms; else the
+-- delay starts, or starts anew. SIGN doesn't count
+unfoldable pub srt_dint : Scheduler → Activation → (ob_nr dtime sign : ℕ) → Returned
+srt_dint s a ob_nr dtime sign =
+    if not (is_delay ob_nr) then returned s a 0x8090
+    else if not (nat_le 1 dtime && nat_le dtime 60000) then returned s a 0x8091
+    else returned (delay_started ob_nr dtime s) a 0
+
+-- SFC 33 CAN_DINT: 16#8090 for another OB_NR than 20 to 23; after that 16#80A0 where no delay is started; else it ends
+unfoldable pub can_dint : Scheduler → Activation → (ob_nr : ℕ) → Returned
+can_dint s a ob_nr =
+    if not (is_delay ob_nr) then returned s a 0x8090
+    else if is_some (delay_of s.countdowns ob_nr) then returned (delay_cancelled ob_nr s) a 0
+    else returned s a 0x80A0
+
+-- SFC 64 TIME_TCK: the clock, a TIME, so BR is 1
+unfoldable pub time_tck : Scheduler → Activation → Returned
+time_tck s a = record { sched = s; activation = passed a; value = s.clock }

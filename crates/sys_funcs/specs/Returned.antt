@@ -1,0 +1,37 @@
+-- What a system function leaves and answers.
+use Rattle.std.specs.Prelude.{◌≡◌, ℕ, Bool, true, ◌&&◌, not, nat_le}
+use Rattle.frames.specs.declared.activation.Activation.{Activation}
+use Rattle.ob_sched.specs.Scheduler.{Scheduler}
+
+-- the scheduler, the running activation, and the return value RET_VAL
+pub record Returned : Type 0 where
+  pub sched : Scheduler
+  pub activation : Activation
+  pub value : ℕ
+
+-- the activation with another BR; its frames and all else stay
+abbrev pub with_br : Bool → Activation → Activation
+with_br br a =
+    record a {
+      running = record a.running {
+        regs = record a.running.regs { status = record a.running.regs.status { br = br } };
+      };
+    }
+
+-- BR after an INT return value: 0 for the error codes 16#8080 to 16#80FF, else 1 (own)
+abbrev pub br_of : ℕ → Bool
+br_of value = not (nat_le 0x8080 value && nat_le value 0x80FF)
+
+-- an INT return value, with its BR
+abbrev pub returned : Scheduler → Activation → ℕ → Returned
+returned s a value = record { sched = s; activation = with_br (br_of value) a; value = value }
+
+-- without an error code BR is 1
+abbrev pub passed : Activation → Activation
+passed a = with_br true a
+
+-- a call leaves and answers this
+pub record LeavesReturned (r : Returned) (s : Scheduler) (a : Activation) (answer : ℕ) : Type 0 where
+  pub sched : s ≡ r.sched
+  pub activation : a ≡ r.activation
+  pub value : answer ≡ r.value

@@ -1,0 +1,115 @@
+ghost use Rattle.std.specs.Prelude.{◌≡◌, true, false};
+ghost use Rattle.ob_sched.specs.OrganizationBlock.{is_interrupt as interrupts};
+ghost use Rattle.ob_sched.specs.Views.{scheduler_of};
+ghost use Rattle.sys_funcs.specs.Disabling.{all_set, first_of_group, is_meant as means, refusal as refused, set_if};
+ghost use Rattle.sys_funcs.specs.Returned.{LeavesReturned};
+ghost use Rattle.sys_funcs.specs.Functions.{dis_irt as disables, en_irt as enables, set_unless};
+
+use crate::returns::returned;
+use frames::Activation;
+use ob_sched::Sched;
+
+/// Another MODE than 0, 1 and 2.
+const WRONG_MODE: u32 = 0x8091;
+
+/// An OB_NR that means no interrupt.
+const WRONG_OB_NR: u32 = 0x8090;
+
+// Whether an organization block is that of an interrupt.
+fn is_interrupt(ob: u32) -> bool
+    ensures { result ≡ interrupts ob }
+{
+    (10..=17).contains(&ob)
+        || (20..=23).contains(&ob)
+        || (30..=38).contains(&ob)
+        || (40..=47).contains(&ob)
+}
+
+// The first number of its group.
+fn group_of(ob: u32) -> u32
+    ensures { result ≡ first_of_group ob }
+{
+    ob / 10 * 10
+}
+
+// Whether MODE and OB_NR mean an organization block.
+fn is_meant(mode: u32, ob_nr: u32, ob: u32) -> bool
+    ensures { result ≡ means mode ob_nr ob }
+{
+    is_interrupt(ob)
+        && (mode == 0 || mode == 1 && group_of(ob) == ob_nr || mode == 2 && ob == ob_nr)
+}
+
+// The error code of MODE and OB_NR.
+fn refusal(mode: u32, ob_nr: u32) -> Option<u32>
+    ensures { result ≡ refused mode ob_nr }
+{
+    if mode > 2 {
+        return Some(WRONG_MODE);
+    }
+    let means_one = mode == 0
+        || mode == 1 && is_interrupt(ob_nr) && group_of(ob_nr) == ob_nr
+        || mode == 2 && is_interrupt(ob_nr);
+    if means_one { None } else { Some(WRONG_OB_NR) }
+}
+
+// Disables or enables one organization block, if it is meant.
+fn set_one(s: &mut Sched, mode: u32, ob_nr: u32, ob: u16, disabled: bool)
+    ensures { scheduler_of s.new
+        ≡ set_if (means mode ob_nr ob) disabled ob (scheduler_of s.old) }
+{
+    if !is_meant(mode, ob_nr, u32::from(ob)) {
+        return;
+    }
+    if disabled {
+        s.disable(ob);
+    } else {
+        s.enable(ob);
+    }
+}
+
+// Disables or enables the organization blocks that are meant.
+#[tactic(auto, unfolding(crate::specs::Disabling::all_set))]
+fn set_all(s: &mut Sched, mode: u32, ob_nr: u32, disabled: bool)
+    ensures { scheduler_of s.new ≡ all_set disabled mode ob_nr (scheduler_of s.old) }
+{
+    for ob in 10..48 {
+        set_one(s, mode, ob_nr, ob, disabled);
+    }
+}
+
+// DIS_IRT and EN_IRT.
+fn set_unless_refused(
+    s: &mut Sched,
+    a: &mut Activation,
+    mode: u32,
+    ob_nr: u32,
+    disabled: bool,
+) -> u32
+    ensures { LeavesReturned (set_unless (refused mode ob_nr) disabled mode ob_nr (scheduler_of s.old) a.old)
+        (scheduler_of s.new) a.new result }
+{
+    if let Some(code) = refusal(mode, ob_nr) {
+        return returned(a, code);
+    }
+    set_all(s, mode, ob_nr, disabled);
+    returned(a, 0)
+}
+
+/// SFC 39 DIS_IRT: disables interrupts: all of them (MODE 0), the group whose first number is OB_NR
+/// (MODE 1: 10, 20, 30 or 40), or that of OB_NR (MODE 2). Another MODE is 16#8091; after that another
+/// OB_NR is 16#8090.
+#[tactic(auto, unfolding(crate::specs::Functions::dis_irt))]
+pub fn dis_irt(s: &mut Sched, a: &mut Activation, mode: u32, ob_nr: u32) -> u32
+    ensures { LeavesReturned (disables (scheduler_of s.old) a.old mode ob_nr) (scheduler_of s.new) a.new result }
+{
+    set_unless_refused(s, a, mode, ob_nr, true)
+}
+
+/// SFC 40 EN_IRT: enables interrupts, by MODE and OB_NR as DIS_IRT disables them.
+#[tactic(auto, unfolding(crate::specs::Functions::en_irt))]
+pub fn en_irt(s: &mut Sched, a: &mut Activation, mode: u32, ob_nr: u32) -> u32
+    ensures { LeavesReturned (enables (scheduler_of s.old) a.old mode ob_nr) (scheduler_of s.new) a.new result }
+{
+    set_unless_refused(s, a, mode, ob_nr, false)
+}

@@ -1,0 +1,41 @@
+ghost use Rattle.std.specs.Prelude.{◌≡◌, true};
+ghost use Rattle.ob_sched.specs.Scheduler.{retriggered};
+ghost use Rattle.ob_sched.specs.Views.{scheduler_of};
+ghost use Rattle.sys_funcs.specs.Functions.{time_tck as tells};
+ghost use Rattle.sys_funcs.specs.Returned.{LeavesReturned, passed};
+
+use crate::returns::set_br;
+use frames::Activation;
+use ob_sched::Sched;
+
+/// The stop cause of STP.
+const STOPPED_BY_PROGRAM: u8 = 1;
+
+/// SFC 43 RE_TRIGR: the cycle counter begins anew; the mark of an exceeded cycle time stays.
+pub fn re_trigr(s: &mut Sched, a: &mut Activation)
+    ensures sched { scheduler_of s.new ≡ retriggered (scheduler_of s.old) }
+    ensures activation { a.new ≡ passed a.old }
+{
+    s.re_trigger();
+    set_br(a, true);
+}
+
+/// SFC 46 STP: the stop cause, 1.
+pub fn stp(s: &mut Sched, a: &mut Activation) -> u8
+    ensures cause { result ≡ 1 }
+    ensures sched { scheduler_of s.new ≡ scheduler_of s.old }
+    ensures activation { a.new ≡ passed a.old }
+{
+    let _ = s;
+    set_br(a, true);
+    STOPPED_BY_PROGRAM
+}
+
+/// SFC 64 TIME_TCK: the clock in milliseconds, below 2^31.
+#[tactic(auto, unfolding(crate::specs::Functions::time_tck))]
+pub fn time_tck(s: &mut Sched, a: &mut Activation) -> u32
+    ensures { LeavesReturned (tells (scheduler_of s.old) a.old) (scheduler_of s.new) a.new result }
+{
+    set_br(a, true);
+    s.clock()
+}

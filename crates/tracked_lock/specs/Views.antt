@@ -1,0 +1,84 @@
+-- What a pass knows, and how the kinds of step change it.
+use Rattle.std.specs.Prelude.{◌≡◌, ◌⊎◌, ℕ, zero, suc, ◌+◌, ◌-◌, Bool, false, cond, nat_eq, nat_lt, ◌&&◌, List, [], ◌∷◌, ◌++◌, length, take, drop, filter}
+use Rattle.tracked_lock.specs.declared.views.Made.{Made}
+use Rattle.tracked_lock.specs.declared.views.View.{View}
+
+-- the fact of each of the list
+abbrev pub Each : {A : Type 0} → (A → Type 0) → List A → Type 0
+Each P [] = Unit {0}
+Each P (x ∷ xs) = P x × Each P xs
+
+module _ {E : Type 0} where
+  -- the entries of the list with this maker, in order
+  abbrev pub entries_by : (E → ℕ) → ℕ → List E → List E
+  entries_by maker k es = filter (λ e. nat_eq (maker e) k) es
+
+  -- under each number stand the entries of the list with this maker
+  abbrev pub IsMadeOf : (E → ℕ) → List E → List (Made E) → Type 0
+  IsMadeOf maker log [] = Unit {0}
+  IsMadeOf maker log (x ∷ xs) = (entries_by maker x.number log ≡ x.entries) × IsMadeOf maker log xs
+
+  -- under each number stand the entries with this maker of one of the two lists
+  abbrev pub IsKnownOf : (E → ℕ) → List E → List E → List (Made E) → Type 0
+  IsKnownOf maker xs ys [] = Unit {0}
+  IsKnownOf maker xs ys (m ∷ ms) = ((entries_by maker m.number xs ≡ m.entries) ⊎ (entries_by maker m.number ys ≡ m.entries)) × IsKnownOf maker xs ys ms
+
+  -- how often the number stands among them
+  abbrev pub times : ℕ → List (Made E) → ℕ
+  times k [] = 0
+  times k (x ∷ xs) = cond (nat_eq x.number k) 1 0 + times k xs
+
+  -- the numbers from 1 to n
+  abbrev pub fresh_to : ℕ → List (Made E)
+  fresh_to zero = []
+  fresh_to (suc n) = fresh_to n ++ record { number = suc n; entries = [] } ∷ []
+
+  -- further entries under the own number
+  abbrev pub made_more : List (Made E) → List E → List (Made E)
+  made_more [] added = []
+  made_more (x ∷ xs) added = record x { entries = x.entries ++ added } ∷ xs
+
+  -- the list, or the list with more entries of this maker
+  abbrev pub IsAdded : (E → ℕ) → ℕ → List E → List E → Type 0
+  IsAdded maker k xs ys = (added : List E) × (ys ≡ xs ++ added) × Each (λ e. maker e ≡ k) added
+
+  -- the longer list
+  abbrev pub longer : List E → List E → List E
+  longer xs ys = cond (nat_lt (length xs) (length ys)) ys xs
+
+  -- the own number, which is the first; 0 of none
+  abbrev pub own_number : List (Made E) → ℕ
+  own_number [] = 0
+  own_number (x ∷ xs) = x.number
+
+-- 1 of a number of a pass, 0 of another
+abbrev pub stands : ℕ → ℕ → ℕ
+stands n k = cond (nat_lt 0 k && nat_lt k (suc n)) 1 0
+
+module _ {O E : Type 0} where
+  abbrev pub view : List O → ℕ → Bool → List E → List E → List (Made E) → View O E
+  view origin passes turn seen other made = record { origin = origin; passes = passes; turn = turn; seen = seen; other = other; made = made }
+
+  -- all but the last number
+  abbrev pub without_last : View O E → View O E
+  without_last v = record v { made = take (length v.made - 1) v.made }
+
+  -- the last number alone
+  abbrev pub only_last : View O E → View O E
+  only_last v = record v { turn = false; made = drop (length v.made - 1) v.made }
+
+  -- both lists, until the next look, and the numbers of both
+  abbrev pub joined : View O E → View O E → View O E
+  joined v w = record v { other = w.seen; made = v.made ++ w.made }
+
+  -- what is left of a pass that has joined another
+  abbrev pub spent : View O E
+  spent = view [] 0 false [] [] []
+
+  abbrev pub turn_of : View O E → ℕ
+  turn_of v = cond v.turn 1 0
+
+-- the values of a list, added up
+abbrev pub total : {A : Type 0} → (A → ℕ) → List A → ℕ
+total f [] = 0
+total f (x ∷ xs) = f x + total f xs
