@@ -80,7 +80,7 @@ kept_by text log e = record {
 
 goes_found : (o : Option (Program × Cursor)) (p : Program) (end : Cursor) (log all : Log) → Goes p end log ≡ ran o all → (o ≡ Some (p, end)) × (log ≡ all)
 goes_found None p end log all e = absurd cc
-goes_found (Some x) p end log all e = (cc, cc)
+goes_found (Some x) p end log all e = let a : p ≡ x.0 = cc in let b : end ≡ x.1 = cc in (rw (a, b) refl, cc)
 
 stops_found : (o : Option (Program × Cursor)) (log all : Log) → ◌≡◌ {A = Ran Program} (Stops log) (ran o all) → (o ≡ None) × (log ≡ all)
 stops_found None log all e = (refl, cc)
