@@ -54,10 +54,10 @@ run_takes n text bs rest are false t e =
 run_exact : (n : ℕ) → IsExact (List ℕ) (bytes n)
 run_exact n = record {
   again = λ bs rest fits.
-    let g = and_parts (eqb (length bs) n) (bytes_fit bs) fits in
-    let size : length bs ≡ n = eqb-true _ _ g.0 in
-    let long : ltb (length (bs ++ rest)) n ≡ false = le-ltb _ _ (omega (arith, size, length-append bs rest)) in
-    rw (long, take_at bs rest n size, drop_at bs rest n size) refl;
+      let g = and_parts (eqb (length bs) n) (bytes_fit bs) fits in
+      let size : length bs ≡ n = eqb-true _ _ g.0 in
+      let long : ltb (length (bs ++ rest)) n ≡ false = le-ltb _ _ (omega (arith, size, length-append bs rest)) in
+      rw (long, take_at bs rest n size, drop_at bs rest n size) refl;
   takes = λ text bs rest are e. run_takes n text bs rest are (ltb (length text) n) refl e;
 }
 

@@ -7,3 +7,4 @@ pub mod WholeRunLemmas
 pub mod WholeLemmas
 pub mod JudgeLemmas
 pub mod LoadLemmas
+pub mod EndLemmas

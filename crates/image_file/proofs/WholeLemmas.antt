@@ -120,29 +120,35 @@ field_notes : {A : Type 0} (c : Coding A) (judge : A → Option ℕ) → Notes A
 field_notes {A = A} c judge = record { says = λ cur x end e. field_of_notes judge cur (c.read cur.rest) x end e }
 
 chain_notes : {A B : Type 0} (l : Layout A) (m : A → Layout B) (v : A → Told) (w : A → B → Told) → Notes A l v → ((x : A) → Notes B (m x) (w x)) → Notes (A × B) (chain l m) (λ x. join (v x.0) (w x.0 x.1))
-chain_notes {A = A} {B = B} l m v w p q = record { says = λ cur x end e.
-    let a = steps (l.read cur) (λ x next. bind ((m x).read next) (λ y end. given (x, y) end)) x end e in
-    let b = steps ((m a.first).read a.next) (λ y end. given (a.first, y) end) x end a.two in
-    let made = same_Some ((a.first, b.first), b.next) (x, end) b.two in
-    let x_is = ap (λ (z : (A × B) × Cursor). z.0) made in
-    let inner = b.notes ∙ ap (λ (z : Told). join (told_in ((m a.first).read a.next).notes) z) none_at_all ∙ join-nothing (told_in ((m a.first).read a.next).notes) ∙ (q a.first).says a.next b.first b.next b.one in
-    a.notes ∙ ap (λ (z : Told). join z (told_in (bind {B = A × B} ((m a.first).read a.next) (λ y end. given (a.first, y) end)).notes)) (p.says cur a.first a.next a.one)
-    ∙ ap (λ (z : Told). join (v a.first) z) inner ∙ ap (λ (z : A × B). join (v z.0) (w z.0 z.1)) x_is }
+chain_notes {A = A} {B = B} l m v w p q = record {
+  says = λ cur x end e.
+      let a = steps (l.read cur) (λ x next. bind ((m x).read next) (λ y end. given (x, y) end)) x end e in
+      let b = steps ((m a.first).read a.next) (λ y end. given (a.first, y) end) x end a.two in
+      let made = same_Some ((a.first, b.first), b.next) (x, end) b.two in
+      let x_is = ap (λ (z : (A × B) × Cursor). z.0) made in
+      let inner = b.notes ∙ ap (λ (z : Told). join (told_in ((m a.first).read a.next).notes) z) none_at_all ∙ join-nothing (told_in ((m a.first).read a.next).notes) ∙ (q a.first).says a.next b.first b.next b.one in
+      a.notes ∙ ap (λ (z : Told). join z (told_in (bind {B = A × B} ((m a.first).read a.next) (λ y end. given (a.first, y) end)).notes)) (p.says cur a.first a.next a.one)
+      ∙ ap (λ (z : Told). join (v a.first) z) inner ∙ ap (λ (z : A × B). join (v z.0) (w z.0 z.1)) x_is;
+}
 
 checked_notes : {A : Type 0} (at : ℕ) (fault : Option ℕ) (l : Layout A) (v : A → Told) → Notes A l v → Notes A (checked at fault l) v
 checked_notes {A = A} at fault l v p = record { says = λ cur x end e. told-append (noted at fault) (l.read cur).notes ∙ ap (λ (z : Told). join z (told_in (l.read cur).notes)) (none_noted at fault) ∙ nothing-join (told_in (l.read cur).notes) ∙ p.says cur x end e }
 
 seen_notes : {A B : Type 0} (to : A → B) (from : B → A) (l : Layout A) (v : A → Told) (w : B → Told) → ((x : A) → v x ≡ w (to x)) → Notes A l v → Notes B (seen_as to from l) w
-seen_notes {A = A} {B = B} to from l v w same p = record { says = λ cur y end e.
-    let a = steps (l.read cur) (λ x end. given (to x) end) y end e in
-    let made = same_Some (to a.first, a.next) (y, end) a.two in
-    a.notes ∙ ap (λ (z : Told). join (told_in (l.read cur).notes) z) none_at_all ∙ join-nothing (told_in (l.read cur).notes) ∙ p.says cur a.first a.next a.one ∙ same a.first ∙ ap w (ap (λ (z : B × Cursor). z.0) made) }
+seen_notes {A = A} {B = B} to from l v w same p = record {
+  says = λ cur y end e.
+      let a = steps (l.read cur) (λ x end. given (to x) end) y end e in
+      let made = same_Some (to a.first, a.next) (y, end) a.two in
+      a.notes ∙ ap (λ (z : Told). join (told_in (l.read cur).notes) z) none_at_all ∙ join-nothing (told_in (l.read cur).notes) ∙ p.says cur a.first a.next a.one ∙ same a.first ∙ ap w (ap (λ (z : B × Cursor). z.0) made);
+}
 
 remembered_notes : {A : Type 0} (note : A → Note) (l : Layout A) (w : A → Told) → ((x : A) → told_in (note x ∷ []) ≡ w x) → Notes A l (λ x. nothing) → Notes A (remembered note l) w
-remembered_notes {A = A} note l w tells p = record { says = λ cur b end e.
-    let a = steps (l.read cur) (λ x end. record { notes = note x ∷ []; found = Some (x, end) }) b end e in
-    let made = same_Some (a.first, a.next) (b, end) a.two in
-    a.notes ∙ ap (λ (z : Told). join z (told_in (note a.first ∷ []))) (p.says cur a.first a.next a.one) ∙ nothing-join (told_in (note a.first ∷ [])) ∙ tells a.first ∙ ap (λ (z : A × Cursor). w z.0) made }
+remembered_notes {A = A} note l w tells p = record {
+  says = λ cur b end e.
+      let a = steps (l.read cur) (λ x end. record { notes = note x ∷ []; found = Some (x, end) }) b end e in
+      let made = same_Some (a.first, a.next) (b, end) a.two in
+      a.notes ∙ ap (λ (z : Told). join z (told_in (note a.first ∷ []))) (p.says cur a.first a.next a.one) ∙ nothing-join (told_in (note a.first ∷ [])) ∙ tells a.first ∙ ap (λ (z : A × Cursor). w z.0) made;
+}
 
 located_notes : {A : Type 0} (l : ℕ → Layout A) (v : A → Told) → ((at : ℕ) → Notes A (l at) v) → Notes A (located l) v
 located_notes {A = A} l v p = record { says = λ cur x end e. (p cur.at).says cur x end e }
@@ -239,7 +245,7 @@ code_block_notes before = located_notes (code_block_at true before) one (λ at. 
 singles : (bs : List BlockRecord) → all_of one bs ≡ (bs, None)
 unfolding all_of one join nothing
 singles [] = refl
-singles (b ∷ bs) = ap (λ (z : Told). let y : Told = (b ∷ z.0, z.1) in y) (singles bs)
+singles (b ∷ bs) = ap (λ (z : Told). let y : Told = (b ∷ z.0, later None z.1) in y) (singles bs)
 
 abbrev codes_told : List BlockRecord → Told
 codes_told bs = (bs, None)
@@ -363,10 +369,10 @@ inner_from text total cur p end are e clean =
       program = f.program ∙ ap (λ (z : Program × Cursor). z.0) made;
       good = f.good;
       told = told-append (cond (eqb (length text) total) [] (Faulty total 10 ∷ [])) (bind inner at_end).notes
-        ∙ ap (λ (z : Told). join z (told_in (bind inner at_end).notes)) (cond_note (eqb (length text) total) total 10)
-        ∙ nothing-join (told_in (bind inner at_end).notes)
-        ∙ a.notes ∙ ap (λ (z : Told). join (told_in inner.notes) z) (cond_note (eqb (length a.next.rest) 0) a.next.at 10) ∙ join-nothing (told_in inner.notes)
-        ∙ f.told;
+          ∙ ap (λ (z : Told). join z (told_in (bind inner at_end).notes)) (cond_note (eqb (length text) total) total 10)
+          ∙ nothing-join (told_in (bind inner at_end).notes)
+          ∙ a.notes ∙ ap (λ (z : Told). join (told_in inner.notes) z) (cond_note (eqb (length a.next.rest) 0) a.next.at 10) ∙ join-nothing (told_in inner.notes)
+          ∙ f.told;
     }
 
 cut_from : (text : List ℕ) (total : ℕ) (cur : Cursor) (p : Program) (end : Cursor) (b d : Bool) → IsBytes cur.rest → (cond b (ended 8 3) (cond d (ended 8 4) (cut_inner text total cur))).found ≡ Some (p, end) → faults_in (cond b (ended 8 3) (cond d (ended 8 4) (cut_inner text total cur))).notes ≡ [] → FromRecords p (cond b (ended 8 3) (cond d (ended 8 4) (cut_inner text total cur))).notes

@@ -3,3 +3,6 @@ pub mod Walking
 pub mod Least
 pub mod Running
 pub mod Judging
+pub mod Loaded
+pub mod Refusing
+pub mod Typing

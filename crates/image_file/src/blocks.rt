@@ -58,7 +58,16 @@ impl Reader<'_> {
         let statements = self.plain_u16()?;
         let reserved = self.reserved_u16()?;
         let size = self.plain_u32()?;
-        Ok(HeadRead { kind, params, number, locals, instance, statements, reserved, size })
+        Ok(HeadRead {
+            kind,
+            params,
+            number,
+            locals,
+            instance,
+            statements,
+            reserved,
+            size,
+        })
     }
 
     #[tactic(auto, unfolding(flat_code::specs::Image::parameter, flat_code::specs::Image::raw_parameter), using(crate::proofs::RunLemmas::run_seen, crate::proofs::RunLemmas::run_chain))]
@@ -73,7 +82,12 @@ impl Reader<'_> {
         let byte = self.parameter_byte(kind, instance, width)?;
         let bit = self.parameter_bit(kind)?;
         let _reserved = self.reserved_u8()?;
-        Ok(ParameterRecord { section, width, byte, bit })
+        Ok(ParameterRecord {
+            section,
+            width,
+            byte,
+            bit,
+        })
     }
 
     #[tactic(auto, unfolding(flat_code::specs::Image::parameters))]
@@ -137,21 +151,38 @@ impl Reader<'_> {
 
     /// The statement count, which is judged now, and the lines.
     #[tactic(auto, unfolding(flat_code::specs::Image::lines_of), using(crate::proofs::RunLemmas::run_checked))]
-    fn counted_lines(&mut self, alloc: Global, start: u32, head: HeadRead, ops: &[Op]) -> Result<Vec<u32>, Stop>
+    fn counted_lines(
+        &mut self,
+        alloc: Global,
+        start: u32,
+        head: HeadRead,
+        ops: &[Op],
+    ) -> Result<Vec<u32>, Stop>
         requires fits { self.old.at + length self.old.rest.now < 2 ^ 32 }
         requires room { start + 8 < 2 ^ 32 }
         ensures read { Sees (λ v. v.items) result self.new (run (lines_of true start (head_values head) ops.now) (place_of self.old) (log_of self.old)) }
         ensures all { OnOk result (self.new.at + length self.new.rest.now ≡ self.old.at + length self.old.rest.now) }
     {
         let end_marks = end_mark_count(ops);
-        self.judge(start + 8, Field::StatementCount { end_marks, count: head.statements });
+        self.judge(
+            start + 8,
+            Field::StatementCount {
+                end_marks,
+                count: head.statements,
+            },
+        );
         let lines = self.lines(alloc, head.statements)?;
         Ok(lines)
     }
 
     /// The code of a block and its lines.
     #[tactic(auto, unfolding(flat_code::specs::Image::code_and_lines), using(crate::proofs::RunLemmas::run_chain))]
-    fn code_and_lines(&mut self, alloc: Global, start: u32, head: HeadRead) -> Result<(Vec<Op>, Vec<u32>), Stop>
+    fn code_and_lines(
+        &mut self,
+        alloc: Global,
+        start: u32,
+        head: HeadRead,
+    ) -> Result<(Vec<Op>, Vec<u32>), Stop>
         requires fits { self.old.at + length self.old.rest.now < 2 ^ 32 }
         requires room { start + 8 < 2 ^ 32 }
         ensures read { Sees (λ r. (r.0.items, r.1.items)) result self.new (run (code_and_lines true start (head_values head)) (place_of self.old) (log_of self.old)) }
@@ -165,7 +196,12 @@ impl Reader<'_> {
 
     /// A code block.
     #[tactic(auto, unfolding(flat_code::specs::Image::plain_block, flat_code::specs::Image::raw_block), using(crate::proofs::RunLemmas::run_seen, crate::proofs::RunLemmas::run_chain))]
-    fn plain_block(&mut self, alloc: Global, kind_before: u8, before: u16) -> Result<BlockRead, Stop>
+    fn plain_block(
+        &mut self,
+        alloc: Global,
+        kind_before: u8,
+        before: u16,
+    ) -> Result<BlockRead, Stop>
         requires { self.old.at + length self.old.rest.now + 8 < 2 ^ 32 }
         ensures read { Sees (λ b. b) result self.new (run (plain_block true (kind_before, before) self.old.at) (place_of self.old) (log_of self.old)) }
         ensures all { OnOk result (self.new.at + length self.new.rest.now ≡ self.old.at + length self.old.rest.now) }

@@ -18,7 +18,13 @@ fn is_short(needed: u16, len: Option<usize>) -> bool
     }
 }
 
-fn is_bad_instance(lens: &[(u16, usize)], kind: u8, instance_len: u16, params: &[ParameterRecord], instance: u16) -> bool
+fn is_bad_instance(
+    lens: &[(u16, usize)],
+    kind: u8,
+    instance_len: u16,
+    params: &[ParameterRecord],
+    instance: u16,
+) -> bool
     ensures { result ≡ is_bad_instance lens.now (kind, instance_len, params.now) instance }
 {
     if kind == 3 {
@@ -46,7 +52,14 @@ fn are_passed(params: &[ParameterRecord], before: &[Op]) -> bool
 
 /// Whether a block is called that is absent or has other parameters, or with an instance that
 /// doesn't fit.
-pub(crate) fn is_bad_call(around: &Surroundings, lens: &[(u16, usize)], kind: u8, number: u16, instance: u16, before: &[Op]) -> bool
+pub(crate) fn is_bad_call(
+    around: &Surroundings,
+    lens: &[(u16, usize)],
+    kind: u8,
+    number: u16,
+    instance: u16,
+    before: &[Op],
+) -> bool
     ensures { result ≡ is_bad_call lens.now (callee (around_of around.now).blocks kind number) instance before.now }
 {
     match callee(around.blocks, kind, number) {

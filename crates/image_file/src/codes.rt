@@ -44,7 +44,10 @@ pub(crate) fn ops_in(alloc: Global, code: &[u8]) -> Result<OpsFound, NoMemory>
     let mut count = 0;
     while let Ok(found) = decode_op(code, at) {
         if count == 64 {
-            return Ok(OpsFound { ops, fault: Some(at) });
+            return Ok(OpsFound {
+                ops,
+                fault: Some(at),
+            });
         }
         ended = is_end(&found.0);
         count = count_behind(&found.0, count);
@@ -53,10 +56,16 @@ pub(crate) fn ops_in(alloc: Global, code: &[u8]) -> Result<OpsFound, NoMemory>
         at = found.1;
     }
     if (at as usize) < code.len() {
-        return Ok(OpsFound { ops, fault: Some(at) });
+        return Ok(OpsFound {
+            ops,
+            fault: Some(at),
+        });
     }
     if !ended {
-        return Ok(OpsFound { ops, fault: Some(last) });
+        return Ok(OpsFound {
+            ops,
+            fault: Some(last),
+        });
     }
     Ok(OpsFound { ops, fault: None })
 }

@@ -37,7 +37,11 @@ fn ends_blank(name: &[u8]) -> bool
 fn name_fault(before: &[u8], name: &[u8]) -> Option<u16>
     ensures { result ≡ name_fault before.now name.now }
 {
-    if is_name_before(before, name) && is_upper_case(name) && !ends_blank(name) { None } else { Some(4) }
+    if is_name_before(before, name) && is_upper_case(name) && !ends_blank(name) {
+        None
+    } else {
+        Some(4)
+    }
 }
 
 /// The number of a data block and its length.
@@ -75,10 +79,18 @@ impl<'a> Reader<'a> {
         let len = self.data_len(sum)?;
         let _reserved = self.reserved_u16()?;
         let bytes = self.contents(alloc, len)?;
-        Ok(DataBlock { number, instance_of: instance_of(instance), bytes })
+        Ok(DataBlock {
+            number,
+            instance_of: instance_of(instance),
+            bytes,
+        })
     }
 
-    pub(crate) fn plain_data_blocks(&mut self, alloc: Global, count: u16) -> Result<Vec<DataBlock>, Stop>
+    pub(crate) fn plain_data_blocks(
+        &mut self,
+        alloc: Global,
+        count: u16,
+    ) -> Result<Vec<DataBlock>, Stop>
         requires { self.old.at + length self.old.rest.now < 2 ^ 32 }
         ensures read { Sees (λ v. v.items) result self.new (run (plain_data_blocks count) (place_of self.old) (log_of self.old)) }
         ensures all { OnOk result (self.new.at + length self.new.rest.now ≡ self.old.at + length self.old.rest.now) }
@@ -137,7 +149,13 @@ impl<'a> Reader<'a> {
         for _ in 0..count {
             let (text, area, width, byte, bit) = self.name(before)?;
             let name = Vec::from_slice(alloc, text)?;
-            names.push(NameRead { name, area, width, byte, bit })?;
+            names.push(NameRead {
+                name,
+                area,
+                width,
+                byte,
+                bit,
+            })?;
             before = text;
         }
         Ok(names)

@@ -39,7 +39,12 @@ impl Reader<'_> {
     {
         let at = self.at;
         let number = self.u8()?;
-        self.judge(at, Field::Reserved { number: u16::from(number) });
+        self.judge(
+            at,
+            Field::Reserved {
+                number: u16::from(number),
+            },
+        );
         Ok(number)
     }
 
@@ -83,7 +88,12 @@ impl Reader<'_> {
     }
 
     #[tactic(auto, unfolding(crate::specs::Running::run, crate::specs::Running::logged, crate::specs::Least::with_faults, flat_code::specs::Image::parameter_byte))]
-    pub(crate) fn parameter_byte(&mut self, kind: u8, instance: u16, width: u8) -> Result<u16, Ended>
+    pub(crate) fn parameter_byte(
+        &mut self,
+        kind: u8,
+        instance: u16,
+        width: u8,
+    ) -> Result<u16, Ended>
         requires { self.old.at + length self.old.rest.now < 2 ^ 32 }
         ensures read { seen (λ n. n) result self.new ≡ run (parameter_byte kind instance width) (place_of self.old) (log_of self.old) }
         ensures all { self.new.at + length self.new.rest.now ≡ self.old.at + length self.old.rest.now }
@@ -91,7 +101,15 @@ impl Reader<'_> {
     {
         let at = self.at;
         let number = self.u16()?;
-        self.judge(at, Field::ParameterByte { kind, instance, width, byte: number });
+        self.judge(
+            at,
+            Field::ParameterByte {
+                kind,
+                instance,
+                width,
+                byte: number,
+            },
+        );
         Ok(number)
     }
 
@@ -117,7 +135,13 @@ impl Reader<'_> {
     {
         let at = self.at;
         let number = self.u8()?;
-        self.judge(at, Field::Kind { before, kind: number });
+        self.judge(
+            at,
+            Field::Kind {
+                before,
+                kind: number,
+            },
+        );
         Ok(number)
     }
 
@@ -130,12 +154,23 @@ impl Reader<'_> {
     {
         let at = self.at;
         let number = self.u8()?;
-        self.judge(at, Field::ParameterCount { kind, count: number });
+        self.judge(
+            at,
+            Field::ParameterCount {
+                kind,
+                count: number,
+            },
+        );
         Ok(number)
     }
 
     #[tactic(auto, unfolding(crate::specs::Running::run, crate::specs::Running::logged, crate::specs::Least::with_faults, flat_code::specs::Image::block_number))]
-    pub(crate) fn block_number(&mut self, kind_before: u8, before: u16, kind: u8) -> Result<u16, Ended>
+    pub(crate) fn block_number(
+        &mut self,
+        kind_before: u8,
+        before: u16,
+        kind: u8,
+    ) -> Result<u16, Ended>
         requires { self.old.at + length self.old.rest.now < 2 ^ 32 }
         ensures read { seen (λ n. n) result self.new ≡ run (block_number kind_before before kind) (place_of self.old) (log_of self.old) }
         ensures all { self.new.at + length self.new.rest.now ≡ self.old.at + length self.old.rest.now }
@@ -143,7 +178,15 @@ impl Reader<'_> {
     {
         let at = self.at;
         let number = self.u16()?;
-        self.judge(at, Field::Number { kind_before, before, kind, number });
+        self.judge(
+            at,
+            Field::Number {
+                kind_before,
+                before,
+                kind,
+                number,
+            },
+        );
         Ok(number)
     }
 
@@ -156,7 +199,13 @@ impl Reader<'_> {
     {
         let at = self.at;
         let number = self.u16()?;
-        self.judge(at, Field::LocalBytes { kind, bytes: number });
+        self.judge(
+            at,
+            Field::LocalBytes {
+                kind,
+                bytes: number,
+            },
+        );
         Ok(number)
     }
 
@@ -169,7 +218,13 @@ impl Reader<'_> {
     {
         let at = self.at;
         let number = self.u16()?;
-        self.judge(at, Field::InstanceBytes { kind, bytes: number });
+        self.judge(
+            at,
+            Field::InstanceBytes {
+                kind,
+                bytes: number,
+            },
+        );
         Ok(number)
     }
 
@@ -181,7 +236,13 @@ impl Reader<'_> {
     {
         let at = self.at;
         let number = self.u32()?;
-        self.judge(at, Field::Line { before, line: number });
+        self.judge(
+            at,
+            Field::Line {
+                before,
+                line: number,
+            },
+        );
         Ok(number)
     }
 
@@ -217,7 +278,13 @@ impl Reader<'_> {
     {
         let at = self.at;
         let number = self.u16()?;
-        self.judge(at, Field::DataBytes { before, bytes: number });
+        self.judge(
+            at,
+            Field::DataBytes {
+                before,
+                bytes: number,
+            },
+        );
         Ok(number)
     }
 

@@ -8,13 +8,10 @@ ghost use Rattle.image_file.specs.Least.{with_faults};
 ghost use Rattle.flat_code.specs.Image.{read_image};
 ghost use Rattle.image_file.specs.Running.{started, ran_read, log_of, SeesNames, HasFound};
 
-
 use crate::faults::LoadFault;
-
 use crate::reader::Reader;
 use crate::records::{BlockRead, NameRead, Started};
 use crate::stops::Stop;
-
 use crate::surroundings::{SignatureRead, Surroundings};
 use crate::verifying::judge_block;
 use flat_code::DataBlock;
@@ -63,7 +60,10 @@ fn lens_of(alloc: Global, blocks: &[DataBlock]) -> Result<Vec<(u16, usize)>, NoM
 }
 
 /// The numbers and lengths of the data blocks, if all blocks were read.
-fn data_lens(alloc: Global, datas: &Option<Vec<DataBlock>>) -> Result<Option<Vec<(u16, usize)>>, NoMemory>
+fn data_lens(
+    alloc: Global,
+    datas: &Option<Vec<DataBlock>>,
+) -> Result<Option<Vec<(u16, usize)>>, NoMemory>
     ensures { IfOk result (λ l. option_map (λ v. v.items) l ≡ option_map (λ v. lens_of v.items) datas.now) }
 {
     match datas {
@@ -86,7 +86,13 @@ fn slice_of(lens: &Option<Vec<(u16, usize)>>) -> Option<&[(u16, usize)]>
 }
 
 /// The lesser of the fault so far and those of the ops of blocks.
-fn judge_blocks(alloc: Global, signatures: &[SignatureRead], lens: &Option<Vec<(u16, usize)>>, blocks: &[Started], least: Option<LoadFault>) -> Result<Option<LoadFault>, NoMemory>
+fn judge_blocks(
+    alloc: Global,
+    signatures: &[SignatureRead],
+    lens: &Option<Vec<(u16, usize)>>,
+    blocks: &[Started],
+    least: Option<LoadFault>,
+) -> Result<Option<LoadFault>, NoMemory>
     requires { signatures.now ≡ map signature_of (blocks_of (map started blocks.now)) }
     ensures { IfOk result (λ l. l ≡ with_faults least (judged_blocks (option_map (λ d. d.items) lens.now) (blocks_of (map started blocks.now)) (map started blocks.now))) }
 {
@@ -98,13 +104,19 @@ fn judge_blocks(alloc: Global, signatures: &[SignatureRead], lens: &Option<Vec<(
 }
 
 /// The lesser of the fault so far and those of the ops of a block.
-fn judge_started(alloc: Global, signatures: &[SignatureRead], lens: &Option<Vec<(u16, usize)>>, started: &Started, least: Option<LoadFault>) -> Result<Option<LoadFault>, NoMemory>
+fn judge_started(
+    alloc: Global,
+    signatures: &[SignatureRead],
+    lens: &Option<Vec<(u16, usize)>>,
+    started: &Started,
+    least: Option<LoadFault>,
+) -> Result<Option<LoadFault>, NoMemory>
     ensures { IfOk result (λ l. l ≡ with_faults least (block_faults (record {
-        kind = started.now.block.kind;
-        local_len = started.now.block.local_len;
-        params = started.now.block.params;
-        blocks = signatures.now;
-        data_lens = option_map (λ d. d.items) lens.now;
+      kind = started.now.block.kind;
+      local_len = started.now.block.local_len;
+      params = started.now.block.params;
+      blocks = signatures.now;
+      data_lens = option_map (λ d. d.items) lens.now;
     }) started.now.start started.now.block.code)) }
 {
     let block = &started.block;
@@ -132,12 +144,29 @@ pub(crate) fn judge(alloc: Global, bytes: &[u8]) -> Result<Judged, NoMemory>
     ensures least { IfOk result (λ j. j.least ≡ with_faults None (faults_of bytes.now)) }
     ensures found { IfOk result (λ j. HasFound bytes.now (map started j.blocks.items) (option_map (λ v. v.items) j.datas) (option_map (λ v. v.items) j.names)) }
 {
-    let mut reader = Reader { rest: bytes, at: 0, least: None, blocks: Vec::new(alloc), datas: None };
+    let mut reader = Reader {
+        rest: bytes,
+        at: 0,
+        least: None,
+        blocks: Vec::new(alloc),
+        datas: None,
+    };
     let names = read_names(alloc, &mut reader)?;
     let signatures = signatures(alloc, reader.blocks.as_slice())?;
     let lens = data_lens(alloc, &reader.datas)?;
-    let least = judge_blocks(alloc, signatures.as_slice(), &lens, reader.blocks.as_slice(), reader.least)?;
-    Ok(Judged { least, blocks: reader.blocks, datas: reader.datas, names })
+    let least = judge_blocks(
+        alloc,
+        signatures.as_slice(),
+        &lens,
+        reader.blocks.as_slice(),
+        reader.least,
+    )?;
+    Ok(Judged {
+        least,
+        blocks: reader.blocks,
+        datas: reader.datas,
+        names,
+    })
 }
 
 /// The names, or none where reading ended at a fault.

@@ -55,7 +55,13 @@ fn is_past_locals(around: &Surroundings, area: Area, width: Width, byte: u16) ->
     }
 }
 
-pub(crate) fn is_bad_place(around: &Surroundings, area: Area, width: Width, byte: u16, bit: u8) -> bool
+pub(crate) fn is_bad_place(
+    around: &Surroundings,
+    area: Area,
+    width: Width,
+    byte: u16,
+    bit: u8,
+) -> bool
     ensures { result ≡ is_bad_place (around_of around.now) area width byte bit }
 {
     is_odd_bit(width, bit) || is_past_locals(around, area, width, byte)
@@ -80,7 +86,11 @@ pub(crate) fn writes(code: u8) -> bool
 pub(crate) fn own_parameter(around: &Surroundings, index: u8) -> Option<ParameterRecord>
     ensures { result ≡ own_parameter (around_of around.now) index }
 {
-    if around.kind == 2 { around.params.get(usize::from(index)).copied() } else { None }
+    if around.kind == 2 {
+        around.params.get(usize::from(index)).copied()
+    } else {
+        None
+    }
 }
 
 pub(crate) fn lacks_own(parameter: Option<ParameterRecord>, width: Width) -> bool
@@ -185,9 +195,19 @@ pub(crate) fn is_bad_actual(around: &Surroundings, actual: Passed) -> bool
 {
     match actual {
         Passed::Literal { .. } => false,
-        Passed::Direct { area, width, byte, bit } => is_bad_place(around, area, width, byte, bit),
+        Passed::Direct {
+            area,
+            width,
+            byte,
+            bit,
+        } => is_bad_place(around, area, width, byte, bit),
         Passed::Parameter { index, width } => lacks_own(own_parameter(around, index), width),
-        Passed::InBlock { area: Area::Db, width, bit, .. } => is_odd_bit(width, bit),
+        Passed::InBlock {
+            area: Area::Db,
+            width,
+            bit,
+            ..
+        } => is_odd_bit(width, bit),
         Passed::InBlock { .. } => true,
     }
 }
@@ -204,7 +224,11 @@ fn literal_fits(width: u8, value: u32) -> bool
 }
 
 /// Whether what is passed doesn't fit its parameter.
-pub(crate) fn misfits_parameter(around: &Surroundings, parameter: ParameterRecord, actual: Passed) -> bool
+pub(crate) fn misfits_parameter(
+    around: &Surroundings,
+    parameter: ParameterRecord,
+    actual: Passed,
+) -> bool
     ensures { result ≡ misfits_parameter (around_of around.now) parameter actual }
 {
     match actual {
@@ -264,10 +288,22 @@ pub(crate) fn op_size(op: &Op) -> u32
         Operand::Direct { .. } | Operand::ByMemory { .. } => 7,
         Operand::Jump { .. } | Operand::Called { .. } => 7,
         Operand::ByRegister { .. } => 9,
-        Operand::Pass { actual: Passed::Literal { .. }, .. } => 8,
-        Operand::Pass { actual: Passed::Direct { .. }, .. } => 9,
-        Operand::Pass { actual: Passed::Parameter { .. }, .. } => 6,
-        Operand::Pass { actual: Passed::InBlock { .. }, .. } => 11,
+        Operand::Pass {
+            actual: Passed::Literal { .. },
+            ..
+        } => 8,
+        Operand::Pass {
+            actual: Passed::Direct { .. },
+            ..
+        } => 9,
+        Operand::Pass {
+            actual: Passed::Parameter { .. },
+            ..
+        } => 6,
+        Operand::Pass {
+            actual: Passed::InBlock { .. },
+            ..
+        } => 11,
     }
 }
 

@@ -31,7 +31,11 @@ pub(crate) fn lesser(least: Option<LoadFault>, at: u32, code: u16) -> Option<Loa
         None => true,
         Some(least) => at < least.at || at == least.at && code < least.code,
     };
-    if smaller { Some(LoadFault { at, code }) } else { least }
+    if smaller {
+        Some(LoadFault { at, code })
+    } else {
+        least
+    }
 }
 
 impl<'a> Reader<'a> {

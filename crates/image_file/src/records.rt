@@ -54,13 +54,13 @@ impl Model for BlockRead {
     ghost Value = { BlockRecord };
 
     ghost view = { λ b. record {
-        kind = b.kind;
-        number = b.number;
-        local_len = b.local_len;
-        instance_len = b.instance_len;
-        params = b.params.items;
-        code = b.code.items;
-        lines = b.lines.items;
+      kind = b.kind;
+      number = b.number;
+      local_len = b.local_len;
+      instance_len = b.instance_len;
+      params = b.params.items;
+      code = b.code.items;
+      lines = b.lines.items;
     } };
 }
 
@@ -88,10 +88,10 @@ impl Model for NameRead {
     ghost Value = { NameRecord };
 
     ghost view = { λ n. record {
-        name = n.name.items;
-        area = n.area;
-        width = n.width;
-        byte = n.byte;
-        bit = n.bit;
+      name = n.name.items;
+      area = n.area;
+      width = n.width;
+      byte = n.byte;
+      bit = n.bit;
     } };
 }

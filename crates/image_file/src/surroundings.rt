@@ -22,10 +22,10 @@ impl Model for SignatureRead {
     ghost Value = { Signature };
 
     ghost view = { λ s. record {
-        kind = s.kind;
-        number = s.number;
-        instance_len = s.instance_len;
-        params = s.params.items;
+      kind = s.kind;
+      number = s.number;
+      instance_len = s.instance_len;
+      params = s.params.items;
     } };
 }
 
@@ -41,22 +41,81 @@ pub(crate) struct Surroundings<'a> {
 }
 
 static SET_TINT: [ParameterRecord; 4] = [
-    ParameterRecord { section: 1, width: 3, byte: 0, bit: 0 },
-    ParameterRecord { section: 1, width: 4, byte: 0, bit: 0 },
-    ParameterRecord { section: 1, width: 3, byte: 0, bit: 0 },
-    ParameterRecord { section: 2, width: 3, byte: 0, bit: 0 },
+    ParameterRecord {
+        section: 1,
+        width: 3,
+        byte: 0,
+        bit: 0,
+    },
+    ParameterRecord {
+        section: 1,
+        width: 4,
+        byte: 0,
+        bit: 0,
+    },
+    ParameterRecord {
+        section: 1,
+        width: 3,
+        byte: 0,
+        bit: 0,
+    },
+    ParameterRecord {
+        section: 2,
+        width: 3,
+        byte: 0,
+        bit: 0,
+    },
 ];
+
 static CAN_DINT: [ParameterRecord; 2] = [
-    ParameterRecord { section: 1, width: 3, byte: 0, bit: 0 },
-    ParameterRecord { section: 2, width: 3, byte: 0, bit: 0 },
+    ParameterRecord {
+        section: 1,
+        width: 3,
+        byte: 0,
+        bit: 0,
+    },
+    ParameterRecord {
+        section: 2,
+        width: 3,
+        byte: 0,
+        bit: 0,
+    },
 ];
+
 static DIS_IRT: [ParameterRecord; 3] = [
-    ParameterRecord { section: 1, width: 2, byte: 0, bit: 0 },
-    ParameterRecord { section: 1, width: 3, byte: 0, bit: 0 },
-    ParameterRecord { section: 2, width: 3, byte: 0, bit: 0 },
+    ParameterRecord {
+        section: 1,
+        width: 2,
+        byte: 0,
+        bit: 0,
+    },
+    ParameterRecord {
+        section: 1,
+        width: 3,
+        byte: 0,
+        bit: 0,
+    },
+    ParameterRecord {
+        section: 2,
+        width: 3,
+        byte: 0,
+        bit: 0,
+    },
 ];
-static DIS_AIRT: [ParameterRecord; 1] = [ParameterRecord { section: 2, width: 3, byte: 0, bit: 0 }];
-static TIME_TCK: [ParameterRecord; 1] = [ParameterRecord { section: 2, width: 4, byte: 0, bit: 0 }];
+
+static DIS_AIRT: [ParameterRecord; 1] = [ParameterRecord {
+    section: 2,
+    width: 3,
+    byte: 0,
+    bit: 0,
+}];
+
+static TIME_TCK: [ParameterRecord; 1] = [ParameterRecord {
+    section: 2,
+    width: 4,
+    byte: 0,
+    bit: 0,
+}];
 
 /// The parameters of a system function, if there is one of the number.
 fn system_params(number: u16) -> Option<&'static [ParameterRecord]>
@@ -75,7 +134,11 @@ fn system_params(number: u16) -> Option<&'static [ParameterRecord]>
 
 /// The block that is called: its kind, the bytes of an instance, its parameters.
 #[tactic(auto, unfolding(flat_code::specs::Blocks::callee))]
-pub(crate) fn callee(blocks: &[SignatureRead], kind: u8, number: u16) -> Option<(u8, u16, &[ParameterRecord])>
+pub(crate) fn callee(
+    blocks: &[SignatureRead],
+    kind: u8,
+    number: u16,
+) -> Option<(u8, u16, &[ParameterRecord])>
     ensures { option_map callee_values result ≡ callee blocks.now kind number }
 {
     if kind != 5 {
@@ -86,7 +149,11 @@ pub(crate) fn callee(blocks: &[SignatureRead], kind: u8, number: u16) -> Option<
 }
 
 /// The first block of a kind and number: its kind, the bytes of an instance, its parameters.
-fn block_with(blocks: &[SignatureRead], kind: u8, number: u16) -> Option<(u8, u16, &[ParameterRecord])>
+fn block_with(
+    blocks: &[SignatureRead],
+    kind: u8,
+    number: u16,
+) -> Option<(u8, u16, &[ParameterRecord])>
     ensures { option_map callee_values result ≡ block_with kind number blocks.now }
 {
     for block in blocks {

@@ -10,8 +10,8 @@ ghost use Rattle.image_file.specs.Least.{with_faults};
 use crate::calls::{is_bad_call, misfits_call};
 use crate::faults::LoadFault;
 use crate::judging::{
-    Statement, bracket_fault, few, is_last, lesser_if, mark_fault, open, prepare, same_codes, seven_if,
-    statement_at,
+    Statement, bracket_fault, few, is_last, lesser_if, mark_fault, open, prepare, same_codes,
+    seven_if, statement_at,
 };
 use crate::operands::{
     ending, is_bad_actual, is_bad_place, is_input, is_stray_pass, is_stray_use_db, lacks_own,
@@ -50,7 +50,11 @@ fn differing(here: &Option<ArrayVec<u8, 7>>, there: &Option<ArrayVec<u8, 7>>) ->
         Some(here) => match there {
             None => Some(8),
             Some(there) => {
-                if same_codes(here.as_slice(), there.as_slice()) { None } else { Some(8) }
+                if same_codes(here.as_slice(), there.as_slice()) {
+                    None
+                } else {
+                    Some(8)
+                }
             }
         },
     }
@@ -62,7 +66,11 @@ fn codes_differ(statement: &Statement, here: &Option<ArrayVec<u8, 7>>) -> Option
     differing(here, &statement.codes)
 }
 
-fn target_fault(statements: &[Statement], here: &Option<ArrayVec<u8, 7>>, target: u32) -> Option<u16>
+fn target_fault(
+    statements: &[Statement],
+    here: &Option<ArrayVec<u8, 7>>,
+    target: u32,
+) -> Option<u16>
     ensures { result ≡ target_fault (option_map (λ v. v.items) here.now) (spot_at statements.now target) }
 {
     match statement_at(statements, target) {
@@ -72,7 +80,13 @@ fn target_fault(statements: &[Statement], here: &Option<ArrayVec<u8, 7>>, target
 }
 
 /// The fault of a jump.
-fn jump_fault(statements: &[Statement], op: &Op, place: &Place, kind: u8, target: u32) -> Option<u16>
+fn jump_fault(
+    statements: &[Statement],
+    op: &Op,
+    place: &Place,
+    kind: u8,
+    target: u32,
+) -> Option<u16>
     requires { place.now.at + size op.now + length (code_bytes place.now.rest.now) < 2 ^ 32 }
     ensures { result ≡ jump_fault statements.now (placed_of op.now place.now) kind target }
 {
@@ -84,14 +98,22 @@ fn jump_fault(statements: &[Statement], op: &Op, place: &Place, kind: u8, target
 }
 
 /// The fault of an op's operand by itself.
-fn operand_fault(around: &Surroundings, statements: &[Statement], op: &Op, place: &Place) -> Option<u16>
+fn operand_fault(
+    around: &Surroundings,
+    statements: &[Statement],
+    op: &Op,
+    place: &Place,
+) -> Option<u16>
     requires { place.now.at + size op.now + length (code_bytes place.now.rest.now) < 2 ^ 32 }
     ensures { result ≡ operand_fault (around_of around.now) statements.now (placed_of op.now place.now) op.now.operand }
 {
     match op.operand {
-        Operand::Direct { area, width, byte, bit } => {
-            seven_if(lacks_width(op, width) || is_bad_place(around, area, width, byte, bit))
-        }
+        Operand::Direct {
+            area,
+            width,
+            byte,
+            bit,
+        } => { seven_if(lacks_width(op, width) || is_bad_place(around, area, width, byte, bit)) }
         Operand::ByMemory { width, .. } | Operand::ByRegister { width, .. } => {
             seven_if(lacks_width(op, width))
         }
@@ -112,13 +134,20 @@ fn operand_fault(around: &Surroundings, statements: &[Statement], op: &Op, place
     }
 }
 
-fn call_fault_among(around: &Surroundings, lens: &[(u16, usize)], op: &Op, place: &Place) -> Option<u16>
+fn call_fault_among(
+    around: &Surroundings,
+    lens: &[(u16, usize)],
+    op: &Op,
+    place: &Place,
+) -> Option<u16>
     ensures { result ≡ call_fault_among (around_of around.now) lens.now (placed_of op.now place.now) op.now.operand }
 {
     match op.operand {
-        Operand::Called { kind, number, instance } => {
-            seven_if(is_bad_call(around, lens, kind, number, instance, place.before))
-        }
+        Operand::Called {
+            kind,
+            number,
+            instance,
+        } => { seven_if(is_bad_call(around, lens, kind, number, instance, place.before)) }
         Operand::Pass { index, actual } => {
             let last = ending(op, place.rest);
             seven_if(last.code == 0x78 && misfits_call(around, &last, index, actual))
@@ -139,7 +168,14 @@ fn call_fault(around: &Surroundings, op: &Op, place: &Place) -> Option<u16>
 
 /// The lesser of the fault so far and those of an op.
 #[tactic(auto, unfolding(flat_code::specs::Blocks::op_faults), using(crate::proofs::JudgeLemmas::four))]
-fn judge_op(around: &Surroundings, statements: &[Statement], start: u32, op: &Op, place: &Place, least: Option<LoadFault>) -> Option<LoadFault>
+fn judge_op(
+    around: &Surroundings,
+    statements: &[Statement],
+    start: u32,
+    op: &Op,
+    place: &Place,
+    least: Option<LoadFault>,
+) -> Option<LoadFault>
     requires room { place.now.at + size op.now + length (code_bytes place.now.rest.now) < 2 ^ 32 }
     requires start { start + place.now.at < 2 ^ 32 }
     ensures { result ≡ with_faults least (op_faults (around_of around.now) statements.now start (placed_of op.now place.now)) }
@@ -170,7 +206,12 @@ fn statements(alloc: Global, ops: &[Op]) -> Result<Vec<Statement>, NoMemory>
 }
 
 /// Adds a statement where one begins.
-fn add_statement(statements: &mut Vec<Statement>, begin: bool, at: u32, stack: &[OpenBracket]) -> Result<(), NoMemory>
+fn add_statement(
+    statements: &mut Vec<Statement>,
+    begin: bool,
+    at: u32,
+    stack: &[OpenBracket],
+) -> Result<(), NoMemory>
     ensures { OnOk result (statements.new.items
         ≡ (if begin then statements.old.items ++ record { at = at; codes = few stack.now } ∷ [] else statements.old.items)) }
 {
@@ -183,7 +224,12 @@ fn add_statement(statements: &mut Vec<Statement>, begin: bool, at: u32, stack: &
 }
 
 /// The lesser of the fault so far and those of brackets that are open at the end.
-fn judge_open(start: u32, stack: &[OpenBracket], limit: u32, least: Option<LoadFault>) -> Option<LoadFault>
+fn judge_open(
+    start: u32,
+    stack: &[OpenBracket],
+    limit: u32,
+    least: Option<LoadFault>,
+) -> Option<LoadFault>
     requires within { AllUpTo limit stack.now }
     requires room { start + limit < 2 ^ 32 }
     ensures { result ≡ with_faults least (open_faults start stack.now) }
@@ -196,7 +242,13 @@ fn judge_open(start: u32, stack: &[OpenBracket], limit: u32, least: Option<LoadF
 }
 
 /// The lesser of the fault so far and those of the ops of a block whose code begins at an offset.
-pub(crate) fn judge_block(alloc: Global, around: &Surroundings, start: u32, ops: &[Op], least: Option<LoadFault>) -> Result<Option<LoadFault>, NoMemory>
+pub(crate) fn judge_block(
+    alloc: Global,
+    around: &Surroundings,
+    start: u32,
+    ops: &[Op],
+    least: Option<LoadFault>,
+) -> Result<Option<LoadFault>, NoMemory>
     requires { start + length (code_bytes ops.now) < 2 ^ 32 }
     ensures { IfOk result (λ l. l ≡ with_faults least (block_faults (around_of around.now) start ops.now)) }
 {
@@ -206,7 +258,12 @@ pub(crate) fn judge_block(alloc: Global, around: &Surroundings, start: u32, ops:
     let mut before = Vec::new(alloc);
     let mut at = 0;
     for (i, op) in ops.iter().enumerate() {
-        let place = Place { at, stack: &stack, before: &before, rest: ops_from(ops, i + 1) };
+        let place = Place {
+            at,
+            stack: &stack,
+            before: &before,
+            rest: ops_from(ops, i + 1),
+        };
         least = judge_op(around, &statements, start, op, &place, least);
         open(&mut stack, at, op)?;
         prepare(&mut before, op)?;

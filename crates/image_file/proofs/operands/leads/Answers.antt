@@ -13,7 +13,8 @@ pub loop-op-preserved : goal.loop-op-preserved
 loop-op-preserved c =
     let op = c.op-item.result in
     let rest = drop (c.loop-op.op-index + 1) c.args.rest.now in
-    let step = leads_step c.loop-op.most c.args.target c.loop-op.at op rest (ne_eqb c.loop-op.at c.args.target c.if-at-target.false) (sym c.is_ju.ensures ∙ c.if-not-is_ju.false) c.if-most-eq0.false in
-    (ap (λ (n : ℕ). leads (c.loop-op.most - 1) c.args.target n rest) (ap (λ (k : ℕ). c.loop-op.at + k) c.op_size-at.ensures) ∙ step
-    ∙ sym (ap (leads c.loop-op.most c.args.target c.loop-op.at) (next_of c.args.rest.now c.loop-op.op-index op c.loop-op-test.true c.op-item.is)) ∙ c.loop-op.invariant.0,
-    left_next c.loop-op.at c.loop-op.op-index _ _ c.args.rest.now op c.loop-op-test.true c.op-item.is (ap (λ (k : ℕ). c.loop-op.at + k) c.op_size-at.ensures) c.loop-op.invariant.1)
+    let step = leads_step c.loop-op.most c.args.target c.loop-op.at op rest (ne_eqb c.loop-op.at c.args.target c.if-at-target.false) (sym c.is_ju.ensures ∙ c.if-not-is_ju.false) c.if-most-eq0.false in (
+      ap (λ (n : ℕ). leads (c.loop-op.most - 1) c.args.target n rest) (ap (λ (k : ℕ). c.loop-op.at + k) c.op_size-at.ensures) ∙ step
+          ∙ sym (ap (leads c.loop-op.most c.args.target c.loop-op.at) (next_of c.args.rest.now c.loop-op.op-index op c.loop-op-test.true c.op-item.is)) ∙ c.loop-op.invariant.0,
+      left_next c.loop-op.at c.loop-op.op-index _ _ c.args.rest.now op c.loop-op-test.true c.op-item.is (ap (λ (k : ℕ). c.loop-op.at + k) c.op_size-at.ensures) c.loop-op.invariant.1,
+    )
