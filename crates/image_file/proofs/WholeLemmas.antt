@@ -2,6 +2,7 @@
 use Rattle.std.proofs.Common.{◌≡◌, ℕ, zero, suc, ◌+◌, ◌-◌, ◌<◌, ◌≤◌, Bool, true, false, cond, eqb, ltb, not, ◌&&◌, ◌||◌, List, [], ◌∷◌, ◌++◌, map, length, take, get_or, Option, Some, None, refl, sym, ap, subst, ◌∙◌, append_assoc, arith}
 use Rattle.std.proofs.lemmas.List.{append-nil}
 use Rattle.std.proofs.lemmas.Option.{same_Some}
+use Rattle.std.specs.Option.{option_map}
 use Rattle.flat_code.specs.Coding.{Coding, u8, u16, u32}
 use Rattle.flat_code.specs.Ops.{OpData}
 use Rattle.flat_code.specs.Programs.{DataBlock, Program}
@@ -21,7 +22,7 @@ use Rattle.image_file.proofs.ImageLemmas.{image_again, image_takes, records_back
 
 -- the code blocks that notes tell of, and the data blocks, once all were read
 abbrev Lens : Type 0
-Lens = Option (List (ℕ × ℕ))
+Lens = Option (List DataBlock)
 
 abbrev Told : Type 0
 Told = List BlockRecord × Lens
@@ -56,7 +57,7 @@ all-append : (a b : List Note) → all_blocks (a ++ b) ≡ later (all_blocks a) 
 all-append [] b = sym (later-none (all_blocks b))
 all-append (Faulty at code ∷ a) b = all-append a b
 all-append (Whole start block ∷ a) b = all-append a b
-all-append (AllBlocks blocks ∷ a) b = ap (later (Some (lens_of blocks))) (all-append a b) ∙ later-assoc (Some (lens_of blocks)) (all_blocks a) (all_blocks b)
+all-append (AllBlocks blocks ∷ a) b = ap (later (Some blocks)) (all-append a b) ∙ later-assoc (Some blocks) (all_blocks a) (all_blocks b)
 
 told-append : (a b : List Note) → told_in (a ++ b) ≡ join (told_in a) (told_in b)
 unfolding told_in join
@@ -87,7 +88,7 @@ unfolding told_in one
 one_block start b = refl
 
 all_told : List DataBlock → Told
-all_told ds = ([], Some (lens_of ds))
+all_told ds = ([], Some ds)
 
 all_are_told : (ds : List DataBlock) → told_in (AllBlocks ds ∷ []) ≡ all_told ds
 unfolding told_in all_told
@@ -301,7 +302,7 @@ raw_records_notes =
 
 -- all blocks of records
 told_of : Records → Told
-told_of r = (r.code_blocks, Some (lens_of r.data_blocks))
+told_of r = (r.code_blocks, Some r.data_blocks)
 
 records_told : (x : RawRecords) → join nothing (blocks_and_names x.1) ≡ told_of (records_of_raw x)
 unfolding join nothing all_told told_of
@@ -397,7 +398,7 @@ image_from text p end are e clean =
 -- what reading without fault noted, by the program
 pub record Noted (p : Program) (notes : List Note) : Type 0 where
   pub codes : blocks_of (wholes notes) ≡ map record_of_block p.code_blocks
-  pub datas : all_blocks notes ≡ Some (lens_of p.data_blocks)
+  pub datas : all_blocks notes ≡ Some p.data_blocks
 
 pub image_noted : (text : List ℕ) (p : Program) (end : Cursor) → IsBytes text → (read_image text).found ≡ Some (p, end) → faults_in (read_image text).notes ≡ [] → Noted p (read_image text).notes
 unfolding told_in told_of
@@ -406,7 +407,7 @@ image_noted text p end are e clean =
     let back : records_of p ≡ f.records = ap records_of (sym f.program) ∙ records_back true f.records f.good in
     record {
       codes = ap (λ (z : Told). z.0) f.told ∙ sym (ap (λ (z : Records). z.code_blocks) back);
-      datas = ap (λ (z : Told). z.1) f.told ∙ sym (ap (λ (z : Records). Some (lens_of z.data_blocks)) back);
+      datas = ap (λ (z : Told). z.1) f.told ∙ sym (ap (λ (z : Records). Some z.data_blocks) back);
     }
 
 -- ---- verifying
@@ -467,10 +468,10 @@ pub gives_image : (text : List ℕ) (p : Program) → IsBytes text → Gives tex
 unfolding faults_of
 gives_image text p are g =
     let notes = (read_image text).notes in
-    let n = nil_left (faults_in notes) (judged_blocks (all_blocks notes) (blocks_of (wholes notes)) (wholes notes)) g.clean in
+    let n = nil_left (faults_in notes) (judged_blocks (option_map lens_of (all_blocks notes)) (blocks_of (wholes notes)) (wholes notes)) g.clean in
     let t = image_takes text p g.end are (record { found = g.found; clean = n.0 }) in
     let m = image_noted text p g.end are g.found n.0 in
-    let judged : judged_blocks (Some (lens_of p.data_blocks)) (blocks_of (wholes notes)) (wholes notes) ≡ [] = ap (λ (z : Option (List (ℕ × ℕ))). judged_blocks z (blocks_of (wholes notes)) (wholes notes)) (sym m.datas) ∙ n.1 in
+    let judged : judged_blocks (Some (lens_of p.data_blocks)) (blocks_of (wholes notes)) (wholes notes) ≡ [] = ap (λ (z : Option (List DataBlock)). judged_blocks (option_map lens_of z) (blocks_of (wholes notes)) (wholes notes)) (sym m.datas) ∙ n.1 in
     let v = verified (lens_of p.data_blocks) (blocks_of (wholes notes)) (wholes notes) judged in
     record {
       spelled = t.0;
@@ -488,5 +489,5 @@ image_gives text p are h =
     let clean : faults_in notes ≡ [] = ap (λ (z : List ℕ). faults_in (read_image z).notes) h.spelled ∙ is.clean in
     let m = image_noted text p end are found clean in
     let v : AreVerified (lens_of p.data_blocks) (blocks_of (wholes notes)) (blocks_of (wholes notes)) = subst (λ (z : List BlockRecord). AreVerified (lens_of p.data_blocks) z z) (sym m.codes) h.verifies.blocks in
-    let judged : judged_blocks (all_blocks notes) (blocks_of (wholes notes)) (wholes notes) ≡ [] = ap (λ (z : Option (List (ℕ × ℕ))). judged_blocks z (blocks_of (wholes notes)) (wholes notes)) m.datas ∙ unjudged (lens_of p.data_blocks) (blocks_of (wholes notes)) (wholes notes) v in
+    let judged : judged_blocks (option_map lens_of (all_blocks notes)) (blocks_of (wholes notes)) (wholes notes) ≡ [] = ap (λ (z : Option (List DataBlock)). judged_blocks (option_map lens_of z) (blocks_of (wholes notes)) (wholes notes)) m.datas ∙ unjudged (lens_of p.data_blocks) (blocks_of (wholes notes)) (wholes notes) v in
     record { end = end; found = found; clean = nil_join clean judged }

@@ -8,7 +8,7 @@ use Rattle.flat_code.specs.Layout.{Note, Faulty, Whole, AllBlocks, Cursor, Read,
 use Rattle.flat_code.specs.Records.{BlockRecord, NameRecord, Records}
 use Rattle.flat_code.specs.Programs.{DataBlock, Program}
 use Rattle.flat_code.specs.Image.{Head, Counts, Front, program_of, read_image}
-use Rattle.flat_code.specs.Loading.{wholes, all_blocks, lens_of}
+use Rattle.flat_code.specs.Loading.{wholes, all_blocks}
 use Rattle.image_file.specs.declared.faults.LoadFault.{LoadFault}
 use Rattle.image_file.specs.declared.reader.Reader.{Reader}
 use Rattle.image_file.specs.declared.records.HeadRead.{HeadRead}
@@ -138,4 +138,4 @@ SeesNames None r all = Stops (log_of r) ≡ all
 -- what was kept is what bytes hold, as far as they could be read
 abbrev pub HasFound : List ℕ → List (ℕ × BlockRecord) → Option (List DataBlock) → Option (List NameRecord) → Type 0
 HasFound text blocks datas None = (read_image text).found ≡ None
-HasFound text blocks datas (Some names) = (x : Records) × (end : Cursor) × ((read_image text).found ≡ Some (program_of x, end)) × (x.names ≡ names) × (blocks ≡ wholes (read_image text).notes) × (option_map lens_of datas ≡ all_blocks (read_image text).notes)
+HasFound text blocks datas (Some names) = (x : Records) × (end : Cursor) × ((read_image text).found ≡ Some (program_of x, end)) × (x.names ≡ names) × (blocks ≡ wholes (read_image text).notes) × (datas ≡ all_blocks (read_image text).notes)

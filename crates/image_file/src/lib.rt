@@ -23,4 +23,5 @@ mod whole;
 
 pub use faults::LoadFault;
 pub use loaded::Loaded;
+pub use loading::load;
 pub use refusing::LoadError;

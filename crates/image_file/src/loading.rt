@@ -1,18 +1,22 @@
 //! Bytes judged as an image: read in one pass, and then the ops of each block.
-ghost use Rattle.std.specs.Prelude.{◌≡◌, ◌++◌, ◌∷◌, [], ◌+◌, ◌<◌, ◌^◌, length, map, IfOk, None};
+ghost use Rattle.std.specs.Prelude.{◌≡◌, ◌++◌, ◌∷◌, [], ◌+◌, ◌<◌, ◌^◌, length, map, IfOk, IfErr, None};
 ghost use Rattle.std.specs.Option.{option_map};
 ghost use Rattle.flat_code.specs.Blocks.{signature_of, block_faults};
-ghost use Rattle.flat_code.specs.Loading.{lens_of, blocks_of, judged_blocks, faults_of};
+ghost use Rattle.flat_code.specs.Loading.{lens_of, blocks_of, judged_blocks, faults_of, Gives};
 ghost use Rattle.image_file.specs.Judging.{around_of};
 ghost use Rattle.image_file.specs.Least.{with_faults};
+ghost use Rattle.image_file.specs.Refusing.{IsRefusedBy};
 ghost use Rattle.flat_code.specs.Image.{read_image};
 ghost use Rattle.image_file.specs.Running.{started, ran_read, log_of, SeesNames, HasFound};
 
 use crate::faults::LoadFault;
+use crate::loaded::Loaded;
 use crate::reader::Reader;
 use crate::records::{BlockRead, NameRead, Started};
+use crate::refusing::LoadError;
 use crate::stops::Stop;
 use crate::surroundings::{SignatureRead, Surroundings};
+use crate::typing::program;
 use crate::verifying::judge_block;
 use flat_code::DataBlock;
 use plc_base::NoMemory;
@@ -178,5 +182,31 @@ fn read_names(alloc: Global, reader: &mut Reader) -> Result<Option<Vec<NameRead>
         Ok(names) => Ok(Some(names)),
         Err(Stop::AtFault) => Ok(None),
         Err(Stop::NoMemory) => Err(AllocError),
+    }
+}
+
+/// Reads bytes as the image of a program that verifies.
+///
+/// # Errors
+///
+/// `Fault` exactly where they aren't such an image, with the least of their faults by offset, then
+/// code; `NoMemory`.
+pub fn load(alloc: Global, bytes: &[u8]) -> Result<Loaded, LoadError>
+    ensures gives { IfOk result (λ l. Gives bytes.now l.program) }
+    ensures refused { IfErr result (λ e. IsRefusedBy e (faults_of bytes.now)) }
+{
+    let Judged { least, blocks, datas, names } = judge(alloc, bytes)?;
+    if let Some(fault) = least {
+        return Err(LoadError::Fault { fault });
+    }
+    match names {
+        None => unreachable!(),
+        Some(names) => match datas {
+            None => unreachable!(),
+            Some(datas) => {
+                let program = program(alloc, blocks, datas, names)?;
+                Ok(Loaded::new(program))
+            }
+        },
     }
 }

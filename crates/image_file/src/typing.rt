@@ -1,13 +1,13 @@
 //! A program made of the records that were read.
 ghost use Rattle.std.specs.Prelude.{◌≡◌, ◌≤◌, length, map, IfOk};
-ghost use Rattle.flat_code.specs.Image.{kind_of_number, width_of_number, area_of_number, param_of, block_of_record, entry_of_name};
+ghost use Rattle.flat_code.specs.Image.{kind_of_number, width_of_number, area_of_number, param_of, block_of_record, entry_of_name, IsProgram};
 ghost use Rattle.flat_code.specs.Loading.{blocks_of};
 ghost use Rattle.image_file.specs.Running.{started};
-ghost use Rattle.image_file.specs.Typing.{AreFew};
+ghost use Rattle.image_file.specs.Typing.{AreFew, program_from};
 
 use crate::records::{BlockRead, NameRead, Started};
 use arrayvec::ArrayVec;
-use flat_code::{CodeBlock, NameEntry, Param, ParameterRecord};
+use flat_code::{CodeBlock, DataBlock, NameEntry, Names, Param, ParameterRecord, Program};
 use plc_base::{Area, BlockId, BlockKind, NoMemory, Place, Width};
 use std::alloc::Global;
 
@@ -113,4 +113,15 @@ pub(crate) fn entries(alloc: Global, names: Vec<NameRead>) -> Result<Vec<NameEnt
     ensures { IfOk result (λ v. v.items ≡ map entry_of_name names.items) }
 {
     names.into_iter().map(|name| entry_of(name)).collect(alloc)
+}
+
+/// The program of what was read.
+pub(crate) fn program(alloc: Global, blocks: Vec<Started>, data_blocks: Vec<DataBlock>, names: Vec<NameRead>) -> Result<Program, NoMemory>
+    requires program { IsProgram (program_from (map started blocks.items) data_blocks.items names.items) }
+    requires few { AreFew (blocks_of (map started blocks.items)) }
+    ensures { IfOk result (λ p. p ≡ program_from (map started blocks.items) data_blocks.items names.items) }
+{
+    let code_blocks = code_blocks(alloc, blocks)?;
+    let names = Names::new(entries(alloc, names)?);
+    Ok(Program { code_blocks, data_blocks, names })
 }
