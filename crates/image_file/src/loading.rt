@@ -195,7 +195,12 @@ pub fn load(alloc: Global, bytes: &[u8]) -> Result<Loaded, LoadError>
     ensures gives { IfOk result (λ l. Gives bytes.now l.program) }
     ensures refused { IfErr result (λ e. IsRefusedBy e (faults_of bytes.now)) }
 {
-    let Judged { least, blocks, datas, names } = judge(alloc, bytes)?;
+    let Judged {
+        least,
+        blocks,
+        datas,
+        names,
+    } = judge(alloc, bytes)?;
     if let Some(fault) = least {
         return Err(LoadError::Fault { fault });
     }

@@ -116,12 +116,21 @@ pub(crate) fn entries(alloc: Global, names: Vec<NameRead>) -> Result<Vec<NameEnt
 }
 
 /// The program of what was read.
-pub(crate) fn program(alloc: Global, blocks: Vec<Started>, data_blocks: Vec<DataBlock>, names: Vec<NameRead>) -> Result<Program, NoMemory>
+pub(crate) fn program(
+    alloc: Global,
+    blocks: Vec<Started>,
+    data_blocks: Vec<DataBlock>,
+    names: Vec<NameRead>,
+) -> Result<Program, NoMemory>
     requires program { IsProgram (program_from (map started blocks.items) data_blocks.items names.items) }
     requires few { AreFew (blocks_of (map started blocks.items)) }
     ensures { IfOk result (λ p. p ≡ program_from (map started blocks.items) data_blocks.items names.items) }
 {
     let code_blocks = code_blocks(alloc, blocks)?;
     let names = Names::new(entries(alloc, names)?);
-    Ok(Program { code_blocks, data_blocks, names })
+    Ok(Program {
+        code_blocks,
+        data_blocks,
+        names,
+    })
 }
