@@ -1,6 +1,6 @@
 -- The faults that are judged over whole blocks, op by op: 6 jump targets, 7 operands, 8 brackets.
-use Rattle.std.specs.Prelude.{ℕ, zero, suc, ◌+◌, nat_le, nat_lt, ◌==◌, Bool, true, false, ◌&&◌, ◌||◌, not, if◌then◌else◌, List, [], ◌∷◌, ◌++◌, length, slice_get, Option, Some, None}
-use Rattle.std.specs.Option.{option_map}
+use Rattle.std.specs.Prelude.{ℕ, zero, suc, ◌+◌, nat_le, nat_lt, ◌==◌, Bool, true, false, ◌&&◌, ◌||◌, not, is_some, if◌then◌else◌, List, [], ◌∷◌, ◌++◌, length, map, slice_get, Option, Some, None}
+use Rattle.std.specs.Option.{option_map, option_and_then}
 use Rattle.plc_base.specs.declared.places.Area.{Area}
 use Rattle.plc_base.specs.declared.places.Area.TheVariants as area
 use Rattle.plc_base.specs.declared.places.Width.{Width}
@@ -12,10 +12,12 @@ use Rattle.flat_code.specs.declared.operands.Passed.{Passed}
 use Rattle.flat_code.specs.declared.operands.Passed.TheVariants as passed
 use Rattle.flat_code.specs.Forms.{width_code}
 use Rattle.flat_code.specs.Ops.{OpData}
+use Rattle.flat_code.specs.Programs.{DataBlock}
 use Rattle.flat_code.specs.Records.{BlockRecord}
 use Rattle.flat_code.specs.Faults.{size_of_width}
-use Rattle.flat_code.specs.Codes.{size, first_of}
-use Rattle.flat_code.specs.Placed.{OpenBracket, Placed, places, begins, is_empty, statement_at, last_op, opens, open_behind}
+use Rattle.flat_code.specs.Codes.{size, first_of, is_nowhere}
+use Rattle.flat_code.specs.declared.image_fields.OpenBracket.{OpenBracket}
+use Rattle.flat_code.specs.Placed.{Placed, places, begins, is_empty, ending, last_op, opens, open_behind, few, Spot, spots, spot_at}
 use Rattle.flat_code.specs.Table.{takes_of, has_width}
 
 -- what a CALL sees of a block: kind and number, the bytes of an instance, the parameters
@@ -62,17 +64,21 @@ system_params n =
     else if n == 64 then Some (output 4 ∷ [])
     else None
 
--- the first block of a kind and number
-abbrev pub block_with : ℕ → ℕ → List Signature → Option Signature
-block_with kind number [] = None
-block_with kind number (b ∷ bs) = if b.kind == kind && b.number == number then Some b else block_with kind number bs
+-- what is called: its kind, the bytes of an instance, the parameters
+abbrev pub Callee : Type 0
+Callee = ℕ × ℕ × List ParameterRecord
 
-abbrev pub system_function : ℕ → List ParameterRecord → Signature
-system_function number params = record { kind = 5; number = number; instance_len = 0; params = params }
+-- the first block of a kind and number
+abbrev pub block_with : ℕ → ℕ → List Signature → Option Callee
+block_with kind number [] = None
+block_with kind number (b ∷ bs) = if b.kind == kind && b.number == number then Some (b.kind, b.instance_len, b.params) else block_with kind number bs
+
+abbrev pub system_function : List ParameterRecord → Callee
+system_function params = (5, 0, params)
 
 -- the block that is called: a system function (kind 5), or one of the program
-unfoldable pub callee : List Signature → ℕ → ℕ → Option Signature
-callee blocks kind number = if kind == 5 then option_map (system_function number) (system_params number) else block_with kind number blocks
+unfoldable pub callee : List Signature → ℕ → ℕ → Option Callee
+callee blocks kind number = if kind == 5 then option_map system_function (system_params number) else block_with kind number blocks
 
 -- the length of the first data block of a number
 abbrev pub data_len : ℕ → List (ℕ × ℕ) → Option ℕ
@@ -173,25 +179,25 @@ misfits_index around None actual = true
 misfits_index around (Some q) actual = misfits_parameter around q actual
 
 -- a block that is absent is a fault of the CALL, not of its PASS
-abbrev pub misfits_signature : Around → Option Signature → ℕ → Passed → Bool
-misfits_signature around None index actual = false
-misfits_signature around (Some s) index actual = misfits_index around (slice_get s.params index) actual
+abbrev pub misfits_callee : Around → Option Callee → ℕ → Passed → Bool
+misfits_callee around None index actual = false
+misfits_callee around (Some s) index actual = misfits_index around (slice_get s.2 index) actual
 
 -- what is passed to the block that a CALL calls
 abbrev pub misfits_call : Around → Operand → ℕ → Passed → Bool
-misfits_call around (operand.Called kind number instance) index actual = misfits_signature around (callee around.blocks kind number) index actual
+misfits_call around (operand.Called kind number instance) index actual = misfits_callee around (callee around.blocks kind number) index actual
 misfits_call around _ index actual = false
 
 -- ---- CALL, UC, CC
 
+abbrev pub is_index : ℕ → Option ℕ → Bool
+is_index index None = false
+is_index index (Some other) = other == index
+
 -- whether a PASS of an index is among ops
 abbrev pub is_passed : ℕ → List OpData → Bool
 is_passed index [] = false
-is_passed index (op ∷ ops) = pass_is index (pass_index op.operand) || is_passed index ops
-  where
-    pass_is : ℕ → Option ℕ → Bool
-    pass_is index None = false
-    pass_is index (Some other) = other == index
+is_passed index (op ∷ ops) = is_index index (pass_index op.operand) || is_passed index ops
 
 -- whether each parameter from an index on is passed
 abbrev pub are_passed : ℕ → List ParameterRecord → List OpData → Bool
@@ -204,31 +210,23 @@ is_short needed None = true
 is_short needed (Some len) = nat_lt len needed
 
 -- no instance (0) is right where the block has no parameters; one is given to function blocks alone
-abbrev pub is_bad_instance : List (ℕ × ℕ) → Signature → ℕ → Bool
+abbrev pub is_bad_instance : List (ℕ × ℕ) → Callee → ℕ → Bool
 is_bad_instance data_lens s instance =
-    if s.kind == 3 then (if instance == 0 then not (is_empty s.params) else is_short s.instance_len (data_len instance data_lens))
+    if s.0 == 3 then (if instance == 0 then not (is_empty s.2) else is_short s.1 (data_len instance data_lens))
     else not (instance == 0)
 
 -- absent; a function or system function whose parameters aren't all passed; the instance
-abbrev pub is_bad_call : List (ℕ × ℕ) → Option Signature → ℕ → List OpData → Bool
+abbrev pub is_bad_call : List (ℕ × ℕ) → Option Callee → ℕ → List OpData → Bool
 is_bad_call data_lens None instance before = true
-is_bad_call data_lens (Some s) instance before = not (s.kind == 3) && not (are_passed 0 s.params before) || is_bad_instance data_lens s instance
+is_bad_call data_lens (Some s) instance before = not (s.0 == 3) && not (are_passed 0 s.2 before) || is_bad_instance data_lens s instance
 
 -- ---- jumps
-
-abbrev pub bracket_codes : List OpenBracket → List ℕ
-bracket_codes [] = []
-bracket_codes (b ∷ bs) = b.code ∷ bracket_codes bs
 
 abbrev pub same_codes : List ℕ → List ℕ → Bool
 same_codes [] [] = true
 same_codes [] (y ∷ ys) = false
 same_codes (x ∷ xs) [] = false
 same_codes (x ∷ xs) (y ∷ ys) = x == y && same_codes xs ys
-
--- more than seven open brackets
-abbrev pub is_deep : List OpenBracket → Bool
-is_deep brackets = nat_lt 7 (length brackets)
 
 -- JU, which alone stands in the list of a JL
 abbrev pub is_ju : Operand → Bool
@@ -245,14 +243,20 @@ leads (suc most) target from (op ∷ ops) = from == target || is_ju op.operand &
 abbrev pub is_bad_list : Placed → ℕ → ℕ → Bool
 is_bad_list p kind target = kind == 1 && not (leads 255 target (p.at + size p.op) p.rest)
 
--- 6: no statement begins at the target, or a JL's list. 8: the target has other open brackets. (With
--- more than seven open brackets an earlier op has fault 8, so these aren't compared.)
-abbrev pub target_fault : Placed → Option Placed → Option ℕ
-target_fault p None = Some 6
-target_fault p (Some t) = if not (is_deep p.brackets) && not (same_codes (bracket_codes p.brackets) (bracket_codes t.brackets)) then Some 8 else None
+-- 8: other brackets stand open at the target. (Where more than seven stand open at the jump, an earlier
+-- op has fault 8, and no comparison is needed.)
+abbrev pub differing : Option (List ℕ) → Option (List ℕ) → Option ℕ
+differing None other = None
+differing (Some codes) None = Some 8
+differing (Some codes) (Some others) = if same_codes codes others then None else Some 8
 
-abbrev pub jump_fault : List Placed → Placed → ℕ → ℕ → Option ℕ
-jump_fault ps p kind target = if is_bad_list p kind target then Some 6 else target_fault p (statement_at ps target)
+-- 6: no statement begins at the target, or a JL's list
+abbrev pub target_fault : Option (List ℕ) → Option (Option (List ℕ)) → Option ℕ
+target_fault here None = Some 6
+target_fault here (Some there) = differing here there
+
+abbrev pub jump_fault : List Spot → Placed → ℕ → ℕ → Option ℕ
+jump_fault statements p kind target = if is_bad_list p kind target then Some 6 else target_fault (few p.brackets) (spot_at statements target)
 
 -- ---- ops
 
@@ -261,15 +265,15 @@ abbrev pub seven_if : Bool → Option ℕ
 seven_if b = if b then Some 7 else None
 
 -- what only needs the own block
-abbrev pub operand_fault : Around → List Placed → Placed → Operand → Option ℕ
-operand_fault around ps p (operand.Direct a w byte bit) = seven_if (lacks_width p.op w || is_bad_place around a w byte bit)
-operand_fault around ps p (operand.ByMemory a w from byte) = seven_if (lacks_width p.op w)
-operand_fault around ps p (operand.ByRegister a w register bits) = seven_if (lacks_width p.op w)
-operand_fault around ps p (operand.Parameter index w) = seven_if (lacks_width p.op w || lacks_own (own_parameter around index) w || writes p.op.code && is_input (own_parameter around index))
-operand_fault around ps p (operand.Jump kind target) = jump_fault ps p kind target
-operand_fault around ps p (operand.UseDb number) = seven_if (is_stray_use_db p)
-operand_fault around ps p (operand.Pass index actual) = seven_if (is_stray_pass p index || is_bad_actual around actual)
-operand_fault around ps p _ = None
+abbrev pub operand_fault : Around → List Spot → Placed → Operand → Option ℕ
+operand_fault around statements p (operand.Direct a w byte bit) = seven_if (lacks_width p.op w || is_bad_place around a w byte bit)
+operand_fault around statements p (operand.ByMemory a w from byte) = seven_if (lacks_width p.op w)
+operand_fault around statements p (operand.ByRegister a w register bits) = seven_if (lacks_width p.op w)
+operand_fault around statements p (operand.Parameter index w) = seven_if (lacks_width p.op w || lacks_own (own_parameter around index) w || writes p.op.code && is_input (own_parameter around index))
+operand_fault around statements p (operand.Jump kind target) = jump_fault statements p kind target
+operand_fault around statements p (operand.UseDb number) = seven_if (is_stray_use_db p)
+operand_fault around statements p (operand.Pass index actual) = seven_if (is_stray_pass p index || is_bad_actual around actual)
+operand_fault around statements p _ = None
 
 -- what needs the other blocks
 abbrev pub call_fault_among : Around → List (ℕ × ℕ) → Placed → Operand → Option ℕ
@@ -300,16 +304,16 @@ abbrev pub at_offset : ℕ → Option ℕ → List (ℕ × ℕ)
 at_offset at None = []
 at_offset at (Some code) = (at, code) ∷ []
 
-unfoldable pub op_faults : Around → List Placed → ℕ → Placed → List (ℕ × ℕ)
-op_faults around ps start p =
-    at_offset (start + p.at) (operand_fault around ps p p.op.operand)
+unfoldable pub op_faults : Around → List Spot → ℕ → Placed → List (ℕ × ℕ)
+op_faults around statements start p =
+    at_offset (start + p.at) (operand_fault around statements p p.op.operand)
     ++ at_offset (start + p.at) (call_fault around around.data_lens p)
     ++ at_offset (start + p.at) (mark_fault p.op)
     ++ at_offset (start + p.at) (bracket_fault p.op.code p.brackets)
 
-abbrev pub faults_over : Around → List Placed → ℕ → List Placed → List (ℕ × ℕ)
-faults_over around ps start [] = []
-faults_over around ps start (p ∷ rest) = op_faults around ps start p ++ faults_over around ps start rest
+abbrev pub faults_over : Around → List Spot → ℕ → List Placed → List (ℕ × ℕ)
+faults_over around statements start [] = []
+faults_over around statements start (p ∷ rest) = op_faults around statements start p ++ faults_over around statements start rest
 
 -- 8: a bracket that is open at the last statement, at its own op
 abbrev pub open_faults : ℕ → List OpenBracket → List (ℕ × ℕ)
@@ -318,4 +322,4 @@ open_faults start (b ∷ bs) = (start + b.at, 8) ∷ open_faults start bs
 
 -- the faults of a block whose code begins at an offset
 unfoldable pub block_faults : Around → ℕ → List OpData → List (ℕ × ℕ)
-block_faults around start ops = faults_over around (places ops) start (places ops) ++ open_faults start (open_behind 0 [] ops)
+block_faults around start ops = faults_over around (spots ops) start (places ops) ++ open_faults start (open_behind 0 [] ops)

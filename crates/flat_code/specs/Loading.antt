@@ -1,5 +1,6 @@
 -- WHEN A PROGRAM VERIFIES, and what the faults of bytes and of a program are.
 use Rattle.std.specs.Prelude.{◌≡◌, ℕ, List, [], ◌∷◌, ◌++◌, length, map, Option, Some, None}
+use Rattle.std.specs.Option.{option_map}
 use Rattle.flat_code.specs.Programs.{DataBlock, Program}
 use Rattle.flat_code.specs.Records.{BlockRecord}
 use Rattle.flat_code.specs.Layout.{Note, Faulty, Whole, AllBlocks, Cursor, faults_in}
@@ -26,11 +27,15 @@ wholes (Whole start block ∷ notes) = (start, block) ∷ wholes notes
 wholes (AllBlocks blocks ∷ notes) = wholes notes
 
 -- the data blocks, if all blocks were read
-abbrev pub all_blocks : List Note → Option (List (ℕ × ℕ))
+abbrev pub later : Option (List DataBlock) → Option (List DataBlock) → Option (List DataBlock)
+later before None = before
+later before (Some blocks) = Some blocks
+
+abbrev pub all_blocks : List Note → Option (List DataBlock)
 all_blocks [] = None
 all_blocks (Faulty at code ∷ notes) = all_blocks notes
 all_blocks (Whole start block ∷ notes) = all_blocks notes
-all_blocks (AllBlocks blocks ∷ notes) = Some (lens_of blocks)
+all_blocks (AllBlocks blocks ∷ notes) = later (Some blocks) (all_blocks notes)
 
 abbrev pub blocks_of : List (ℕ × BlockRecord) → List BlockRecord
 blocks_of [] = []
@@ -41,7 +46,7 @@ judged_blocks data_lens all [] = []
 judged_blocks data_lens all (b ∷ bs) = block_faults (around data_lens all b.1) b.0 b.1.code ++ judged_blocks data_lens all bs
 
 abbrev pub faults_in_notes : List Note → List (ℕ × ℕ)
-faults_in_notes notes = faults_in notes ++ judged_blocks (all_blocks notes) (blocks_of (wholes notes)) (wholes notes)
+faults_in_notes notes = faults_in notes ++ judged_blocks (option_map lens_of (all_blocks notes)) (blocks_of (wholes notes)) (wholes notes)
 
 unfoldable pub faults_of : List ℕ → List (ℕ × ℕ)
 faults_of text = faults_in_notes (read_image text).notes

@@ -1,5 +1,6 @@
 -- Ops at their places in the code of a block.
-use Rattle.std.specs.Prelude.{ℕ, ◌+◌, nat_le, ◌==◌, Bool, true, false, ◌&&◌, if◌then◌else◌, List, [], ◌∷◌, ◌++◌, drop, slice_get, Option, Some, None}
+use Rattle.std.specs.Prelude.{ℕ, ◌+◌, ◌-◌, nat_le, ◌==◌, Bool, true, false, ◌&&◌, if◌then◌else◌, List, [], ◌∷◌, ◌++◌, length, take, drop, slice_get, Option, Some, None}
+use Rattle.flat_code.specs.declared.image_fields.OpenBracket.{OpenBracket}
 use Rattle.flat_code.specs.Ops.{OpData}
 use Rattle.flat_code.specs.Codes.{size}
 
@@ -16,12 +17,7 @@ line_placed from begins (op ∷ ops) lines at =
     if from == at then (if begins then slice_get lines 0 else None)
     else line_placed (from + size op) op.last ops (if op.last then drop 1 lines else lines) at
 
--- a nesting bracket that stands open: its offset and the code of its op
-pub record OpenBracket : Type 0 where
-  pub at : ℕ
-  pub code : ℕ
-
--- an op in its code: its offset, the brackets that stand open before it in the text (the innermost
+-- an op in its code: its offset, the brackets that stand open before it in the text (the outermost
 -- first), the ops of its statement before it, the op, and the ops behind it
 pub record Placed : Type 0 where
   pub at : ℕ
@@ -35,12 +31,11 @@ abbrev pub opens : ℕ → Bool
 opens code = nat_le 0x18 code && nat_le code 0x1D
 
 abbrev pub inner : List OpenBracket → List OpenBracket
-inner [] = []
-inner (b ∷ bs) = bs
+inner brackets = take (length brackets - 1) brackets
 
 abbrev pub opened : ℕ → ℕ → List OpenBracket → List OpenBracket
 opened at code brackets =
-    if opens code then record { at = at; code = code } ∷ brackets
+    if opens code then brackets ++ record { at = at; code = code } ∷ []
     else if code == 0x1E then inner brackets
     else brackets
 
@@ -66,10 +61,34 @@ is_empty (x ∷ xs) = false
 abbrev pub begins : Placed → Bool
 begins p = is_empty p.before
 
--- the statement that begins at an offset
-abbrev pub statement_at : List Placed → ℕ → Option Placed
-statement_at [] at = None
-statement_at (p ∷ ps) at = if begins p && p.at == at then Some p else statement_at ps at
+-- the codes of open brackets, the outermost first
+abbrev pub bracket_codes : List OpenBracket → List ℕ
+bracket_codes [] = []
+bracket_codes (b ∷ bs) = b.code ∷ bracket_codes bs
+
+-- the open brackets, where they are at most seven
+abbrev pub few : List OpenBracket → Option (List ℕ)
+few brackets = if nat_le (length brackets) 7 then Some (bracket_codes brackets) else None
+
+-- a statement of a block: the offset at which it begins, and the brackets that stand open there
+pub record Spot : Type 0 where
+  pub at : ℕ
+  pub codes : Option (List ℕ)
+
+abbrev pub spots_from : ℕ → Bool → List OpenBracket → List OpData → List Spot
+spots_from at begin brackets [] = []
+spots_from at begin brackets (op ∷ ops) =
+    if begin then record { at = at; codes = few brackets } ∷ spots_from (at + size op) op.last (opened at op.code brackets) ops
+    else spots_from (at + size op) op.last (opened at op.code brackets) ops
+
+-- the statements of a block
+abbrev pub spots : List OpData → List Spot
+spots ops = spots_from 0 true [] ops
+
+-- the brackets open at the statement that begins at an offset; None where none begins there
+abbrev pub spot_at : List Spot → ℕ → Option (Option (List ℕ))
+spot_at [] at = None
+spot_at (s ∷ ss) at = if s.at == at then Some s.codes else spot_at ss at
 
 -- the op that ends the statement of an op
 abbrev pub ending : OpData → List OpData → OpData

@@ -105,6 +105,13 @@ pub struct ParameterRecord {
     pub bit: u8,
 }
 
+/// A nesting bracket that stands open: the offset of its op in the block's code, and its op code.
+#[derive(Clone, Copy, Debug, PartialEq, Eq)]
+pub struct OpenBracket {
+    pub at: u32,
+    pub code: u8,
+}
+
 fn fault_unless(fine: bool, code: u16) -> Option<u16>
     ensures { result ≡ unless fine code }
 {

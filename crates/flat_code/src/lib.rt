@@ -19,7 +19,7 @@ mod words;
 
 pub use decoding::{BadOp, decode_op};
 pub use encoding::encode_op;
-pub use image_fields::{Field, ParameterRecord};
+pub use image_fields::{Field, OpenBracket, ParameterRecord};
 pub use kinds::{CONDITIONS, JUMPS, JumpWord, condition_of, flag_of, jump_of};
 pub use names::{NameEntry, Names, is_name_before, is_upper_case};
 pub use operands::{Operand, Passed};

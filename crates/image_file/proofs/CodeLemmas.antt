@@ -94,7 +94,7 @@ code_takes judged n cur ops end are h =
     let whole : cur.rest ≡ code_bytes r.0 ++ drop n cur.rest = sym (take-append-drop n cur.rest) ∙ ap (λ (z : List ℕ). z ++ drop n cur.rest) text in
     let fine : is_nowhere (stop_at judged r.0 []) ≡ true = ap (λ (z : List ℕ). is_nowhere (stop_at judged r.0 z)) (sym nothing) ∙ ap is_nowhere f.0 in
     let here : Spells (List OpData) (code_of judged n) cur r.0 next =
-        record { text = record { parts = whole; rest_fits = bytes_dropped n cur.rest are }; good = and_from (are_ops r.0 && is_nowhere (stop_at judged r.0 [])) _ (and_from (are_ops r.0) _ t.1 fine) (eq-eqb _ _ size) } in
+    record { text = record { parts = whole; rest_fits = bytes_dropped n cur.rest are }; good = and_from (are_ops r.0 && is_nowhere (stop_at judged r.0 [])) _ (and_from (are_ops r.0) _ t.1 fine) (eq-eqb _ _ size) } in
     subst (λ (z : List OpData). Spells (List OpData) (code_of judged n) cur z end) made.0 (subst (λ (z : Cursor). Spells (List OpData) (code_of judged n) cur r.0 z) made.1 here))
 
 code_again : (judged : Bool) (n : ℕ) (ops : List OpData) (at : ℕ) (rest : List ℕ) → (are_ops ops && is_nowhere (stop_at judged ops []) && eqb (length (code_bytes ops)) n) ≡ true → Finds (List OpData) (read_code judged n (at_place at (code_bytes ops ++ rest))) ops (at_place (at + length (code_bytes ops)) rest)
@@ -207,7 +207,7 @@ read_goes code ops at next last count after ended end op are found lt within not
     let step : next ≡ at + length (op_bytes op) = omega (arith, lengths, lt, within, length-drop at code, length-drop next code) in
     let there = ops_there (length code) code at next op refl are found lt within in
     let here : overlong count at (ops_from (length code) (drop at code)).0 ≡ overlong (count_after op count) (at + length (op_bytes op)) (ops_from (length code) (drop next code)).0 =
-        ap (λ (r : List OpData × List ℕ). overlong count at r.0) there ∙ rw not64 refl in
+    ap (λ (r : List OpData × List ℕ). overlong count at r.0) there ∙ rw not64 refl in
     record {
       within = within;
       all = ops_more code ops at next op _ are found lt within h.all;

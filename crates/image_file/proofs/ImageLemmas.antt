@@ -23,6 +23,7 @@ use Rattle.flat_code.specs.Layout.{Note, Faulty, Whole, AllBlocks, Cursor, Read,
 use Rattle.flat_code.specs.Codes.{are_ops, code_bytes, stop_at, is_nowhere, code_of, only}
 use Rattle.flat_code.specs.Image.{plain, plain_u16, plain_u32, zero_u8, zero_u16, width_field, bytes_fit, bytes, section_field, parameter_byte, parameter_bit, RawParameter, raw_parameter, parameter_of_raw, raw_of_parameter, parameter, kind_field, parameter_count, block_number, local_bytes, instance_bytes, Head, head, params_in, instance_in, statements_in, code_len_in, same_state, parameters, end_marks, line_after, line_field, lines_of, code_and_lines, RawBlock, raw_block, block_of_raw, raw_of_block, plain_block, whole_at, code_block_at, code_block, after_block, data_number, instance_field, data_len, contents, RawData, raw_data, instance_of_number, number_of_instance, data_of_raw, raw_of_data, data_block, after_data, name_len, name_bytes, name_area, name_bit, RawName, raw_name, name_of_raw, raw_of_name, name_record, after_name, data_count, Counts, counts, code_blocks, plain_data_blocks, data_blocks, names, RawRecords, raw_records, records_of_raw, raw_of_records, records, kind_of_number, number_of_kind, width_of_number, area_of_number, number_of_area, param_of, record_of_param, block_of_record, record_of_block, entry_of_name, name_of_entry, program_of, records_of, body, magic_field, version_field, Front, front, front_size, front_of, image, IsProgram, IsRight, at_end, cut, read_by, read_image}
 use Rattle.flat_code.proofs.CodingLemmas.{IsBytes, Takes, IsExact, pair_is, u8_exact, u16_exact, u32_exact}
+use Rattle.image_file.specs.Typing.{AreFew}
 use Rattle.image_file.proofs.LayoutLemmas.{at_place, Finds, Spells, IsLaidOut, Parts, bind_parts, bind_finds, given_finds, field_laid, chain_laid, checked_laid, seen_laid, remembered_laid, many_laid, located_laid, no_faults, no_faults_join}
 use Rattle.image_file.proofs.CodeLemmas.{code_laid, cond_finds, ended_finds}
 
@@ -54,10 +55,10 @@ run_takes n text bs rest are false t e =
 run_exact : (n : ℕ) → IsExact (List ℕ) (bytes n)
 run_exact n = record {
   again = λ bs rest fits.
-    let g = and_parts (eqb (length bs) n) (bytes_fit bs) fits in
-    let size : length bs ≡ n = eqb-true _ _ g.0 in
-    let long : ltb (length (bs ++ rest)) n ≡ false = le-ltb _ _ (omega (arith, size, length-append bs rest)) in
-    rw (long, take_at bs rest n size, drop_at bs rest n size) refl;
+      let g = and_parts (eqb (length bs) n) (bytes_fit bs) fits in
+      let size : length bs ≡ n = eqb-true _ _ g.0 in
+      let long : ltb (length (bs ++ rest)) n ≡ false = le-ltb _ _ (omega (arith, size, length-append bs rest)) in
+      rw (long, take_at bs rest n size, drop_at bs rest n size) refl;
   takes = λ text bs rest are e. run_takes n text bs rest are (ltb (length text) n) refl e;
 }
 
@@ -794,3 +795,37 @@ image_takes text p end are h =
     let whole : text ≡ image b.first = t.text.parts ∙ ap (λ (z : List ℕ). front.spell f ++ z) behind ∙ ap (λ (z : Front). front.spell z ++ text_of b.first) values in
     let here : (text ≡ image b.first) × IsProgram b.first × IsRight b.first = (whole, record { good = good_weaker b.first u.good; short = rw (← total_is) most }, u.good) in
     subst (λ (z : Program). (text ≡ image z) × IsProgram z × IsRight z) p_is here))
+
+-- ---- programs again, and their parameters
+
+pub program_again : (p : Program) → IsProgram p → program_of (records_of p) ≡ p
+unfolding body
+program_again p h = records_there false p h.good
+
+head_params : (before : ℕ × ℕ) (h : Head) → (head before).good h ≡ true → params_in h ≤ 60
+unfolding head parameter_count fault_of
+head_params before h good =
+    let a = chain_parts (kind_field before.0) (from_params before) h good in
+    let b = chain_parts (parameter_count h.0) (λ params. from_number before h.0) h.1 a.1 in
+    let test = leb h.1.0 60 && (not (eqb h.0 1) || eqb h.1.0 0) in
+    let c = and_parts (ltb h.1.0 256) (is_fine (unless test 4)) b.0 in
+    leb-true h.1.0 60 (and_parts (leb h.1.0 60) (not (eqb h.0 1) || eqb h.1.0 0) (unless_fine test 4 c.1)).0
+
+block_few : (judged : Bool) (before : ℕ × ℕ) (b : BlockRecord) → (code_block judged before).good b ≡ true → length b.params ≤ 60
+block_few judged before b good = head_params before (raw_of_block b).0 (record_parts_of judged before b good).head_good
+
+blocks_few : (judged : Bool) (s : ℕ × ℕ) (n : ℕ) (bs : List BlockRecord) → good_many (code_block judged) after_block s n bs ≡ true → AreFew bs
+blocks_few judged s zero [] h = tt
+blocks_few judged s zero (b ∷ bs) h = absurd cc
+blocks_few judged s (suc n) [] h = absurd cc
+blocks_few judged s (suc n) (b ∷ bs) h =
+    let g = and_parts ((code_block judged s).good b) (good_many (code_block judged) after_block (after_block s b) n bs) h in
+    (block_few judged s b g.0, blocks_few judged (after_block s b) n bs g.1)
+
+codes_few : (judged : Bool) (n : ℕ) (bs : List BlockRecord) → (code_blocks judged n).good bs ≡ true → AreFew bs
+unfolding code_blocks
+codes_few judged n bs good = blocks_few judged (0, 0) n bs good
+
+pub program_few : (p : Program) → IsProgram p → AreFew (map record_of_block p.code_blocks)
+unfolding body
+program_few p h = let q = records_parts false (records_of p) h.good in codes_few false (length (map record_of_block p.code_blocks)) (map record_of_block p.code_blocks) q.codes_good

@@ -93,13 +93,13 @@ field_takes {A = A} c judge exact cur (Some r) e x end are h =
 pub field_laid : {A : Type 0} (c : Coding A) (judge : A → Option ℕ) → IsExact A c → IsLaidOut A (field c judge)
 field_laid {A = A} c judge exact = record {
   again = λ x at rest good.
-    let g = and_parts (c.fits x) (is_fine (judge x)) good in
-    let cur = at_place at (c.spell x ++ rest) in
-    let read : c.read cur.rest ≡ Some (x, rest) = exact.again x rest g.0 in
-    let size : length (c.spell x ++ rest) - length rest ≡ length (c.spell x) = omega (arith, length-append (c.spell x) rest) in
-    let here : Finds A (field_of judge cur (Some (x, rest))) x (at_place (at + length (c.spell x)) rest) =
-        record { found = ap (λ (k : ℕ). Some (x, at_place (at + k) rest)) size; clean = noted_none at (judge x) g.1 } in
-    subst (λ (o : Option (A × List ℕ)). Finds A (field_of judge cur o) x (at_place (at + length (c.spell x)) rest)) (sym read) here;
+      let g = and_parts (c.fits x) (is_fine (judge x)) good in
+      let cur = at_place at (c.spell x ++ rest) in
+      let read : c.read cur.rest ≡ Some (x, rest) = exact.again x rest g.0 in
+      let size : length (c.spell x ++ rest) - length rest ≡ length (c.spell x) = omega (arith, length-append (c.spell x) rest) in
+      let here : Finds A (field_of judge cur (Some (x, rest))) x (at_place (at + length (c.spell x)) rest) =
+      record { found = ap (λ (k : ℕ). Some (x, at_place (at + k) rest)) size; clean = noted_none at (judge x) g.1 } in
+      subst (λ (o : Option (A × List ℕ)). Finds A (field_of judge cur o) x (at_place (at + length (c.spell x)) rest)) (sym read) here;
   takes = λ cur x end are h. field_takes c judge exact cur (c.read cur.rest) refl x end are h;
 }
 
@@ -108,25 +108,25 @@ field_laid {A = A} c judge exact = record {
 pub chain_laid : {A B : Type 0} (l : Layout A) (m : A → Layout B) → IsLaidOut A l → ((x : A) → IsLaidOut B (m x)) → IsLaidOut (A × B) (chain l m)
 chain_laid {A = A} {B = B} l m first second = record {
   again = λ x at rest good.
-    let g = and_parts (l.good x.0) ((m x.0).good x.1) good in
-    let tail = (m x.0).spell x.1 in
-    let one = first.again x.0 at (tail ++ rest) g.0 in
-    let one_here : Finds A (l.read (at_place at ((l.spell x.0 ++ tail) ++ rest))) x.0 (at_place (at + length (l.spell x.0)) (tail ++ rest)) =
-        subst (λ (z : List ℕ). Finds A (l.read (at_place at z)) x.0 (at_place (at + length (l.spell x.0)) (tail ++ rest))) (sym (append_assoc (l.spell x.0) tail rest)) one in
-    let two = (second x.0).again x.1 (at + length (l.spell x.0)) rest g.1 in
-    let place : (at + length (l.spell x.0)) + length tail ≡ at + length (l.spell x.0 ++ tail) = omega (arith, length-append (l.spell x.0) tail) in
-    let three : Finds (A × B) (given (x.0, x.1) (at_place ((at + length (l.spell x.0)) + length tail) rest)) x (at_place (at + length (l.spell x.0 ++ tail)) rest) = record { found = ap (λ (k : ℕ). Some (x, at_place k rest)) place; clean = refl } in
-    let inner = bind_finds ((m x.0).read (at_place (at + length (l.spell x.0)) (tail ++ rest))) (λ y end. given (x.0, y) end) x.1 (at_place ((at + length (l.spell x.0)) + length tail) rest) x (at_place (at + length (l.spell x.0 ++ tail)) rest) two three in
-    bind_finds (l.read (at_place at ((l.spell x.0 ++ tail) ++ rest))) (λ a next. bind ((m a).read next) (λ y end. given (a, y) end)) x.0 (at_place (at + length (l.spell x.0)) (tail ++ rest)) x (at_place (at + length (l.spell x.0 ++ tail)) rest) one_here inner;
+      let g = and_parts (l.good x.0) ((m x.0).good x.1) good in
+      let tail = (m x.0).spell x.1 in
+      let one = first.again x.0 at (tail ++ rest) g.0 in
+      let one_here : Finds A (l.read (at_place at ((l.spell x.0 ++ tail) ++ rest))) x.0 (at_place (at + length (l.spell x.0)) (tail ++ rest)) =
+      subst (λ (z : List ℕ). Finds A (l.read (at_place at z)) x.0 (at_place (at + length (l.spell x.0)) (tail ++ rest))) (sym (append_assoc (l.spell x.0) tail rest)) one in
+      let two = (second x.0).again x.1 (at + length (l.spell x.0)) rest g.1 in
+      let place : (at + length (l.spell x.0)) + length tail ≡ at + length (l.spell x.0 ++ tail) = omega (arith, length-append (l.spell x.0) tail) in
+      let three : Finds (A × B) (given (x.0, x.1) (at_place ((at + length (l.spell x.0)) + length tail) rest)) x (at_place (at + length (l.spell x.0 ++ tail)) rest) = record { found = ap (λ (k : ℕ). Some (x, at_place k rest)) place; clean = refl } in
+      let inner = bind_finds ((m x.0).read (at_place (at + length (l.spell x.0)) (tail ++ rest))) (λ y end. given (x.0, y) end) x.1 (at_place ((at + length (l.spell x.0)) + length tail) rest) x (at_place (at + length (l.spell x.0 ++ tail)) rest) two three in
+      bind_finds (l.read (at_place at ((l.spell x.0 ++ tail) ++ rest))) (λ a next. bind ((m a).read next) (λ y end. given (a, y) end)) x.0 (at_place (at + length (l.spell x.0)) (tail ++ rest)) x (at_place (at + length (l.spell x.0 ++ tail)) rest) one_here inner;
   takes = λ cur x end are h.
-    let p = bind_parts (l.read cur) (λ a next. bind ((m a).read next) (λ y end. given (a, y) end)) x end h in
-    let q = bind_parts ((m p.first).read p.next) (λ y end. given (p.first, y) end) x end p.two in
-    let made = given_finds (p.first, q.first) x q.next end q.two in
-    let t = first.takes cur p.first p.next are p.one in
-    let u = (second p.first).takes p.next q.first q.next t.text.rest_fits q.one in
-    let text : cur.rest ≡ (l.spell p.first ++ (m p.first).spell q.first) ++ q.next.rest = t.text.parts ∙ ap (λ (z : List ℕ). l.spell p.first ++ z) u.text.parts ∙ sym (append_assoc (l.spell p.first) ((m p.first).spell q.first) q.next.rest) in
-    let here : Spells (A × B) (chain l m) cur (p.first, q.first) q.next = record { text = record { parts = text; rest_fits = u.text.rest_fits }; good = and_from (l.good p.first) ((m p.first).good q.first) t.good u.good } in
-    subst (λ (z : A × B). Spells (A × B) (chain l m) cur z end) made.0 (subst (λ (z : Cursor). Spells (A × B) (chain l m) cur (p.first, q.first) z) made.1 here);
+      let p = bind_parts (l.read cur) (λ a next. bind ((m a).read next) (λ y end. given (a, y) end)) x end h in
+      let q = bind_parts ((m p.first).read p.next) (λ y end. given (p.first, y) end) x end p.two in
+      let made = given_finds (p.first, q.first) x q.next end q.two in
+      let t = first.takes cur p.first p.next are p.one in
+      let u = (second p.first).takes p.next q.first q.next t.text.rest_fits q.one in
+      let text : cur.rest ≡ (l.spell p.first ++ (m p.first).spell q.first) ++ q.next.rest = t.text.parts ∙ ap (λ (z : List ℕ). l.spell p.first ++ z) u.text.parts ∙ sym (append_assoc (l.spell p.first) ((m p.first).spell q.first) q.next.rest) in
+      let here : Spells (A × B) (chain l m) cur (p.first, q.first) q.next = record { text = record { parts = text; rest_fits = u.text.rest_fits }; good = and_from (l.good p.first) ((m p.first).good q.first) t.good u.good } in
+      subst (λ (z : A × B). Spells (A × B) (chain l m) cur z end) made.0 (subst (λ (z : Cursor). Spells (A × B) (chain l m) cur (p.first, q.first) z) made.1 here);
 }
 
 -- ---- a fault that is found only now
@@ -134,13 +134,13 @@ chain_laid {A = A} {B = B} l m first second = record {
 pub checked_laid : {A : Type 0} (at : ℕ) (fault : Option ℕ) (l : Layout A) → IsLaidOut A l → IsLaidOut A (checked at fault l)
 checked_laid {A = A} at fault l exact = record {
   again = λ x from rest good.
-    let g = and_parts (is_fine fault) (l.good x) good in
-    let h = exact.again x from rest g.1 in
-    record { found = h.found; clean = no_faults_join (noted at fault) _ (noted_none at fault g.0) h.clean };
+      let g = and_parts (is_fine fault) (l.good x) good in
+      let h = exact.again x from rest g.1 in
+      record { found = h.found; clean = no_faults_join (noted at fault) _ (noted_none at fault g.0) h.clean };
   takes = λ cur x end are h.
-    let p = no_faults (noted at fault) (l.read cur).notes h.clean in
-    let t = exact.takes cur x end are (record { found = h.found; clean = p.1 }) in
-    record { text = t.text; good = and_from (is_fine fault) (l.good x) (noted_fine at fault p.0) t.good };
+      let p = no_faults (noted at fault) (l.read cur).notes h.clean in
+      let t = exact.takes cur x end are (record { found = h.found; clean = p.1 }) in
+      record { text = t.text; good = and_from (is_fine fault) (l.good x) (noted_fine at fault p.0) t.good };
 }
 
 -- ---- the same bytes for another type
@@ -148,17 +148,17 @@ checked_laid {A = A} at fault l exact = record {
 pub seen_laid : {A B : Type 0} (to : A → B) (from : B → A) (l : Layout A) → ((x : A) → l.good x ≡ true → from (to x) ≡ x) → ((y : B) → l.good (from y) ≡ true → to (from y) ≡ y) → IsLaidOut A l → IsLaidOut B (seen_as to from l)
 seen_laid {A = A} {B = B} to from l there back exact = record {
   again = λ y at rest good.
-    let one = exact.again (from y) at rest good in
-    let end = at_place (at + length (l.spell (from y))) rest in
-    bind_finds (l.read (at_place at (l.spell (from y) ++ rest))) (λ x end. given (to x) end) (from y) end y end one
-        (record { found = ap (λ (z : B). Some (z, end)) (back y good); clean = refl });
+      let one = exact.again (from y) at rest good in
+      let end = at_place (at + length (l.spell (from y))) rest in
+      bind_finds (l.read (at_place at (l.spell (from y) ++ rest))) (λ x end. given (to x) end) (from y) end y end one
+      (record { found = ap (λ (z : B). Some (z, end)) (back y good); clean = refl });
   takes = λ cur y end are h.
-    let p = bind_parts (l.read cur) (λ x end. given (to x) end) y end h in
-    let made = given_finds (to p.first) y p.next end p.two in
-    let t = exact.takes cur p.first p.next are p.one in
-    let is : p.first ≡ from y = sym (there p.first t.good) ∙ ap from made.0 in
-    let here : Spells A l cur (from y) end = subst (λ (z : A). Spells A l cur z end) is (subst (λ (z : Cursor). Spells A l cur p.first z) made.1 t) in
-    record { text = here.text; good = here.good };
+      let p = bind_parts (l.read cur) (λ x end. given (to x) end) y end h in
+      let made = given_finds (to p.first) y p.next end p.two in
+      let t = exact.takes cur p.first p.next are p.one in
+      let is : p.first ≡ from y = sym (there p.first t.good) ∙ ap from made.0 in
+      let here : Spells A l cur (from y) end = subst (λ (z : A). Spells A l cur z end) is (subst (λ (z : Cursor). Spells A l cur p.first z) made.1 t) in
+      record { text = here.text; good = here.good };
 }
 
 -- ---- a value that is noted
@@ -166,16 +166,16 @@ seen_laid {A = A} {B = B} to from l there back exact = record {
 pub remembered_laid : {A : Type 0} (note : A → Note) (l : Layout A) → ((x : A) → faults_in (note x ∷ []) ≡ []) → IsLaidOut A l → IsLaidOut A (remembered note l)
 remembered_laid {A = A} note l none exact = record {
   again = λ x at rest good.
-    let one = exact.again x at rest good in
-    let end = at_place (at + length (l.spell x)) rest in
-    bind_finds (l.read (at_place at (l.spell x ++ rest))) (λ x end. record { notes = note x ∷ []; found = Some (x, end) }) x end x end one
-        (record { found = refl; clean = none x });
+      let one = exact.again x at rest good in
+      let end = at_place (at + length (l.spell x)) rest in
+      bind_finds (l.read (at_place at (l.spell x ++ rest))) (λ x end. record { notes = note x ∷ []; found = Some (x, end) }) x end x end one
+      (record { found = refl; clean = none x });
   takes = λ cur x end are h.
-    let p = bind_parts (l.read cur) (λ x end. record { notes = note x ∷ []; found = Some (x, end) }) x end h in
-    let q = same_Some (p.first, p.next) (x, end) p.two.found in
-    let t = exact.takes cur p.first p.next are p.one in
-    let here : Spells A l cur x end = subst (λ (z : A × Cursor). Spells A l cur z.0 z.1) q t in
-    record { text = here.text; good = here.good };
+      let p = bind_parts (l.read cur) (λ x end. record { notes = note x ∷ []; found = Some (x, end) }) x end h in
+      let q = same_Some (p.first, p.next) (x, end) p.two.found in
+      let t = exact.takes cur p.first p.next are p.one in
+      let here : Spells A l cur x end = subst (λ (z : A × Cursor). Spells A l cur z.0 z.1) q t in
+      record { text = here.text; good = here.good };
 }
 
 -- ---- many
@@ -196,7 +196,7 @@ many_again {S = S} {A = A} l next exact (suc n) s (x ∷ xs) at rest good =
     let place : (at + length front) + length tail ≡ at + length (front ++ tail) = omega (arith, length-append front tail) in
     let end = at_place (at + length (front ++ tail)) rest in
     let inner = bind_finds (read_many l next (next s x) n mid) (λ xs end. given (x ∷ xs) end) xs (at_place ((at + length front) + length tail) rest) (x ∷ xs) end two
-        (record { found = ap (λ (k : ℕ). Some (x ∷ xs, at_place k rest)) place; clean = refl }) in
+    (record { found = ap (λ (k : ℕ). Some (x ∷ xs, at_place k rest)) place; clean = refl }) in
     bind_finds ((l s).read (at_place at ((front ++ tail) ++ rest))) (λ x after. bind (read_many l next (next s x) n after) (λ xs end. given (x ∷ xs) end)) x mid (x ∷ xs) end one_here inner
 
 many_takes : {S A : Type 0} (l : S → Layout A) (next : S → A → S) → ((s : S) → IsLaidOut A (l s)) → (n : ℕ) (s : S) (cur : Cursor) (xs : List A) (end : Cursor) → IsBytes cur.rest → Finds (List A) (read_many l next s n cur) xs end → Spells (List A) (many l next s n) cur xs end
@@ -221,9 +221,9 @@ many_laid l next exact s n = record { again = many_again l next exact n s; takes
 pub located_laid : {A : Type 0} (l : ℕ → Layout A) → ((at : ℕ) (x : A) → (l at).spell x ≡ (l 0).spell x) → ((at : ℕ) (x : A) → (l at).good x ≡ (l 0).good x) → ((at : ℕ) → IsLaidOut A (l at)) → IsLaidOut A (located l)
 located_laid {A = A} l spelled goods exact = record {
   again = λ x at rest good.
-    subst (λ (t : List ℕ). Finds A ((l at).read (at_place at (t ++ rest))) x (at_place (at + length t) rest)) (spelled at x)
-    ((exact at).again x at rest (goods at x ∙ good));
+      subst (λ (t : List ℕ). Finds A ((l at).read (at_place at (t ++ rest))) x (at_place (at + length t) rest)) (spelled at x)
+      ((exact at).again x at rest (goods at x ∙ good));
   takes = λ cur x end are h.
-    let t = (exact cur.at).takes cur x end are h in
-    record { text = subst (λ (w : List ℕ). Takes cur.rest w end.rest) (spelled cur.at x) t.text; good = sym (goods cur.at x) ∙ t.good };
+      let t = (exact cur.at).takes cur x end are h in
+      record { text = subst (λ (w : List ℕ). Takes cur.rest w end.rest) (spelled cur.at x) t.text; good = sym (goods cur.at x) ∙ t.good };
 }

@@ -5,3 +5,6 @@ pub mod RunLemmas
 pub mod LeastLemmas
 pub mod WholeRunLemmas
 pub mod WholeLemmas
+pub mod JudgeLemmas
+pub mod LoadLemmas
+pub mod EndLemmas

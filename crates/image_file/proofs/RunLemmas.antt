@@ -75,8 +75,8 @@ pub more_goes : {S A : Type 0} (l : S → Layout A) (next : S → A → S) (s : 
 more_goes {S = S} {A = A} l next s count i cur least xs x after mid all lt one so_far =
     let k : count - i ≡ suc (count - (i + 1)) = omega arith in
     let step : run (many l next s (count - i)) cur least ≡ then_run (run (many l next (next s x) (count - (i + 1))) after mid) (λ ys end last. Goes (x ∷ ys) end last) =
-        ap (λ (n : ℕ). run (many l next s n) cur least) k ∙ run_more l next s (count - (i + 1)) cur least
-        ∙ ap (λ (r : Ran A). then_run r (λ y at m. then_run (run (many l next (next s y) (count - (i + 1))) at m) (λ ys end last. Goes (y ∷ ys) end last))) (sym one) in
+    ap (λ (n : ℕ). run (many l next s n) cur least) k ∙ run_more l next s (count - (i + 1)) cur least
+    ∙ ap (λ (r : Ran A). then_run r (λ y at m. then_run (run (many l next (next s y) (count - (i + 1))) at m) (λ ys end last. Goes (y ∷ ys) end last))) (sym one) in
     sym (fronts xs x (run (many l next (next s x) (count - (i + 1))) after mid)) ∙ sym (ap (with_front xs) step) ∙ so_far
 
 pub more_stops : {S A : Type 0} (l : S → Layout A) (next : S → A → S) (s : S) (count i : ℕ) (cur : Cursor) (least mid : Log) (xs : List A) (all : Ran (List A))
@@ -84,8 +84,8 @@ pub more_stops : {S A : Type 0} (l : S → Layout A) (next : S → A → S) (s :
 more_stops {S = S} {A = A} l next s count i cur least mid xs all lt one so_far =
     let k : count - i ≡ suc (count - (i + 1)) = omega arith in
     let step : run (many l next s (count - i)) cur least ≡ Stops mid =
-        ap (λ (n : ℕ). run (many l next s n) cur least) k ∙ run_more l next s (count - (i + 1)) cur least
-        ∙ ap (λ (r : Ran A). then_run r (λ y at m. then_run (run (many l next (next s y) (count - (i + 1))) at m) (λ ys end last. Goes (y ∷ ys) end last))) (sym one) in
+    ap (λ (n : ℕ). run (many l next s n) cur least) k ∙ run_more l next s (count - (i + 1)) cur least
+    ∙ ap (λ (r : Ran A). then_run r (λ y at m. then_run (run (many l next (next s y) (count - (i + 1))) at m) (λ ys end last. Goes (y ∷ ys) end last))) (sym one) in
     sym (ap (with_front xs) step) ∙ so_far
 
 pub more_done : {S A : Type 0} (l : S → Layout A) (next : S → A → S) (s : S) (count i : ℕ) (cur : Cursor) (least : Log) (xs : List A) (all : Ran (List A))

@@ -2,6 +2,7 @@
 use Rattle.std.proofs.Common.{◌≡◌, ℕ, zero, suc, ◌+◌, ◌-◌, ◌<◌, ◌≤◌, Bool, true, false, cond, eqb, ltb, not, ◌&&◌, ◌||◌, List, [], ◌∷◌, ◌++◌, map, length, take, get_or, Option, Some, None, refl, sym, ap, subst, ◌∙◌, append_assoc, arith}
 use Rattle.std.proofs.lemmas.List.{append-nil}
 use Rattle.std.proofs.lemmas.Option.{same_Some}
+use Rattle.std.specs.Option.{option_map}
 use Rattle.flat_code.specs.Coding.{Coding, u8, u16, u32}
 use Rattle.flat_code.specs.Ops.{OpData}
 use Rattle.flat_code.specs.Programs.{DataBlock, Program}
@@ -11,27 +12,23 @@ use Rattle.flat_code.specs.Faults.{fault_of, name_fault}
 use Rattle.flat_code.specs.Layout.{Note, Faulty, Whole, AllBlocks, Cursor, Read, Layout, ended, given, go_on, bind, noted, field_of, field, chain, checked, located, read_many, many, seen_as, remembered, faults_in}
 use Rattle.flat_code.specs.Codes.{ops_from, stop_at, read_ops, placed_ops, read_code, code_of, only}
 use Rattle.flat_code.specs.Image.{plain, plain_u16, plain_u32, zero_u8, zero_u16, width_field, bytes, section_field, parameter_byte, parameter_bit, RawParameter, raw_parameter, parameter_of_raw, raw_of_parameter, parameter, kind_field, parameter_count, block_number, local_bytes, instance_bytes, Head, head, params_in, instance_in, statements_in, code_len_in, same_state, parameters, line_after, line_field, lines_of, code_and_lines, RawBlock, raw_block, block_of_raw, raw_of_block, plain_block, whole_at, code_block_at, code_block, after_block, data_number, instance_field, data_len, contents, RawData, raw_data, data_of_raw, raw_of_data, data_block, after_data, name_len, name_bytes, name_area, name_bit, RawName, raw_name, name_of_raw, raw_of_name, name_record, after_name, data_count, Counts, counts, code_blocks, plain_data_blocks, data_blocks, names, RawRecords, raw_records, records_of_raw, raw_of_records, records, record_of_block, block_of_record, program_of, records_of, body, magic_field, version_field, Front, front, front_size, image, IsProgram, at_end, cut, read_by, read_image, end_marks}
-use Rattle.flat_code.specs.Placed.{OpenBracket, Placed, places, open_behind}
+use Rattle.flat_code.specs.declared.image_fields.OpenBracket.{OpenBracket}
+use Rattle.flat_code.specs.Placed.{Placed, Spot, spots, places, open_behind}
 use Rattle.flat_code.specs.Blocks.{Around, operand_fault, call_fault, mark_fault, bracket_fault, at_offset, op_faults, faults_over, open_faults, block_faults}
-use Rattle.flat_code.specs.Loading.{lens_of, around, wholes, all_blocks, blocks_of, judged_blocks, faults_in_notes, faults_of, Gives, AreVerified, Verifies, IsLoadable}
+use Rattle.flat_code.specs.Loading.{lens_of, later, around, wholes, all_blocks, blocks_of, judged_blocks, faults_in_notes, faults_of, Gives, AreVerified, Verifies, IsLoadable}
 use Rattle.flat_code.proofs.CodingLemmas.{IsBytes}
 use Rattle.image_file.proofs.LayoutLemmas.{at_place, Finds, no_faults}
 use Rattle.image_file.proofs.ImageLemmas.{image_again, image_takes, records_back, records_laid, front_laid, bytes_taken}
 
 -- the code blocks that notes tell of, and the data blocks, once all were read
 abbrev Lens : Type 0
-Lens = Option (List (ℕ × ℕ))
+Lens = Option (List DataBlock)
 
 abbrev Told : Type 0
 Told = List BlockRecord × Lens
 
-first : Lens → Lens → Lens
-first None other = other
-first (Some lens) other = Some lens
-
 join : Told → Told → Told
-unfolding first
-join a b = (a.0 ++ b.0, first a.1 b.1)
+join a b = (a.0 ++ b.0, later a.1 b.1)
 
 nothing : Told
 nothing = ([], None)
@@ -48,29 +45,31 @@ wholes-append (Faulty at code ∷ a) b = wholes-append a b
 wholes-append (Whole start block ∷ a) b = ap (λ (z : List BlockRecord). block ∷ z) (wholes-append a b)
 wholes-append (AllBlocks blocks ∷ a) b = wholes-append a b
 
-all-append : (a b : List Note) → all_blocks (a ++ b) ≡ first (all_blocks a) (all_blocks b)
-unfolding first
-all-append [] b = refl
+later-assoc : (a b c : Lens) → later a (later b c) ≡ later (later a b) c
+later-assoc a b None = refl
+later-assoc a b (Some lens) = refl
+
+later-none : (a : Lens) → later None a ≡ a
+later-none None = refl
+later-none (Some lens) = refl
+
+all-append : (a b : List Note) → all_blocks (a ++ b) ≡ later (all_blocks a) (all_blocks b)
+all-append [] b = sym (later-none (all_blocks b))
 all-append (Faulty at code ∷ a) b = all-append a b
 all-append (Whole start block ∷ a) b = all-append a b
-all-append (AllBlocks blocks ∷ a) b = refl
+all-append (AllBlocks blocks ∷ a) b = ap (later (Some blocks)) (all-append a b) ∙ later-assoc (Some blocks) (all_blocks a) (all_blocks b)
 
 told-append : (a b : List Note) → told_in (a ++ b) ≡ join (told_in a) (told_in b)
 unfolding told_in join
 told-append a b = pairs (wholes-append a b) (all-append a b)
 
-first-none : (a : Lens) → first a None ≡ a
-unfolding first
-first-none None = refl
-first-none (Some lens) = refl
-
 join-nothing : (a : Told) → join a nothing ≡ a
 unfolding join nothing
-join-nothing a = pairs (append-nil a.0) (first-none a.1)
+join-nothing a = pairs (append-nil a.0) refl
 
 nothing-join : (a : Told) → join nothing a ≡ a
-unfolding join nothing first
-nothing-join a = refl
+unfolding join nothing
+nothing-join a = pairs refl (later-none a.1)
 
 none_noted : (at : ℕ) (o : Option ℕ) → told_in (noted at o) ≡ nothing
 unfolding told_in nothing
@@ -89,7 +88,7 @@ unfolding told_in one
 one_block start b = refl
 
 all_told : List DataBlock → Told
-all_told ds = ([], Some (lens_of ds))
+all_told ds = ([], Some ds)
 
 all_are_told : (ds : List DataBlock) → told_in (AllBlocks ds ∷ []) ≡ all_told ds
 unfolding told_in all_told
@@ -122,29 +121,35 @@ field_notes : {A : Type 0} (c : Coding A) (judge : A → Option ℕ) → Notes A
 field_notes {A = A} c judge = record { says = λ cur x end e. field_of_notes judge cur (c.read cur.rest) x end e }
 
 chain_notes : {A B : Type 0} (l : Layout A) (m : A → Layout B) (v : A → Told) (w : A → B → Told) → Notes A l v → ((x : A) → Notes B (m x) (w x)) → Notes (A × B) (chain l m) (λ x. join (v x.0) (w x.0 x.1))
-chain_notes {A = A} {B = B} l m v w p q = record { says = λ cur x end e.
-    let a = steps (l.read cur) (λ x next. bind ((m x).read next) (λ y end. given (x, y) end)) x end e in
-    let b = steps ((m a.first).read a.next) (λ y end. given (a.first, y) end) x end a.two in
-    let made = same_Some ((a.first, b.first), b.next) (x, end) b.two in
-    let x_is = ap (λ (z : (A × B) × Cursor). z.0) made in
-    let inner = b.notes ∙ ap (λ (z : Told). join (told_in ((m a.first).read a.next).notes) z) none_at_all ∙ join-nothing (told_in ((m a.first).read a.next).notes) ∙ (q a.first).says a.next b.first b.next b.one in
-    a.notes ∙ ap (λ (z : Told). join z (told_in (bind {B = A × B} ((m a.first).read a.next) (λ y end. given (a.first, y) end)).notes)) (p.says cur a.first a.next a.one)
-    ∙ ap (λ (z : Told). join (v a.first) z) inner ∙ ap (λ (z : A × B). join (v z.0) (w z.0 z.1)) x_is }
+chain_notes {A = A} {B = B} l m v w p q = record {
+  says = λ cur x end e.
+      let a = steps (l.read cur) (λ x next. bind ((m x).read next) (λ y end. given (x, y) end)) x end e in
+      let b = steps ((m a.first).read a.next) (λ y end. given (a.first, y) end) x end a.two in
+      let made = same_Some ((a.first, b.first), b.next) (x, end) b.two in
+      let x_is = ap (λ (z : (A × B) × Cursor). z.0) made in
+      let inner = b.notes ∙ ap (λ (z : Told). join (told_in ((m a.first).read a.next).notes) z) none_at_all ∙ join-nothing (told_in ((m a.first).read a.next).notes) ∙ (q a.first).says a.next b.first b.next b.one in
+      a.notes ∙ ap (λ (z : Told). join z (told_in (bind {B = A × B} ((m a.first).read a.next) (λ y end. given (a.first, y) end)).notes)) (p.says cur a.first a.next a.one)
+      ∙ ap (λ (z : Told). join (v a.first) z) inner ∙ ap (λ (z : A × B). join (v z.0) (w z.0 z.1)) x_is;
+}
 
 checked_notes : {A : Type 0} (at : ℕ) (fault : Option ℕ) (l : Layout A) (v : A → Told) → Notes A l v → Notes A (checked at fault l) v
 checked_notes {A = A} at fault l v p = record { says = λ cur x end e. told-append (noted at fault) (l.read cur).notes ∙ ap (λ (z : Told). join z (told_in (l.read cur).notes)) (none_noted at fault) ∙ nothing-join (told_in (l.read cur).notes) ∙ p.says cur x end e }
 
 seen_notes : {A B : Type 0} (to : A → B) (from : B → A) (l : Layout A) (v : A → Told) (w : B → Told) → ((x : A) → v x ≡ w (to x)) → Notes A l v → Notes B (seen_as to from l) w
-seen_notes {A = A} {B = B} to from l v w same p = record { says = λ cur y end e.
-    let a = steps (l.read cur) (λ x end. given (to x) end) y end e in
-    let made = same_Some (to a.first, a.next) (y, end) a.two in
-    a.notes ∙ ap (λ (z : Told). join (told_in (l.read cur).notes) z) none_at_all ∙ join-nothing (told_in (l.read cur).notes) ∙ p.says cur a.first a.next a.one ∙ same a.first ∙ ap w (ap (λ (z : B × Cursor). z.0) made) }
+seen_notes {A = A} {B = B} to from l v w same p = record {
+  says = λ cur y end e.
+      let a = steps (l.read cur) (λ x end. given (to x) end) y end e in
+      let made = same_Some (to a.first, a.next) (y, end) a.two in
+      a.notes ∙ ap (λ (z : Told). join (told_in (l.read cur).notes) z) none_at_all ∙ join-nothing (told_in (l.read cur).notes) ∙ p.says cur a.first a.next a.one ∙ same a.first ∙ ap w (ap (λ (z : B × Cursor). z.0) made);
+}
 
 remembered_notes : {A : Type 0} (note : A → Note) (l : Layout A) (w : A → Told) → ((x : A) → told_in (note x ∷ []) ≡ w x) → Notes A l (λ x. nothing) → Notes A (remembered note l) w
-remembered_notes {A = A} note l w tells p = record { says = λ cur b end e.
-    let a = steps (l.read cur) (λ x end. record { notes = note x ∷ []; found = Some (x, end) }) b end e in
-    let made = same_Some (a.first, a.next) (b, end) a.two in
-    a.notes ∙ ap (λ (z : Told). join z (told_in (note a.first ∷ []))) (p.says cur a.first a.next a.one) ∙ nothing-join (told_in (note a.first ∷ [])) ∙ tells a.first ∙ ap (λ (z : A × Cursor). w z.0) made }
+remembered_notes {A = A} note l w tells p = record {
+  says = λ cur b end e.
+      let a = steps (l.read cur) (λ x end. record { notes = note x ∷ []; found = Some (x, end) }) b end e in
+      let made = same_Some (a.first, a.next) (b, end) a.two in
+      a.notes ∙ ap (λ (z : Told). join z (told_in (note a.first ∷ []))) (p.says cur a.first a.next a.one) ∙ nothing-join (told_in (note a.first ∷ [])) ∙ tells a.first ∙ ap (λ (z : A × Cursor). w z.0) made;
+}
 
 located_notes : {A : Type 0} (l : ℕ → Layout A) (v : A → Told) → ((at : ℕ) → Notes A (l at) v) → Notes A (located l) v
 located_notes {A = A} l v p = record { says = λ cur x end e. (p cur.at).says cur x end e }
@@ -239,9 +244,9 @@ unfolding code_block plain_block
 code_block_notes before = located_notes (code_block_at true before) one (λ at. remembered_notes (whole_at at) (plain_block true before at) one (one_block at) (seen_notes block_of_raw raw_of_block (raw_block true before at) (λ x. nothing) (λ b. nothing) (λ x. refl) (raw_block_notes before at)))
 
 singles : (bs : List BlockRecord) → all_of one bs ≡ (bs, None)
-unfolding all_of one join nothing first
+unfolding all_of one join nothing
 singles [] = refl
-singles (b ∷ bs) = ap (λ (z : Told). let y : Told = (b ∷ z.0, z.1) in y) (singles bs)
+singles (b ∷ bs) = ap (λ (z : Told). let y : Told = (b ∷ z.0, later None z.1) in y) (singles bs)
 
 abbrev codes_told : List BlockRecord → Told
 codes_told bs = (bs, None)
@@ -297,10 +302,10 @@ raw_records_notes =
 
 -- all blocks of records
 told_of : Records → Told
-told_of r = (r.code_blocks, Some (lens_of r.data_blocks))
+told_of r = (r.code_blocks, Some r.data_blocks)
 
 records_told : (x : RawRecords) → join nothing (blocks_and_names x.1) ≡ told_of (records_of_raw x)
-unfolding join nothing first all_told told_of
+unfolding join nothing all_told told_of
 records_told x = pairs (append-nil x.1.0) refl
 
 records_notes : Notes Records (records true) told_of
@@ -365,10 +370,10 @@ inner_from text total cur p end are e clean =
       program = f.program ∙ ap (λ (z : Program × Cursor). z.0) made;
       good = f.good;
       told = told-append (cond (eqb (length text) total) [] (Faulty total 10 ∷ [])) (bind inner at_end).notes
-        ∙ ap (λ (z : Told). join z (told_in (bind inner at_end).notes)) (cond_note (eqb (length text) total) total 10)
-        ∙ nothing-join (told_in (bind inner at_end).notes)
-        ∙ a.notes ∙ ap (λ (z : Told). join (told_in inner.notes) z) (cond_note (eqb (length a.next.rest) 0) a.next.at 10) ∙ join-nothing (told_in inner.notes)
-        ∙ f.told;
+          ∙ ap (λ (z : Told). join z (told_in (bind inner at_end).notes)) (cond_note (eqb (length text) total) total 10)
+          ∙ nothing-join (told_in (bind inner at_end).notes)
+          ∙ a.notes ∙ ap (λ (z : Told). join (told_in inner.notes) z) (cond_note (eqb (length a.next.rest) 0) a.next.at 10) ∙ join-nothing (told_in inner.notes)
+          ∙ f.told;
     }
 
 cut_from : (text : List ℕ) (total : ℕ) (cur : Cursor) (p : Program) (end : Cursor) (b d : Bool) → IsBytes cur.rest → (cond b (ended 8 3) (cond d (ended 8 4) (cut_inner text total cur))).found ≡ Some (p, end) → faults_in (cond b (ended 8 3) (cond d (ended 8 4) (cut_inner text total cur))).notes ≡ [] → FromRecords p (cond b (ended 8 3) (cond d (ended 8 4) (cut_inner text total cur))).notes
@@ -393,7 +398,7 @@ image_from text p end are e clean =
 -- what reading without fault noted, by the program
 pub record Noted (p : Program) (notes : List Note) : Type 0 where
   pub codes : blocks_of (wholes notes) ≡ map record_of_block p.code_blocks
-  pub datas : all_blocks notes ≡ Some (lens_of p.data_blocks)
+  pub datas : all_blocks notes ≡ Some p.data_blocks
 
 pub image_noted : (text : List ℕ) (p : Program) (end : Cursor) → IsBytes text → (read_image text).found ≡ Some (p, end) → faults_in (read_image text).notes ≡ [] → Noted p (read_image text).notes
 unfolding told_in told_of
@@ -402,7 +407,7 @@ image_noted text p end are e clean =
     let back : records_of p ≡ f.records = ap records_of (sym f.program) ∙ records_back true f.records f.good in
     record {
       codes = ap (λ (z : Told). z.0) f.told ∙ sym (ap (λ (z : Records). z.code_blocks) back);
-      datas = ap (λ (z : Told). z.1) f.told ∙ sym (ap (λ (z : Records). Some (lens_of z.data_blocks)) back);
+      datas = ap (λ (z : Told). z.1) f.told ∙ sym (ap (λ (z : Records). Some z.data_blocks) back);
     }
 
 -- ---- verifying
@@ -418,7 +423,7 @@ elsewhere : (at other : ℕ) (o : Option ℕ) → at_offset at o ≡ [] → at_o
 elsewhere at other None e = refl
 elsewhere at other (Some code) e = absurd cc
 
-op_moved : (around : Around) (ps : List Placed) (start other : ℕ) (p : Placed) → op_faults around ps start p ≡ [] → op_faults around ps other p ≡ []
+op_moved : (around : Around) (ps : List Spot) (start other : ℕ) (p : Placed) → op_faults around ps start p ≡ [] → op_faults around ps other p ≡ []
 unfolding op_faults
 op_moved around ps start other p e =
     let at = start + p.at in
@@ -432,7 +437,7 @@ op_moved around ps start other p e =
     let l = nil_left a b m.0 in
     nil_join (nil_join (nil_join (elsewhere at to (operand_fault around ps p p.op.operand) l.0) (elsewhere at to (call_fault around around.data_lens p) l.1)) (elsewhere at to (mark_fault p.op) m.1)) (elsewhere at to (bracket_fault p.op.code p.brackets) n.1)
 
-over_moved : (around : Around) (ps : List Placed) (start other : ℕ) (rest : List Placed) → faults_over around ps start rest ≡ [] → faults_over around ps other rest ≡ []
+over_moved : (around : Around) (ps : List Spot) (start other : ℕ) (rest : List Placed) → faults_over around ps start rest ≡ [] → faults_over around ps other rest ≡ []
 over_moved around ps start other [] e = refl
 over_moved around ps start other (p ∷ rest) e =
     let n = nil_left (op_faults around ps start p) (faults_over around ps start rest) e in
@@ -446,8 +451,8 @@ open_moved start other (b ∷ bs) e = absurd cc
 pub moved : (around : Around) (start other : ℕ) (ops : List OpData) → block_faults around start ops ≡ [] → block_faults around other ops ≡ []
 unfolding block_faults
 moved around start other ops e =
-    let n = nil_left (faults_over around (places ops) start (places ops)) (open_faults start (open_behind 0 [] ops)) e in
-    nil_join (over_moved around (places ops) start other (places ops) n.0) (open_moved start other (open_behind 0 [] ops) n.1)
+    let n = nil_left (faults_over around (spots ops) start (places ops)) (open_faults start (open_behind 0 [] ops)) e in
+    nil_join (over_moved around (spots ops) start other (places ops) n.0) (open_moved start other (open_behind 0 [] ops) n.1)
 
 verified : (lens : List (ℕ × ℕ)) (all : List BlockRecord) (bs : List (ℕ × BlockRecord)) → judged_blocks (Some lens) all bs ≡ [] → AreVerified lens all (blocks_of bs)
 verified lens all [] e = tt
@@ -463,10 +468,10 @@ pub gives_image : (text : List ℕ) (p : Program) → IsBytes text → Gives tex
 unfolding faults_of
 gives_image text p are g =
     let notes = (read_image text).notes in
-    let n = nil_left (faults_in notes) (judged_blocks (all_blocks notes) (blocks_of (wholes notes)) (wholes notes)) g.clean in
+    let n = nil_left (faults_in notes) (judged_blocks (option_map lens_of (all_blocks notes)) (blocks_of (wholes notes)) (wholes notes)) g.clean in
     let t = image_takes text p g.end are (record { found = g.found; clean = n.0 }) in
     let m = image_noted text p g.end are g.found n.0 in
-    let judged : judged_blocks (Some (lens_of p.data_blocks)) (blocks_of (wholes notes)) (wholes notes) ≡ [] = ap (λ (z : Option (List (ℕ × ℕ))). judged_blocks z (blocks_of (wholes notes)) (wholes notes)) (sym m.datas) ∙ n.1 in
+    let judged : judged_blocks (Some (lens_of p.data_blocks)) (blocks_of (wholes notes)) (wholes notes) ≡ [] = ap (λ (z : Option (List DataBlock)). judged_blocks (option_map lens_of z) (blocks_of (wholes notes)) (wholes notes)) (sym m.datas) ∙ n.1 in
     let v = verified (lens_of p.data_blocks) (blocks_of (wholes notes)) (wholes notes) judged in
     record {
       spelled = t.0;
@@ -484,5 +489,5 @@ image_gives text p are h =
     let clean : faults_in notes ≡ [] = ap (λ (z : List ℕ). faults_in (read_image z).notes) h.spelled ∙ is.clean in
     let m = image_noted text p end are found clean in
     let v : AreVerified (lens_of p.data_blocks) (blocks_of (wholes notes)) (blocks_of (wholes notes)) = subst (λ (z : List BlockRecord). AreVerified (lens_of p.data_blocks) z z) (sym m.codes) h.verifies.blocks in
-    let judged : judged_blocks (all_blocks notes) (blocks_of (wholes notes)) (wholes notes) ≡ [] = ap (λ (z : Option (List (ℕ × ℕ))). judged_blocks z (blocks_of (wholes notes)) (wholes notes)) m.datas ∙ unjudged (lens_of p.data_blocks) (blocks_of (wholes notes)) (wholes notes) v in
+    let judged : judged_blocks (option_map lens_of (all_blocks notes)) (blocks_of (wholes notes)) (wholes notes) ≡ [] = ap (λ (z : Option (List DataBlock)). judged_blocks (option_map lens_of z) (blocks_of (wholes notes)) (wholes notes)) m.datas ∙ unjudged (lens_of p.data_blocks) (blocks_of (wholes notes)) (wholes notes) v in
     record { end = end; found = found; clean = nil_join clean judged }

@@ -7,7 +7,8 @@ use Rattle.flat_code.specs.Faults.{fault_of}
 use Rattle.flat_code.specs.Layout.{Note, Faulty, Whole, AllBlocks, Cursor, Read, Layout, noted, faults_in}
 use Rattle.flat_code.specs.Records.{BlockRecord, NameRecord, Records}
 use Rattle.flat_code.specs.Programs.{DataBlock, Program}
-use Rattle.flat_code.specs.Image.{Head, Counts, Front, program_of}
+use Rattle.flat_code.specs.Image.{Head, Counts, Front, program_of, read_image}
+use Rattle.flat_code.specs.Loading.{wholes, all_blocks}
 use Rattle.image_file.specs.declared.faults.LoadFault.{LoadFault}
 use Rattle.image_file.specs.declared.reader.Reader.{Reader}
 use Rattle.image_file.specs.declared.records.HeadRead.{HeadRead}
@@ -128,3 +129,13 @@ abbrev pub SeesImage : {X : Type 0} → (X → List NameRecord) → Result X Sto
 SeesImage view (Ok names) r all = (x : Records) × (end : Cursor) × (Goes (program_of x) end (log_of r) ≡ all) × (x.names ≡ view names)
 SeesImage view (Err stop.AtFault) r all = Stops (log_of r) ≡ all
 SeesImage view (Err stop.NoMemory) r all = Unit {0}
+
+-- an image was read whole, or reading ended at a fault
+abbrev pub SeesNames : Option (List NameRecord) → Reader → Ran Program → Type 0
+SeesNames (Some names) r all = (x : Records) × (end : Cursor) × (Goes (program_of x) end (log_of r) ≡ all) × (x.names ≡ names)
+SeesNames None r all = Stops (log_of r) ≡ all
+
+-- what was kept is what bytes hold, as far as they could be read
+abbrev pub HasFound : List ℕ → List (ℕ × BlockRecord) → Option (List DataBlock) → Option (List NameRecord) → Type 0
+HasFound text blocks datas None = (read_image text).found ≡ None
+HasFound text blocks datas (Some names) = (x : Records) × (end : Cursor) × ((read_image text).found ≡ Some (program_of x, end)) × (x.names ≡ names) × (blocks ≡ wholes (read_image text).notes) × (datas ≡ all_blocks (read_image text).notes)

@@ -1,6 +1,6 @@
 //! The code blocks of an image.
 ghost use Rattle.std.specs.Prelude.{true, ◌≡◌, ◌+◌, ◌*◌, ◌<◌, ◌≤◌, ◌^◌, length, OnOk, IfOk, vec_len};
-ghost use Rattle.flat_code.specs.Codes.{code_of};
+ghost use Rattle.flat_code.specs.Codes.{code_of, code_bytes};
 ghost use Rattle.flat_code.specs.Image.{Head, head, parameter, parameters, end_marks, lines_of, line_field, line_after, code_and_lines, plain_block, code_block, code_blocks};
 ghost use Rattle.flat_code.specs.Layout.{many, chain};
 ghost use Rattle.image_file.specs.Running.{seen, run, place_of, log_of, head_values, Sees, SeesBlock, SeesBlocks};
@@ -48,6 +48,7 @@ impl Reader<'_> {
         requires { self.old.at + length self.old.rest.now < 2 ^ 32 }
         ensures read { seen head_values result self.new ≡ run (head (kind_before, before)) (place_of self.old) (log_of self.old) }
         ensures all { self.new.at + length self.new.rest.now ≡ self.old.at + length self.old.rest.now }
+        ensures step { OnOk result (self.new.at ≡ self.old.at + 16) }
     {
         let kind = self.kind(kind_before)?;
         let params = self.parameter_count(kind)?;
@@ -57,7 +58,16 @@ impl Reader<'_> {
         let statements = self.plain_u16()?;
         let reserved = self.reserved_u16()?;
         let size = self.plain_u32()?;
-        Ok(HeadRead { kind, params, number, locals, instance, statements, reserved, size })
+        Ok(HeadRead {
+            kind,
+            params,
+            number,
+            locals,
+            instance,
+            statements,
+            reserved,
+            size,
+        })
     }
 
     #[tactic(auto, unfolding(flat_code::specs::Image::parameter, flat_code::specs::Image::raw_parameter), using(crate::proofs::RunLemmas::run_seen, crate::proofs::RunLemmas::run_chain))]
@@ -65,13 +75,19 @@ impl Reader<'_> {
         requires { self.old.at + length self.old.rest.now < 2 ^ 32 }
         ensures read { seen (λ p. p) result self.new ≡ run (parameter kind instance) (place_of self.old) (log_of self.old) }
         ensures all { self.new.at + length self.new.rest.now ≡ self.old.at + length self.old.rest.now }
+        ensures step { OnOk result (self.new.at ≡ self.old.at + 6) }
     {
         let section = self.section()?;
         let width = self.width()?;
         let byte = self.parameter_byte(kind, instance, width)?;
         let bit = self.parameter_bit(kind)?;
         let _reserved = self.reserved_u8()?;
-        Ok(ParameterRecord { section, width, byte, bit })
+        Ok(ParameterRecord {
+            section,
+            width,
+            byte,
+            bit,
+        })
     }
 
     #[tactic(auto, unfolding(flat_code::specs::Image::parameters))]
@@ -79,6 +95,7 @@ impl Reader<'_> {
         requires { self.old.at + length self.old.rest.now < 2 ^ 32 }
         ensures read { Sees (λ v. v.items) result self.new (run (parameters (head_values head)) (place_of self.old) (log_of self.old)) }
         ensures all { OnOk result (self.new.at + length self.new.rest.now ≡ self.old.at + length self.old.rest.now) }
+        ensures step { IfOk result (λ v. self.new.at ≡ self.old.at + 6 * vec_len v) }
         ensures count { IfOk result (λ v. vec_len v ≤ 255) }
     {
         let count = head.params;
@@ -96,6 +113,7 @@ impl Reader<'_> {
         requires { self.old.at + length self.old.rest.now < 2 ^ 32 }
         ensures read { Sees (λ v. v.items) result self.new (run (code_of true size) (place_of self.old) (log_of self.old)) }
         ensures all { OnOk result (self.new.at + length self.new.rest.now ≡ self.old.at + length self.old.rest.now) }
+        ensures room { IfOk result (λ v. length (code_bytes v.items) ≤ length self.old.rest.now) }
     {
         if self.rest.len() < size as usize {
             self.note(self.at, 3);
@@ -133,25 +151,43 @@ impl Reader<'_> {
 
     /// The statement count, which is judged now, and the lines.
     #[tactic(auto, unfolding(flat_code::specs::Image::lines_of), using(crate::proofs::RunLemmas::run_checked))]
-    fn counted_lines(&mut self, alloc: Global, start: u32, head: HeadRead, ops: &[Op]) -> Result<Vec<u32>, Stop>
+    fn counted_lines(
+        &mut self,
+        alloc: Global,
+        start: u32,
+        head: HeadRead,
+        ops: &[Op],
+    ) -> Result<Vec<u32>, Stop>
         requires fits { self.old.at + length self.old.rest.now < 2 ^ 32 }
         requires room { start + 8 < 2 ^ 32 }
         ensures read { Sees (λ v. v.items) result self.new (run (lines_of true start (head_values head) ops.now) (place_of self.old) (log_of self.old)) }
         ensures all { OnOk result (self.new.at + length self.new.rest.now ≡ self.old.at + length self.old.rest.now) }
     {
         let end_marks = end_mark_count(ops);
-        self.judge(start + 8, Field::StatementCount { end_marks, count: head.statements });
+        self.judge(
+            start + 8,
+            Field::StatementCount {
+                end_marks,
+                count: head.statements,
+            },
+        );
         let lines = self.lines(alloc, head.statements)?;
         Ok(lines)
     }
 
     /// The code of a block and its lines.
     #[tactic(auto, unfolding(flat_code::specs::Image::code_and_lines), using(crate::proofs::RunLemmas::run_chain))]
-    fn code_and_lines(&mut self, alloc: Global, start: u32, head: HeadRead) -> Result<(Vec<Op>, Vec<u32>), Stop>
+    fn code_and_lines(
+        &mut self,
+        alloc: Global,
+        start: u32,
+        head: HeadRead,
+    ) -> Result<(Vec<Op>, Vec<u32>), Stop>
         requires fits { self.old.at + length self.old.rest.now < 2 ^ 32 }
         requires room { start + 8 < 2 ^ 32 }
         ensures read { Sees (λ r. (r.0.items, r.1.items)) result self.new (run (code_and_lines true start (head_values head)) (place_of self.old) (log_of self.old)) }
         ensures all { OnOk result (self.new.at + length self.new.rest.now ≡ self.old.at + length self.old.rest.now) }
+        ensures room { IfOk result (λ r. length (code_bytes r.0.items) ≤ length self.old.rest.now) }
     {
         let ops = self.code(alloc, head.size)?;
         let lines = self.counted_lines(alloc, start, head, &ops)?;
@@ -160,10 +196,16 @@ impl Reader<'_> {
 
     /// A code block.
     #[tactic(auto, unfolding(flat_code::specs::Image::plain_block, flat_code::specs::Image::raw_block), using(crate::proofs::RunLemmas::run_seen, crate::proofs::RunLemmas::run_chain))]
-    fn plain_block(&mut self, alloc: Global, kind_before: u8, before: u16) -> Result<BlockRead, Stop>
+    fn plain_block(
+        &mut self,
+        alloc: Global,
+        kind_before: u8,
+        before: u16,
+    ) -> Result<BlockRead, Stop>
         requires { self.old.at + length self.old.rest.now + 8 < 2 ^ 32 }
         ensures read { Sees (λ b. b) result self.new (run (plain_block true (kind_before, before) self.old.at) (place_of self.old) (log_of self.old)) }
         ensures all { OnOk result (self.new.at + length self.new.rest.now ≡ self.old.at + length self.old.rest.now) }
+        ensures room { IfOk result (λ b. 16 + 6 * length b.params + length (code_bytes b.code) ≤ length self.old.rest.now) }
         ensures count { IfOk result (λ b. length b.params ≤ 255) }
     {
         let start = self.at;

@@ -1,6 +1,6 @@
 //! The ops of a block's code.
 ghost use Rattle.std.specs.Prelude.{◌≡◌, ◌==◌, ◌&&◌, ◌+◌, ◌<◌, ◌≤◌, ◌^◌, length, None, IfOk, IfSome, true, suc, if◌then◌else◌};
-ghost use Rattle.flat_code.specs.Codes.{ops_from, stop_at};
+ghost use Rattle.flat_code.specs.Codes.{ops_from, stop_at, code_bytes};
 
 use flat_code::{Op, decode_op};
 use plc_base::NoMemory;
@@ -34,6 +34,7 @@ pub(crate) fn ops_in(alloc: Global, code: &[u8]) -> Result<OpsFound, NoMemory>
     requires { length code.now < 2 ^ 32 }
     ensures fault { IfOk result (λ r. r.fault ≡ stop_at true (ops_from (length code.now) code.now).0 (ops_from (length code.now) code.now).1) }
     ensures within { IfOk result (λ r. IfSome r.fault (λ at. at ≤ length code.now)) }
+    ensures size { IfOk result (λ r. length (code_bytes r.ops.items) ≤ length code.now) }
     ensures ops { IfOk result (λ r. r.fault ≡ None → r.ops.items ≡ (ops_from (length code.now) code.now).0) }
 {
     let mut ops = Vec::new(alloc);
@@ -43,7 +44,10 @@ pub(crate) fn ops_in(alloc: Global, code: &[u8]) -> Result<OpsFound, NoMemory>
     let mut count = 0;
     while let Ok(found) = decode_op(code, at) {
         if count == 64 {
-            return Ok(OpsFound { ops, fault: Some(at) });
+            return Ok(OpsFound {
+                ops,
+                fault: Some(at),
+            });
         }
         ended = is_end(&found.0);
         count = count_behind(&found.0, count);
@@ -52,10 +56,16 @@ pub(crate) fn ops_in(alloc: Global, code: &[u8]) -> Result<OpsFound, NoMemory>
         at = found.1;
     }
     if (at as usize) < code.len() {
-        return Ok(OpsFound { ops, fault: Some(at) });
+        return Ok(OpsFound {
+            ops,
+            fault: Some(at),
+        });
     }
     if !ended {
-        return Ok(OpsFound { ops, fault: Some(last) });
+        return Ok(OpsFound {
+            ops,
+            fault: Some(last),
+        });
     }
     Ok(OpsFound { ops, fault: None })
 }

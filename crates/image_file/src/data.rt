@@ -1,6 +1,6 @@
 //! The data blocks and the names of an image.
 ghost use Rattle.std.specs.Prelude.{true, ◌≡◌, ◌+◌, ◌≤◌, ◌<◌, ◌^◌, length, [], OnOk, IfOk, vec_len};
-ghost use Rattle.flat_code.specs.Faults.{is_before, is_upper, ends_blank, name_fault};
+ghost use Rattle.flat_code.specs.Faults.{ends_blank, name_fault};
 ghost use Rattle.flat_code.specs.Image.{instance_of_number, contents, data_block, plain_data_blocks, name_bytes, name_record, after_name};
 ghost use Rattle.flat_code.specs.Layout.{many};
 ghost use Rattle.image_file.specs.Running.{seen, run, place_of, log_of, name_values, Sees};
@@ -8,7 +8,7 @@ ghost use Rattle.image_file.specs.Running.{seen, run, place_of, log_of, name_val
 use crate::reader::Reader;
 use crate::records::NameRead;
 use crate::stops::{Ended, Stop};
-use flat_code::DataBlock;
+use flat_code::{DataBlock, is_name_before, is_upper_case};
 use std::alloc::Global;
 
 /// The function block of an instance, by its number plus 1, or 0.
@@ -19,37 +19,6 @@ fn instance_of(number: u16) -> Option<u16>
         0 => None,
         _ => Some(number - 1),
     }
-}
-
-/// Whether a name stands before another, by bytes.
-fn is_before(before: &[u8], name: &[u8]) -> bool
-    ensures { result ≡ is_before before.now name.now }
-{
-    let mut rest = before;
-    for y in name {
-        match rest {
-            [] => return true,
-            [x, behind @ ..] => {
-                if x != y {
-                    return x < y;
-                }
-                rest = behind;
-            }
-        }
-    }
-    false
-}
-
-/// Whether there is no lower-case letter.
-fn is_upper(name: &[u8]) -> bool
-    ensures { result ≡ is_upper name.now }
-{
-    for x in name {
-        if 97 <= *x && *x <= 122 {
-            return false;
-        }
-    }
-    true
 }
 
 /// Whether the last byte is a blank.
@@ -68,7 +37,11 @@ fn ends_blank(name: &[u8]) -> bool
 fn name_fault(before: &[u8], name: &[u8]) -> Option<u16>
     ensures { result ≡ name_fault before.now name.now }
 {
-    if is_before(before, name) && is_upper(name) && !ends_blank(name) { None } else { Some(4) }
+    if is_name_before(before, name) && is_upper_case(name) && !ends_blank(name) {
+        None
+    } else {
+        Some(4)
+    }
 }
 
 /// The number of a data block and its length.
@@ -106,10 +79,18 @@ impl<'a> Reader<'a> {
         let len = self.data_len(sum)?;
         let _reserved = self.reserved_u16()?;
         let bytes = self.contents(alloc, len)?;
-        Ok(DataBlock { number, instance_of: instance_of(instance), bytes })
+        Ok(DataBlock {
+            number,
+            instance_of: instance_of(instance),
+            bytes,
+        })
     }
 
-    pub(crate) fn plain_data_blocks(&mut self, alloc: Global, count: u16) -> Result<Vec<DataBlock>, Stop>
+    pub(crate) fn plain_data_blocks(
+        &mut self,
+        alloc: Global,
+        count: u16,
+    ) -> Result<Vec<DataBlock>, Stop>
         requires { self.old.at + length self.old.rest.now < 2 ^ 32 }
         ensures read { Sees (λ v. v.items) result self.new (run (plain_data_blocks count) (place_of self.old) (log_of self.old)) }
         ensures all { OnOk result (self.new.at + length self.new.rest.now ≡ self.old.at + length self.old.rest.now) }
@@ -168,7 +149,13 @@ impl<'a> Reader<'a> {
         for _ in 0..count {
             let (text, area, width, byte, bit) = self.name(before)?;
             let name = Vec::from_slice(alloc, text)?;
-            names.push(NameRead { name, area, width, byte, bit })?;
+            names.push(NameRead {
+                name,
+                area,
+                width,
+                byte,
+                bit,
+            })?;
             before = text;
         }
         Ok(names)

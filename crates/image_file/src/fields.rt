@@ -13,6 +13,7 @@ impl Reader<'_> {
         requires { self.old.at + length self.old.rest.now < 2 ^ 32 }
         ensures read { seen (λ n. n) result self.new ≡ run plain_u16 (place_of self.old) (log_of self.old) }
         ensures all { self.new.at + length self.new.rest.now ≡ self.old.at + length self.old.rest.now }
+        ensures step { OnOk result (self.new.at ≡ self.old.at + 2) }
     {
         let number = self.u16()?;
         Ok(number)
@@ -34,10 +35,16 @@ impl Reader<'_> {
         requires { self.old.at + length self.old.rest.now < 2 ^ 32 }
         ensures read { seen (λ n. n) result self.new ≡ run zero_u8 (place_of self.old) (log_of self.old) }
         ensures all { self.new.at + length self.new.rest.now ≡ self.old.at + length self.old.rest.now }
+        ensures step { OnOk result (self.new.at ≡ self.old.at + 1) }
     {
         let at = self.at;
         let number = self.u8()?;
-        self.judge(at, Field::Reserved { number: u16::from(number) });
+        self.judge(
+            at,
+            Field::Reserved {
+                number: u16::from(number),
+            },
+        );
         Ok(number)
     }
 
@@ -59,6 +66,7 @@ impl Reader<'_> {
         requires { self.old.at + length self.old.rest.now < 2 ^ 32 }
         ensures read { seen (λ n. n) result self.new ≡ run width_field (place_of self.old) (log_of self.old) }
         ensures all { self.new.at + length self.new.rest.now ≡ self.old.at + length self.old.rest.now }
+        ensures step { OnOk result (self.new.at ≡ self.old.at + 1) }
     {
         let at = self.at;
         let number = self.u8()?;
@@ -71,6 +79,7 @@ impl Reader<'_> {
         requires { self.old.at + length self.old.rest.now < 2 ^ 32 }
         ensures read { seen (λ n. n) result self.new ≡ run section_field (place_of self.old) (log_of self.old) }
         ensures all { self.new.at + length self.new.rest.now ≡ self.old.at + length self.old.rest.now }
+        ensures step { OnOk result (self.new.at ≡ self.old.at + 1) }
     {
         let at = self.at;
         let number = self.u8()?;
@@ -79,14 +88,28 @@ impl Reader<'_> {
     }
 
     #[tactic(auto, unfolding(crate::specs::Running::run, crate::specs::Running::logged, crate::specs::Least::with_faults, flat_code::specs::Image::parameter_byte))]
-    pub(crate) fn parameter_byte(&mut self, kind: u8, instance: u16, width: u8) -> Result<u16, Ended>
+    pub(crate) fn parameter_byte(
+        &mut self,
+        kind: u8,
+        instance: u16,
+        width: u8,
+    ) -> Result<u16, Ended>
         requires { self.old.at + length self.old.rest.now < 2 ^ 32 }
         ensures read { seen (λ n. n) result self.new ≡ run (parameter_byte kind instance width) (place_of self.old) (log_of self.old) }
         ensures all { self.new.at + length self.new.rest.now ≡ self.old.at + length self.old.rest.now }
+        ensures step { OnOk result (self.new.at ≡ self.old.at + 2) }
     {
         let at = self.at;
         let number = self.u16()?;
-        self.judge(at, Field::ParameterByte { kind, instance, width, byte: number });
+        self.judge(
+            at,
+            Field::ParameterByte {
+                kind,
+                instance,
+                width,
+                byte: number,
+            },
+        );
         Ok(number)
     }
 
@@ -95,6 +118,7 @@ impl Reader<'_> {
         requires { self.old.at + length self.old.rest.now < 2 ^ 32 }
         ensures read { seen (λ n. n) result self.new ≡ run (parameter_bit kind) (place_of self.old) (log_of self.old) }
         ensures all { self.new.at + length self.new.rest.now ≡ self.old.at + length self.old.rest.now }
+        ensures step { OnOk result (self.new.at ≡ self.old.at + 1) }
     {
         let at = self.at;
         let number = self.u8()?;
@@ -107,10 +131,17 @@ impl Reader<'_> {
         requires { self.old.at + length self.old.rest.now < 2 ^ 32 }
         ensures read { seen (λ n. n) result self.new ≡ run (kind_field before) (place_of self.old) (log_of self.old) }
         ensures all { self.new.at + length self.new.rest.now ≡ self.old.at + length self.old.rest.now }
+        ensures step { OnOk result (self.new.at ≡ self.old.at + 1) }
     {
         let at = self.at;
         let number = self.u8()?;
-        self.judge(at, Field::Kind { before, kind: number });
+        self.judge(
+            at,
+            Field::Kind {
+                before,
+                kind: number,
+            },
+        );
         Ok(number)
     }
 
@@ -119,22 +150,43 @@ impl Reader<'_> {
         requires { self.old.at + length self.old.rest.now < 2 ^ 32 }
         ensures read { seen (λ n. n) result self.new ≡ run (parameter_count kind) (place_of self.old) (log_of self.old) }
         ensures all { self.new.at + length self.new.rest.now ≡ self.old.at + length self.old.rest.now }
+        ensures step { OnOk result (self.new.at ≡ self.old.at + 1) }
     {
         let at = self.at;
         let number = self.u8()?;
-        self.judge(at, Field::ParameterCount { kind, count: number });
+        self.judge(
+            at,
+            Field::ParameterCount {
+                kind,
+                count: number,
+            },
+        );
         Ok(number)
     }
 
     #[tactic(auto, unfolding(crate::specs::Running::run, crate::specs::Running::logged, crate::specs::Least::with_faults, flat_code::specs::Image::block_number))]
-    pub(crate) fn block_number(&mut self, kind_before: u8, before: u16, kind: u8) -> Result<u16, Ended>
+    pub(crate) fn block_number(
+        &mut self,
+        kind_before: u8,
+        before: u16,
+        kind: u8,
+    ) -> Result<u16, Ended>
         requires { self.old.at + length self.old.rest.now < 2 ^ 32 }
         ensures read { seen (λ n. n) result self.new ≡ run (block_number kind_before before kind) (place_of self.old) (log_of self.old) }
         ensures all { self.new.at + length self.new.rest.now ≡ self.old.at + length self.old.rest.now }
+        ensures step { OnOk result (self.new.at ≡ self.old.at + 2) }
     {
         let at = self.at;
         let number = self.u16()?;
-        self.judge(at, Field::Number { kind_before, before, kind, number });
+        self.judge(
+            at,
+            Field::Number {
+                kind_before,
+                before,
+                kind,
+                number,
+            },
+        );
         Ok(number)
     }
 
@@ -143,10 +195,17 @@ impl Reader<'_> {
         requires { self.old.at + length self.old.rest.now < 2 ^ 32 }
         ensures read { seen (λ n. n) result self.new ≡ run (local_bytes kind) (place_of self.old) (log_of self.old) }
         ensures all { self.new.at + length self.new.rest.now ≡ self.old.at + length self.old.rest.now }
+        ensures step { OnOk result (self.new.at ≡ self.old.at + 2) }
     {
         let at = self.at;
         let number = self.u16()?;
-        self.judge(at, Field::LocalBytes { kind, bytes: number });
+        self.judge(
+            at,
+            Field::LocalBytes {
+                kind,
+                bytes: number,
+            },
+        );
         Ok(number)
     }
 
@@ -155,10 +214,17 @@ impl Reader<'_> {
         requires { self.old.at + length self.old.rest.now < 2 ^ 32 }
         ensures read { seen (λ n. n) result self.new ≡ run (instance_bytes kind) (place_of self.old) (log_of self.old) }
         ensures all { self.new.at + length self.new.rest.now ≡ self.old.at + length self.old.rest.now }
+        ensures step { OnOk result (self.new.at ≡ self.old.at + 2) }
     {
         let at = self.at;
         let number = self.u16()?;
-        self.judge(at, Field::InstanceBytes { kind, bytes: number });
+        self.judge(
+            at,
+            Field::InstanceBytes {
+                kind,
+                bytes: number,
+            },
+        );
         Ok(number)
     }
 
@@ -170,7 +236,13 @@ impl Reader<'_> {
     {
         let at = self.at;
         let number = self.u32()?;
-        self.judge(at, Field::Line { before, line: number });
+        self.judge(
+            at,
+            Field::Line {
+                before,
+                line: number,
+            },
+        );
         Ok(number)
     }
 
@@ -206,7 +278,13 @@ impl Reader<'_> {
     {
         let at = self.at;
         let number = self.u16()?;
-        self.judge(at, Field::DataBytes { before, bytes: number });
+        self.judge(
+            at,
+            Field::DataBytes {
+                before,
+                bytes: number,
+            },
+        );
         Ok(number)
     }
 

@@ -6,17 +6,14 @@ pub fn one_program()
     ensures one { ImagesAreOfOne }
     ensures read { ImagesAreRead }
     ensures spelled { ReadingsAreImages }
-{
-}
+{}
 
 /// Bytes give a program with no fault exactly where they are its image and it verifies.
 pub fn gives_exactly_images()
     ensures { GivesExactlyImages }
-{
-}
+{}
 
 /// The fault that one pass keeps is the least of all.
 pub fn kept_is_least()
     ensures { KeptIsLeast }
-{
-}
+{}

@@ -31,7 +31,11 @@ pub(crate) fn lesser(least: Option<LoadFault>, at: u32, code: u16) -> Option<Loa
         None => true,
         Some(least) => at < least.at || at == least.at && code < least.code,
     };
-    if smaller { Some(LoadFault { at, code }) } else { least }
+    if smaller {
+        Some(LoadFault { at, code })
+    } else {
+        least
+    }
 }
 
 impl<'a> Reader<'a> {
@@ -64,6 +68,7 @@ impl<'a> Reader<'a> {
         requires { self.old.at + length self.old.rest.now < 2 ^ 32 }
         ensures read { seen (λ n. n) result self.new ≡ run (field a_byte plain) (place_of self.old) (log_of self.old) }
         ensures all { self.new.at + length self.new.rest.now ≡ self.old.at + length self.old.rest.now }
+        ensures step { OnOk result (self.new.at ≡ self.old.at + 1) }
     {
         match self.rest {
             [a, rest @ ..] => {

@@ -1,4 +1,7 @@
 //! The records of an image as they were read, kinds, widths and areas as numbers.
+ghost use Rattle.std.specs.Prelude.{◌+◌, ◌<◌, ◌^◌, length};
+ghost use Rattle.flat_code.specs.Codes.{code_bytes};
+
 use flat_code::{Op, ParameterRecord};
 use std::marker::Model;
 
@@ -51,13 +54,13 @@ impl Model for BlockRead {
     ghost Value = { BlockRecord };
 
     ghost view = { λ b. record {
-        kind = b.kind;
-        number = b.number;
-        local_len = b.local_len;
-        instance_len = b.instance_len;
-        params = b.params.items;
-        code = b.code.items;
-        lines = b.lines.items;
+      kind = b.kind;
+      number = b.number;
+      local_len = b.local_len;
+      instance_len = b.instance_len;
+      params = b.params.items;
+      code = b.code.items;
+      lines = b.lines.items;
     } };
 }
 
@@ -66,6 +69,7 @@ impl Model for BlockRead {
 pub(crate) struct Started {
     pub start: u32,
     pub block: BlockRead,
+    ghost fits: { start + length (code_bytes block.code) < 2 ^ 32 },
 }
 
 /// A name and the place of its variable.
@@ -84,10 +88,10 @@ impl Model for NameRead {
     ghost Value = { NameRecord };
 
     ghost view = { λ n. record {
-        name = n.name.items;
-        area = n.area;
-        width = n.width;
-        byte = n.byte;
-        bit = n.bit;
+      name = n.name.items;
+      area = n.area;
+      width = n.width;
+      byte = n.byte;
+      bit = n.bit;
     } };
 }

@@ -28,7 +28,12 @@ impl Reader<'_> {
         let datas = self.data_count()?;
         let names = self.plain_u16()?;
         let reserved = self.reserved_u16()?;
-        Ok(CountsRead { codes, datas, names, reserved })
+        Ok(CountsRead {
+            codes,
+            datas,
+            names,
+            reserved,
+        })
     }
 
     /// All data blocks, which are kept.
@@ -67,11 +72,21 @@ impl Reader<'_> {
         let version = self.version()?;
         let reserved = self.reserved_u16()?;
         let total = self.plain_u32()?;
-        Ok(FrontRead { magic, version, reserved, total })
+        Ok(FrontRead {
+            magic,
+            version,
+            reserved,
+            total,
+        })
     }
 
     /// What stands behind the total length of an image of so many bytes.
-    fn rest_of_image(&mut self, alloc: Global, size: usize, total: u32) -> Result<Vec<NameRead>, Stop>
+    fn rest_of_image(
+        &mut self,
+        alloc: Global,
+        size: usize,
+        total: u32,
+    ) -> Result<Vec<NameRead>, Stop>
         requires place { self.old.at ≡ 12 }
         requires all { 12 + length self.old.rest.now ≡ size }
         requires low { 20 ≤ total }

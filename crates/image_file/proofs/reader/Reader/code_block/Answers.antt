@@ -11,5 +11,10 @@ returns-in_err-block-clause-read c =
     rw (p.1, p.2) (block_stops {X = BlockRecord} (λ b. b) _ c.plain_block.new.self (c.args.kind_before, c.args.before) (place_of c.args.self.now) (log_of c.args.self.now) c.in_err-block.ensures.read)
 
 pub returns-clause-read : goal.returns-clause-read
-returns-clause-read c = (c.in_ok-block.block, block_goes c.in_ok-block.block (place_of c.plain_block.new.self) (log_of c.plain_block.new.self) _ (c.args.kind_before, c.args.before) (place_of c.args.self.now) (log_of c.args.self.now) c.in_ok-block.ensures.read
-    (kept_one c.plain_block.new.self.least c.plain_block.new.self.blocks.items _ _ (c.args.self.now.at + 16 + 6 * length c.in_ok-block.block.params) c.in_ok-block.block _ c.in_ok-push.ensures.items (rw c.code_start-start.ensures refl)), c.key_of-key.ensures.kind, c.key_of-key.ensures.number)
+returns-clause-read c = (
+  c.in_ok-block.block,
+  block_goes c.in_ok-block.block (place_of c.plain_block.new.self) (log_of c.plain_block.new.self) _ (c.args.kind_before, c.args.before) (place_of c.args.self.now) (log_of c.args.self.now) c.in_ok-block.ensures.read
+      (kept_one c.plain_block.new.self.least c.plain_block.new.self.blocks.items _ _ (c.args.self.now.at + 16 + 6 * length c.in_ok-block.block.params) c.in_ok-block.block _ c.in_ok-push.ensures.items (rw c.code_start-start.ensures refl)),
+  c.key_of-key.ensures.kind,
+  c.key_of-key.ensures.number,
+)

@@ -16,6 +16,7 @@ pub loop-preserved : goal.loop-preserved
 loop-preserved c = record {
   read = rw c.in_ok-push.ensures.items (more_goes (λ (s : ℕ). parameter c.args.head.kind c.args.head.instance) same_state 0 c.args.head.params c.loop.counter (place_of c.loop.self) (log_of c.loop.self) c.loop.params.items c.in_ok-param.param (place_of c.parameter.new.self) (log_of c.parameter.new.self) _ c.loop-test.true c.in_ok-param.ensures.read c.loop.invariant.read);
   all = c.in_ok-param.ensures.all ∙ c.loop.invariant.all;
+  step = omega (arith, c.in_ok-param.ensures.step, c.loop.invariant.step);
   count = omega (arith, c.in_ok-push.ensures.len, c.loop.invariant.count);
 }
 

@@ -1,4 +1,4 @@
-use Rattle.std.proofs.Common.{true, ◌≡◌, ◌≤◌, ◌+◌, ◌-◌, length, vec_len}
+use Rattle.std.proofs.Common.{true, ◌≡◌, ◌≤◌, ◌+◌, ◌*◌, ◌-◌, length, vec_len}
 use Rattle.flat_code.specs.Layout.{many}
 use Rattle.flat_code.specs.Image.{parameter, same_state}
 use Rattle.image_file.specs.Running.{run, place_of, log_of, with_front}
@@ -8,5 +8,6 @@ abbrev pub invariant-loop : goal.invariant-loop
 invariant-loop l = record {
   read : with_front l.params.items (run (many (λ s. parameter l.head.kind l.head.instance) same_state 0 (l.count - l.counter)) (place_of l.self) (log_of l.self)) ≡ run (many (λ s. parameter l.head.kind l.head.instance) same_state 0 l.count) (place_of l.fn.self) (log_of l.fn.self);
   all : l.self.at + length l.self.rest.now ≡ l.fn.self.at + length l.fn.self.rest.now;
+  step : l.self.at ≡ l.fn.self.at + 6 * l.counter;
   count : vec_len l.params ≡ l.counter;
 }

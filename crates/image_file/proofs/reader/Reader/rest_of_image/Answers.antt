@@ -19,8 +19,10 @@ returns-in_err-names c =
 pub returns : goal.returns
 returns c =
     let r = c.in_ok-names.ensures.read in
-    let here = cursors c.args.self.now.at c.note_if.new.self.at c.args.total c.args.self.now.rest.now c.note_if.new.self.rest.now c.up_to-self.result.now c.note_if.ensures.at c.note_if.ensures.rest c.up_to-self.ensures in
-    (r.0, place_of c.records.new.self,
-    rest_goes r.0 (place_of c.records.new.self) c.args.size c.args.total (not (eqb c.args.size c.args.total)) (not c.is_empty.result) (place_of c.args.self.now) (record { at = c.note_if.new.self.at; rest = c.up_to-self.result.now }) (log_of c.args.self.now) (log_of c.note_if.new.self) (log_of c.records.new.self) (log_of c.note_if-2.new.self)
-        c.requires.low c.requires.there c.requires.high refl c.note_if.ensures.log here r.1 (ap not c.is_empty.ensures) c.note_if-2.ensures.log,
-    r.2)
+    let here = cursors c.args.self.now.at c.note_if.new.self.at c.args.total c.args.self.now.rest.now c.note_if.new.self.rest.now c.up_to-self.result.now c.note_if.ensures.at c.note_if.ensures.rest c.up_to-self.ensures in (
+      r.0,
+      place_of c.records.new.self,
+      rest_goes r.0 (place_of c.records.new.self) c.args.size c.args.total (not (eqb c.args.size c.args.total)) (not c.is_empty.result) (place_of c.args.self.now) (record { at = c.note_if.new.self.at; rest = c.up_to-self.result.now }) (log_of c.args.self.now) (log_of c.note_if.new.self) (log_of c.records.new.self) (log_of c.note_if-2.new.self)
+          c.requires.low c.requires.there c.requires.high refl c.note_if.ensures.log here r.1 (ap not c.is_empty.ensures) c.note_if-2.ensures.log,
+      r.2,
+    )

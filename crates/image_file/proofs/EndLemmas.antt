@@ -1,0 +1,181 @@
+-- Where reading ends, a fault was noted.
+use Rattle.std.proofs.Common.{◌≡◌, ℕ, zero, suc, ◌+◌, ◌-◌, Bool, true, false, cond, eqb, ltb, ◌||◌, List, [], ◌∷◌, ◌++◌, length, take, Option, Some, None, refl, sym, ap, ◌∙◌}
+use Rattle.flat_code.specs.Coding.{Coding, u8, u16, u32}
+use Rattle.flat_code.specs.Ops.{OpData}
+use Rattle.flat_code.specs.Programs.{DataBlock, Program}
+use Rattle.flat_code.specs.Records.{BlockRecord, NameRecord, Records}
+use Rattle.flat_code.specs.declared.image_fields.ParameterRecord.{ParameterRecord}
+use Rattle.flat_code.specs.Layout.{Note, Faulty, Whole, AllBlocks, Cursor, Read, Layout, ended, given, go_on, bind, noted, field_of, field, chain, checked, located, read_many, many, seen_as, remembered, faults_in}
+use Rattle.flat_code.specs.Codes.{ops_from, stop_at, read_ops, placed_ops, read_code, code_of, only}
+use Rattle.flat_code.specs.Image.{plain, plain_u16, plain_u32, zero_u8, zero_u16, width_field, bytes, section_field, parameter_byte, parameter_bit, raw_parameter, parameter_of_raw, raw_of_parameter, parameter, kind_field, parameter_count, block_number, local_bytes, instance_bytes, Head, head, params_in, instance_in, statements_in, code_len_in, same_state, parameters, line_after, line_field, lines_of, code_and_lines, RawBlock, raw_block, block_of_raw, raw_of_block, plain_block, whole_at, code_block_at, code_block, after_block, data_number, instance_field, data_len, contents, raw_data, data_of_raw, raw_of_data, data_block, after_data, name_len, name_bytes, name_area, name_bit, raw_name, name_of_raw, raw_of_name, name_record, after_name, data_count, Counts, counts, code_blocks, plain_data_blocks, data_blocks, names, raw_records, records_of_raw, raw_of_records, records, program_of, records_of, body, magic_field, version_field, Front, front, front_size, at_end, cut, read_by, read_image}
+use Rattle.image_file.proofs.LayoutLemmas.{no_faults, at_place}
+
+-- reading that ends has a fault
+abbrev Ends : {A : Type 0} → Read A → Type 0
+Ends r = r.found ≡ None → faults_in r.notes ≡ [] → ⊥
+
+record Sound (A : Type 0) (l : Layout A) : Type 0 where
+  ends : (cur : Cursor) → Ends (l.read cur)
+
+go_ends : {A B : Type 0} (notes : List Note) (o : Option (A × Cursor)) (f : A → Cursor → Read B) → (o ≡ None → faults_in notes ≡ [] → ⊥) → ((x : A) (next : Cursor) → Ends (f x next)) → Ends (go_on notes o f)
+go_ends {A = A} {B = B} notes None f p q e clean = p refl clean
+go_ends {A = A} {B = B} notes (Some x) f p q e clean = q x.0 x.1 e (no_faults notes (f x.0 x.1).notes clean).1
+
+bind_ends : {A B : Type 0} (r : Read A) (f : A → Cursor → Read B) → Ends r → ((x : A) (next : Cursor) → Ends (f x next)) → Ends (bind r f)
+bind_ends r f p q = go_ends r.notes r.found f p q
+
+given_ends : {A : Type 0} (x : A) (cur : Cursor) → Ends (given x cur)
+given_ends {A = A} x cur e clean = cc
+
+ended_ends : {A : Type 0} (at code : ℕ) → Ends {A = A} (ended at code)
+ended_ends {A = A} at code e clean = cc
+
+field_of_ends : {A : Type 0} (judge : A → Option ℕ) (cur : Cursor) (o : Option (A × List ℕ)) → Ends (field_of judge cur o)
+field_of_ends {A = A} judge cur None e clean = cc
+field_of_ends {A = A} judge cur (Some r) e clean = cc
+
+field_sound : {A : Type 0} (c : Coding A) (judge : A → Option ℕ) → Sound A (field c judge)
+field_sound {A = A} c judge = record { ends = λ cur. field_of_ends judge cur (c.read cur.rest) }
+
+chain_sound : {A B : Type 0} (l : Layout A) (m : A → Layout B) → Sound A l → ((x : A) → Sound B (m x)) → Sound (A × B) (chain l m)
+chain_sound {A = A} {B = B} l m p q = record { ends = λ cur. bind_ends (l.read cur) (λ x next. bind ((m x).read next) (λ y end. given (x, y) end)) (p.ends cur) (λ x next. bind_ends ((m x).read next) (λ y end. given (x, y) end) ((q x).ends next) (λ y end. given_ends (x, y) end)) }
+
+checked_sound : {A : Type 0} (at : ℕ) (fault : Option ℕ) (l : Layout A) → Sound A l → Sound A (checked at fault l)
+checked_sound {A = A} at fault l p = record { ends = λ cur e clean. p.ends cur e (no_faults (noted at fault) (l.read cur).notes clean).1 }
+
+seen_sound : {A B : Type 0} (to : A → B) (from : B → A) (l : Layout A) → Sound A l → Sound B (seen_as to from l)
+seen_sound {A = A} {B = B} to from l p = record { ends = λ cur. bind_ends (l.read cur) (λ x end. given (to x) end) (p.ends cur) (λ x end. given_ends (to x) end) }
+
+noted_ends : {A : Type 0} (notes : List Note) (x : A) (end : Cursor) → Ends {A = A} (record { notes = notes; found = Some (x, end) })
+noted_ends {A = A} notes x end e clean = cc
+
+remembered_sound : {A : Type 0} (note : A → Note) (l : Layout A) → Sound A l → Sound A (remembered note l)
+remembered_sound {A = A} note l p = record { ends = λ cur. bind_ends (l.read cur) (λ x end. record { notes = note x ∷ []; found = Some (x, end) }) (p.ends cur) (λ x end. noted_ends (note x ∷ []) x end) }
+
+located_sound : {A : Type 0} (l : ℕ → Layout A) → ((at : ℕ) → Sound A (l at)) → Sound A (located l)
+located_sound {A = A} l p = record { ends = λ cur. (p cur.at).ends cur }
+
+many_ends : {S A : Type 0} (l : S → Layout A) (next : S → A → S) → ((s : S) → Sound A (l s)) → (s : S) (n : ℕ) (cur : Cursor) → Ends (read_many l next s n cur)
+many_ends {S = S} {A = A} l next p s zero cur = given_ends [] cur
+many_ends {S = S} {A = A} l next p s (suc n) cur = bind_ends ((l s).read cur) (λ x after. bind (read_many l next (next s x) n after) (λ xs end. given (x ∷ xs) end)) ((p s).ends cur) (λ x after. bind_ends (read_many l next (next s x) n after) (λ xs end. given (x ∷ xs) end) (many_ends l next p (next s x) n after) (λ xs end. given_ends (x ∷ xs) end))
+
+many_sound : {S A : Type 0} (l : S → Layout A) (next : S → A → S) → ((s : S) → Sound A (l s)) → (s : S) (n : ℕ) → Sound (List A) (many l next s n)
+many_sound l next p s n = record { ends = many_ends l next p s n }
+
+cond_ends : {A : Type 0} (b : Bool) (x y : Read A) → Ends x → Ends y → Ends (cond b x y)
+cond_ends true x y p q = p
+cond_ends false x y p q = q
+
+read_ops_ends : (o : Option ℕ) (at : ℕ) (ops : List OpData) (next : Cursor) → Ends (read_ops o at ops next)
+read_ops_ends None at ops next = given_ends ops next
+read_ops_ends (Some offset) at ops next = ended_ends (at + offset) 5
+
+code_ends : (n : ℕ) (cur : Cursor) → Ends (read_code true n cur)
+code_ends n cur = let r = ops_from n (take n cur.rest) in cond_ends (ltb (length cur.rest) n) (ended cur.at 3) _ (ended_ends cur.at 3) (read_ops_ends (stop_at true r.0 r.1) cur.at r.0 _)
+
+code_sound : (n : ℕ) → Sound (List OpData) (code_of true n)
+unfolding code_of
+code_sound n = record { ends = code_ends n }
+
+parameter_sound : (kind instance : ℕ) → Sound ParameterRecord (parameter kind instance)
+unfolding parameter raw_parameter section_field width_field parameter_byte parameter_bit zero_u8
+parameter_sound kind instance =
+    seen_sound parameter_of_raw raw_of_parameter (raw_parameter kind instance)
+    (chain_sound section_field _ (field_sound u8 _) (λ s.
+    chain_sound width_field _ (field_sound u8 _) (λ w.
+    chain_sound (parameter_byte kind instance w) _ (field_sound u16 _) (λ byte.
+    chain_sound (parameter_bit kind) _ (field_sound u8 _) (λ bit. field_sound u8 _)))))
+
+parameters_sound : (h : Head) → Sound (List ParameterRecord) (parameters h)
+unfolding parameters
+parameters_sound h = many_sound (λ s. parameter h.0 (instance_in h)) same_state (λ s. parameter_sound h.0 (instance_in h)) 0 (params_in h)
+
+head_sound : (before : ℕ × ℕ) → Sound Head (head before)
+unfolding head kind_field parameter_count block_number local_bytes instance_bytes zero_u16 plain_u16 plain_u32
+head_sound before =
+    chain_sound (kind_field before.0) _ (field_sound u8 _) (λ kind.
+    chain_sound (parameter_count kind) _ (field_sound u8 _) (λ params.
+    chain_sound (block_number before.0 before.1 kind) _ (field_sound u16 _) (λ number.
+    chain_sound (local_bytes kind) _ (field_sound u16 _) (λ locals.
+    chain_sound (instance_bytes kind) _ (field_sound u16 _) (λ instance.
+    chain_sound plain_u16 _ (field_sound u16 plain) (λ statements.
+    chain_sound zero_u16 _ (field_sound u16 _) (λ zero. field_sound u32 plain)))))))
+
+lines_sound : (start : ℕ) (h : Head) (ops : List OpData) → Sound (List ℕ) (lines_of true start h ops)
+unfolding lines_of line_field
+lines_sound start h ops = checked_sound (start + 8) _ (many (line_field true) line_after 0 (statements_in h)) (many_sound (line_field true) line_after (λ s. field_sound u32 _) 0 (statements_in h))
+
+raw_block_sound : (before : ℕ × ℕ) (at : ℕ) → Sound RawBlock (raw_block true before at)
+unfolding raw_block code_and_lines
+raw_block_sound before at =
+    chain_sound (head before) _ (head_sound before) (λ h.
+    chain_sound (parameters h) (λ params. code_and_lines true at h) (parameters_sound h) (λ params.
+    chain_sound (code_of true (code_len_in h)) (lines_of true at h) (code_sound (code_len_in h)) (lines_sound at h)))
+
+code_block_sound : (before : ℕ × ℕ) → Sound BlockRecord (code_block true before)
+unfolding code_block plain_block
+code_block_sound before = located_sound (code_block_at true before) (λ at. remembered_sound (whole_at at) (plain_block true before at) (seen_sound block_of_raw raw_of_block (raw_block true before at) (raw_block_sound before at)))
+
+code_blocks_sound : (n : ℕ) → Sound (List BlockRecord) (code_blocks true n)
+unfolding code_blocks
+code_blocks_sound n = many_sound (code_block true) after_block code_block_sound (0, 0) n
+
+data_sound : (before : ℕ × ℕ) → Sound DataBlock (data_block before)
+unfolding data_block raw_data data_number instance_field data_len zero_u16 contents
+data_sound before = seen_sound data_of_raw raw_of_data (raw_data before)
+    (chain_sound (data_number before.0) _ (field_sound u16 _) (λ number.
+    chain_sound instance_field _ (field_sound u16 _) (λ instance.
+    chain_sound (data_len before.1) _ (field_sound u16 _) (λ n.
+    chain_sound zero_u16 (λ zero. contents n) (field_sound u16 _) (λ zero. field_sound (bytes n) (λ bs. None))))))
+
+data_blocks_sound : (n : ℕ) → Sound (List DataBlock) (data_blocks n)
+unfolding data_blocks
+data_blocks_sound n = remembered_sound AllBlocks (plain_data_blocks n) (many_sound data_block after_data data_sound (0, 0) n)
+
+name_sound : (before : List ℕ) → Sound NameRecord (name_record before)
+unfolding name_record raw_name name_len name_bytes name_area width_field plain_u16 name_bit
+name_sound before = seen_sound name_of_raw raw_of_name (raw_name before)
+    (chain_sound name_len _ (field_sound u8 _) (λ n.
+    chain_sound (name_bytes before n) _ (field_sound (bytes n) _) (λ name.
+    chain_sound name_area _ (field_sound u8 _) (λ area.
+    chain_sound width_field _ (field_sound u8 _) (λ w.
+    chain_sound plain_u16 (λ byte. name_bit w) (field_sound u16 plain) (λ byte. field_sound u8 _))))))
+
+names_sound : (n : ℕ) → Sound (List NameRecord) (names n)
+unfolding names
+names_sound n = many_sound name_record after_name name_sound [] n
+
+counts_sound : Sound Counts counts
+unfolding counts plain_u16 data_count zero_u16
+counts_sound =
+    chain_sound plain_u16 _ (field_sound u16 plain) (λ codes.
+    chain_sound data_count _ (field_sound u16 _) (λ datas.
+    chain_sound plain_u16 (λ names. zero_u16) (field_sound u16 plain) (λ names. field_sound u16 _)))
+
+body_sound : Sound Program (body true)
+unfolding body records raw_records
+body_sound = seen_sound program_of records_of (records true) (seen_sound records_of_raw raw_of_records (raw_records true)
+    (chain_sound counts (λ c. chain (code_blocks true c.0) (λ blocks. chain (data_blocks c.1.0) (λ datas. names c.1.1.0))) counts_sound (λ c.
+    chain_sound (code_blocks true c.0) (λ blocks. chain (data_blocks c.1.0) (λ datas. names c.1.1.0)) (code_blocks_sound c.0) (λ blocks.
+    chain_sound (data_blocks c.1.0) (λ datas. names c.1.1.0) (data_blocks_sound c.1.0) (λ datas. names_sound c.1.1.0)))))
+
+front_sound : Sound Front front
+unfolding front magic_field version_field zero_u16 plain_u32
+front_sound =
+    chain_sound magic_field _ (field_sound u32 _) (λ magic.
+    chain_sound version_field _ (field_sound u16 _) (λ version.
+    chain_sound zero_u16 (λ zero. plain_u32) (field_sound u16 _) (λ zero. field_sound u32 plain)))
+
+joined_ends : {A : Type 0} (notes : List Note) (r : Read A) → Ends r → Ends {A = A} (record { notes = notes ++ r.notes; found = r.found })
+joined_ends {A = A} notes r p e clean = p e (no_faults notes r.notes clean).1
+
+cut_ends : (size total : ℕ) (cur : Cursor) → Ends (cut true size total cur)
+cut_ends size total cur =
+    let inner = (body true).read (record { at = cur.at; rest = take (total - front_size) cur.rest }) in
+    cond_ends (ltb total 20 || ltb size total) (ended 8 3) _ (ended_ends 8 3)
+    (cond_ends (ltb 8388608 total) (ended 8 4) _ (ended_ends 8 4)
+    (joined_ends (cond (eqb size total) [] (Faulty total 10 ∷ [])) (bind inner at_end) (bind_ends inner at_end (body_sound.ends (record { at = cur.at; rest = take (total - front_size) cur.rest })) (λ p end. noted_ends (at_end p end).notes p end))))
+
+pub image_ends : (text : List ℕ) → (read_image text).found ≡ None → faults_in (read_image text).notes ≡ [] → ⊥
+unfolding read_by
+image_ends text = bind_ends (front.read (at_place 0 text)) (λ f cur. cut true (length text) f.1.1.1 cur) (front_sound.ends (at_place 0 text)) (λ f cur. cut_ends (length text) f.1.1.1 cur)

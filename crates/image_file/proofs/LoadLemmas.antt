@@ -1,0 +1,176 @@
+-- The faults of all blocks that were read.
+use Rattle.std.proofs.Common.{Bool, true, false, cond, append_assoc, ◌≡◌, ℕ, suc, ◌+◌, ◌<◌, ◌≤◌, List, [], ◌∷◌, ◌++◌, map, length, drop, get_or, Option, Some, None, refl, sym, ap, subst, ◌∙◌, arith}
+use Rattle.std.proofs.Math.ListN.{drop_of_length-le}
+use Rattle.std.specs.Option.{option_map}
+use Rattle.std.proofs.lemmas.List.{append-nil}
+use Rattle.std.proofs.lemmas.Option.{same_Some}
+use Rattle.flat_code.specs.Programs.{CodeBlock, DataBlock, NameEntry, Program}
+use Rattle.flat_code.specs.Records.{BlockRecord, NameRecord, Records}
+use Rattle.flat_code.specs.Layout.{Note, Faulty, Whole, AllBlocks, Cursor, Read, faults_in}
+use Rattle.flat_code.specs.Image.{program_of, read_image, IsProgram, record_of_block, block_of_record, entry_of_name}
+use Rattle.flat_code.specs.Blocks.{Signature, signature_of, Around, block_faults}
+use Rattle.flat_code.specs.Loading.{around, judged_blocks, lens_of, later, wholes, all_blocks, blocks_of, faults_of, Gives, Verifies}
+use Rattle.image_file.specs.declared.faults.LoadFault.{LoadFault}
+use Rattle.image_file.specs.declared.records.Started.{Started}
+use Rattle.image_file.specs.Least.{is_less, fault, with_faults}
+use Rattle.image_file.specs.Typing.{AreFew, program_from}
+use Rattle.image_file.specs.declared.reader.Reader.{Reader}
+use Rattle.image_file.specs.Running.{started, with_wholes, with_all, Log, logged, Ran, Goes, Stops, ran, ran_read, log_of, SeesNames, HasFound}
+use Rattle.flat_code.proofs.CodingLemmas.{IsBytes}
+use Rattle.image_file.proofs.EndLemmas.{image_ends}
+use Rattle.image_file.proofs.ImageLemmas.{program_again, program_few}
+use Rattle.image_file.proofs.RunLemmas.{with_more}
+use Rattle.image_file.proofs.WholeLemmas.{image_noted, gives_image}
+use Rattle.image_file.proofs.JudgeLemmas.{next_of}
+
+abbrev Lens : Type 0
+Lens = Option (List (ℕ × ℕ))
+
+abbrev pub around_by : Lens → List Signature → BlockRecord → Around
+around_by lens signatures b = record { kind = b.kind; local_len = b.local_len; params = b.params; blocks = signatures; data_lens = lens }
+
+pub judged_next : (lens : Lens) (signatures : List Signature) (all : List BlockRecord) (bs : List Started) (i : ℕ) (s : Started) (least mid : Option LoadFault) → i < length bs → s ≡ get_or bs i s → signatures ≡ map signature_of all
+    → mid ≡ with_faults least (block_faults (around_by lens signatures s.block) s.start s.block.code) → with_faults mid (judged_blocks lens all (map started (drop (i + 1) bs))) ≡ with_faults least (judged_blocks lens all (map started (drop i bs)))
+judged_next lens signatures all bs i s least mid lt is known m =
+    let here : mid ≡ with_faults least (block_faults (around lens all s.block) s.start s.block.code) = m ∙ ap (λ (z : List Signature). with_faults least (block_faults (around_by lens z s.block) s.start s.block.code)) known in
+    ap (λ (z : Option LoadFault). with_faults z (judged_blocks lens all (map started (drop (i + 1) bs)))) here
+    ∙ sym (with_more least (block_faults (around lens all s.block) s.start s.block.code) (judged_blocks lens all (map started (drop (i + 1) bs))))
+    ∙ sym (ap (λ (z : List Started). with_faults least (judged_blocks lens all (map started z))) (next_of bs i s lt is))
+
+pub judged_done : (lens : Lens) (all : List BlockRecord) (bs : List Started) (i : ℕ) (least : Option LoadFault) → length bs ≤ i → least ≡ with_faults least (judged_blocks lens all (map started (drop i bs)))
+unfolding with_faults
+judged_done lens all bs i least le = rw (drop_of_length-le bs {i = i} le) refl
+
+-- ---- what one pass keeps
+
+wholes_kept : (bs : List (ℕ × BlockRecord)) (notes : List Note) → with_wholes bs notes ≡ bs ++ wholes notes
+wholes_kept bs [] = sym (append-nil bs)
+wholes_kept bs (Faulty at code ∷ notes) = wholes_kept bs notes
+wholes_kept bs (Whole start block ∷ notes) = wholes_kept (bs ++ (start, block) ∷ []) notes ∙ append_assoc bs ((start, block) ∷ []) (wholes notes)
+wholes_kept bs (AllBlocks datas ∷ notes) = wholes_kept bs notes
+
+later_some : (d : Option (List DataBlock)) (l : List DataBlock) (a : Option (List DataBlock)) → later (Some l) a ≡ later d (later (Some l) a)
+later_some d l None = refl
+later_some d l (Some m) = refl
+
+datas_kept : (d : Option (List DataBlock)) (notes : List Note) → with_all d notes ≡ later d (all_blocks notes)
+datas_kept d [] = refl
+datas_kept d (Faulty at code ∷ notes) = datas_kept d notes
+datas_kept d (Whole start block ∷ notes) = datas_kept d notes
+datas_kept d (AllBlocks found ∷ notes) = datas_kept (Some found) notes ∙ later_some d found (all_blocks notes)
+
+later_none : (a : Option (List DataBlock)) → later None a ≡ a
+later_none None = refl
+later_none (Some l) = refl
+
+abbrev empty_log : Log
+empty_log = record { least = None; blocks = []; datas = None }
+
+-- reading told all that it kept
+record Kept (text : List ℕ) (log : Log) : Type 0 where
+  least : log.least ≡ with_faults None (faults_in (read_image text).notes)
+  blocks : log.blocks ≡ wholes (read_image text).notes
+  datas : log.datas ≡ all_blocks (read_image text).notes
+
+kept_by : (text : List ℕ) (log : Log) → log ≡ logged empty_log (read_image text).notes → Kept text log
+unfolding logged
+kept_by text log e = record {
+  least = ap (λ (z : Log). z.least) e;
+  blocks = ap (λ (z : Log). z.blocks) e ∙ wholes_kept [] (read_image text).notes;
+  datas = ap (λ (z : Log). z.datas) e ∙ datas_kept None (read_image text).notes ∙ later_none (all_blocks (read_image text).notes);
+}
+
+goes_found : (o : Option (Program × Cursor)) (p : Program) (end : Cursor) (log all : Log) → Goes p end log ≡ ran o all → (o ≡ Some (p, end)) × (log ≡ all)
+goes_found None p end log all e = absurd cc
+goes_found (Some x) p end log all e = let a : p ≡ x.0 = cc in let b : end ≡ x.1 = cc in (rw (a, b) refl, cc)
+
+stops_found : (o : Option (Program × Cursor)) (log all : Log) → ◌≡◌ {A = Ran Program} (Stops log) (ran o all) → (o ≡ None) × (log ≡ all)
+stops_found None log all e = (refl, cc)
+stops_found (Some x) log all e = absurd cc
+
+kept_of : (names : Option (List NameRecord)) (r : Reader) (text : List ℕ) → SeesNames names r (ran_read (read_image text) empty_log) → Kept text (log_of r)
+unfolding ran_read
+kept_of None r text h = kept_by text (log_of r) (stops_found (read_image text).found (log_of r) (logged empty_log (read_image text).notes) h).1
+kept_of (Some names) r text h = kept_by text (log_of r) (goes_found (read_image text).found (program_of h.0) h.1 (log_of r) (logged empty_log (read_image text).notes) h.2).1
+
+pub found_of : (names : Option (List NameRecord)) (r : Reader) (text : List ℕ) → SeesNames names r (ran_read (read_image text) empty_log) → HasFound text (map started r.blocks.items) (option_map (λ v. v.items) r.datas) names
+unfolding ran_read
+found_of None r text h = (stops_found (read_image text).found (log_of r) (logged empty_log (read_image text).notes) h).0
+found_of (Some names) r text h =
+    let g = goes_found (read_image text).found (program_of h.0) h.1 (log_of r) (logged empty_log (read_image text).notes) h.2 in
+    let k = kept_by text (log_of r) g.1 in
+    (h.0, h.1, g.0, h.3, k.blocks, k.datas)
+
+-- the least of all faults
+pub least_of : (names : Option (List NameRecord)) (r : Reader) (text : List ℕ) (lens : Lens) (result : Option LoadFault) → SeesNames names r (ran_read (read_image text) empty_log) → lens ≡ option_map lens_of (option_map (λ v. v.items) r.datas)
+    → result ≡ with_faults r.least (judged_blocks lens (blocks_of (map started r.blocks.items)) (map started r.blocks.items)) → result ≡ with_faults None (faults_of text)
+unfolding faults_of
+least_of names r text lens result h l e =
+    let k = kept_of names r text h in
+    let notes = (read_image text).notes in
+    e ∙ ap (λ (z : Option LoadFault). with_faults z (judged_blocks lens (blocks_of (map started r.blocks.items)) (map started r.blocks.items))) k.least
+    ∙ ap (λ (z : List (ℕ × BlockRecord)). with_faults (with_faults None (faults_in notes)) (judged_blocks lens (blocks_of z) z)) k.blocks
+    ∙ ap (λ (z : Lens). with_faults (with_faults None (faults_in notes)) (judged_blocks z (blocks_of (wholes notes)) (wholes notes))) (l ∙ ap (option_map lens_of) k.datas)
+    ∙ sym (with_more None (faults_in notes) (judged_blocks (option_map lens_of (all_blocks notes)) (blocks_of (wholes notes)) (wholes notes)))
+
+-- ---- bytes without fault
+
+stays_by : (f : LoadFault) (x : ℕ × ℕ) (fs : List (ℕ × ℕ)) → ((g : LoadFault) → with_faults (Some g) fs ≡ None → ⊥) → (b : Bool) → with_faults (cond b (Some (fault x)) (Some f)) fs ≡ None → ⊥
+stays_by f x fs inner true e = inner (fault x) e
+stays_by f x fs inner false e = inner f e
+
+some_stays : (fs : List (ℕ × ℕ)) (f : LoadFault) → with_faults (Some f) fs ≡ None → ⊥
+unfolding with_faults
+some_stays [] f e = cc
+some_stays (x ∷ fs) f e = stays_by f x fs (λ g h. some_stays fs g h) (is_less x f) e
+
+pub none_left : (fs : List (ℕ × ℕ)) → with_faults None fs ≡ None → fs ≡ []
+unfolding with_faults
+none_left [] e = refl
+none_left (x ∷ fs) e = absurd (some_stays fs (fault x) e)
+
+nil_front : (xs ys : List (ℕ × ℕ)) → xs ++ ys ≡ [] → xs ≡ []
+nil_front [] ys e = refl
+nil_front (x ∷ xs) ys e = absurd cc
+
+fields_clean : (text : List ℕ) → faults_of text ≡ [] → faults_in (read_image text).notes ≡ []
+unfolding faults_of
+fields_clean text e = nil_front (faults_in (read_image text).notes) _ e
+
+-- reading doesn't end without a fault
+pub never_ends : (text : List ℕ) (bs : List (ℕ × BlockRecord)) (ds : Option (List DataBlock)) → faults_of text ≡ [] → HasFound text bs ds None → ⊥
+never_ends text bs ds none h = image_ends text h (fields_clean text none)
+
+-- what the bytes without fault give
+pub record Loads (text : List ℕ) (bs : List (ℕ × BlockRecord)) (p : Program) : Type 0 where
+  pub gives : Gives text p
+  pub program : IsProgram p
+  pub verifies : Verifies p
+  pub few : AreFew (blocks_of bs)
+
+pub has_datas : (text : List ℕ) (bs : List (ℕ × BlockRecord)) (ns : List NameRecord) → IsBytes text → faults_of text ≡ [] → HasFound text bs None (Some ns) → ⊥
+has_datas text bs ns are none h =
+    let m = image_noted text (program_of h.0) h.1 are h.2 (fields_clean text none) in
+    let e : ◌≡◌ {A = Option (List DataBlock)} None (Some (program_of h.0).data_blocks) = h.5 ∙ m.datas in
+    cc
+
+pub loads : (text : List ℕ) (bs : List (ℕ × BlockRecord)) (ds : List DataBlock) (ns : List NameRecord) → IsBytes text → faults_of text ≡ [] → HasFound text bs (Some ds) (Some ns) → Loads text bs (program_from bs ds ns)
+loads text bs ds ns are none h =
+    let p = program_of h.0 in
+    let gives : Gives text p = record { end = h.1; found = h.2; clean = none } in
+    let is = gives_image text p are gives in
+    let m = image_noted text p h.1 are h.2 (fields_clean text none) in
+    let raws : blocks_of bs ≡ map record_of_block p.code_blocks = ap blocks_of h.4 ∙ m.codes in
+    let codes : map block_of_record (blocks_of bs) ≡ p.code_blocks = ap (map block_of_record) raws ∙ ap (λ (z : Program). z.code_blocks) (program_again p is.program) in
+    let datas : ds ≡ p.data_blocks = same_Some ds p.data_blocks (h.5 ∙ m.datas) in
+    let named : map entry_of_name ns ≡ p.names = ap (map entry_of_name) (sym h.3) in
+    let same : p ≡ program_from bs ds ns = sym (programs codes datas named) in
+    record {
+      gives = subst (Gives text) same gives;
+      program = subst IsProgram same is.program;
+      verifies = subst Verifies same is.verifies;
+      few = subst AreFew (sym raws) (program_few p is.program);
+    }
+  where
+    programs : {a x : List CodeBlock} {b y : List DataBlock} {c z : List NameEntry} → a ≡ x → b ≡ y → c ≡ z → ◌≡◌ {A = Program} (record { code_blocks = a; data_blocks = b; names = c }) (record { code_blocks = x; data_blocks = y; names = z })
+    programs p q r = rw (p, q, r) refl

@@ -1,0 +1,10 @@
+use Rattle.std.proofs.Common.{◌≡◌, ◌+◌, ◌++◌, length, drop}
+use Rattle.flat_code.specs.Codes.{code_bytes}
+use Rattle.flat_code.specs.Placed.{spots, spots_from}
+use Rattle.image_file.proofs.verifying.statements.Given as goal
+
+abbrev pub invariant-loop-op : goal.invariant-loop-op
+invariant-loop-op l = record {
+  all : l.statements.items ++ spots_from l.at l.begin l.stack.items (drop l.op-index l.ops) ≡ spots l.ops;
+  left : l.at + length (code_bytes (drop l.op-index l.ops)) ≡ length (code_bytes l.ops);
+}

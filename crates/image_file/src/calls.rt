@@ -1,0 +1,96 @@
+//! Calls: what a CALL, UC or CC may not do, and what its PASS ops may not pass.
+ghost use Rattle.std.specs.Prelude.{◌≡◌, None};
+ghost use Rattle.flat_code.specs.Placed.{is_empty, Placed, last_op};
+ghost use Rattle.flat_code.specs.Blocks.{Callee, is_short, is_bad_instance, is_bad_call, are_passed, misfits_index, misfits_callee, misfits_call, callee};
+ghost use Rattle.image_file.specs.Judging.{around_of};
+
+use crate::operands::{is_passed, misfits_parameter};
+use crate::surroundings::{Surroundings, callee, data_len};
+use flat_code::{Op, Operand, ParameterRecord, Passed};
+
+/// Whether an instance is absent or shorter than the function block's.
+fn is_short(needed: u16, len: Option<usize>) -> bool
+    ensures { result ≡ is_short needed len }
+{
+    match len {
+        None => true,
+        Some(len) => len < usize::from(needed),
+    }
+}
+
+fn is_bad_instance(
+    lens: &[(u16, usize)],
+    kind: u8,
+    instance_len: u16,
+    params: &[ParameterRecord],
+    instance: u16,
+) -> bool
+    ensures { result ≡ is_bad_instance lens.now (kind, instance_len, params.now) instance }
+{
+    if kind == 3 {
+        if instance == 0 {
+            !params.is_empty()
+        } else {
+            is_short(instance_len, data_len(instance, lens))
+        }
+    } else {
+        instance != 0
+    }
+}
+
+/// Whether each parameter is passed.
+fn are_passed(params: &[ParameterRecord], before: &[Op]) -> bool
+    ensures { result ≡ are_passed 0 params.now before.now }
+{
+    for i in 0..params.len() {
+        if !is_passed(i, before) {
+            return false;
+        }
+    }
+    true
+}
+
+/// Whether a block is called that is absent or has other parameters, or with an instance that
+/// doesn't fit.
+pub(crate) fn is_bad_call(
+    around: &Surroundings,
+    lens: &[(u16, usize)],
+    kind: u8,
+    number: u16,
+    instance: u16,
+    before: &[Op],
+) -> bool
+    ensures { result ≡ is_bad_call lens.now (callee (around_of around.now).blocks kind number) instance before.now }
+{
+    match callee(around.blocks, kind, number) {
+        None => true,
+        Some((kind, instance_len, params)) => {
+            kind != 3 && !are_passed(params, before)
+                || is_bad_instance(lens, kind, instance_len, params, instance)
+        }
+    }
+}
+
+fn misfits_index(around: &Surroundings, parameter: Option<ParameterRecord>, actual: Passed) -> bool
+    ensures { result ≡ misfits_index (around_of around.now) parameter actual }
+{
+    match parameter {
+        None => true,
+        Some(parameter) => misfits_parameter(around, parameter, actual),
+    }
+}
+
+/// Whether what is passed doesn't fit the parameter of the block that the statement's last op calls.
+pub(crate) fn misfits_call(around: &Surroundings, last: &Op, index: u8, actual: Passed) -> bool
+    ensures { result ≡ misfits_call (around_of around.now) last.now.operand index actual }
+{
+    match last.operand {
+        Operand::Called { kind, number, .. } => match callee(around.blocks, kind, number) {
+            None => false,
+            Some((_, _, params)) => {
+                misfits_index(around, params.get(usize::from(index)).copied(), actual)
+            }
+        },
+        _ => false,
+    }
+}

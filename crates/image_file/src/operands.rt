@@ -1,0 +1,331 @@
+//! Operands that an op may not have.
+ghost use Rattle.std.specs.Prelude.{◌≡◌, ◌+◌, ◌<◌, ◌^◌, ◌||◌, ◌==◌, not, length, None};
+ghost use Rattle.std.specs.Option.{option_map};
+ghost use Rattle.flat_code.specs.Codes.{size, code_bytes};
+ghost use Rattle.flat_code.specs.Faults.{size_of_width};
+ghost use Rattle.flat_code.specs.Forms.{width_code};
+ghost use Rattle.flat_code.specs.Placed.{is_empty, ending};
+ghost use Rattle.flat_code.specs.Blocks.{is_odd_bit, is_past_locals, is_bad_place, lacks_width, writes, own_parameter, lacks_own, is_input, is_in_db, pass_index, pass_before, is_above, is_bad_actual, literal_fits, misfits_parameter, is_index, is_passed, is_ju, leads};
+ghost use Rattle.image_file.specs.Judging.{around_of};
+
+use crate::surroundings::Surroundings;
+use flat_code::{Op, Operand, ParameterRecord, Passed, taken_by};
+use plc_base::{Area, Width};
+
+/// A width as an image has it.
+pub(crate) fn width_number(width: Width) -> u8
+    ensures { result ≡ width_code width }
+{
+    match width {
+        Width::Bit => 1,
+        Width::Byte => 2,
+        Width::Word => 3,
+        Width::Dword => 4,
+    }
+}
+
+/// How many bytes a width takes; a bit stands in one.
+fn bytes_of(width: Width) -> u32
+    ensures { result ≡ size_of_width (width_code width) }
+{
+    match width {
+        Width::Bit | Width::Byte => 1,
+        Width::Word => 2,
+        Width::Dword => 4,
+    }
+}
+
+/// Whether a bit number stands where no bit is meant.
+fn is_odd_bit(width: Width, bit: u8) -> bool
+    ensures { result ≡ is_odd_bit width bit }
+{
+    match width {
+        Width::Bit => false,
+        _ => bit != 0,
+    }
+}
+
+/// Whether a place is a local byte past those of the block.
+fn is_past_locals(around: &Surroundings, area: Area, width: Width, byte: u16) -> bool
+    ensures { result ≡ is_past_locals (around_of around.now) area width byte }
+{
+    match area {
+        Area::L => u32::from(around.local_len) < u32::from(byte) + bytes_of(width),
+        _ => false,
+    }
+}
+
+pub(crate) fn is_bad_place(
+    around: &Surroundings,
+    area: Area,
+    width: Width,
+    byte: u16,
+    bit: u8,
+) -> bool
+    ensures { result ≡ is_bad_place (around_of around.now) area width byte bit }
+{
+    is_odd_bit(width, bit) || is_past_locals(around, area, width, byte)
+}
+
+/// Whether the instruction lacks a width.
+#[tactic(auto, unfolding(flat_code::specs::Ops::is_op))]
+pub(crate) fn lacks_width(op: &Op, width: Width) -> bool
+    ensures { result ≡ lacks_width op.now width }
+{
+    !taken_by(op.code).has_width(width)
+}
+
+/// Whether an instruction writes its operand.
+pub(crate) fn writes(code: u8) -> bool
+    ensures { result ≡ writes code }
+{
+    0x21 <= code && code <= 0x26
+}
+
+/// The parameter of the function that runs.
+pub(crate) fn own_parameter(around: &Surroundings, index: u8) -> Option<ParameterRecord>
+    ensures { result ≡ own_parameter (around_of around.now) index }
+{
+    if around.kind == 2 {
+        around.params.get(usize::from(index)).copied()
+    } else {
+        None
+    }
+}
+
+pub(crate) fn lacks_own(parameter: Option<ParameterRecord>, width: Width) -> bool
+    ensures { result ≡ lacks_own parameter width }
+{
+    match parameter {
+        None => true,
+        Some(parameter) => parameter.width != width_number(width),
+    }
+}
+
+pub(crate) fn is_input(parameter: Option<ParameterRecord>) -> bool
+    ensures { result ≡ is_input parameter }
+{
+    match parameter {
+        None => false,
+        Some(parameter) => parameter.section == 1,
+    }
+}
+
+/// Whether an operand is a fixed place in DB.
+fn is_in_db(operand: Operand) -> bool
+    ensures { result ≡ is_in_db operand }
+{
+    match operand {
+        Operand::Direct { area: Area::Db, .. } => true,
+        _ => false,
+    }
+}
+
+/// The op that ends the statement of an op.
+pub(crate) fn ending(op: &Op, rest: &[Op]) -> Op
+    ensures { result ≡ ending op.now rest.now }
+{
+    let mut last = *op;
+    for next in rest {
+        if last.last {
+            return last;
+        }
+        last = *next;
+    }
+    last
+}
+
+/// Whether a USEDB isn't the first op, or the statement's last op has no place in DB.
+pub(crate) fn is_stray_use_db(before: &[Op], last: &Op) -> bool
+    ensures { result ≡ (not (is_empty before.now) || not (is_in_db last.now.operand)) }
+{
+    !is_none_before(before) || !is_in_db(last.operand)
+}
+
+fn is_none_before(before: &[Op]) -> bool
+    ensures { result ≡ is_empty before.now }
+{
+    match before {
+        [] => true,
+        [_, ..] => false,
+    }
+}
+
+/// The index of a PASS.
+fn pass_index(op: &Op) -> Option<u8>
+    ensures { result ≡ pass_index op.now.operand }
+{
+    match op.operand {
+        Operand::Pass { index, .. } => Some(index),
+        _ => None,
+    }
+}
+
+/// The index of the PASS next before.
+fn pass_before(before: &[Op]) -> Option<u8>
+    ensures { result ≡ pass_before None before.now }
+{
+    let mut found = None;
+    for op in before {
+        if let Some(index) = pass_index(op) {
+            found = Some(index);
+        }
+    }
+    found
+}
+
+fn is_above(index: u8, other: Option<u8>) -> bool
+    ensures { result ≡ is_above index other }
+{
+    match other {
+        None => true,
+        Some(other) => other < index,
+    }
+}
+
+/// Whether a PASS has no CALL, or an index that doesn't rise.
+pub(crate) fn is_stray_pass(before: &[Op], last: &Op, index: u8) -> bool
+    ensures { result ≡ (not (last.now.code == 0x78) || not (is_above index (pass_before None before.now))) }
+{
+    last.code != 0x78 || !is_above(index, pass_before(before))
+}
+
+pub(crate) fn is_bad_actual(around: &Surroundings, actual: Passed) -> bool
+    ensures { result ≡ is_bad_actual (around_of around.now) actual }
+{
+    match actual {
+        Passed::Literal { .. } => false,
+        Passed::Direct {
+            area,
+            width,
+            byte,
+            bit,
+        } => is_bad_place(around, area, width, byte, bit),
+        Passed::Parameter { index, width } => lacks_own(own_parameter(around, index), width),
+        Passed::InBlock {
+            area: Area::Db,
+            width,
+            bit,
+            ..
+        } => is_odd_bit(width, bit),
+        Passed::InBlock { .. } => true,
+    }
+}
+
+fn literal_fits(width: u8, value: u32) -> bool
+    ensures { result ≡ literal_fits width value }
+{
+    match width {
+        1 => value <= 1,
+        2 => value <= 0xFF,
+        3 => value <= 0xFFFF,
+        _ => width == 4,
+    }
+}
+
+/// Whether what is passed doesn't fit its parameter.
+pub(crate) fn misfits_parameter(
+    around: &Surroundings,
+    parameter: ParameterRecord,
+    actual: Passed,
+) -> bool
+    ensures { result ≡ misfits_parameter (around_of around.now) parameter actual }
+{
+    match actual {
+        Passed::Literal { value } => {
+            parameter.section != 1 || !literal_fits(parameter.width, value)
+        }
+        Passed::Direct { width, .. } => parameter.width != width_number(width),
+        Passed::Parameter { index, width } => {
+            parameter.width != width_number(width)
+                || parameter.section != 1 && is_input(own_parameter(around, index))
+        }
+        Passed::InBlock { width, .. } => parameter.width != width_number(width),
+    }
+}
+
+/// Whether a PASS of the index is among ops.
+pub(crate) fn is_passed(index: usize, ops: &[Op]) -> bool
+    ensures { result ≡ is_passed index ops.now }
+{
+    for op in ops {
+        if is_index(index, pass_index(op)) {
+            return true;
+        }
+    }
+    false
+}
+
+fn is_index(index: usize, other: Option<u8>) -> bool
+    ensures { result ≡ is_index index other }
+{
+    match other {
+        None => false,
+        Some(other) => usize::from(other) == index,
+    }
+}
+
+fn is_ju(op: &Op) -> bool
+    ensures { result ≡ is_ju op.now.operand }
+{
+    match op.operand {
+        Operand::Jump { kind: 0, .. } => true,
+        _ => false,
+    }
+}
+
+/// How many bytes an op takes.
+#[tactic(auto, unfolding(flat_code::specs::Codes::size, flat_code::specs::Ops::op_bytes, flat_code::specs::Forms::direct, flat_code::specs::Forms::actual))]
+pub(crate) fn op_size(op: &Op) -> u32
+    ensures { result ≡ size op.now }
+{
+    match op.operand {
+        Operand::Nothing => 2,
+        Operand::OfStatus { .. } => 3,
+        Operand::Parameter { .. } | Operand::UseDb { .. } => 4,
+        Operand::Numbered { .. } | Operand::OpenBlock { .. } => 5,
+        Operand::Literal { .. } | Operand::NumberedBy { .. } | Operand::OpenBy { .. } => 6,
+        Operand::Direct { .. } | Operand::ByMemory { .. } => 7,
+        Operand::Jump { .. } | Operand::Called { .. } => 7,
+        Operand::ByRegister { .. } => 9,
+        Operand::Pass {
+            actual: Passed::Literal { .. },
+            ..
+        } => 8,
+        Operand::Pass {
+            actual: Passed::Direct { .. },
+            ..
+        } => 9,
+        Operand::Pass {
+            actual: Passed::Parameter { .. },
+            ..
+        } => 6,
+        Operand::Pass {
+            actual: Passed::InBlock { .. },
+            ..
+        } => 11,
+    }
+}
+
+/// Whether between an offset and a target stand at most 255 JU alone.
+pub(crate) fn leads(target: u32, from: u32, rest: &[Op]) -> bool
+    requires { from + length (code_bytes rest.now) < 2 ^ 32 }
+    ensures { result ≡ leads 255 target from rest.now }
+{
+    let mut at = from;
+    let mut most = 255_u8;
+    for op in rest {
+        if at == target {
+            return true;
+        }
+        if most == 0 {
+            return false;
+        }
+        if !is_ju(op) {
+            return false;
+        }
+        at += op_size(op);
+        most -= 1;
+    }
+    at == target
+}

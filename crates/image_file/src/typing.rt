@@ -1,0 +1,136 @@
+//! A program made of the records that were read.
+ghost use Rattle.std.specs.Prelude.{◌≡◌, ◌≤◌, length, map, IfOk};
+ghost use Rattle.flat_code.specs.Image.{kind_of_number, width_of_number, area_of_number, param_of, block_of_record, entry_of_name, IsProgram};
+ghost use Rattle.flat_code.specs.Loading.{blocks_of};
+ghost use Rattle.image_file.specs.Running.{started};
+ghost use Rattle.image_file.specs.Typing.{AreFew, program_from};
+
+use crate::records::{BlockRead, NameRead, Started};
+use arrayvec::ArrayVec;
+use flat_code::{CodeBlock, DataBlock, NameEntry, Names, Param, ParameterRecord, Program};
+use plc_base::{Area, BlockId, BlockKind, NoMemory, Place, Width};
+use std::alloc::Global;
+
+fn kind_of(number: u8) -> BlockKind
+    ensures { result ≡ kind_of_number number }
+{
+    match number {
+        1 => BlockKind::Ob,
+        2 => BlockKind::Fc,
+        3 => BlockKind::Fb,
+        _ => BlockKind::Udt,
+    }
+}
+
+fn width_of(number: u8) -> Width
+    ensures { result ≡ width_of_number number }
+{
+    match number {
+        2 => Width::Byte,
+        3 => Width::Word,
+        4 => Width::Dword,
+        _ => Width::Bit,
+    }
+}
+
+fn area_of(number: u8) -> Area
+    ensures { result ≡ area_of_number number }
+{
+    match number {
+        129 => Area::I,
+        130 => Area::Q,
+        _ => Area::M,
+    }
+}
+
+fn param_of(parameter: &ParameterRecord) -> Param
+    ensures { result ≡ param_of parameter.now }
+{
+    Param {
+        section: parameter.section,
+        width: width_of(parameter.width),
+        byte: parameter.byte,
+        bit: parameter.bit,
+    }
+}
+
+/// Parameters, if they are at most 60.
+fn params_of(parameters: &[ParameterRecord]) -> ArrayVec<Param, 60>
+    ensures { length parameters.now ≤ 60 → result.items ≡ map param_of parameters.now }
+{
+    let mut params = ArrayVec::new();
+    for parameter in parameters {
+        let _ = params.try_push(param_of(parameter));
+    }
+    params
+}
+
+fn block_of(block: BlockRead) -> CodeBlock
+    ensures { length block.params ≤ 60 → result ≡ block_of_record block }
+{
+    CodeBlock {
+        id: BlockId {
+            kind: kind_of(block.kind),
+            number: block.number,
+        },
+        local_len: block.local_len,
+        instance_len: block.instance_len,
+        params: params_of(block.params.as_slice()),
+        code: block.code,
+        lines: block.lines,
+    }
+}
+
+/// The code blocks of a program, if none has more than 60 parameters.
+pub(crate) fn code_blocks(alloc: Global, blocks: Vec<Started>) -> Result<Vec<CodeBlock>, NoMemory>
+    ensures { IfOk result (λ v. AreFew (blocks_of (map started blocks.items)) → v.items ≡ map block_of_record (blocks_of (map started blocks.items))) }
+{
+    let mut typed = Vec::new(alloc);
+    for started in blocks {
+        typed.push(block_of(started.block))?;
+    }
+    Ok(typed)
+}
+
+fn entry_of(name: NameRead) -> NameEntry
+    ensures { result ≡ entry_of_name name }
+{
+    let place = Place {
+        area: area_of(name.area),
+        number: 0,
+        byte: name.byte,
+        bit: name.bit,
+    };
+    NameEntry {
+        name: name.name,
+        place,
+        width: width_of(name.width),
+    }
+}
+
+/// The names of a program.
+pub(crate) fn entries(alloc: Global, names: Vec<NameRead>) -> Result<Vec<NameEntry>, NoMemory>
+    ensures { IfOk result (λ v. v.items ≡ map entry_of_name names.items) }
+{
+    names.into_iter().map(|name| entry_of(name)).collect(alloc)
+}
+
+/// The program of what was read.
+pub(crate) fn program(
+    alloc: Global,
+    blocks: Vec<Started>,
+    data_blocks: Vec<DataBlock>,
+    names: Vec<NameRead>,
+) -> Result<Program, NoMemory>
+    requires program { IsProgram (program_from (map started blocks.items) data_blocks.items names.items) }
+    requires few { AreFew (blocks_of (map started blocks.items)) }
+    ensures { IfOk result (λ p. p ≡ program_from (map started blocks.items) data_blocks.items names.items) }
+{
+    let code_blocks = code_blocks(alloc, blocks)?;
+    let names = Names::new(entries(alloc, names)?);
+    Ok(Program {
+        code_blocks,
+        data_blocks,
+        names,
+    })
+}

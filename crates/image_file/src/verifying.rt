@@ -1,0 +1,273 @@
+//! The faults of a block whose code begins at an offset.
+ghost use Rattle.std.specs.Prelude.{◌≡◌, ◌+◌, ◌<◌, ◌≤◌, ◌^◌, ◌∷◌, ◌++◌, [], length, drop, OnOk, IfOk, if◌then◌else◌};
+ghost use Rattle.std.specs.Option.{option_map};
+ghost use Rattle.flat_code.specs.Codes.{size, code_bytes};
+ghost use Rattle.flat_code.specs.Placed.{few, spots, spot_at};
+ghost use Rattle.flat_code.specs.Blocks.{call_fault_among, differing, target_fault, jump_fault, operand_fault, call_fault, op_faults, open_faults, block_faults};
+ghost use Rattle.image_file.specs.Judging.{AllUpTo, around_of, placed_of};
+ghost use Rattle.image_file.specs.Least.{with_faults};
+
+use crate::calls::{is_bad_call, misfits_call};
+use crate::faults::LoadFault;
+use crate::judging::{
+    Statement, bracket_fault, few, is_last, lesser_if, mark_fault, open, prepare, same_codes,
+    seven_if, statement_at,
+};
+use crate::operands::{
+    ending, is_bad_actual, is_bad_place, is_input, is_stray_pass, is_stray_use_db, lacks_own,
+    lacks_width, leads, op_size, own_parameter, writes,
+};
+use crate::reader::lesser;
+use crate::surroundings::Surroundings;
+use arrayvec::ArrayVec;
+use flat_code::{Op, OpenBracket, Operand};
+use plc_base::NoMemory;
+use std::alloc::Global;
+
+/// The ops from one on.
+fn ops_from(ops: &[Op], at: usize) -> &[Op]
+    requires { at ≤ length ops.now }
+    ensures { result.now ≡ drop at ops.now }
+{
+    &ops[at..]
+}
+
+/// An op in its place: its offset, the open brackets, the ops of its statement before it, and those
+/// behind it.
+#[derive(Clone, Copy)]
+pub(crate) struct Place<'a> {
+    pub at: u32,
+    pub stack: &'a [OpenBracket],
+    pub before: &'a [Op],
+    pub rest: &'a [Op],
+}
+
+fn differing(here: &Option<ArrayVec<u8, 7>>, there: &Option<ArrayVec<u8, 7>>) -> Option<u16>
+    ensures { result ≡ differing (option_map (λ v. v.items) here.now) (option_map (λ v. v.items) there.now) }
+{
+    match here {
+        None => None,
+        Some(here) => match there {
+            None => Some(8),
+            Some(there) => {
+                if same_codes(here.as_slice(), there.as_slice()) {
+                    None
+                } else {
+                    Some(8)
+                }
+            }
+        },
+    }
+}
+
+fn codes_differ(statement: &Statement, here: &Option<ArrayVec<u8, 7>>) -> Option<u16>
+    ensures { result ≡ differing (option_map (λ v. v.items) here.now) statement.now.codes }
+{
+    differing(here, &statement.codes)
+}
+
+fn target_fault(
+    statements: &[Statement],
+    here: &Option<ArrayVec<u8, 7>>,
+    target: u32,
+) -> Option<u16>
+    ensures { result ≡ target_fault (option_map (λ v. v.items) here.now) (spot_at statements.now target) }
+{
+    match statement_at(statements, target) {
+        None => Some(6),
+        Some(statement) => codes_differ(statement, here),
+    }
+}
+
+/// The fault of a jump.
+fn jump_fault(
+    statements: &[Statement],
+    op: &Op,
+    place: &Place,
+    kind: u8,
+    target: u32,
+) -> Option<u16>
+    requires { place.now.at + size op.now + length (code_bytes place.now.rest.now) < 2 ^ 32 }
+    ensures { result ≡ jump_fault statements.now (placed_of op.now place.now) kind target }
+{
+    if kind == 1 && !leads(target, place.at + op_size(op), place.rest) {
+        return Some(6);
+    }
+    let here = few(place.stack);
+    target_fault(statements, &here, target)
+}
+
+/// The fault of an op's operand by itself.
+fn operand_fault(
+    around: &Surroundings,
+    statements: &[Statement],
+    op: &Op,
+    place: &Place,
+) -> Option<u16>
+    requires { place.now.at + size op.now + length (code_bytes place.now.rest.now) < 2 ^ 32 }
+    ensures { result ≡ operand_fault (around_of around.now) statements.now (placed_of op.now place.now) op.now.operand }
+{
+    match op.operand {
+        Operand::Direct {
+            area,
+            width,
+            byte,
+            bit,
+        } => { seven_if(lacks_width(op, width) || is_bad_place(around, area, width, byte, bit)) }
+        Operand::ByMemory { width, .. } | Operand::ByRegister { width, .. } => {
+            seven_if(lacks_width(op, width))
+        }
+        Operand::Parameter { index, width } => {
+            let own = own_parameter(around, index);
+            let written = writes(op.code) && is_input(own);
+            seven_if(lacks_width(op, width) || lacks_own(own, width) || written)
+        }
+        Operand::Jump { kind, target } => jump_fault(statements, op, place, kind, target),
+        Operand::UseDb { .. } => {
+            seven_if(is_stray_use_db(place.before, &ending(op, place.rest)))
+        }
+        Operand::Pass { index, actual } => {
+            let last = ending(op, place.rest);
+            seven_if(is_stray_pass(place.before, &last, index) || is_bad_actual(around, actual))
+        }
+        _ => None,
+    }
+}
+
+fn call_fault_among(
+    around: &Surroundings,
+    lens: &[(u16, usize)],
+    op: &Op,
+    place: &Place,
+) -> Option<u16>
+    ensures { result ≡ call_fault_among (around_of around.now) lens.now (placed_of op.now place.now) op.now.operand }
+{
+    match op.operand {
+        Operand::Called {
+            kind,
+            number,
+            instance,
+        } => { seven_if(is_bad_call(around, lens, kind, number, instance, place.before)) }
+        Operand::Pass { index, actual } => {
+            let last = ending(op, place.rest);
+            seven_if(last.code == 0x78 && misfits_call(around, &last, index, actual))
+        }
+        _ => None,
+    }
+}
+
+/// The fault of a call, where calls are judged.
+fn call_fault(around: &Surroundings, op: &Op, place: &Place) -> Option<u16>
+    ensures { result ≡ call_fault (around_of around.now) (around_of around.now).data_lens (placed_of op.now place.now) }
+{
+    match around.data_lens {
+        None => None,
+        Some(lens) => call_fault_among(around, lens, op, place),
+    }
+}
+
+/// The lesser of the fault so far and those of an op.
+#[tactic(auto, unfolding(flat_code::specs::Blocks::op_faults), using(crate::proofs::JudgeLemmas::four))]
+fn judge_op(
+    around: &Surroundings,
+    statements: &[Statement],
+    start: u32,
+    op: &Op,
+    place: &Place,
+    least: Option<LoadFault>,
+) -> Option<LoadFault>
+    requires room { place.now.at + size op.now + length (code_bytes place.now.rest.now) < 2 ^ 32 }
+    requires start { start + place.now.at < 2 ^ 32 }
+    ensures { result ≡ with_faults least (op_faults (around_of around.now) statements.now start (placed_of op.now place.now)) }
+{
+    let at = start + place.at;
+    let least = lesser_if(least, at, operand_fault(around, statements, op, place));
+    let least = lesser_if(least, at, call_fault(around, op, place));
+    let least = lesser_if(least, at, mark_fault(op));
+    lesser_if(least, at, bracket_fault(op.code, place.stack))
+}
+
+/// The statements of a block.
+fn statements(alloc: Global, ops: &[Op]) -> Result<Vec<Statement>, NoMemory>
+    requires { length (code_bytes ops.now) < 2 ^ 32 }
+    ensures { IfOk result (λ v. v.items ≡ spots ops.now) }
+{
+    let mut statements = Vec::new(alloc);
+    let mut stack = Vec::new(alloc);
+    let mut at = 0;
+    let mut begin = true;
+    for op in ops {
+        add_statement(&mut statements, begin, at, &stack)?;
+        open(&mut stack, at, op)?;
+        at += op_size(op);
+        begin = is_last(op);
+    }
+    Ok(statements)
+}
+
+/// Adds a statement where one begins.
+fn add_statement(
+    statements: &mut Vec<Statement>,
+    begin: bool,
+    at: u32,
+    stack: &[OpenBracket],
+) -> Result<(), NoMemory>
+    ensures { OnOk result (statements.new.items
+        ≡ (if begin then statements.old.items ++ record { at = at; codes = few stack.now } ∷ [] else statements.old.items)) }
+{
+    if !begin {
+        return Ok(());
+    }
+    let codes = few(stack);
+    statements.push(Statement { at, codes })?;
+    Ok(())
+}
+
+/// The lesser of the fault so far and those of brackets that are open at the end.
+fn judge_open(
+    start: u32,
+    stack: &[OpenBracket],
+    limit: u32,
+    least: Option<LoadFault>,
+) -> Option<LoadFault>
+    requires within { AllUpTo limit stack.now }
+    requires room { start + limit < 2 ^ 32 }
+    ensures { result ≡ with_faults least (open_faults start stack.now) }
+{
+    let mut least = least;
+    for bracket in stack {
+        least = lesser(least, start + bracket.at, 8);
+    }
+    least
+}
+
+/// The lesser of the fault so far and those of the ops of a block whose code begins at an offset.
+pub(crate) fn judge_block(
+    alloc: Global,
+    around: &Surroundings,
+    start: u32,
+    ops: &[Op],
+    least: Option<LoadFault>,
+) -> Result<Option<LoadFault>, NoMemory>
+    requires { start + length (code_bytes ops.now) < 2 ^ 32 }
+    ensures { IfOk result (λ l. l ≡ with_faults least (block_faults (around_of around.now) start ops.now)) }
+{
+    let statements = statements(alloc, ops)?;
+    let mut least = least;
+    let mut stack = Vec::new(alloc);
+    let mut before = Vec::new(alloc);
+    let mut at = 0;
+    for (i, op) in ops.iter().enumerate() {
+        let place = Place {
+            at,
+            stack: &stack,
+            before: &before,
+            rest: ops_from(ops, i + 1),
+        };
+        least = judge_op(around, &statements, start, op, &place, least);
+        open(&mut stack, at, op)?;
+        prepare(&mut before, op)?;
+        at += op_size(op);
+    }
+    Ok(judge_open(start, &stack, at, least))
+}

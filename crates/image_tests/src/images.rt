@@ -1,0 +1,85 @@
+use image_file::{LoadError, LoadFault, load};
+use std::test::Fail;
+
+/// The image of an OB 1 with `JU x;` and `x: T DB10.DBW 2;`, and of a DB 10 of four bytes.
+static EXAMPLE: [u8; 80] = [
+    0x53, 0x37, 0x46, 0x42, 0x00, 0x01, 0x00, 0x00, 0x00, 0x00, 0x00, 0x50, 0x00, 0x01, 0x00, 0x01,
+    0x00, 0x00, 0x00, 0x00, 0x01, 0x00, 0x00, 0x01, 0x00, 0x14, 0x00, 0x00, 0x00, 0x03, 0x00, 0x00,
+    0x00, 0x00, 0x00, 0x14, 0xEF, 0x08, 0x00, 0x00, 0x00, 0x00, 0x07, 0x02, 0x0A, 0x00, 0x0A, 0xA1,
+    0x02, 0x84, 0x03, 0x00, 0x02, 0x00, 0xFB, 0x00, 0x00, 0x00, 0x00, 0x03, 0x00, 0x00, 0x00, 0x04,
+    0x00, 0x00, 0x00, 0x05, 0x00, 0x0A, 0x00, 0x00, 0x00, 0x04, 0x00, 0x00, 0x00, 0x00, 0x00, 0x00,
+];
+
+/// One byte of the example altered, and the fault: offset and code; 0 for none.
+static ALTERED: [(usize, u8, u32, u16); 24] = [
+    (0, 0x53, 0, 0),
+    (0, 0x54, 0, 1),
+    (5, 0x03, 4, 2),
+    (7, 0x01, 6, 4),
+    (11, 0x51, 8, 3),
+    (11, 0x13, 8, 3),
+    (11, 0x4F, 76, 3),
+    (19, 0x01, 18, 4),
+    (20, 0x04, 20, 4),
+    (21, 0x01, 21, 4),
+    (23, 0x02, 22, 4),
+    (25, 0x13, 24, 4),
+    (27, 0x01, 26, 4),
+    (29, 0x04, 28, 9),
+    (30, 0x01, 30, 4),
+    (36, 0x6F, 28, 9),
+    (37, 0x07, 36, 5),
+    (42, 0x08, 36, 6),
+    (42, 0x0B, 36, 6),
+    (53, 0x01, 47, 7),
+    (54, 0x7B, 54, 5),
+    (67, 0x00, 64, 9),
+    (69, 0x00, 68, 4),
+    (73, 0x03, 79, 10),
+];
+
+fn fault_of(rt: &HostRuntime, bytes: &[u8]) -> Option<LoadFault> {
+    match load(rt.alloc(), bytes) {
+        Ok(_) => None,
+        Err(LoadError::Fault { fault }) => Some(fault),
+        Err(LoadError::NoMemory) => Some(LoadFault { at: 0, code: 0 }),
+    }
+}
+
+#[test]
+fn altered_images(rt: HostRuntime) -> Result<(), Fail> {
+    for (place, byte, at, code) in ALTERED {
+        let mut bytes = EXAMPLE;
+        if place < 80 {
+            bytes[place] = byte;
+        }
+        let wanted = if code == 0 {
+            None
+        } else {
+            Some(LoadFault { at, code })
+        };
+        assert_eq!(rt; fault_of(&rt, &bytes), wanted, "{place}");
+    }
+    Ok(())
+}
+
+#[test]
+fn cut_images(rt: HostRuntime) -> Result<(), Fail> {
+    for (len, at) in [
+        (0_usize, 0_u32),
+        (3, 0),
+        (5, 4),
+        (7, 6),
+        (11, 8),
+        (12, 8),
+        (79, 8),
+    ] {
+        let (bytes, _) = EXAMPLE.split_at(len);
+        assert_eq!(rt;
+            fault_of(&rt, bytes),
+            Some(LoadFault { at, code: 3 }),
+            "{len}"
+        );
+    }
+    Ok(())
+}
