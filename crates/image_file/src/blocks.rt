@@ -46,8 +46,10 @@ impl Reader<'_> {
     #[tactic(auto, unfolding(flat_code::specs::Image::head), using(crate::proofs::RunLemmas::run_chain))]
     fn head(&mut self, kind_before: u8, before: u16) -> Result<HeadRead, Ended>
         requires { self.old.at + length self.old.rest.now < 2 ^ 32 }
-        ensures read { seen head_values result self.new ≡ run (head (kind_before, before)) (place_of self.old) (log_of self.old) }
-        ensures all { self.new.at + length self.new.rest.now ≡ self.old.at + length self.old.rest.now }
+        ensures read { seen head_values result self.new
+            ≡ run (head (kind_before, before)) (place_of self.old) (log_of self.old) }
+        ensures all { self.new.at + length self.new.rest.now
+            ≡ self.old.at + length self.old.rest.now }
         ensures step { OnOk result (self.new.at ≡ self.old.at + 16) }
     {
         let kind = self.kind(kind_before)?;
@@ -73,8 +75,10 @@ impl Reader<'_> {
     #[tactic(auto, unfolding(flat_code::specs::Image::parameter, flat_code::specs::Image::raw_parameter), using(crate::proofs::RunLemmas::run_seen, crate::proofs::RunLemmas::run_chain))]
     fn parameter(&mut self, kind: u8, instance: u16) -> Result<ParameterRecord, Ended>
         requires { self.old.at + length self.old.rest.now < 2 ^ 32 }
-        ensures read { seen (λ p. p) result self.new ≡ run (parameter kind instance) (place_of self.old) (log_of self.old) }
-        ensures all { self.new.at + length self.new.rest.now ≡ self.old.at + length self.old.rest.now }
+        ensures read { seen (λ p. p) result self.new
+            ≡ run (parameter kind instance) (place_of self.old) (log_of self.old) }
+        ensures all { self.new.at + length self.new.rest.now
+            ≡ self.old.at + length self.old.rest.now }
         ensures step { OnOk result (self.new.at ≡ self.old.at + 6) }
     {
         let section = self.section()?;
@@ -93,8 +97,10 @@ impl Reader<'_> {
     #[tactic(auto, unfolding(flat_code::specs::Image::parameters))]
     fn parameters(&mut self, alloc: Global, head: HeadRead) -> Result<Vec<ParameterRecord>, Stop>
         requires { self.old.at + length self.old.rest.now < 2 ^ 32 }
-        ensures read { Sees (λ v. v.items) result self.new (run (parameters (head_values head)) (place_of self.old) (log_of self.old)) }
-        ensures all { OnOk result (self.new.at + length self.new.rest.now ≡ self.old.at + length self.old.rest.now) }
+        ensures read { Sees (λ v. v.items) result self.new (run (parameters (head_values head))
+            (place_of self.old) (log_of self.old)) }
+        ensures all { OnOk result (self.new.at + length self.new.rest.now
+            ≡ self.old.at + length self.old.rest.now) }
         ensures step { IfOk result (λ v. self.new.at ≡ self.old.at + 6 * vec_len v) }
         ensures count { IfOk result (λ v. vec_len v ≤ 255) }
     {
@@ -111,8 +117,10 @@ impl Reader<'_> {
     #[tactic(auto, unfolding(crate::specs::Running::run, crate::specs::Running::logged, crate::specs::Least::with_faults, flat_code::specs::Codes::code_of))]
     fn code(&mut self, alloc: Global, size: u32) -> Result<Vec<Op>, Stop>
         requires { self.old.at + length self.old.rest.now < 2 ^ 32 }
-        ensures read { Sees (λ v. v.items) result self.new (run (code_of true size) (place_of self.old) (log_of self.old)) }
-        ensures all { OnOk result (self.new.at + length self.new.rest.now ≡ self.old.at + length self.old.rest.now) }
+        ensures read { Sees (λ v. v.items) result self.new (run (code_of true size)
+            (place_of self.old) (log_of self.old)) }
+        ensures all { OnOk result (self.new.at + length self.new.rest.now
+            ≡ self.old.at + length self.old.rest.now) }
         ensures room { IfOk result (λ v. length (code_bytes v.items) ≤ length self.old.rest.now) }
     {
         if self.rest.len() < size as usize {
@@ -136,8 +144,10 @@ impl Reader<'_> {
 
     fn lines(&mut self, alloc: Global, count: u16) -> Result<Vec<u32>, Stop>
         requires { self.old.at + length self.old.rest.now < 2 ^ 32 }
-        ensures read { Sees (λ v. v.items) result self.new (run (many (line_field true) line_after 0 count) (place_of self.old) (log_of self.old)) }
-        ensures all { OnOk result (self.new.at + length self.new.rest.now ≡ self.old.at + length self.old.rest.now) }
+        ensures read { Sees (λ v. v.items) result self.new (run (many
+            (line_field true) line_after 0 count) (place_of self.old) (log_of self.old)) }
+        ensures all { OnOk result (self.new.at + length self.new.rest.now
+            ≡ self.old.at + length self.old.rest.now) }
     {
         let mut lines = Vec::new(alloc);
         let mut before = 0;
@@ -160,8 +170,10 @@ impl Reader<'_> {
     ) -> Result<Vec<u32>, Stop>
         requires fits { self.old.at + length self.old.rest.now < 2 ^ 32 }
         requires room { start + 8 < 2 ^ 32 }
-        ensures read { Sees (λ v. v.items) result self.new (run (lines_of true start (head_values head) ops.now) (place_of self.old) (log_of self.old)) }
-        ensures all { OnOk result (self.new.at + length self.new.rest.now ≡ self.old.at + length self.old.rest.now) }
+        ensures read { Sees (λ v. v.items) result self.new (run (lines_of true start
+            (head_values head) ops.now) (place_of self.old) (log_of self.old)) }
+        ensures all { OnOk result (self.new.at + length self.new.rest.now
+            ≡ self.old.at + length self.old.rest.now) }
     {
         let end_marks = end_mark_count(ops);
         self.judge(
@@ -185,8 +197,10 @@ impl Reader<'_> {
     ) -> Result<(Vec<Op>, Vec<u32>), Stop>
         requires fits { self.old.at + length self.old.rest.now < 2 ^ 32 }
         requires room { start + 8 < 2 ^ 32 }
-        ensures read { Sees (λ r. (r.0.items, r.1.items)) result self.new (run (code_and_lines true start (head_values head)) (place_of self.old) (log_of self.old)) }
-        ensures all { OnOk result (self.new.at + length self.new.rest.now ≡ self.old.at + length self.old.rest.now) }
+        ensures read { Sees (λ r. (r.0.items, r.1.items)) result self.new (run
+            (code_and_lines true start (head_values head)) (place_of self.old) (log_of self.old)) }
+        ensures all { OnOk result (self.new.at + length self.new.rest.now
+            ≡ self.old.at + length self.old.rest.now) }
         ensures room { IfOk result (λ r. length (code_bytes r.0.items) ≤ length self.old.rest.now) }
     {
         let ops = self.code(alloc, head.size)?;
@@ -203,9 +217,13 @@ impl Reader<'_> {
         before: u16,
     ) -> Result<BlockRead, Stop>
         requires { self.old.at + length self.old.rest.now + 8 < 2 ^ 32 }
-        ensures read { Sees (λ b. b) result self.new (run (plain_block true (kind_before, before) self.old.at) (place_of self.old) (log_of self.old)) }
-        ensures all { OnOk result (self.new.at + length self.new.rest.now ≡ self.old.at + length self.old.rest.now) }
-        ensures room { IfOk result (λ b. 16 + 6 * length b.params + length (code_bytes b.code) ≤ length self.old.rest.now) }
+        ensures read { Sees (λ b. b) result self.new (run (plain_block true
+            (kind_before, before) self.old.at) (place_of self.old) (log_of self.old)) }
+        ensures all { OnOk result (self.new.at + length self.new.rest.now
+            ≡ self.old.at + length self.old.rest.now) }
+        ensures room { IfOk result
+            (λ b. 16 + 6 * length b.params + length
+            (code_bytes b.code) ≤ length self.old.rest.now) }
         ensures count { IfOk result (λ b. length b.params ≤ 255) }
     {
         let start = self.at;
@@ -227,8 +245,10 @@ impl Reader<'_> {
     #[tactic(auto, unfolding(flat_code::specs::Image::code_block, crate::specs::Running::logged, crate::specs::Least::with_faults), using(crate::proofs::RunLemmas::run_located, crate::proofs::RunLemmas::run_remembered))]
     fn code_block(&mut self, alloc: Global, kind_before: u8, before: u16) -> Result<(u8, u16), Stop>
         requires { self.old.at + length self.old.rest.now + 2000 < 2 ^ 32 }
-        ensures read { SeesBlock result self.new (run (code_block true (kind_before, before)) (place_of self.old) (log_of self.old)) }
-        ensures all { OnOk result (self.new.at + length self.new.rest.now ≡ self.old.at + length self.old.rest.now) }
+        ensures read { SeesBlock result self.new (run (code_block true (kind_before, before))
+            (place_of self.old) (log_of self.old)) }
+        ensures all { OnOk result (self.new.at + length self.new.rest.now
+            ≡ self.old.at + length self.old.rest.now) }
     {
         let at = self.at;
         let block = self.plain_block(alloc, kind_before, before)?;
@@ -242,8 +262,10 @@ impl Reader<'_> {
     #[tactic(auto, unfolding(flat_code::specs::Image::code_blocks))]
     pub(crate) fn code_blocks(&mut self, alloc: Global, count: u16) -> Result<(), Stop>
         requires { self.old.at + length self.old.rest.now + 2000 < 2 ^ 32 }
-        ensures read { SeesBlocks result self.new (run (code_blocks true count) (place_of self.old) (log_of self.old)) }
-        ensures all { OnOk result (self.new.at + length self.new.rest.now ≡ self.old.at + length self.old.rest.now) }
+        ensures read { SeesBlocks result self.new (run (code_blocks true count)
+            (place_of self.old) (log_of self.old)) }
+        ensures all { OnOk result (self.new.at + length self.new.rest.now
+            ≡ self.old.at + length self.old.rest.now) }
     {
         let mut kind_before = 0;
         let mut before = 0;

@@ -60,7 +60,8 @@ pub(crate) fn is_bad_call(
     instance: u16,
     before: &[Op],
 ) -> bool
-    ensures { result ≡ is_bad_call lens.now (callee (around_of around.now).blocks kind number) instance before.now }
+    ensures { result ≡ is_bad_call lens.now (callee
+        (around_of around.now).blocks kind number) instance before.now }
 {
     match callee(around.blocks, kind, number) {
         None => true,

@@ -32,10 +32,13 @@ pub(crate) fn count_behind(op: &Op, count: u8) -> u8
 /// last op, where it isn't BE with the end mark.
 pub(crate) fn ops_in(alloc: Global, code: &[u8]) -> Result<OpsFound, NoMemory>
     requires { length code.now < 2 ^ 32 }
-    ensures fault { IfOk result (λ r. r.fault ≡ stop_at true (ops_from (length code.now) code.now).0 (ops_from (length code.now) code.now).1) }
+    ensures fault { IfOk result (λ r. r.fault
+        ≡ stop_at true (ops_from (length code.now) code.now).0 (ops_from
+        (length code.now) code.now).1) }
     ensures within { IfOk result (λ r. IfSome r.fault (λ at. at ≤ length code.now)) }
     ensures size { IfOk result (λ r. length (code_bytes r.ops.items) ≤ length code.now) }
-    ensures ops { IfOk result (λ r. r.fault ≡ None → r.ops.items ≡ (ops_from (length code.now) code.now).0) }
+    ensures ops { IfOk result (λ r. r.fault ≡ None → r.ops.items
+        ≡ (ops_from (length code.now) code.now).0) }
 {
     let mut ops = Vec::new(alloc);
     let mut at = 0;

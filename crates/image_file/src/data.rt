@@ -57,8 +57,10 @@ impl<'a> Reader<'a> {
     #[tactic(auto, unfolding(flat_code::specs::Image::contents))]
     fn contents(&mut self, alloc: Global, count: u16) -> Result<Vec<u8>, Stop>
         requires { self.old.at + length self.old.rest.now < 2 ^ 32 }
-        ensures read { Sees (λ v. v.items) result self.new (run (contents count) (place_of self.old) (log_of self.old)) }
-        ensures all { OnOk result (self.new.at + length self.new.rest.now ≡ self.old.at + length self.old.rest.now) }
+        ensures read { Sees (λ v. v.items) result self.new (run (contents count)
+            (place_of self.old) (log_of self.old)) }
+        ensures all { OnOk result (self.new.at + length self.new.rest.now
+            ≡ self.old.at + length self.old.rest.now) }
         ensures small { IfOk result (λ v. vec_len v ≡ count) }
     {
         let taken = self.bytes(count)?;
@@ -70,8 +72,10 @@ impl<'a> Reader<'a> {
     #[tactic(auto, unfolding(flat_code::specs::Image::data_block, flat_code::specs::Image::raw_data), using(crate::proofs::RunLemmas::run_seen, crate::proofs::RunLemmas::run_chain))]
     fn data_block(&mut self, alloc: Global, before: u16, sum: u32) -> Result<DataBlock, Stop>
         requires { self.old.at + length self.old.rest.now < 2 ^ 32 }
-        ensures read { Sees (λ d. d) result self.new (run (data_block (before, sum)) (place_of self.old) (log_of self.old)) }
-        ensures all { OnOk result (self.new.at + length self.new.rest.now ≡ self.old.at + length self.old.rest.now) }
+        ensures read { Sees (λ d. d) result self.new (run (data_block (before, sum))
+            (place_of self.old) (log_of self.old)) }
+        ensures all { OnOk result (self.new.at + length self.new.rest.now
+            ≡ self.old.at + length self.old.rest.now) }
         ensures small { IfOk result (λ d. length d.bytes ≤ 65535) }
     {
         let number = self.data_number(before)?;
@@ -92,8 +96,10 @@ impl<'a> Reader<'a> {
         count: u16,
     ) -> Result<Vec<DataBlock>, Stop>
         requires { self.old.at + length self.old.rest.now < 2 ^ 32 }
-        ensures read { Sees (λ v. v.items) result self.new (run (plain_data_blocks count) (place_of self.old) (log_of self.old)) }
-        ensures all { OnOk result (self.new.at + length self.new.rest.now ≡ self.old.at + length self.old.rest.now) }
+        ensures read { Sees (λ v. v.items) result self.new (run (plain_data_blocks count)
+            (place_of self.old) (log_of self.old)) }
+        ensures all { OnOk result (self.new.at + length self.new.rest.now
+            ≡ self.old.at + length self.old.rest.now) }
     {
         let mut blocks = Vec::new(alloc);
         let mut before = 0;
@@ -112,8 +118,10 @@ impl<'a> Reader<'a> {
     #[tactic(auto, unfolding(crate::specs::Running::run, crate::specs::Running::logged, crate::specs::Least::with_faults, flat_code::specs::Image::name_bytes))]
     fn name_text(&mut self, before: &[u8], count: u8) -> Result<&'a [u8], Ended>
         requires { self.old.at + length self.old.rest.now < 2 ^ 32 }
-        ensures read { seen (λ s. s.now) result self.new ≡ run (name_bytes before.now count) (place_of self.old) (log_of self.old) }
-        ensures all { self.new.at + length self.new.rest.now ≡ self.old.at + length self.old.rest.now }
+        ensures read { seen (λ s. s.now) result self.new
+            ≡ run (name_bytes before.now count) (place_of self.old) (log_of self.old) }
+        ensures all { self.new.at + length self.new.rest.now
+            ≡ self.old.at + length self.old.rest.now }
     {
         let at = self.at;
         let text = self.bytes(u16::from(count))?;
@@ -127,8 +135,10 @@ impl<'a> Reader<'a> {
     #[tactic(auto, unfolding(flat_code::specs::Image::name_record, flat_code::specs::Image::raw_name), using(crate::proofs::RunLemmas::run_seen, crate::proofs::RunLemmas::run_chain))]
     fn name(&mut self, before: &[u8]) -> Result<(&'a [u8], u8, u8, u16, u8), Ended>
         requires { self.old.at + length self.old.rest.now < 2 ^ 32 }
-        ensures read { seen name_values result self.new ≡ run (name_record before.now) (place_of self.old) (log_of self.old) }
-        ensures all { self.new.at + length self.new.rest.now ≡ self.old.at + length self.old.rest.now }
+        ensures read { seen name_values result self.new
+            ≡ run (name_record before.now) (place_of self.old) (log_of self.old) }
+        ensures all { self.new.at + length self.new.rest.now
+            ≡ self.old.at + length self.old.rest.now }
     {
         let count = self.name_len()?;
         let text = self.name_text(before, count)?;
@@ -141,8 +151,10 @@ impl<'a> Reader<'a> {
 
     pub(crate) fn names(&mut self, alloc: Global, count: u16) -> Result<Vec<NameRead>, Stop>
         requires { self.old.at + length self.old.rest.now < 2 ^ 32 }
-        ensures read { Sees (λ v. v.items) result self.new (run (many name_record after_name [] count) (place_of self.old) (log_of self.old)) }
-        ensures all { OnOk result (self.new.at + length self.new.rest.now ≡ self.old.at + length self.old.rest.now) }
+        ensures read { Sees (λ v. v.items) result self.new (run
+            (many name_record after_name [] count) (place_of self.old) (log_of self.old)) }
+        ensures all { OnOk result (self.new.at + length self.new.rest.now
+            ≡ self.old.at + length self.old.rest.now) }
     {
         let mut names = Vec::new(alloc);
         let mut before: &[u8] = &[];

@@ -11,8 +11,10 @@ impl Reader<'_> {
     #[tactic(auto, unfolding(flat_code::specs::Image::plain_u16))]
     pub(crate) fn plain_u16(&mut self) -> Result<u16, Ended>
         requires { self.old.at + length self.old.rest.now < 2 ^ 32 }
-        ensures read { seen (λ n. n) result self.new ≡ run plain_u16 (place_of self.old) (log_of self.old) }
-        ensures all { self.new.at + length self.new.rest.now ≡ self.old.at + length self.old.rest.now }
+        ensures read { seen (λ n. n) result self.new
+            ≡ run plain_u16 (place_of self.old) (log_of self.old) }
+        ensures all { self.new.at + length self.new.rest.now
+            ≡ self.old.at + length self.old.rest.now }
         ensures step { OnOk result (self.new.at ≡ self.old.at + 2) }
     {
         let number = self.u16()?;
@@ -22,8 +24,10 @@ impl Reader<'_> {
     #[tactic(auto, unfolding(flat_code::specs::Image::plain_u32))]
     pub(crate) fn plain_u32(&mut self) -> Result<u32, Ended>
         requires { self.old.at + min 4 (length self.old.rest.now) < 2 ^ 32 }
-        ensures read { seen (λ n. n) result self.new ≡ run plain_u32 (place_of self.old) (log_of self.old) }
-        ensures all { self.new.at + length self.new.rest.now ≡ self.old.at + length self.old.rest.now }
+        ensures read { seen (λ n. n) result self.new
+            ≡ run plain_u32 (place_of self.old) (log_of self.old) }
+        ensures all { self.new.at + length self.new.rest.now
+            ≡ self.old.at + length self.old.rest.now }
         ensures step { OnOk result (self.new.at ≡ self.old.at + 4) }
     {
         let number = self.u32()?;
@@ -33,8 +37,10 @@ impl Reader<'_> {
     #[tactic(auto, unfolding(crate::specs::Running::run, crate::specs::Running::logged, crate::specs::Least::with_faults, flat_code::specs::Image::zero_u8))]
     pub(crate) fn reserved_u8(&mut self) -> Result<u8, Ended>
         requires { self.old.at + length self.old.rest.now < 2 ^ 32 }
-        ensures read { seen (λ n. n) result self.new ≡ run zero_u8 (place_of self.old) (log_of self.old) }
-        ensures all { self.new.at + length self.new.rest.now ≡ self.old.at + length self.old.rest.now }
+        ensures read { seen (λ n. n) result self.new
+            ≡ run zero_u8 (place_of self.old) (log_of self.old) }
+        ensures all { self.new.at + length self.new.rest.now
+            ≡ self.old.at + length self.old.rest.now }
         ensures step { OnOk result (self.new.at ≡ self.old.at + 1) }
     {
         let at = self.at;
@@ -51,8 +57,10 @@ impl Reader<'_> {
     #[tactic(auto, unfolding(crate::specs::Running::run, crate::specs::Running::logged, crate::specs::Least::with_faults, flat_code::specs::Image::zero_u16))]
     pub(crate) fn reserved_u16(&mut self) -> Result<u16, Ended>
         requires { self.old.at + min 4 (length self.old.rest.now) < 2 ^ 32 }
-        ensures read { seen (λ n. n) result self.new ≡ run zero_u16 (place_of self.old) (log_of self.old) }
-        ensures all { self.new.at + length self.new.rest.now ≡ self.old.at + length self.old.rest.now }
+        ensures read { seen (λ n. n) result self.new
+            ≡ run zero_u16 (place_of self.old) (log_of self.old) }
+        ensures all { self.new.at + length self.new.rest.now
+            ≡ self.old.at + length self.old.rest.now }
         ensures step { OnOk result (self.new.at ≡ self.old.at + 2) }
     {
         let at = self.at;
@@ -64,8 +72,10 @@ impl Reader<'_> {
     #[tactic(auto, unfolding(crate::specs::Running::run, crate::specs::Running::logged, crate::specs::Least::with_faults, flat_code::specs::Image::width_field))]
     pub(crate) fn width(&mut self) -> Result<u8, Ended>
         requires { self.old.at + length self.old.rest.now < 2 ^ 32 }
-        ensures read { seen (λ n. n) result self.new ≡ run width_field (place_of self.old) (log_of self.old) }
-        ensures all { self.new.at + length self.new.rest.now ≡ self.old.at + length self.old.rest.now }
+        ensures read { seen (λ n. n) result self.new
+            ≡ run width_field (place_of self.old) (log_of self.old) }
+        ensures all { self.new.at + length self.new.rest.now
+            ≡ self.old.at + length self.old.rest.now }
         ensures step { OnOk result (self.new.at ≡ self.old.at + 1) }
     {
         let at = self.at;
@@ -77,8 +87,10 @@ impl Reader<'_> {
     #[tactic(auto, unfolding(crate::specs::Running::run, crate::specs::Running::logged, crate::specs::Least::with_faults, flat_code::specs::Image::section_field))]
     pub(crate) fn section(&mut self) -> Result<u8, Ended>
         requires { self.old.at + length self.old.rest.now < 2 ^ 32 }
-        ensures read { seen (λ n. n) result self.new ≡ run section_field (place_of self.old) (log_of self.old) }
-        ensures all { self.new.at + length self.new.rest.now ≡ self.old.at + length self.old.rest.now }
+        ensures read { seen (λ n. n) result self.new
+            ≡ run section_field (place_of self.old) (log_of self.old) }
+        ensures all { self.new.at + length self.new.rest.now
+            ≡ self.old.at + length self.old.rest.now }
         ensures step { OnOk result (self.new.at ≡ self.old.at + 1) }
     {
         let at = self.at;
@@ -95,8 +107,10 @@ impl Reader<'_> {
         width: u8,
     ) -> Result<u16, Ended>
         requires { self.old.at + length self.old.rest.now < 2 ^ 32 }
-        ensures read { seen (λ n. n) result self.new ≡ run (parameter_byte kind instance width) (place_of self.old) (log_of self.old) }
-        ensures all { self.new.at + length self.new.rest.now ≡ self.old.at + length self.old.rest.now }
+        ensures read { seen (λ n. n) result self.new
+            ≡ run (parameter_byte kind instance width) (place_of self.old) (log_of self.old) }
+        ensures all { self.new.at + length self.new.rest.now
+            ≡ self.old.at + length self.old.rest.now }
         ensures step { OnOk result (self.new.at ≡ self.old.at + 2) }
     {
         let at = self.at;
@@ -116,8 +130,10 @@ impl Reader<'_> {
     #[tactic(auto, unfolding(crate::specs::Running::run, crate::specs::Running::logged, crate::specs::Least::with_faults, flat_code::specs::Image::parameter_bit))]
     pub(crate) fn parameter_bit(&mut self, kind: u8) -> Result<u8, Ended>
         requires { self.old.at + length self.old.rest.now < 2 ^ 32 }
-        ensures read { seen (λ n. n) result self.new ≡ run (parameter_bit kind) (place_of self.old) (log_of self.old) }
-        ensures all { self.new.at + length self.new.rest.now ≡ self.old.at + length self.old.rest.now }
+        ensures read { seen (λ n. n) result self.new
+            ≡ run (parameter_bit kind) (place_of self.old) (log_of self.old) }
+        ensures all { self.new.at + length self.new.rest.now
+            ≡ self.old.at + length self.old.rest.now }
         ensures step { OnOk result (self.new.at ≡ self.old.at + 1) }
     {
         let at = self.at;
@@ -129,8 +145,10 @@ impl Reader<'_> {
     #[tactic(auto, unfolding(crate::specs::Running::run, crate::specs::Running::logged, crate::specs::Least::with_faults, flat_code::specs::Image::kind_field))]
     pub(crate) fn kind(&mut self, before: u8) -> Result<u8, Ended>
         requires { self.old.at + length self.old.rest.now < 2 ^ 32 }
-        ensures read { seen (λ n. n) result self.new ≡ run (kind_field before) (place_of self.old) (log_of self.old) }
-        ensures all { self.new.at + length self.new.rest.now ≡ self.old.at + length self.old.rest.now }
+        ensures read { seen (λ n. n) result self.new
+            ≡ run (kind_field before) (place_of self.old) (log_of self.old) }
+        ensures all { self.new.at + length self.new.rest.now
+            ≡ self.old.at + length self.old.rest.now }
         ensures step { OnOk result (self.new.at ≡ self.old.at + 1) }
     {
         let at = self.at;
@@ -148,8 +166,10 @@ impl Reader<'_> {
     #[tactic(auto, unfolding(crate::specs::Running::run, crate::specs::Running::logged, crate::specs::Least::with_faults, flat_code::specs::Image::parameter_count))]
     pub(crate) fn parameter_count(&mut self, kind: u8) -> Result<u8, Ended>
         requires { self.old.at + length self.old.rest.now < 2 ^ 32 }
-        ensures read { seen (λ n. n) result self.new ≡ run (parameter_count kind) (place_of self.old) (log_of self.old) }
-        ensures all { self.new.at + length self.new.rest.now ≡ self.old.at + length self.old.rest.now }
+        ensures read { seen (λ n. n) result self.new
+            ≡ run (parameter_count kind) (place_of self.old) (log_of self.old) }
+        ensures all { self.new.at + length self.new.rest.now
+            ≡ self.old.at + length self.old.rest.now }
         ensures step { OnOk result (self.new.at ≡ self.old.at + 1) }
     {
         let at = self.at;
@@ -172,8 +192,10 @@ impl Reader<'_> {
         kind: u8,
     ) -> Result<u16, Ended>
         requires { self.old.at + length self.old.rest.now < 2 ^ 32 }
-        ensures read { seen (λ n. n) result self.new ≡ run (block_number kind_before before kind) (place_of self.old) (log_of self.old) }
-        ensures all { self.new.at + length self.new.rest.now ≡ self.old.at + length self.old.rest.now }
+        ensures read { seen (λ n. n) result self.new
+            ≡ run (block_number kind_before before kind) (place_of self.old) (log_of self.old) }
+        ensures all { self.new.at + length self.new.rest.now
+            ≡ self.old.at + length self.old.rest.now }
         ensures step { OnOk result (self.new.at ≡ self.old.at + 2) }
     {
         let at = self.at;
@@ -193,8 +215,10 @@ impl Reader<'_> {
     #[tactic(auto, unfolding(crate::specs::Running::run, crate::specs::Running::logged, crate::specs::Least::with_faults, flat_code::specs::Image::local_bytes))]
     pub(crate) fn local_bytes(&mut self, kind: u8) -> Result<u16, Ended>
         requires { self.old.at + length self.old.rest.now < 2 ^ 32 }
-        ensures read { seen (λ n. n) result self.new ≡ run (local_bytes kind) (place_of self.old) (log_of self.old) }
-        ensures all { self.new.at + length self.new.rest.now ≡ self.old.at + length self.old.rest.now }
+        ensures read { seen (λ n. n) result self.new
+            ≡ run (local_bytes kind) (place_of self.old) (log_of self.old) }
+        ensures all { self.new.at + length self.new.rest.now
+            ≡ self.old.at + length self.old.rest.now }
         ensures step { OnOk result (self.new.at ≡ self.old.at + 2) }
     {
         let at = self.at;
@@ -212,8 +236,10 @@ impl Reader<'_> {
     #[tactic(auto, unfolding(crate::specs::Running::run, crate::specs::Running::logged, crate::specs::Least::with_faults, flat_code::specs::Image::instance_bytes))]
     pub(crate) fn instance_bytes(&mut self, kind: u8) -> Result<u16, Ended>
         requires { self.old.at + length self.old.rest.now < 2 ^ 32 }
-        ensures read { seen (λ n. n) result self.new ≡ run (instance_bytes kind) (place_of self.old) (log_of self.old) }
-        ensures all { self.new.at + length self.new.rest.now ≡ self.old.at + length self.old.rest.now }
+        ensures read { seen (λ n. n) result self.new
+            ≡ run (instance_bytes kind) (place_of self.old) (log_of self.old) }
+        ensures all { self.new.at + length self.new.rest.now
+            ≡ self.old.at + length self.old.rest.now }
         ensures step { OnOk result (self.new.at ≡ self.old.at + 2) }
     {
         let at = self.at;
@@ -231,8 +257,10 @@ impl Reader<'_> {
     #[tactic(auto, unfolding(crate::specs::Running::run, crate::specs::Running::logged, crate::specs::Least::with_faults, flat_code::specs::Image::line_field))]
     pub(crate) fn line(&mut self, before: u32) -> Result<u32, Ended>
         requires { self.old.at + length self.old.rest.now < 2 ^ 32 }
-        ensures read { seen (λ n. n) result self.new ≡ run (line_field true before) (place_of self.old) (log_of self.old) }
-        ensures all { self.new.at + length self.new.rest.now ≡ self.old.at + length self.old.rest.now }
+        ensures read { seen (λ n. n) result self.new
+            ≡ run (line_field true before) (place_of self.old) (log_of self.old) }
+        ensures all { self.new.at + length self.new.rest.now
+            ≡ self.old.at + length self.old.rest.now }
     {
         let at = self.at;
         let number = self.u32()?;
@@ -249,8 +277,10 @@ impl Reader<'_> {
     #[tactic(auto, unfolding(crate::specs::Running::run, crate::specs::Running::logged, crate::specs::Least::with_faults, flat_code::specs::Image::data_number))]
     pub(crate) fn data_number(&mut self, before: u16) -> Result<u16, Ended>
         requires { self.old.at + length self.old.rest.now < 2 ^ 32 }
-        ensures read { seen (λ n. n) result self.new ≡ run (data_number before) (place_of self.old) (log_of self.old) }
-        ensures all { self.new.at + length self.new.rest.now ≡ self.old.at + length self.old.rest.now }
+        ensures read { seen (λ n. n) result self.new
+            ≡ run (data_number before) (place_of self.old) (log_of self.old) }
+        ensures all { self.new.at + length self.new.rest.now
+            ≡ self.old.at + length self.old.rest.now }
     {
         let at = self.at;
         let number = self.u16()?;
@@ -261,8 +291,10 @@ impl Reader<'_> {
     #[tactic(auto, unfolding(crate::specs::Running::run, crate::specs::Running::logged, crate::specs::Least::with_faults, flat_code::specs::Image::instance_field))]
     pub(crate) fn instance_of(&mut self) -> Result<u16, Ended>
         requires { self.old.at + length self.old.rest.now < 2 ^ 32 }
-        ensures read { seen (λ n. n) result self.new ≡ run instance_field (place_of self.old) (log_of self.old) }
-        ensures all { self.new.at + length self.new.rest.now ≡ self.old.at + length self.old.rest.now }
+        ensures read { seen (λ n. n) result self.new
+            ≡ run instance_field (place_of self.old) (log_of self.old) }
+        ensures all { self.new.at + length self.new.rest.now
+            ≡ self.old.at + length self.old.rest.now }
     {
         let at = self.at;
         let number = self.u16()?;
@@ -273,8 +305,10 @@ impl Reader<'_> {
     #[tactic(auto, unfolding(crate::specs::Running::run, crate::specs::Running::logged, crate::specs::Least::with_faults, flat_code::specs::Image::data_len))]
     pub(crate) fn data_len(&mut self, before: u32) -> Result<u16, Ended>
         requires { self.old.at + length self.old.rest.now < 2 ^ 32 }
-        ensures read { seen (λ n. n) result self.new ≡ run (data_len before) (place_of self.old) (log_of self.old) }
-        ensures all { self.new.at + length self.new.rest.now ≡ self.old.at + length self.old.rest.now }
+        ensures read { seen (λ n. n) result self.new
+            ≡ run (data_len before) (place_of self.old) (log_of self.old) }
+        ensures all { self.new.at + length self.new.rest.now
+            ≡ self.old.at + length self.old.rest.now }
     {
         let at = self.at;
         let number = self.u16()?;
@@ -291,8 +325,10 @@ impl Reader<'_> {
     #[tactic(auto, unfolding(crate::specs::Running::run, crate::specs::Running::logged, crate::specs::Least::with_faults, flat_code::specs::Image::name_len))]
     pub(crate) fn name_len(&mut self) -> Result<u8, Ended>
         requires { self.old.at + length self.old.rest.now < 2 ^ 32 }
-        ensures read { seen (λ n. n) result self.new ≡ run name_len (place_of self.old) (log_of self.old) }
-        ensures all { self.new.at + length self.new.rest.now ≡ self.old.at + length self.old.rest.now }
+        ensures read { seen (λ n. n) result self.new
+            ≡ run name_len (place_of self.old) (log_of self.old) }
+        ensures all { self.new.at + length self.new.rest.now
+            ≡ self.old.at + length self.old.rest.now }
     {
         let at = self.at;
         let number = self.u8()?;
@@ -303,8 +339,10 @@ impl Reader<'_> {
     #[tactic(auto, unfolding(crate::specs::Running::run, crate::specs::Running::logged, crate::specs::Least::with_faults, flat_code::specs::Image::name_area))]
     pub(crate) fn name_area(&mut self) -> Result<u8, Ended>
         requires { self.old.at + length self.old.rest.now < 2 ^ 32 }
-        ensures read { seen (λ n. n) result self.new ≡ run name_area (place_of self.old) (log_of self.old) }
-        ensures all { self.new.at + length self.new.rest.now ≡ self.old.at + length self.old.rest.now }
+        ensures read { seen (λ n. n) result self.new
+            ≡ run name_area (place_of self.old) (log_of self.old) }
+        ensures all { self.new.at + length self.new.rest.now
+            ≡ self.old.at + length self.old.rest.now }
     {
         let at = self.at;
         let number = self.u8()?;
@@ -315,8 +353,10 @@ impl Reader<'_> {
     #[tactic(auto, unfolding(crate::specs::Running::run, crate::specs::Running::logged, crate::specs::Least::with_faults, flat_code::specs::Image::name_bit))]
     pub(crate) fn name_bit(&mut self, width: u8) -> Result<u8, Ended>
         requires { self.old.at + length self.old.rest.now < 2 ^ 32 }
-        ensures read { seen (λ n. n) result self.new ≡ run (name_bit width) (place_of self.old) (log_of self.old) }
-        ensures all { self.new.at + length self.new.rest.now ≡ self.old.at + length self.old.rest.now }
+        ensures read { seen (λ n. n) result self.new
+            ≡ run (name_bit width) (place_of self.old) (log_of self.old) }
+        ensures all { self.new.at + length self.new.rest.now
+            ≡ self.old.at + length self.old.rest.now }
     {
         let at = self.at;
         let number = self.u8()?;
@@ -327,8 +367,10 @@ impl Reader<'_> {
     #[tactic(auto, unfolding(crate::specs::Running::run, crate::specs::Running::logged, crate::specs::Least::with_faults, flat_code::specs::Image::data_count))]
     pub(crate) fn data_count(&mut self) -> Result<u16, Ended>
         requires { self.old.at + length self.old.rest.now < 2 ^ 32 }
-        ensures read { seen (λ n. n) result self.new ≡ run data_count (place_of self.old) (log_of self.old) }
-        ensures all { self.new.at + length self.new.rest.now ≡ self.old.at + length self.old.rest.now }
+        ensures read { seen (λ n. n) result self.new
+            ≡ run data_count (place_of self.old) (log_of self.old) }
+        ensures all { self.new.at + length self.new.rest.now
+            ≡ self.old.at + length self.old.rest.now }
     {
         let at = self.at;
         let number = self.u16()?;
@@ -339,8 +381,10 @@ impl Reader<'_> {
     #[tactic(auto, unfolding(crate::specs::Running::run, crate::specs::Running::logged, crate::specs::Least::with_faults, flat_code::specs::Image::magic_field))]
     pub(crate) fn magic(&mut self) -> Result<u32, Ended>
         requires { self.old.at + min 4 (length self.old.rest.now) < 2 ^ 32 }
-        ensures read { seen (λ n. n) result self.new ≡ run magic_field (place_of self.old) (log_of self.old) }
-        ensures all { self.new.at + length self.new.rest.now ≡ self.old.at + length self.old.rest.now }
+        ensures read { seen (λ n. n) result self.new
+            ≡ run magic_field (place_of self.old) (log_of self.old) }
+        ensures all { self.new.at + length self.new.rest.now
+            ≡ self.old.at + length self.old.rest.now }
         ensures step { OnOk result (self.new.at ≡ self.old.at + 4) }
     {
         let at = self.at;
@@ -352,8 +396,10 @@ impl Reader<'_> {
     #[tactic(auto, unfolding(crate::specs::Running::run, crate::specs::Running::logged, crate::specs::Least::with_faults, flat_code::specs::Image::version_field))]
     pub(crate) fn version(&mut self) -> Result<u16, Ended>
         requires { self.old.at + min 4 (length self.old.rest.now) < 2 ^ 32 }
-        ensures read { seen (λ n. n) result self.new ≡ run version_field (place_of self.old) (log_of self.old) }
-        ensures all { self.new.at + length self.new.rest.now ≡ self.old.at + length self.old.rest.now }
+        ensures read { seen (λ n. n) result self.new
+            ≡ run version_field (place_of self.old) (log_of self.old) }
+        ensures all { self.new.at + length self.new.rest.now
+            ≡ self.old.at + length self.old.rest.now }
         ensures step { OnOk result (self.new.at ≡ self.old.at + 2) }
     {
         let at = self.at;

@@ -68,7 +68,8 @@ fn data_lens(
     alloc: Global,
     datas: &Option<Vec<DataBlock>>,
 ) -> Result<Option<Vec<(u16, usize)>>, NoMemory>
-    ensures { IfOk result (λ l. option_map (λ v. v.items) l ≡ option_map (λ v. lens_of v.items) datas.now) }
+    ensures { IfOk result (λ l. option_map (λ v. v.items) l
+        ≡ option_map (λ v. lens_of v.items) datas.now) }
 {
     match datas {
         None => Ok(None),
@@ -98,7 +99,9 @@ fn judge_blocks(
     least: Option<LoadFault>,
 ) -> Result<Option<LoadFault>, NoMemory>
     requires { signatures.now ≡ map signature_of (blocks_of (map started blocks.now)) }
-    ensures { IfOk result (λ l. l ≡ with_faults least (judged_blocks (option_map (λ d. d.items) lens.now) (blocks_of (map started blocks.now)) (map started blocks.now))) }
+    ensures { IfOk result (λ l. l
+        ≡ with_faults least (judged_blocks (option_map
+        (λ d. d.items) lens.now) (blocks_of (map started blocks.now)) (map started blocks.now))) }
 {
     let mut least = least;
     for started in blocks {
@@ -146,7 +149,9 @@ pub(crate) struct Judged {
 /// Reads bytes as an image and judges them.
 pub(crate) fn judge(alloc: Global, bytes: &[u8]) -> Result<Judged, NoMemory>
     ensures least { IfOk result (λ j. j.least ≡ with_faults None (faults_of bytes.now)) }
-    ensures found { IfOk result (λ j. HasFound bytes.now (map started j.blocks.items) (option_map (λ v. v.items) j.datas) (option_map (λ v. v.items) j.names)) }
+    ensures found { IfOk result
+        (λ j. HasFound bytes.now (map started j.blocks.items) (option_map
+        (λ v. v.items) j.datas) (option_map (λ v. v.items) j.names)) }
 {
     let mut reader = Reader {
         rest: bytes,
@@ -176,7 +181,9 @@ pub(crate) fn judge(alloc: Global, bytes: &[u8]) -> Result<Judged, NoMemory>
 /// The names, or none where reading ended at a fault.
 fn read_names(alloc: Global, reader: &mut Reader) -> Result<Option<Vec<NameRead>>, NoMemory>
     requires { reader.old.at ≡ 0 }
-    ensures { IfOk result (λ n. SeesNames (option_map (λ v. v.items) n) reader.new (ran_read (read_image reader.old.rest.now) (log_of reader.old))) }
+    ensures { IfOk result (λ n. SeesNames (option_map
+        (λ v. v.items) n) reader.new (ran_read (read_image reader.old.rest.now)
+        (log_of reader.old))) }
 {
     match reader.image(alloc) {
         Ok(names) => Ok(Some(names)),

@@ -185,7 +185,8 @@ fn is_above(index: u8, other: Option<u8>) -> bool
 
 /// Whether a PASS has no CALL, or an index that doesn't rise.
 pub(crate) fn is_stray_pass(before: &[Op], last: &Op, index: u8) -> bool
-    ensures { result ≡ (not (last.now.code == 0x78) || not (is_above index (pass_before None before.now))) }
+    ensures { result ≡ (not (last.now.code == 0x78) || not (is_above index
+        (pass_before None before.now))) }
 {
     last.code != 0x78 || !is_above(index, pass_before(before))
 }

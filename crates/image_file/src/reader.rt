@@ -66,8 +66,10 @@ impl<'a> Reader<'a> {
     #[tactic(auto, unfolding(crate::specs::Running::run, crate::specs::Running::logged, crate::specs::Least::with_faults))]
     pub(crate) fn u8(&mut self) -> Result<u8, Ended>
         requires { self.old.at + length self.old.rest.now < 2 ^ 32 }
-        ensures read { seen (λ n. n) result self.new ≡ run (field a_byte plain) (place_of self.old) (log_of self.old) }
-        ensures all { self.new.at + length self.new.rest.now ≡ self.old.at + length self.old.rest.now }
+        ensures read { seen (λ n. n) result self.new
+            ≡ run (field a_byte plain) (place_of self.old) (log_of self.old) }
+        ensures all { self.new.at + length self.new.rest.now
+            ≡ self.old.at + length self.old.rest.now }
         ensures step { OnOk result (self.new.at ≡ self.old.at + 1) }
     {
         match self.rest {
@@ -86,8 +88,10 @@ impl<'a> Reader<'a> {
     #[tactic(auto, unfolding(crate::specs::Running::run, crate::specs::Running::logged, crate::specs::Least::with_faults))]
     pub(crate) fn u16(&mut self) -> Result<u16, Ended>
         requires { self.old.at + min 4 (length self.old.rest.now) < 2 ^ 32 }
-        ensures read { seen (λ n. n) result self.new ≡ run (field a_word plain) (place_of self.old) (log_of self.old) }
-        ensures all { self.new.at + length self.new.rest.now ≡ self.old.at + length self.old.rest.now }
+        ensures read { seen (λ n. n) result self.new
+            ≡ run (field a_word plain) (place_of self.old) (log_of self.old) }
+        ensures all { self.new.at + length self.new.rest.now
+            ≡ self.old.at + length self.old.rest.now }
         ensures step { OnOk result (self.new.at ≡ self.old.at + 2) }
     {
         match self.rest {
@@ -107,8 +111,10 @@ impl<'a> Reader<'a> {
     #[tactic(auto, unfolding(crate::specs::Running::run, crate::specs::Running::logged, crate::specs::Least::with_faults))]
     pub(crate) fn u32(&mut self) -> Result<u32, Ended>
         requires { self.old.at + min 4 (length self.old.rest.now) < 2 ^ 32 }
-        ensures read { seen (λ n. n) result self.new ≡ run (field a_dword plain) (place_of self.old) (log_of self.old) }
-        ensures all { self.new.at + length self.new.rest.now ≡ self.old.at + length self.old.rest.now }
+        ensures read { seen (λ n. n) result self.new
+            ≡ run (field a_dword plain) (place_of self.old) (log_of self.old) }
+        ensures all { self.new.at + length self.new.rest.now
+            ≡ self.old.at + length self.old.rest.now }
         ensures step { OnOk result (self.new.at ≡ self.old.at + 4) }
     {
         match self.rest {
@@ -129,8 +135,10 @@ impl<'a> Reader<'a> {
     #[tactic(auto, unfolding(crate::specs::Running::run, crate::specs::Running::logged, crate::specs::Least::with_faults))]
     pub(crate) fn bytes(&mut self, count: u16) -> Result<&'a [u8], Ended>
         requires { self.old.at + length self.old.rest.now < 2 ^ 32 }
-        ensures read { seen (λ s. s.now) result self.new ≡ run (field (bytes count) (λ bs. None)) (place_of self.old) (log_of self.old) }
-        ensures all { self.new.at + length self.new.rest.now ≡ self.old.at + length self.old.rest.now }
+        ensures read { seen (λ s. s.now) result self.new
+            ≡ run (field (bytes count) (λ bs. None)) (place_of self.old) (log_of self.old) }
+        ensures all { self.new.at + length self.new.rest.now
+            ≡ self.old.at + length self.old.rest.now }
         ensures len { IfOk result (λ s. length s.now ≡ count) }
     {
         if self.rest.len() < usize::from(count) {

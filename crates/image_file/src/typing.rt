@@ -83,7 +83,8 @@ fn block_of(block: BlockRead) -> CodeBlock
 
 /// The code blocks of a program, if none has more than 60 parameters.
 pub(crate) fn code_blocks(alloc: Global, blocks: Vec<Started>) -> Result<Vec<CodeBlock>, NoMemory>
-    ensures { IfOk result (λ v. AreFew (blocks_of (map started blocks.items)) → v.items ≡ map block_of_record (blocks_of (map started blocks.items))) }
+    ensures { IfOk result (λ v. AreFew (blocks_of (map started blocks.items)) → v.items
+        ≡ map block_of_record (blocks_of (map started blocks.items))) }
 {
     let mut typed = Vec::new(alloc);
     for started in blocks {
@@ -122,9 +123,11 @@ pub(crate) fn program(
     data_blocks: Vec<DataBlock>,
     names: Vec<NameRead>,
 ) -> Result<Program, NoMemory>
-    requires program { IsProgram (program_from (map started blocks.items) data_blocks.items names.items) }
+    requires program { IsProgram (program_from
+        (map started blocks.items) data_blocks.items names.items) }
     requires few { AreFew (blocks_of (map started blocks.items)) }
-    ensures { IfOk result (λ p. p ≡ program_from (map started blocks.items) data_blocks.items names.items) }
+    ensures { IfOk result (λ p. p
+        ≡ program_from (map started blocks.items) data_blocks.items names.items) }
 {
     let code_blocks = code_blocks(alloc, blocks)?;
     let names = Names::new(entries(alloc, names)?);

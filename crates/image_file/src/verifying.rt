@@ -43,7 +43,8 @@ pub(crate) struct Place<'a> {
 }
 
 fn differing(here: &Option<ArrayVec<u8, 7>>, there: &Option<ArrayVec<u8, 7>>) -> Option<u16>
-    ensures { result ≡ differing (option_map (λ v. v.items) here.now) (option_map (λ v. v.items) there.now) }
+    ensures { result ≡ differing (option_map (λ v. v.items) here.now) (option_map
+        (λ v. v.items) there.now) }
 {
     match here {
         None => None,
@@ -71,7 +72,8 @@ fn target_fault(
     here: &Option<ArrayVec<u8, 7>>,
     target: u32,
 ) -> Option<u16>
-    ensures { result ≡ target_fault (option_map (λ v. v.items) here.now) (spot_at statements.now target) }
+    ensures { result ≡ target_fault (option_map
+        (λ v. v.items) here.now) (spot_at statements.now target) }
 {
     match statement_at(statements, target) {
         None => Some(6),
@@ -105,7 +107,8 @@ fn operand_fault(
     place: &Place,
 ) -> Option<u16>
     requires { place.now.at + size op.now + length (code_bytes place.now.rest.now) < 2 ^ 32 }
-    ensures { result ≡ operand_fault (around_of around.now) statements.now (placed_of op.now place.now) op.now.operand }
+    ensures { result ≡ operand_fault (around_of around.now) statements.now
+        (placed_of op.now place.now) op.now.operand }
 {
     match op.operand {
         Operand::Direct {
@@ -140,7 +143,8 @@ fn call_fault_among(
     op: &Op,
     place: &Place,
 ) -> Option<u16>
-    ensures { result ≡ call_fault_among (around_of around.now) lens.now (placed_of op.now place.now) op.now.operand }
+    ensures { result ≡ call_fault_among (around_of around.now) lens.now
+        (placed_of op.now place.now) op.now.operand }
 {
     match op.operand {
         Operand::Called {
@@ -158,7 +162,8 @@ fn call_fault_among(
 
 /// The fault of a call, where calls are judged.
 fn call_fault(around: &Surroundings, op: &Op, place: &Place) -> Option<u16>
-    ensures { result ≡ call_fault (around_of around.now) (around_of around.now).data_lens (placed_of op.now place.now) }
+    ensures { result ≡ call_fault (around_of around.now) (around_of around.now).data_lens
+        (placed_of op.now place.now) }
 {
     match around.data_lens {
         None => None,
@@ -178,7 +183,8 @@ fn judge_op(
 ) -> Option<LoadFault>
     requires room { place.now.at + size op.now + length (code_bytes place.now.rest.now) < 2 ^ 32 }
     requires start { start + place.now.at < 2 ^ 32 }
-    ensures { result ≡ with_faults least (op_faults (around_of around.now) statements.now start (placed_of op.now place.now)) }
+    ensures { result ≡ with_faults least (op_faults (around_of around.now) statements.now start
+        (placed_of op.now place.now)) }
 {
     let at = start + place.at;
     let least = lesser_if(least, at, operand_fault(around, statements, op, place));
@@ -250,7 +256,8 @@ pub(crate) fn judge_block(
     least: Option<LoadFault>,
 ) -> Result<Option<LoadFault>, NoMemory>
     requires { start + length (code_bytes ops.now) < 2 ^ 32 }
-    ensures { IfOk result (λ l. l ≡ with_faults least (block_faults (around_of around.now) start ops.now)) }
+    ensures { IfOk result (λ l. l
+        ≡ with_faults least (block_faults (around_of around.now) start ops.now)) }
 {
     let statements = statements(alloc, ops)?;
     let mut least = least;

@@ -21,8 +21,10 @@ impl Reader<'_> {
     #[tactic(auto, unfolding(flat_code::specs::Image::counts), using(crate::proofs::RunLemmas::run_chain))]
     fn counts(&mut self) -> Result<CountsRead, Ended>
         requires { self.old.at + length self.old.rest.now < 2 ^ 32 }
-        ensures read { seen counts_values result self.new ≡ run counts (place_of self.old) (log_of self.old) }
-        ensures all { self.new.at + length self.new.rest.now ≡ self.old.at + length self.old.rest.now }
+        ensures read { seen counts_values result self.new
+            ≡ run counts (place_of self.old) (log_of self.old) }
+        ensures all { self.new.at + length self.new.rest.now
+            ≡ self.old.at + length self.old.rest.now }
     {
         let codes = self.plain_u16()?;
         let datas = self.data_count()?;
@@ -40,8 +42,10 @@ impl Reader<'_> {
     #[tactic(auto, unfolding(flat_code::specs::Image::data_blocks, crate::specs::Running::logged, crate::specs::Least::with_faults), using(crate::proofs::RunLemmas::run_remembered))]
     fn data_blocks(&mut self, alloc: Global, count: u16) -> Result<(), Stop>
         requires { self.old.at + length self.old.rest.now < 2 ^ 32 }
-        ensures read { SeesDatas result self.new (run (data_blocks count) (place_of self.old) (log_of self.old)) }
-        ensures all { OnOk result (self.new.at + length self.new.rest.now ≡ self.old.at + length self.old.rest.now) }
+        ensures read { SeesDatas result self.new (run (data_blocks count) (place_of self.old)
+            (log_of self.old)) }
+        ensures all { OnOk result (self.new.at + length self.new.rest.now
+            ≡ self.old.at + length self.old.rest.now) }
     {
         let blocks = self.plain_data_blocks(alloc, count)?;
         self.datas = Some(blocks);
@@ -51,8 +55,11 @@ impl Reader<'_> {
     /// All records behind the total length. The blocks are kept.
     fn records(&mut self, alloc: Global) -> Result<Vec<NameRead>, Stop>
         requires { self.old.at + length self.old.rest.now + 2000 < 2 ^ 32 }
-        ensures read { SeesRecords (λ v. v.items) result self.new (run (records true) (place_of self.old) (log_of self.old)) }
-        ensures all { OnOk result (self.new.at + length self.new.rest.now ≡ self.old.at + length self.old.rest.now) }
+        ensures read { SeesRecords
+            (λ v. v.items) result self.new (run (records true) (place_of self.old)
+            (log_of self.old)) }
+        ensures all { OnOk result (self.new.at + length self.new.rest.now
+            ≡ self.old.at + length self.old.rest.now) }
     {
         let counts = self.counts()?;
         self.code_blocks(alloc, counts.codes)?;
@@ -64,8 +71,10 @@ impl Reader<'_> {
     #[tactic(auto, unfolding(flat_code::specs::Image::front), using(crate::proofs::RunLemmas::run_chain))]
     fn front(&mut self) -> Result<FrontRead, Ended>
         requires { self.old.at ≡ 0 }
-        ensures read { seen front_values result self.new ≡ run front (place_of self.old) (log_of self.old) }
-        ensures all { self.new.at + length self.new.rest.now ≡ self.old.at + length self.old.rest.now }
+        ensures read { seen front_values result self.new
+            ≡ run front (place_of self.old) (log_of self.old) }
+        ensures all { self.new.at + length self.new.rest.now
+            ≡ self.old.at + length self.old.rest.now }
         ensures at { IfOk result (λ f. self.new.at ≡ 12) }
     {
         let magic = self.magic()?;
@@ -92,7 +101,8 @@ impl Reader<'_> {
         requires low { 20 ≤ total }
         requires there { total ≤ size }
         requires high { total ≤ 8388608 }
-        ensures { SeesImage (λ v. v.items) result self.new (ran_read (cut true size total (place_of self.old)) (log_of self.old)) }
+        ensures { SeesImage (λ v. v.items) result self.new (ran_read (cut true size total
+            (place_of self.old)) (log_of self.old)) }
     {
         self.note_if(size != total as usize, total, 10);
         self.rest = up_to(self.rest, total as usize - 12);
@@ -104,7 +114,8 @@ impl Reader<'_> {
     /// An image. The names are answered, the blocks are kept.
     pub(crate) fn image(&mut self, alloc: Global) -> Result<Vec<NameRead>, Stop>
         requires { self.old.at ≡ 0 }
-        ensures { SeesImage (λ v. v.items) result self.new (ran_read (read_image self.old.rest.now) (log_of self.old)) }
+        ensures { SeesImage (λ v. v.items) result self.new (ran_read
+            (read_image self.old.rest.now) (log_of self.old)) }
     {
         let size = self.rest.len();
         let front = self.front()?;
@@ -126,7 +137,8 @@ impl Reader<'_> {
     /// Notes a fault where there is one.
     #[tactic(auto, unfolding(crate::specs::Least::with_faults, crate::specs::Running::logged))]
     fn note_if(&mut self, faulty: bool, at: u32, code: u16)
-        ensures log { log_of self.new ≡ logged (log_of self.old) (if faulty then Faulty at code ∷ [] else []) }
+        ensures log { log_of self.new
+            ≡ logged (log_of self.old) (if faulty then Faulty at code ∷ [] else []) }
         ensures at { self.new.at ≡ self.old.at }
         ensures rest { self.new.rest.now ≡ self.old.rest.now }
     {
