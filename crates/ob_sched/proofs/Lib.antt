@@ -3,6 +3,7 @@ pub mod BitmapLemmas
 pub mod ChangeLemmas
 pub mod CountLemmas
 pub mod CountdownLemmas
+pub mod DueLemmas
 pub mod ListedLemmas
 pub mod QueueLemmas
 pub mod QuietLemmas

@@ -1,5 +1,6 @@
 pub mod Bin
 pub mod Course
+pub mod Dues
 pub mod Millisecond
 pub mod OrganizationBlock
 pub mod Quiet

@@ -5,41 +5,42 @@ ghost use Rattle.ob_sched.specs.OrganizationBlock.{is_delay, is_cyclic};
 ghost use Rattle.ob_sched.specs.Quiet.{DelayLasts, delays_shortened, periods_shortened};
 ghost use Rattle.ob_sched.specs.Scheduler.{no_delays, whole_periods, delay_set, delay_of};
 
+use crate::dues::{Due, FIRST_CYCLIC, FIRST_DELAY, left_of, listed, period_left};
 use crate::organization_blocks::period_of;
 use arrayvec::ArrayVec;
 use std::marker::Model;
 
-/// The first time delay interrupt.
-const FIRST_DELAY: u16 = 20;
-
-/// How many there are.
+/// How many time delay interrupts there are.
 const DELAYS: usize = 4;
 
-/// The first cyclic interrupt.
-const FIRST_CYCLIC: u16 = 30;
-
-/// How many there are.
+/// How many cyclic interrupts there are.
 const CYCLIC: usize = 9;
 
 /// The periods of the cyclic interrupts in milliseconds.
 const PERIODS: [u32; CYCLIC] = [5000, 2000, 1000, 500, 200, 100, 50, 20, 10];
 
-/// The milliseconds left of the started delays and of the periods of the cyclic interrupts.
+/// The milliseconds left of the started delays and of the periods of the cyclic interrupts, in one list
+/// that is sorted by millisecond and then by number, so that a delay comes before a cyclic interrupt of
+/// the same millisecond.
 #[derive(Drop)]
 pub(crate) struct Countdowns {
-    delays: [Option<u32>; DELAYS],
-    periods: [u32; CYCLIC],
+    dues: ArrayVec<Due, 13>,
 }
 
 impl Model for Countdowns {
-    ghost use Rattle.std.specs.Prelude.{◌≡◌, length};
+    ghost use Rattle.std.specs.Prelude.{◌≡◌};
+    ghost use Rattle.ob_sched.specs.Dues.{listed, delays_in, periods_in};
     ghost use Rattle.ob_sched.specs.Scheduler.{Countdowns as CountdownsValue};
 
     ghost Value = { CountdownsValue };
 
-    ghost view = { λ c. record { delays = c.delays; periods = c.periods } };
+    ghost view = { λ c. record {
+        delays = delays_in c.dues.items;
+        periods = periods_in c.dues.items;
+    } };
 
-    ghost invariant = { λ c. (length c.delays ≡ 4) × (length c.periods ≡ 9) };
+    ghost invariant = { λ c. c.dues.items
+        ≡ listed (delays_in c.dues.items) (periods_in c.dues.items) };
 }
 
 /// Whether a delay ends with a millisecond.
@@ -138,26 +139,52 @@ fn least_delay(delays: &[Option<u32>]) -> u32
     least
 }
 
-/// No period has fewer milliseconds left than this.
-fn least_period(periods: &[u32]) -> u32
-    ensures { All (λ left. result ≤ left) periods.now }
-{
-    let mut least = u32::MAX;
-    for left in periods {
-        least = least.min(*left);
-    }
-    least
-}
-
 impl Countdowns {
+    /// The list of these delays and periods.
+    fn of(delays: [Option<u32>; DELAYS], periods: [u32; CYCLIC]) -> Countdowns
+        ensures { result ≡ record { delays = delays; periods = periods } }
+    {
+        Countdowns {
+            dues: listed(&delays, &periods),
+        }
+    }
+
+    /// The milliseconds left of the started delays.
+    fn delays(&self) -> [Option<u32>; DELAYS]
+        ensures { result ≡ self.now.delays }
+    {
+        let dues = self.dues.as_slice();
+        [
+            left_of(20, dues),
+            left_of(21, dues),
+            left_of(22, dues),
+            left_of(23, dues),
+        ]
+    }
+
+    /// The milliseconds left of the periods.
+    fn periods(&self) -> [u32; CYCLIC]
+        ensures { result ≡ self.now.periods }
+    {
+        let dues = self.dues.as_slice();
+        [
+            period_left(30, dues),
+            period_left(31, dues),
+            period_left(32, dues),
+            period_left(33, dues),
+            period_left(34, dues),
+            period_left(35, dues),
+            period_left(36, dues),
+            period_left(37, dues),
+            period_left(38, dues),
+        ]
+    }
+
     /// No delay is started, and the periods begin.
     pub(crate) fn new() -> Countdowns
         ensures { result ≡ record { delays = no_delays; periods = whole_periods } }
     {
-        Countdowns {
-            delays: [None; DELAYS],
-            periods: PERIODS,
-        }
+        Countdowns::of([None; DELAYS], PERIODS)
     }
 
     /// The milliseconds left of a delay, if it is started.
@@ -165,7 +192,7 @@ impl Countdowns {
         requires { IsTrue (is_delay ob) }
         ensures { result ≡ delay_of self.now ob }
     {
-        self.delays[usize::from(ob - FIRST_DELAY)]
+        self.delays()[usize::from(ob - FIRST_DELAY)]
     }
 
     /// A delay starts, or ends.
@@ -173,21 +200,23 @@ impl Countdowns {
         requires { IsTrue (is_delay ob) }
         ensures { self.new ≡ delay_set left ob self.old }
     {
-        self.delays[usize::from(ob - FIRST_DELAY)] = left;
+        let mut delays = self.delays();
+        delays[usize::from(ob - FIRST_DELAY)] = left;
+        *self = Countdowns::of(delays, self.periods());
     }
 
     /// All delays end.
     pub(crate) fn end_delays(&mut self)
         ensures { self.new ≡ record self.old { delays = no_delays } }
     {
-        self.delays = [None; DELAYS];
+        *self = Countdowns::of([None; DELAYS], self.periods());
     }
 
     /// The periods begin.
     pub(crate) fn begin_periods(&mut self)
         ensures { self.new ≡ record self.old { periods = whole_periods } }
     {
-        self.periods = PERIODS;
+        *self = Countdowns::of(self.delays(), PERIODS);
     }
 
     /// The organization blocks whose delays end with the next millisecond, by number.
@@ -195,8 +224,9 @@ impl Countdowns {
         ensures ending { result.items ≡ ending_from 20 self.now.delays }
         ensures known { AllPass is_delay result.items }
     {
+        let delays = self.delays();
         let mut obs = ArrayVec::new();
-        for (i, delay) in self.delays.iter().enumerate() {
+        for (i, delay) in delays.iter().enumerate() {
             if is_ending(*delay) {
                 obs.push(FIRST_DELAY + i as u16);
             }
@@ -208,7 +238,9 @@ impl Countdowns {
     pub(crate) fn count_delays(&mut self)
         ensures { self.new ≡ record self.old { delays = map delay_counted self.old.delays } }
     {
-        count_delays(&mut self.delays);
+        let mut delays = self.delays();
+        count_delays(&mut delays);
+        *self = Countdowns::of(delays, self.periods());
     }
 
     /// The organization blocks whose periods end with the next millisecond, by number.
@@ -216,8 +248,9 @@ impl Countdowns {
         ensures due { result.items ≡ due_from 30 self.now.periods }
         ensures known { AllPass is_cyclic result.items }
     {
+        let periods = self.periods();
         let mut obs = ArrayVec::new();
-        for (i, left) in self.periods.iter().enumerate() {
+        for (i, left) in periods.iter().enumerate() {
             if *left <= 1 {
                 obs.push(FIRST_CYCLIC + i as u16);
             }
@@ -230,34 +263,44 @@ impl Countdowns {
         ensures { self.new
             ≡ record self.old { periods = periods_counted_from 30 self.old.periods } }
     {
-        count_periods(&mut self.periods);
+        let mut periods = self.periods();
+        count_periods(&mut periods);
+        *self = Countdowns::of(self.delays(), periods);
     }
 
     /// No started delay has fewer milliseconds left than this.
     pub(crate) fn least_delay(&self) -> u32
         ensures { All (DelayLasts result) self.now.delays }
     {
-        least_delay(&self.delays)
+        least_delay(&self.delays())
     }
 
-    /// No period has fewer milliseconds left than this.
-    pub(crate) fn least_period(&self) -> u32
-        ensures { All (λ left. result ≤ left) self.now.periods }
+    /// The front of the list: no started delay and no period has fewer milliseconds left than this.
+    pub(crate) fn least(&self) -> u32
+        ensures delays { All (DelayLasts result) self.now.delays }
+        ensures periods { All (λ left. result ≤ left) self.now.periods }
     {
-        least_period(&self.periods)
+        match self.dues.as_slice().first() {
+            Some(due) => due.ms,
+            None => 0,
+        }
     }
 
     /// Milliseconds of the delays, in which none ends.
     pub(crate) fn shorten_delays(&mut self, ms: u32)
         ensures { self.new ≡ delays_shortened ms self.old }
     {
-        shorten_delays(&mut self.delays, ms);
+        let mut delays = self.delays();
+        shorten_delays(&mut delays, ms);
+        *self = Countdowns::of(delays, self.periods());
     }
 
     /// Milliseconds of the periods, in which none ends.
     pub(crate) fn shorten_periods(&mut self, ms: u32)
         ensures { self.new ≡ periods_shortened ms self.old }
     {
-        shorten_periods(&mut self.periods, ms);
+        let mut periods = self.periods();
+        shorten_periods(&mut periods, ms);
+        *self = Countdowns::of(self.delays(), periods);
     }
 }

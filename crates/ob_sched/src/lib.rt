@@ -6,6 +6,7 @@ mod bins;
 mod clocks;
 mod countdowns;
 mod cycle_times;
+mod dues;
 mod errors;
 pub mod laws;
 mod ob_sets;

@@ -155,12 +155,9 @@ impl Sched {
     fn ms_to_next(&self, mode: Mode) -> u32
         ensures { Lasts mode result (scheduler_of self.now) }
     {
-        let delay = self.countdowns.least_delay();
         match mode {
-            Mode::Run => delay
-                .min(self.countdowns.least_period())
-                .min(self.cycle.ms_left()),
-            _ => delay,
+            Mode::Run => self.countdowns.least().min(self.cycle.ms_left()),
+            _ => self.countdowns.least_delay(),
         }
     }
 
