@@ -35,8 +35,8 @@ impl Model for Countdowns {
     ghost Value = { CountdownsValue };
 
     ghost view = { λ c. record {
-        delays = delays_in c.dues.items;
-        periods = periods_in c.dues.items;
+      delays = delays_in c.dues.items;
+      periods = periods_in c.dues.items;
     } };
 
     ghost invariant = { λ c. c.dues.items
