@@ -1,6 +1,5 @@
-use Rattle.std.proofs.Common.{rules, ◌≡◌, ◌∙◌, ◌<◌, ◌+◌, sym, ap, length, arith}
+use Rattle.std.proofs.Common.{rules, ◌≡◌, ◌∙◌, ◌<◌, ◌+◌, ap, length, arith}
 use Rattle.ob_sched.specs.Millisecond.{due_from}
-use Rattle.ob_sched.specs.Scheduler.{Countdowns}
 use Rattle.ob_sched.proofs.CountdownLemmas.{due_found, due_passed, due_all, due_known, cyclic_number, length_found}
 use Rattle.std.specs.List.{list_all}
 use Rattle.std.proofs.lemmas.List.Sums.{AllPass-from_list_all}

@@ -1,6 +1,5 @@
 use Rattle.std.proofs.Common.{rules, ◌≡◌, ◌∙◌, ◌<◌, ◌+◌, sym, ap, length, arith}
 use Rattle.ob_sched.specs.Millisecond.{ending_from}
-use Rattle.ob_sched.specs.Scheduler.{Countdowns}
 use Rattle.ob_sched.proofs.CountdownLemmas.{ending_found, ending_passed, ending_all, ending_known, delay_number, length_found}
 use Rattle.std.specs.List.{list_all}
 use Rattle.std.proofs.lemmas.List.Sums.{AllPass-from_list_all}
