@@ -1,4 +1,4 @@
--- The nine system functions.
+-- The system functions with a return value. RE_TRIGR and STP have none, and no definition of their own: their contracts say what they leave.
 use Rattle.std.specs.Prelude.{◌≡◌, ℕ, ◌+◌, ◌-◌, min, Bool, true, false, ◌&&◌, not, nat_le, ◌==◌, is_some, Option, Some, None, if◌then◌else◌}
 use Rattle.frames.specs.declared.activation.Activation.{Activation}
 use Rattle.ob_sched.specs.OrganizationBlock.{is_delay}
@@ -14,7 +14,7 @@ with_delay n a = record a { delay = n }
 unfoldable pub dis_airt : Scheduler → Activation → Returned
 dis_airt s a = let n : ℕ = min (a.delay + 1) 32767 in returned s (with_delay n a) n
 
--- SFC 42 EN_AIRT: the delay count is one less, and is returned; where it is 0, 16#8080 and nothing changes
+-- SFC 42 EN_AIRT: the delay count is one less, and is returned; where it is 0, 16#8080 and nothing changes but BR
 unfoldable pub en_airt : Scheduler → Activation → Returned
 en_airt s a =
     if a.delay == 0 then returned s a 0x8080

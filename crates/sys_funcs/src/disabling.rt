@@ -97,7 +97,7 @@ fn set_unless_refused(
     returned(a, 0)
 }
 
-/// SFC 39 DIS_IRT: disables interrupts: all of them (MODE 0), the group whose first number is OB_NR
+/// SFC 39 DIS_IRT: disables interrupts: all of them (MODE 0, whatever OB_NR is), the group whose first number is OB_NR
 /// (MODE 1: 10, 20, 30 or 40), or that of OB_NR (MODE 2). Another MODE is 16#8091; after that another
 /// OB_NR is 16#8090.
 #[tactic(auto, unfolding(crate::specs::Functions::dis_irt))]

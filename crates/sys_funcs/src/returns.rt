@@ -3,7 +3,7 @@ ghost use Rattle.sys_funcs.specs.Returned.{br_of, with_br};
 
 use frames::Activation;
 
-/// Sets the binary result BR (manual: BR after a system function).
+/// Sets the binary result BR.
 pub fn set_br(a: &mut Activation, br: bool)
     ensures { a.new ≡ with_br br a.old }
 {
