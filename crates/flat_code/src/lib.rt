@@ -13,8 +13,6 @@ mod operands;
 mod ops;
 mod programs;
 mod table;
-#[cfg(test)]
-mod tests;
 mod words;
 
 pub use decoding::{BadOp, decode_op};

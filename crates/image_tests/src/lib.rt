@@ -3,3 +3,9 @@
 
 #[cfg(test)]
 mod images;
+#[cfg(test)]
+mod names_found;
+#[cfg(test)]
+mod op_code_table;
+#[cfg(test)]
+mod ops_both_ways;

@@ -1,6 +1,6 @@
 //! What names find, and the names of jumps and conditions.
 
-use crate::{JUMPS, NameEntry, Names, condition_of, flag_of, jump_of};
+use flat_code::{JUMPS, NameEntry, Names, condition_of, flag_of, jump_of};
 use plc_base::{Area, Place, Width};
 use std::alloc::{AllocError, Global};
 use std::test::*;

@@ -3,7 +3,7 @@
 
 ghost use Rattle.std.specs.Prelude.{◌<◌};
 
-use crate::{
+use flat_code::{
     Adding, CallWord, Comparison, EndWord, Joined, Logic, Number, Operand, Passed, PointerWord,
     Shift, StartWord, Takes, Word, taken_by, word_of,
 };

@@ -1,7 +1,7 @@
 //! Ops as bytes, both ways: the least and the greatest payload of each form of each instruction,
 //! and bytes that are no op.
 
-use crate::{BadOp, Op, Operand, decode_op, encode_op};
+use flat_code::{BadOp, Op, Operand, decode_op, encode_op};
 use plc_base::{Area, Width};
 use std::alloc::Global;
 use std::test::*;
