@@ -6,7 +6,7 @@ use stl_parser::law_of_clauses;
 
 /// Each source with the line and the rule of its refusal, worked out by hand from the grammar and
 /// docs/REFUSALS.md.
-static REFUSALS: [(&str, u32, u16); 50] = [
+static REFUSALS: [(&str, u32, u16); 53] = [
     // Rule 10: not in the grammar.
     (
         "FUNCTION FC 1 : VOID\nBEGIN\nL DB10.DBW 2.x;\nEND_FUNCTION",
@@ -119,6 +119,16 @@ static REFUSALS: [(&str, u32, u16); 50] = [
         6,
         10,
     ),
+    (
+        "FUNCTION FC 1 : VOID\nVAR_IN_OUT\na : STRUCT\nb : INT;\nEND_STRUCT;\nEND_VAR\nBEGIN\nEND_FUNCTION",
+        3,
+        10,
+    ),
+    (
+        "ORGANIZATION_BLOCK OB 1\nBEGIN\nJU a.b;\na: SET;\nEND_ORGANIZATION_BLOCK",
+        3,
+        10,
+    ),
     // Rule 11: where its kind may not follow.
     (
         "ORGANIZATION_BLOCK OB 1\nBEGIN\na : INT;\nEND_ORGANIZATION_BLOCK",
@@ -162,6 +172,11 @@ static REFUSALS: [(&str, u32, u16); 50] = [
     ),
     (
         "ORGANIZATION_BLOCK OB 1\nVAR_TEMP\na : INT := 5;\nEND_VAR\nBEGIN\nEND_ORGANIZATION_BLOCK",
+        3,
+        11,
+    ),
+    (
+        "FUNCTION_BLOCK FB 1\nVAR_TEMP\na : INT := 5;\nEND_VAR\nBEGIN\nEND_FUNCTION_BLOCK",
         3,
         11,
     ),

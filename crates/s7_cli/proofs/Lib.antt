@@ -3,7 +3,6 @@ pub mod TextLemmas
 pub mod ListLemmas
 pub mod BuiltLemmas
 pub mod WordLemmas
-pub mod NumberLemmas
 pub mod LineLemmas
 pub mod HistoryLemmas
 pub mod ReadingLemmas

@@ -4,7 +4,7 @@ use Rattle.std.specs.Option.{option_map, option_and_then}
 use Rattle.std.specs.Str.Lines.{lines}
 use Rattle.std.proofs.lemmas.Grind.{common_steps}
 use Rattle.std.proofs.lemmas.List.Elements.{All-nil, All-cons, All-append, All-replicate}
-use Rattle.s7_cli.specs.Decimal.{decimal_value}
+use Rattle.plc_base.specs.Decimal.{decimal_up_to}
 use Rattle.var_access.specs.Entry.{IsValid}
 use Rattle.var_access.specs.declared.entries.Entry.{Entry}
 use Rattle.s7_cli.specs.History.{hex_byte, one_step, steps_of, entries_of_step, is_peripheral, input_of, entries_of_in, arrival_of, entries_of_arrive, words_of, entries_of_words, is_skipped, entries_of_line, entries_of_lines, with_few_steps, or_refused, history_of}
@@ -30,12 +30,12 @@ step-valid = (omega arith, tt)
 
 steps-valid : (n : ℕ) → AreValid (steps_of n)
 steps-valid n =
-    cond-valid (nat_le 1 n && nat_le n 1000000) (Some (replicate n one_step)) None (λ right. All-replicate IsValid n one_step step-valid) tt
+    cond-valid (nat_le 1 n) (Some (replicate n one_step)) None (λ right. All-replicate IsValid n one_step step-valid) tt
 
 entries_of_step-valid : (words : List (List ℕ)) → AreValid (entries_of_step words)
 unfolding entries_of_step
 entries_of_step-valid [] = one-valid one_step step-valid
-entries_of_step-valid (number ∷ []) = and-then-valid (decimal_value number) steps_of steps-valid
+entries_of_step-valid (number ∷ []) = and-then-valid (decimal_up_to 1000000 number) steps_of steps-valid
 entries_of_step-valid (number ∷ word ∷ words) = tt
 
 input-valid : (byte value : ℕ) → AreValid (input_of byte value)
@@ -47,7 +47,7 @@ unfolding entries_of_in
 entries_of_in-valid [] = tt
 entries_of_in-valid (byte ∷ []) = tt
 entries_of_in-valid (byte ∷ value ∷ []) =
-    and-then-valid (decimal_value byte) _ (λ b. and-then-valid (hex_byte value) (input_of b) (input-valid b))
+    and-then-valid (decimal_up_to 65535 byte) _ (λ b. and-then-valid (hex_byte value) (input_of b) (input-valid b))
 entries_of_in-valid (byte ∷ value ∷ word ∷ words) = tt
 
 arrival-valid : (ob : ℕ) → AreValid (arrival_of ob)
@@ -56,7 +56,7 @@ arrival-valid ob = cond-valid (ob == 40) _ None (λ right. one-valid _ (omega ar
 entries_of_arrive-valid : (words : List (List ℕ)) → AreValid (entries_of_arrive words)
 unfolding entries_of_arrive
 entries_of_arrive-valid [] = tt
-entries_of_arrive-valid (ob ∷ []) = and-then-valid (decimal_value ob) arrival_of arrival-valid
+entries_of_arrive-valid (ob ∷ []) = and-then-valid (decimal_up_to 65535 ob) arrival_of arrival-valid
 entries_of_arrive-valid (ob ∷ word ∷ words) = tt
 
 entries_of_words-valid : (words : List (List ℕ)) → AreValid (entries_of_words words)

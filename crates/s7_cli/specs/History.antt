@@ -6,8 +6,8 @@ use Rattle.std.specs.List.{slice_split, list_all, starts_with}
 use Rattle.std.specs.Str.Lines.{lines}
 use Rattle.std.specs.Str.Parse.{digits_value}
 use Rattle.plc_base.specs.AreaBytes.{is_peripheral_byte}
+use Rattle.plc_base.specs.Decimal.{decimal_up_to}
 use Rattle.plc_base.specs.declared.refusals.Refusal.{Refusal}
-use Rattle.s7_cli.specs.Decimal.{decimal_value}
 use Rattle.var_access.specs.declared.entries.Entry.{Entry}
 use Rattle.var_access.specs.declared.entries.What.{What}
 use Rattle.var_access.specs.declared.entries.What.TheVariants.{Step, Input, Arrive}
@@ -39,17 +39,21 @@ feeder = 2
 abbrev pub most_steps : ℕ
 most_steps = 1000000
 
+-- the greatest number of an address or a block
+abbrev pub greatest_number : ℕ
+greatest_number = 65535
+
 -- one step
 abbrev pub one_step : Entry
 one_step = record { who = stepper; what = Step }
 
 abbrev pub steps_of : ℕ → Option (List Entry)
-steps_of n = if nat_le 1 n && nat_le n most_steps then Some (replicate n one_step) else None
+steps_of n = if nat_le 1 n then Some (replicate n one_step) else None
 
 -- `step`, or `step n` for 1 to 1,000,000 steps
 unfoldable pub entries_of_step : List (List ℕ) → Option (List Entry)
 entries_of_step [] = Some (one_step ∷ [])
-entries_of_step (number ∷ []) = option_and_then steps_of (decimal_value number)
+entries_of_step (number ∷ []) = option_and_then steps_of (decimal_up_to most_steps number)
 entries_of_step words = None
 
 -- the peripheral input bytes that exist
@@ -61,7 +65,7 @@ input_of byte value = if is_peripheral byte then Some (record { who = feeder; wh
 
 -- `in b hh`: a peripheral input byte takes a value
 unfoldable pub entries_of_in : List (List ℕ) → Option (List Entry)
-entries_of_in (byte ∷ value ∷ []) = option_and_then (λ b. option_and_then (input_of b) (hex_byte value)) (decimal_value byte)
+entries_of_in (byte ∷ value ∷ []) = option_and_then (λ b. option_and_then (input_of b) (hex_byte value)) (decimal_up_to greatest_number byte)
 entries_of_in words = None
 
 abbrev pub arrival_of : ℕ → Option (List Entry)
@@ -69,7 +73,7 @@ arrival_of ob = if ob == 40 then Some (record { who = feeder; what = Arrive 40 0
 
 -- `arrive 40`: the hardware interrupt of OB 40 arrives, with the value 0
 unfoldable pub entries_of_arrive : List (List ℕ) → Option (List Entry)
-entries_of_arrive (ob ∷ []) = option_and_then arrival_of (decimal_value ob)
+entries_of_arrive (ob ∷ []) = option_and_then arrival_of (decimal_up_to greatest_number ob)
 entries_of_arrive words = None
 
 -- the first word of a line says what its other words mean

@@ -12,7 +12,6 @@ pub mod Says
 pub mod Reading
 pub mod Ends
 pub mod StatusTable
-pub mod Decimal
 pub mod Unbuilt
 pub mod Inner
 pub mod Faults

@@ -15,8 +15,7 @@ ghost use Rattle.s7_cli.specs.History.{
   entries_of_line,
 };
 
-use crate::decimals::read_number;
-use plc_base::Area;
+use plc_base::{Area, decimal_up_to};
 
 /// The most steps of a line, and of a history.
 pub const MOST_STEPS: u32 = 1_000_000;
@@ -121,7 +120,7 @@ fn read_step(words: &[u8]) -> Option<LineEntries>
     if first_word(rest).is_some() {
         return None;
     }
-    let count = read_number(number, MOST_STEPS)?;
+    let count = decimal_up_to(number, MOST_STEPS)?;
     if count == 0 {
         return None;
     }
@@ -138,7 +137,7 @@ fn read_input(words: &[u8]) -> Option<LineEntries>
     if first_word(rest).is_some() {
         return None;
     }
-    let byte = read_number(byte, MOST_NUMBER)? as u16;
+    let byte = decimal_up_to(byte, MOST_NUMBER)? as u16;
     let value = read_hex_byte(value)?;
     if !is_peripheral(byte) {
         return None;
@@ -155,7 +154,7 @@ fn read_arrival(words: &[u8]) -> Option<LineEntries>
     if first_word(rest).is_some() {
         return None;
     }
-    let ob = read_number(ob, MOST_NUMBER)? as u16;
+    let ob = decimal_up_to(ob, MOST_NUMBER)? as u16;
     if ob != HARDWARE_OB {
         return None;
     }

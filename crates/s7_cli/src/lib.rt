@@ -3,7 +3,6 @@
 
 mod building;
 mod checking;
-mod decimals;
 mod failures;
 mod files;
 mod finish;

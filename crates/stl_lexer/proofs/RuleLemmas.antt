@@ -1,19 +1,13 @@
--- The value of decimal digits.
-use Rattle.std.proofs.Common.{◌≡◌, ℕ, ◌+◌, ◌*◌, ◌-◌, ◌<◌, ◌≤◌, Bool, not, ap, drop, eqb, List, [], ◌∷◌, length, take, get_or, refl, sym, ◌∙◌, suc, inl, inr, arith}
-use Rattle.std.proofs.lemmas.List.Sums.{fold_more, suffix_len-take_no, suffix_len-le-length}
+-- Runs of digits, and the rest of a literal.
+use Rattle.std.proofs.Common.{◌≡◌, ℕ, ◌+◌, ◌-◌, ◌<◌, ◌≤◌, Bool, not, ap, drop, eqb, List, [], ◌∷◌, length, take, get_or, refl, sym, ◌∙◌, suc, inl, inr, arith}
+use Rattle.std.proofs.lemmas.List.Sums.{suffix_len-take_no, suffix_len-le-length}
 use Rattle.std.specs.List.{list_all, prefix_len, suffix_len}
 use Rattle.std.specs.Char.{is_ascii_digit}
 use Rattle.std.proofs.lemmas.Bool.{cases_Bool, eq-eqb, ne_eqb, not_from_true}
 use Rattle.std.proofs.lemmas.Bool.Decides.{nat_tests}
 use Rattle.stl_lexer.specs.Forms.{is_number}
-use Rattle.stl_lexer.specs.Bytes.{hash, zero_digit}
-use Rattle.stl_lexer.specs.Decimal.{decimal_value}
+use Rattle.stl_lexer.specs.Bytes.{hash}
 use Rattle.stl_lexer.specs.Rules.{behind_prefix}
-
--- one digit more
-pub decimal_value_more : (digits : List ℕ) (i : ℕ) → i < length digits → decimal_value (take (i + 1) digits) ≡ 10 * decimal_value (take i digits) + (get_or digits i 0 - zero_digit)
-unfolding decimal_value
-decimal_value_more digits i h = fold_more (λ n digit. 10 * n + (digit - zero_digit)) 0 digits i 0 h
 
 same_test : (m n : ℕ) → eqb m n ≡ eqb (1 + m) (suc n)
 same_test m n = grind (arith, nat_tests)

@@ -32,9 +32,6 @@ minus_sign = 45
 abbrev pub slash : ℕ
 slash = 47
 
-abbrev pub zero_digit : ℕ
-zero_digit = 48
-
 abbrev pub two_digit : ℕ
 two_digit = 50
 

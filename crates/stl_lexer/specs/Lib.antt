@@ -1,5 +1,4 @@
 pub mod Bytes
-pub mod Decimal
 pub mod Forms
 pub mod Gap
 pub mod Limits

@@ -6,7 +6,7 @@ use Rattle.stl_lexer.specs.declared.kinds.TokenKind.{TokenKind}
 use Rattle.stl_lexer.specs.declared.kinds.TokenKind.TheVariants.{Number, Characters, Based, NumberLiteral, TimeLiteral}
 use Rattle.stl_lexer.specs.declared.rules.Fault.{Fault}
 use Rattle.stl_lexer.specs.Bytes.{double_quote, hash, single_quote, minus_sign, two_digit, underscore, letter_b, letter_c, letter_s, letter_w, open_brace, in_source}
-use Rattle.stl_lexer.specs.Decimal.{decimal_value}
+use Rattle.plc_base.specs.Decimal.{decimal_value}
 pub use Rattle.stl_lexer.specs.Forms.{first_letter}
 use Rattle.stl_lexer.specs.Forms.{is_number, behind_sign}
 use Rattle.stl_lexer.specs.Limits.{no_token, no_end, wrong_literal, out_of_range, greatest_number, greatest_long, greatest_count, greatest_s5time, most_characters}

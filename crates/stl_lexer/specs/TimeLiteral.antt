@@ -6,7 +6,7 @@ use Rattle.std.specs.Str.{str_eq_ignore_ascii_case}
 use Rattle.stl_lexer.specs.declared.times.TimeUnit.{TimeUnit}
 use Rattle.stl_lexer.specs.declared.times.TimeUnit.TheVariants.{Day, Hour, Minute, Second, Millisecond}
 use Rattle.stl_lexer.specs.Bytes.{underscore}
-use Rattle.stl_lexer.specs.Decimal.{decimal_value}
+use Rattle.plc_base.specs.Decimal.{decimal_value}
 
 -- the units in falling order
 unfoldable pub units : List TimeUnit

@@ -3,7 +3,6 @@
 #![tactic(auto)]
 
 mod bytes;
-mod decimals;
 mod entries;
 mod gaps;
 mod kinds;
@@ -24,6 +23,10 @@ pub use lexer::{law_of_time_literals, law_of_tokens, lex};
 pub use lists::Tokens;
 pub use literals::{behind_prefix, milliseconds_within};
 pub use marks::{Mark, mark_text};
+pub use rules::{
+    GREATEST_COUNT, GREATEST_LONG, GREATEST_NEGATED, GREATEST_NEGATED_LONG, GREATEST_NUMBER,
+    GREATEST_S5TIME,
+};
 
 /// The most bytes that a source may have.
 pub const SOURCE_LIMIT: usize = 1_048_576;

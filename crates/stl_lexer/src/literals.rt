@@ -22,13 +22,13 @@ ghost use Rattle.stl_lexer.specs.Rules.{
 ghost use Rattle.stl_lexer.specs.TimeLiteral.{milliseconds, units};
 
 use crate::bytes::{behind, digit_run, first_letter};
-use crate::decimals::decimal_value;
 use crate::entries::sign_length;
 use crate::rules::{
     GREATEST_COUNT, GREATEST_LONG, GREATEST_NEGATED, GREATEST_NEGATED_LONG, GREATEST_NUMBER,
-    GREATEST_S5TIME, OUT_OF_RANGE, WRONG_LITERAL,
+    GREATEST_S5TIME, OUT_OF_RANGE, VALUE_CAP, WRONG_LITERAL,
 };
 use crate::times::{UNITS, milliseconds};
+use plc_base::capped_decimal;
 
 /// What stands behind the prefix of a literal, which ends with `#`.
 pub fn behind_prefix(token: &[u8]) -> &[u8]
@@ -52,15 +52,14 @@ fn is_negative(text: &[u8]) -> bool
 /// Rule 4 above the greatest value, rule 3 where there is no value; a value may be cut off above
 /// every limit.
 #[tactic(auto, unfolding(crate::specs::Rules::value_rule))]
-fn value_rule(greatest: u64, value: Option<u64>) -> Option<u16>
-    requires { greatest < value_cap }
+fn value_rule(greatest: u32, value: Option<u64>) -> Option<u16>
     ensures { (exact : Option ℕ) → value ≡ option_map (λ n. min n value_cap) exact
         → result ≡ value_rule greatest exact }
 {
     match value {
         None => Some(WRONG_LITERAL),
         Some(n) => {
-            if n > greatest {
+            if n > u64::from(greatest) {
                 Some(OUT_OF_RANGE)
             } else {
                 None
@@ -83,7 +82,7 @@ fn decimal(text: &[u8]) -> Option<u64>
     ensures { result ≡ option_map (λ n. min n value_cap) (decimal text.now) }
 {
     if is_number(text) {
-        Some(decimal_value(text))
+        Some(capped_decimal(text, VALUE_CAP))
     } else {
         None
     }
@@ -176,9 +175,8 @@ pub(crate) fn based_rule(token: &[u8]) -> Option<u16>
 
 /// The greatest value of 32 bits with a sign, without the sign.
 #[tactic(auto, unfolding(crate::specs::Limits::greatest_long))]
-fn greatest_long(negative: bool) -> u64
-    ensures value { result ≡ greatest_long negative }
-    ensures below { result < value_cap }
+fn greatest_long(negative: bool) -> u32
+    ensures { result ≡ greatest_long negative }
 {
     if negative {
         GREATEST_NEGATED_LONG
@@ -218,7 +216,7 @@ pub(crate) fn time_rule(token: &[u8]) -> Option<u16>
 }
 
 /// The greatest decimal number, behind the mark `-` or not.
-fn greatest_number(minus: bool) -> u64
+fn greatest_number(minus: bool) -> u32
     ensures { result ≡ greatest_number minus }
 {
     if minus {
@@ -233,7 +231,7 @@ fn greatest_number(minus: bool) -> u64
 pub(crate) fn decimal_rule(token: &[u8], minus: bool) -> Option<u16>
     ensures { result ≡ decimal_rule token.now minus }
 {
-    if decimal_value(token) > greatest_number(minus) {
+    if capped_decimal(token, VALUE_CAP) > u64::from(greatest_number(minus)) {
         Some(OUT_OF_RANGE)
     } else {
         None

@@ -20,22 +20,25 @@ pub(crate) const WRONG_LITERAL: u16 = 3;
 pub(crate) const OUT_OF_RANGE: u16 = 4;
 
 /// The greatest decimal number.
-pub(crate) const GREATEST_NUMBER: u64 = 65_535;
+pub const GREATEST_NUMBER: u32 = 65_535;
 
 /// The greatest decimal number behind the mark `-`.
-pub(crate) const GREATEST_NEGATED: u64 = 32_768;
+pub const GREATEST_NEGATED: u32 = 32_768;
 
 /// The greatest number of 32 bits with a sign.
-pub(crate) const GREATEST_LONG: u64 = 2_147_483_647;
+pub const GREATEST_LONG: u32 = 2_147_483_647;
 
 /// The greatest number of 32 bits behind a `-`.
-pub(crate) const GREATEST_NEGATED_LONG: u64 = 2_147_483_648;
+pub const GREATEST_NEGATED_LONG: u32 = 2_147_483_648;
 
 /// The greatest count value.
-pub(crate) const GREATEST_COUNT: u64 = 999;
+pub const GREATEST_COUNT: u32 = 999;
 
 /// The greatest time in the format S5TIME, in milliseconds.
-pub(crate) const GREATEST_S5TIME: u64 = 9_990_000;
+pub const GREATEST_S5TIME: u32 = 9_990_000;
+
+/// Where numbers are cut off: above each limit of a literal.
+pub(crate) const VALUE_CAP: u64 = 4_294_967_296;
 
 /// The most bytes between the quotes of characters.
 pub(crate) const MOST_CHARACTERS: usize = 4;

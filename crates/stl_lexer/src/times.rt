@@ -1,5 +1,4 @@
 ghost use Rattle.std.specs.Prelude.{◌≡◌, ◌<◌, ◌≤◌, min, option_map};
-ghost use Rattle.stl_lexer.specs.Decimal.{decimal_value};
 ghost use Rattle.stl_lexer.specs.Limits.{value_cap};
 ghost use Rattle.stl_lexer.specs.TimeLiteral.{
   behind_digits,
@@ -14,7 +13,8 @@ ghost use Rattle.stl_lexer.specs.TimeLiteral.{
 };
 
 use crate::bytes::{behind, digit_run, letter_run, same_text};
-use crate::decimals::{VALUE_CAP, decimal_value};
+use crate::rules::VALUE_CAP;
+use plc_base::capped_decimal;
 
 /// A unit of a time literal.
 #[derive(Clone, Copy, Debug)]
@@ -126,7 +126,7 @@ pub(crate) fn milliseconds(units: &[TimeUnit], text: &[u8]) -> Option<u64>
         return milliseconds(smaller, text);
     }
     let rest = behind_part(text);
-    let value = decimal_value(part_digits(text)) * length_of(*unit);
+    let value = capped_decimal(part_digits(text), VALUE_CAP) * length_of(*unit);
     if rest.is_empty() {
         return Some(value.min(VALUE_CAP));
     }

@@ -1,9 +1,8 @@
 -- What addresses, names of blocks and pointers keep.
-use Rattle.std.proofs.Common.{arith, inl, inr, ℕ, ◌+◌, ◌*◌, ◌≡◌, ◌≤◌, ◌<◌, ◌⊎◌, Bool, true, false, List, [], ◌∷◌, length, Option, Some, None, if◌then◌else◌, refl}
+use Rattle.std.proofs.Common.{arith, inl, inr, ℕ, ◌*◌, ◌≡◌, ◌≤◌, ◌<◌, ◌⊎◌, Bool, true, List, [], ◌∷◌, length, refl}
 use Rattle.std.specs.Prelude.{◌&&◌, nat_le, take, drop}
-use Rattle.std.specs.Option.{option_map, option_or, option_and_then, IfSome}
+use Rattle.std.specs.Option.{option_map, IfSome}
 use Rattle.plc_base.specs.declared.blocks.BlockKind.{BlockKind}
-use Rattle.plc_base.specs.declared.blocks.BlockKind.TheVariants as kinds
 use Rattle.plc_base.specs.declared.places.Width.{Width}
 use Rattle.plc_base.specs.declared.places.Width.TheVariants as width
 use Rattle.stl_lexer.specs.declared.kinds.Token.{Token}
@@ -15,15 +14,16 @@ use Rattle.stl_ast.specs.declared.operands.Letters.{Letters}
 use Rattle.stl_ast.specs.declared.operands.Letters.TheVariants as letters
 use Rattle.stl_ast.specs.Operands.{IsNumber, IsNameOf, IsAnyName, IsBitOf, MayHoldPointer}
 use Rattle.stl_parser.specs.declared.keywords.Key.TheVariants as key
-use Rattle.stl_parser.specs.declared.keywords.Mark.TheVariants as mark
+use Rattle.stl_lexer.specs.declared.marks.Mark.TheVariants as mark
 use Rattle.stl_parser.specs.declared.tables.Address.{Address}
 use Rattle.stl_parser.specs.declared.tables.Address.TheVariants as address
 use Rattle.stl_parser.specs.Terminals.{has_kind, is_mark, is_key}
 use Rattle.stl_parser.specs.Tables.{look_up, addresses}
-use Rattle.stl_parser.specs.Numbers.{decimal_of, number_of}
+use Rattle.plc_base.specs.Decimal.{decimal_up_to}
+use Rattle.stl_parser.specs.Numbers.{number_of}
 use Rattle.stl_parser.specs.Addresses.{letter_count, glued_at, separate_at, numbered_at, address_at, block_number_at, quoted_at, block_at, bit_of}
 use Rattle.stl_parser.specs.Operands.{place_bit, register_of, offset_of, register_pointer, holds_pointer, pointer_close, pointer_end, memory_pointer}
-use Rattle.stl_parser.proofs.OptionLemmas.{found, mapped, chained, either, both, passed, also, none_holds, and_left, and_right, at_most}
+use Rattle.stl_parser.proofs.OptionLemmas.{found, mapped, chained, either, both, passed, also, none_holds, and_left, at_most}
 use Rattle.stl_parser.proofs.RangeLemmas.{decimal_range, number_holds}
 use Rattle.stl_parser.proofs.LengthLemmas.{numbered_rest}
 
@@ -33,8 +33,8 @@ unfolding glued_at
 glued_holds table text rest =
     chained (look_up table (take (letter_count text) text)) _ (λ x. Unit {0}) (λ r. IsNumber r.1)
     (none_holds (look_up table (take (letter_count text) text)))
-    (λ x h. mapped (decimal_of (drop (letter_count text) text)) _ IsNumber (λ r. IsNumber r.1)
-    (found (decimal_of (drop (letter_count text) text)) IsNumber (decimal_range (drop (letter_count text) text))) (λ n k. k))
+    (λ x h. mapped (decimal_up_to 65535 (drop (letter_count text) text)) _ IsNumber (λ r. IsNumber r.1)
+    (found (decimal_up_to 65535 (drop (letter_count text) text)) IsNumber (decimal_range 65535 (drop (letter_count text) text))) (λ n k. k))
 
 separate_holds : {X : Type 0} (table : List (List ℕ × X)) (source text : List ℕ) (tokens : List Token) →
     IfSome (separate_at table source text tokens) (λ r. IsNumber r.1)

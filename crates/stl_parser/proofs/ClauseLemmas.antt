@@ -1,8 +1,8 @@
 -- What a clause keeps, and how many bytes the code of a statement takes at most for its tokens.
-use Rattle.std.proofs.Common.{arith, inl, inr, ℕ, zero, suc, ◌+◌, ◌*◌, ◌≡◌, ◌≤◌, ◌<◌, ◌⊎◌, Bool, true, false, List, [], ◌∷◌, length, Option, Some, None, if◌then◌else◌, refl}
+use Rattle.std.proofs.Common.{arith, inl, inr, ℕ, suc, ◌+◌, ◌*◌, ◌≡◌, ◌≤◌, ◌<◌, ◌⊎◌, Bool, true, false, List, [], ◌∷◌, length, Option, Some, None, refl}
 use Rattle.std.specs.Prelude.{◌&&◌, not, nat_lt, nat_eq, take, drop}
-use Rattle.std.specs.Option.{option_map, option_or, option_and_then, IfSome}
-use Rattle.std.specs.List.{AllByRecursion, position_or_len}
+use Rattle.std.specs.Option.{option_and_then, IfSome}
+use Rattle.std.specs.List.{position_or_len}
 use Rattle.std.proofs.lemmas.Bool.Decides.{nat_tests}
 use Rattle.std.proofs.lemmas.List.{length-drop, length-take}
 use Rattle.plc_base.specs.declared.blocks.BlockKind.{BlockKind}
@@ -12,35 +12,30 @@ use Rattle.stl_lexer.specs.declared.kinds.TokenKind.{TokenKind}
 use Rattle.stl_lexer.specs.declared.kinds.TokenKind.TheVariants as kind
 use Rattle.stl_lexer.specs.Tokens.{text_of}
 use Rattle.stl_ast.specs.declared.blocks.PathStep.{PathStep}
-use Rattle.stl_ast.specs.declared.blocks.PathStep.TheVariants as step
-use Rattle.stl_ast.specs.declared.blocks.Setting.{Setting}
-use Rattle.stl_ast.specs.declared.declarations.Declaration.{Declaration}
-use Rattle.stl_ast.specs.declared.declarations.Simple.{Simple}
 use Rattle.stl_ast.specs.declared.names.BlockName.{BlockName}
 use Rattle.stl_ast.specs.declared.names.BlockName.TheVariants as block
 use Rattle.stl_ast.specs.Declarations.{IsDeclaration, is_elementary}
 use Rattle.stl_ast.specs.Literals.{IsLiteral}
-use Rattle.stl_ast.specs.Operands.{IsNameOf, IsAnyName, BeginsByName, AreSteps}
+use Rattle.stl_ast.specs.Operands.{IsNameOf, IsAnyName}
 use Rattle.stl_ast.specs.Sizes.{statement_size, return_size}
 use Rattle.stl_ast.specs.Statements.{IsStatement}
 use Rattle.stl_ast.specs.WellFormed.{IsHeadName, MayReturn, IsSetting}
 use Rattle.stl_parser.specs.declared.clauses.Clause.{Clause}
 use Rattle.stl_parser.specs.declared.clauses.Clause.TheVariants as clause
-use Rattle.stl_parser.specs.declared.keywords.Key.TheVariants as key
-use Rattle.stl_parser.specs.declared.keywords.Mark.TheVariants as mark
+use Rattle.stl_lexer.specs.declared.marks.Mark.TheVariants as mark
 use Rattle.stl_parser.specs.declared.places.Place.{Place}
 use Rattle.stl_parser.specs.declared.tables.HeadWord.{HeadWord}
 use Rattle.stl_parser.specs.declared.tables.Keyword.{Keyword}
 use Rattle.stl_parser.specs.declared.tables.Keyword.TheVariants as keyword
-use Rattle.stl_parser.specs.Terminals.{is_mark, is_key}
-use Rattle.stl_parser.specs.Tables.{look_up, keywords, head_words, simple_types}
+use Rattle.stl_parser.specs.Terminals.{is_mark}
+use Rattle.stl_parser.specs.Tables.{look_up, keywords, head_words}
 use Rattle.stl_parser.specs.Literals.{literal_of}
 use Rattle.stl_parser.specs.Addresses.{block_at}
 use Rattle.stl_parser.specs.Operands.{steps_from}
 use Rattle.stl_parser.specs.Declarations.{after_colon, structure_at, declaration_of}
 use Rattle.stl_parser.specs.Statements.{statement_of}
 use Rattle.stl_parser.specs.Clauses as spec
-use Rattle.stl_parser.proofs.OptionLemmas.{found, mapped, chained, either, both, passed, failed, also, none_holds, weakened}
+use Rattle.stl_parser.proofs.OptionLemmas.{mapped, chained, either, both, passed, failed, also, none_holds, weakened}
 use Rattle.stl_parser.proofs.AddressLemmas.{block_holds}
 use Rattle.stl_parser.proofs.OperandLemmas.{IsNamedPath, named_steps_hold}
 use Rattle.stl_parser.proofs.LiteralLemmas.{literal_holds}

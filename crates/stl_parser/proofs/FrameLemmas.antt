@@ -1,6 +1,6 @@
 -- Right clauses have a tree: what the frame lets follow at a place is what a tree spells from there on.
 use Rattle.stl_parser.proofs.LevelLemmas.{IsAt, read_level}
-use Rattle.std.proofs.Common.{arith, inl, inr, ℕ, zero, suc, ◌+◌, ◌≤◌, ◌<◌, ◌⊎◌, ◌≡◌, Bool, true, false, List, [], ◌∷◌, ◌++◌, map, filter, cond, length, Option, Some, None, Result, Ok, Err, if◌then◌else◌, refl, sym, ◌∙◌, ap, subst}
+use Rattle.std.proofs.Common.{arith, inl, inr, ℕ, zero, suc, ◌+◌, ◌≤◌, ◌⊎◌, ◌≡◌, Bool, true, false, List, [], ◌∷◌, ◌++◌, map, filter, cond, length, Option, Some, None, Result, Ok, Err, if◌then◌else◌, refl, sym, ◌∙◌, ap, subst}
 use Rattle.std.specs.Prelude.{nat_eq, nat_lt, ◌&&◌}
 use Rattle.std.specs.List.{flat_map, AllByRecursion}
 use Rattle.std.proofs.lemmas.Bool.Decides.{nat_tests}

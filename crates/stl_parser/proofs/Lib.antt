@@ -1,5 +1,4 @@
 pub mod TableLemmas
-pub mod NumberLemmas
 pub mod PartLemmas
 pub mod TreeLemmas
 pub mod SourceLemmas

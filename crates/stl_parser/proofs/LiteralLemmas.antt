@@ -1,9 +1,11 @@
 -- The ranges of constants.
-use Rattle.std.proofs.Common.{arith, inl, inr, ℕ, zero, suc, ◌+◌, ◌-◌, ◌*◌, ◌^◌, ◌≡◌, ◌≤◌, ◌<◌, ◌⊎◌, Bool, true, false, List, [], ◌∷◌, length, Option, Some, None, ℤ, pos, if◌then◌else◌, refl}
-use Rattle.std.specs.Prelude.{◌-ℤ◌, ◌==◌, ◌&&◌, nat_le, nat_lt}
+use Rattle.std.proofs.Common.{arith, inl, inr, ℕ, ◌+◌, ◌-◌, ◌*◌, ◌^◌, ◌≤◌, List, [], ◌∷◌, length, Option, Some, None, pos, refl}
+use Rattle.std.specs.Prelude.{◌==◌, ◌&&◌, nat_le, nat_lt}
 use Rattle.std.specs.Char.{digit_value}
-use Rattle.std.specs.Option.{option_map, option_or, option_and_then, IfSome}
+use Rattle.std.specs.Option.{option_map, IfSome}
+use Rattle.plc_base.specs.Decimal.{decimal_up_to}
 use Rattle.stl_lexer.specs.Bytes.{underscore, minus_sign, plus, two_digit, letter_b, letter_c, letter_s, letter_w}
+use Rattle.stl_lexer.specs.Limits.{greatest_long}
 use Rattle.stl_lexer.specs.Rules.{first_letter, behind_prefix, within}
 use Rattle.stl_lexer.specs.TimeLiteral.{milliseconds, units}
 use Rattle.stl_lexer.specs.declared.kinds.Token.{Token}
@@ -12,16 +14,16 @@ use Rattle.stl_lexer.specs.declared.kinds.TokenKind.TheVariants as kind
 use Rattle.stl_lexer.specs.Tokens.{text_of}
 use Rattle.stl_ast.specs.declared.literals.Literal.{Literal}
 use Rattle.stl_ast.specs.declared.literals.Literal.TheVariants as literal
-use Rattle.stl_ast.specs.Literals.{IsLong, IsDecimal, IsLiteral}
+use Rattle.stl_ast.specs.Literals.{IsLong, IsLiteral}
 use Rattle.stl_ast.specs.Operands.{IsNumber}
 use Rattle.stl_parser.specs.declared.keywords.Key.TheVariants as key
-use Rattle.stl_parser.specs.declared.keywords.Mark.TheVariants as mark
+use Rattle.stl_lexer.specs.declared.marks.Mark.TheVariants as mark
 use Rattle.stl_parser.specs.Terminals.{is_mark, is_key}
 use Rattle.stl_parser.specs.Numbers.{number_of, signed_at}
 use Rattle.stl_parser.specs.Values.{value_from, based_literal, based_value, long_value, long_or_count, time_value, duration}
 use Rattle.stl_parser.specs.Literals.{unquoted, characters_of, truth_of, literal_token, byte_of, last_bytes, bytes_behind, bytes_at, long_literal, literal_at, literal_of}
 use Rattle.stl_parser.proofs.OptionLemmas.{found, mapped, chained, either, both, passed, and_right, at_most, whole_holds}
-use Rattle.stl_parser.proofs.RangeLemmas.{negated, number_holds, FirstIsDecimal, signed_holds}
+use Rattle.stl_parser.proofs.RangeLemmas.{decimal_range, negated, number_holds, FirstIsDecimal, signed_holds}
 
 value_range : (greatest base n : ℕ) (digits : List ℕ) → n ≤ greatest → IfSome (value_from greatest base n digits) (λ v. v ≤ greatest)
 unfolding value_from
@@ -51,21 +53,24 @@ based_holds : (text : List ℕ) → IfSome (based_value text) IsLiteral
 unfolding based_value
 based_holds text = based_literal_holds (first_letter text) (behind_prefix text)
 
+decimal_within : (most : ℕ) (text : List ℕ) → IfSome (decimal_up_to most text) (λ v. v ≤ most)
+decimal_within most text = found (decimal_up_to most text) (λ v. v ≤ most) (decimal_range most text)
+
 long_holds : (text : List ℕ) → IfSome (long_value text) IsLong
-unfolding long_value
+unfolding long_value greatest_long
 long_holds [] = tt
 long_holds (b ∷ bs) =
     both (b == minus_sign) _ _ IsLong
-    (mapped (value_from (2 ^ 31) 10 0 bs) _ (λ v. v ≤ 2 ^ 31) IsLong (valued (2 ^ 31) 10 bs) (λ v h. negated (2 ^ 31) (2 ^ 31 - 1) v h))
+    (mapped (decimal_up_to (2 ^ 31) bs) _ (λ v. v ≤ 2 ^ 31) IsLong (decimal_within (2 ^ 31) bs) (λ v h. negated (2 ^ 31) (2 ^ 31 - 1) v h))
     (both (b == plus) _ _ IsLong
-    (mapped (value_from (2 ^ 31 - 1) 10 0 bs) _ (λ v. v ≤ 2 ^ 31 - 1) IsLong (valued (2 ^ 31 - 1) 10 bs) (λ v h. h))
-    (mapped (value_from (2 ^ 31 - 1) 10 0 (b ∷ bs)) _ (λ v. v ≤ 2 ^ 31 - 1) IsLong (valued (2 ^ 31 - 1) 10 (b ∷ bs)) (λ v h. h)))
+    (mapped (decimal_up_to (2 ^ 31 - 1) bs) _ (λ v. v ≤ 2 ^ 31 - 1) IsLong (decimal_within (2 ^ 31 - 1) bs) (λ v h. h))
+    (mapped (decimal_up_to (2 ^ 31 - 1) (b ∷ bs)) _ (λ v. v ≤ 2 ^ 31 - 1) IsLong (decimal_within (2 ^ 31 - 1) (b ∷ bs)) (λ v h. h)))
 
 long_or_count_holds : (text : List ℕ) → IfSome (long_or_count text) IsLiteral
 unfolding long_or_count
 long_or_count_holds text =
     both (first_letter text == letter_c) _ _ IsLiteral
-    (mapped (value_from 999 10 0 (behind_prefix text)) _ (λ v. v ≤ 999) IsLiteral (valued 999 10 (behind_prefix text)) (λ v h. h))
+    (mapped (decimal_up_to 999 (behind_prefix text)) _ (λ v. v ≤ 999) IsLiteral (decimal_within 999 (behind_prefix text)) (λ v h. h))
     (mapped (long_value (behind_prefix text)) _ IsLong IsLiteral (long_holds (behind_prefix text)) (λ v h. h))
 
 within_range : (greatest : ℕ) (o : Option ℕ) → IfSome (within greatest o) (λ v. v ≤ greatest)
@@ -74,7 +79,7 @@ within_range greatest None = tt
 within_range greatest (Some n) = passed (nat_le n greatest) _ (λ v. v ≤ greatest) (λ test. at_most n greatest test)
 
 time_holds : (text : List ℕ) → IfSome (time_value text) IsLong
-unfolding time_value
+unfolding time_value greatest_long
 time_holds [] = tt
 time_holds (b ∷ bs) =
     both (b == minus_sign) _ _ IsLong

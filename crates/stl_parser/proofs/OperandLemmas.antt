@@ -1,8 +1,7 @@
 -- What an operand keeps, and how many bytes its op takes at most for its tokens.
-use Rattle.std.proofs.Common.{arith, inl, inr, ℕ, ◌+◌, ◌*◌, ◌≡◌, ◌≤◌, ◌<◌, Bool, true, false, List, [], ◌∷◌, ◌++◌, length, Option, Some, None, if◌then◌else◌, refl}
+use Rattle.std.proofs.Common.{arith, ℕ, ◌+◌, ◌*◌, ◌≡◌, ◌≤◌, ◌<◌, Bool, true, false, List, [], ◌∷◌, ◌++◌, length, Option, Some, None, refl}
 use Rattle.std.specs.Prelude.{drop}
-use Rattle.std.specs.Option.{option_map, option_or, option_and_then, IfSome}
-use Rattle.std.specs.List.{AllByRecursion}
+use Rattle.std.specs.Option.{option_map, IfSome}
 use Rattle.plc_base.specs.declared.places.Width.{Width}
 use Rattle.plc_base.specs.declared.places.Width.TheVariants as width
 use Rattle.stl_lexer.specs.declared.kinds.Token.{Token}
@@ -25,17 +24,17 @@ use Rattle.stl_ast.specs.Operands.{IsNumber, IsDataBlockName, IsBitOf, IsStep, A
 use Rattle.stl_ast.specs.Sizes.{op_size}
 use Rattle.stl_ast.specs.Statements.{is_nothing, is_label, is_called}
 use Rattle.stl_parser.specs.declared.keywords.Key.TheVariants as key
-use Rattle.stl_parser.specs.declared.keywords.Mark.TheVariants as mark
+use Rattle.stl_lexer.specs.declared.marks.Mark.TheVariants as mark
 use Rattle.stl_parser.specs.declared.tables.Address.{Address}
 use Rattle.stl_parser.specs.declared.tables.Address.TheVariants as address
 use Rattle.stl_parser.specs.Terminals.{has_kind, is_mark, is_key}
 use Rattle.stl_parser.specs.Tables.{look_up, addresses, flags, registers}
 use Rattle.stl_parser.specs.Numbers.{number_of, int_at}
-use Rattle.stl_parser.specs.Parts.{parts_from, whole}
+use Rattle.stl_parser.specs.Parts.{whole}
 use Rattle.stl_parser.specs.Literals.{unquoted, literal_of}
 use Rattle.stl_parser.specs.Addresses.{address_at, bit_of}
 use Rattle.stl_parser.specs.Operands as spec
-use Rattle.stl_parser.proofs.OptionLemmas.{found, mapped, chained, either, both, passed, none_holds, weakened, whole_holds, parts_hold, all_push}
+use Rattle.stl_parser.proofs.OptionLemmas.{mapped, chained, either, both, passed, none_holds, weakened, whole_holds, parts_hold, all_push}
 use Rattle.stl_parser.proofs.RangeLemmas.{number_holds, FirstIsDecimal, int_holds}
 use Rattle.stl_parser.proofs.LiteralLemmas.{literal_holds}
 use Rattle.stl_parser.proofs.AddressLemmas.{address_holds, bit_holds, place_bit_holds, register_pointer_holds, IsPointerPlace, memory_pointer_holds}

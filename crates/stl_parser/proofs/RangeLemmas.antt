@@ -1,28 +1,28 @@
 -- The ranges of the numbers that are read.
-use Rattle.std.proofs.Common.{arith, ℕ, zero, suc, ◌≡◌, ◌≤◌, ◌<◌, Bool, true, false, List, [], ◌∷◌, length, Option, Some, None, ℤ, pos, negsuc, if◌then◌else◌, refl}
-use Rattle.std.specs.Prelude.{◌-ℤ◌, ◌-◌, nat_le, nat_lt}
+use Rattle.std.proofs.Common.{arith, ℕ, zero, suc, ◌≡◌, ◌≤◌, ◌<◌, Bool, true, false, List, [], ◌∷◌, Some, ℤ, pos, negsuc, if◌then◌else◌}
+use Rattle.std.specs.Prelude.{◌-ℤ◌, ◌-◌, nat_lt}
 use Rattle.std.proofs.lemmas.Bool.Decides.{nat_tests}
-use Rattle.std.specs.Option.{option_map, option_or, option_and_then, IfSome}
+use Rattle.std.specs.Option.{option_map, IfSome}
 use Rattle.stl_lexer.specs.declared.kinds.Token.{Token}
-use Rattle.stl_ast.specs.Literals.{IsBetween, IsDecimal, IsLiteral}
+use Rattle.stl_ast.specs.Literals.{IsBetween, IsDecimal}
 use Rattle.stl_ast.specs.Operands.{IsNumber}
-use Rattle.stl_parser.specs.declared.keywords.Mark.TheVariants as mark
+use Rattle.stl_lexer.specs.declared.marks.Mark.TheVariants as mark
 use Rattle.stl_parser.specs.Terminals.{is_mark}
-use Rattle.stl_parser.specs.Numbers.{decimal_of, number_of, negated_of, signed_at, int_at}
-use Rattle.stl_parser.proofs.OptionLemmas.{found, mapped, chained, either, both, passed}
+use Rattle.plc_base.specs.Decimal.{decimal_up_to}
+use Rattle.stl_parser.specs.Numbers.{number_up_to, number_of, signed_at, int_at}
+use Rattle.stl_parser.proofs.OptionLemmas.{found, mapped, either, both}
 
-pub decimal_range : (text : List ℕ) (n : ℕ) → decimal_of text ≡ Some n → n ≤ 65535
-unfolding decimal_of
-decimal_range [] n found = cc
-decimal_range (d ∷ ds) n found = grind (arith, nat_tests)
+pub decimal_range : (most : ℕ) (text : List ℕ) (n : ℕ) → decimal_up_to most text ≡ Some n → n ≤ most
+unfolding decimal_up_to
+decimal_range most text n found = grind (arith, nat_tests)
+
+number_within : (most : ℕ) (source : List ℕ) (t : Token) (n : ℕ) → number_up_to most source t ≡ Some n → n ≤ most
+unfolding number_up_to
+number_within most source t n found = grind (arith, decimal_range)
 
 pub number_range : (source : List ℕ) (t : Token) (n : ℕ) → number_of source t ≡ Some n → n ≤ 65535
 unfolding number_of
-number_range source t n found = grind (arith, decimal_range)
-
-negated_range : (source : List ℕ) (t : Token) (n : ℕ) → negated_of source t ≡ Some n → n ≤ 32768
-unfolding negated_of
-negated_range source t n found = grind (arith, nat_tests)
+number_range source t n found = number_within 65535 source t n found
 
 -- a number with its sign, by whichever test
 signed : (b : Bool) (low high m n : ℕ) → m < low → n ≤ high → IsBetween low high (if b then negsuc m else pos n)
@@ -48,7 +48,7 @@ unfolding signed_at
 signed_holds source sign [] = tt
 signed_holds source sign (t ∷ rest) =
     both (is_mark source sign mark.Minus) _ _ FirstIsDecimal
-    (mapped (negated_of source t) _ (λ n. n ≤ 32768) FirstIsDecimal (found (negated_of source t) _ (negated_range source t))
+    (mapped (number_up_to 32768 source t) _ (λ n. n ≤ 32768) FirstIsDecimal (found (number_up_to 32768 source t) _ (number_within 32768 source t))
     (λ n h. negated 32768 65535 n h))
     (both (is_mark source sign mark.Plus) _ _ FirstIsDecimal (plain_decimal source t rest) tt)
 

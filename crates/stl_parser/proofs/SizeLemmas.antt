@@ -1,5 +1,5 @@
 -- The code of a tree is bounded by its source.
-use Rattle.std.proofs.Common.{arith, ℕ, ◌+◌, ◌*◌, ◌≡◌, ◌≤◌, ◌<◌, Bool, true, false, List, [], ◌∷◌, ◌++◌, length, map, filter, cond, Option, Some, None, Result, Ok, Err, refl, sym, ◌∙◌, ap, subst}
+use Rattle.std.proofs.Common.{arith, ℕ, ◌+◌, ◌*◌, ◌≡◌, ◌≤◌, Bool, true, false, List, [], ◌∷◌, ◌++◌, length, map, filter, cond, Some, Result, Ok, Err, refl, sym, ap, subst}
 use Rattle.std.specs.Prelude.{sum_by, IfOk}
 use Rattle.std.specs.List.{flat_map}
 use Rattle.std.proofs.lemmas.List.Sums.{sum_by-append}
@@ -15,7 +15,7 @@ use Rattle.stl_parser.specs.declared.clauses.Clause.TheVariants as clause
 use Rattle.stl_parser.specs.declared.places.Place.{Place}
 use Rattle.stl_parser.specs.declared.places.Place.TheVariants as place
 use Rattle.stl_parser.specs.Clauses.{clause_at}
-use Rattle.stl_parser.specs.Source.{step_of, Reads, AreKept, IsTree}
+use Rattle.stl_parser.specs.Source.{Reads, AreKept, IsTree}
 use Rattle.stl_parser.specs.Spelling.{is_kept, spelled_part, spelled_shape, spelled_block}
 use Rattle.stl_parser.proofs.ClauseLemmas.{Fits}
 use Rattle.stl_parser.proofs.FrameLemmas.{right_clause, read_holds, tree_there}

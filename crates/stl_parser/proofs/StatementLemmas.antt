@@ -1,8 +1,8 @@
 -- What a statement keeps, and how many bytes its code takes at most for its tokens.
-use Rattle.std.proofs.Common.{arith, ℕ, zero, suc, ◌+◌, ◌*◌, ◌-◌, ◌≡◌, ◌≤◌, ◌<◌, Bool, true, false, List, [], ◌∷◌, ◌++◌, length, Option, Some, None, if◌then◌else◌, refl, sym, ◌∙◌, ap, subst, length-append}
+use Rattle.std.proofs.Common.{arith, ℕ, zero, suc, ◌+◌, ◌*◌, ◌≡◌, ◌≤◌, ◌<◌, Bool, true, false, List, [], ◌∷◌, ◌++◌, length, Option, Some, None, refl, sym, ◌∙◌, ap, subst, length-append}
 use Rattle.std.specs.Prelude.{◌&&◌, ◌||◌, not, nat_lt, take, drop}
-use Rattle.std.specs.Option.{option_map, option_or, option_and_then, IfSome}
-use Rattle.std.specs.List.{AllByRecursion, list_all}
+use Rattle.std.specs.Option.{option_map, IfSome}
+use Rattle.std.specs.List.{list_all}
 use Rattle.std.proofs.lemmas.Bool.Decides.{nat_tests}
 use Rattle.std.proofs.lemmas.List.{length-drop}
 use Rattle.plc_base.specs.declared.blocks.BlockKind.{BlockKind}
@@ -21,7 +21,7 @@ use Rattle.stl_ast.specs.declared.statements.Statement.{Statement}
 use Rattle.stl_ast.specs.Operands.{IsNameOf, IsAnyName, IsDataBlockName, IsInstance, IsOperand}
 use Rattle.stl_ast.specs.Sizes.{op_size, code_size, statement_size}
 use Rattle.stl_ast.specs.Statements.{is_jump, is_call, has_actuals, is_empty, is_nothing, is_label, is_called, has_instance, IsTarget, IsLabelOf, IsActual, AreActuals, IsStatement}
-use Rattle.stl_parser.specs.declared.keywords.Mark.TheVariants as mark
+use Rattle.stl_lexer.specs.declared.marks.Mark.TheVariants as mark
 use Rattle.stl_parser.specs.declared.statements.Instruction.{Instruction}
 use Rattle.stl_parser.specs.declared.tables.Form.{Form}
 use Rattle.stl_parser.specs.declared.tables.Form.TheVariants as form
@@ -32,8 +32,8 @@ use Rattle.stl_parser.specs.Literals.{unquoted}
 use Rattle.stl_parser.specs.Addresses.{block_at}
 use Rattle.stl_parser.specs.Operands.{operand_of}
 use Rattle.stl_parser.specs.Statements as spec
-use Rattle.stl_parser.proofs.OptionLemmas.{found, mapped, chained, either, both, passed, also, none_holds, weakened, whole_holds, parts_hold, all_push, entry_passes, and_left, and_right}
-use Rattle.stl_parser.proofs.AddressLemmas.{block_holds, named_as}
+use Rattle.stl_parser.proofs.OptionLemmas.{mapped, chained, either, both, passed, also, weakened, whole_holds, parts_hold, all_push, entry_passes, and_left, and_right}
+use Rattle.stl_parser.proofs.AddressLemmas.{block_holds}
 use Rattle.stl_parser.proofs.OperandLemmas.{IsRead, operand_holds, nothing_holds}
 use Rattle.stl_parser.proofs.LengthLemmas.{block_rest}
 

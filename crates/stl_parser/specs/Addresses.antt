@@ -1,19 +1,21 @@
 -- Letters with a number, which may stand without a blank.
-use Rattle.std.specs.Prelude.{ℕ, nat_le, Bool, ◌&&◌, not, is_some, if◌then◌else◌, List, [], ◌∷◌, take, drop, Option, Some, None}
+use Rattle.std.specs.Prelude.{ℕ, nat_le, Bool, ◌&&◌, not, is_some, if◌then◌else◌, false, List, [], ◌∷◌, take, drop, Option, Some, None}
 use Rattle.std.specs.Option.{option_map, option_or, option_and_then}
 use Rattle.std.specs.List.{prefix_len, list_all}
 use Rattle.std.specs.Char.{is_ascii_digit}
+use Rattle.plc_base.specs.Decimal.{decimal_up_to}
 use Rattle.plc_base.specs.declared.blocks.BlockKind.{BlockKind}
 use Rattle.stl_lexer.specs.declared.kinds.Token.{Token}
 use Rattle.stl_lexer.specs.declared.kinds.TokenKind.TheVariants as kind
+use Rattle.stl_lexer.specs.Limits.{greatest_number}
 use Rattle.stl_lexer.specs.Tokens.{text_of}
 use Rattle.stl_ast.specs.declared.names.BlockName.{BlockName}
 use Rattle.stl_ast.specs.declared.names.BlockName.TheVariants as block
-use Rattle.stl_parser.specs.declared.keywords.Mark.TheVariants as mark
+use Rattle.stl_lexer.specs.declared.marks.Mark.TheVariants as mark
 use Rattle.stl_parser.specs.declared.tables.Address.{Address}
 use Rattle.stl_parser.specs.Terminals.{has_kind, is_mark}
 use Rattle.stl_parser.specs.Tables.{look_up, block_kinds, addresses}
-use Rattle.stl_parser.specs.Numbers.{decimal_of, number_of}
+use Rattle.stl_parser.specs.Numbers.{number_of}
 use Rattle.stl_parser.specs.Literals.{unquoted}
 
 -- how many bytes stand before the first digit
@@ -23,7 +25,7 @@ letter_count text = prefix_len (λ b. not (is_ascii_digit b)) text
 -- letters and number in one word
 unfoldable pub glued_at : {X : Type 0} → List (List ℕ × X) → List ℕ → List Token → Option (X × ℕ × List Token)
 glued_at table text rest =
-    option_and_then (λ x. option_map (λ n. (x, n, rest)) (decimal_of (drop (letter_count text) text)))
+    option_and_then (λ x. option_map (λ n. (x, n, rest)) (decimal_up_to (greatest_number false) (drop (letter_count text) text)))
     (look_up table (take (letter_count text) text))
 
 -- letters and number in two tokens

@@ -17,7 +17,7 @@ use Rattle.stl_ast.specs.Blocks.{is_parameter}
 use Rattle.stl_ast.specs.Declarations.{is_elementary}
 use Rattle.stl_parser.specs.declared.clauses.Clause.{Clause}
 use Rattle.stl_parser.specs.declared.clauses.Clause.TheVariants as clause
-use Rattle.stl_parser.specs.declared.keywords.Mark.TheVariants as mark
+use Rattle.stl_lexer.specs.declared.marks.Mark.TheVariants as mark
 use Rattle.stl_parser.specs.declared.keywords.Key.TheVariants as key
 use Rattle.stl_parser.specs.declared.places.Place.{Place}
 use Rattle.stl_parser.specs.declared.places.Place.TheVariants as place

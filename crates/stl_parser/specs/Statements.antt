@@ -14,7 +14,7 @@ use Rattle.stl_ast.specs.declared.operands.Operand.{Operand}
 use Rattle.stl_ast.specs.declared.operands.Operand.TheVariants as operand
 use Rattle.stl_ast.specs.declared.statements.Actual.{Actual}
 use Rattle.stl_ast.specs.declared.statements.Statement.{Statement}
-use Rattle.stl_parser.specs.declared.keywords.Mark.TheVariants as mark
+use Rattle.stl_lexer.specs.declared.marks.Mark.TheVariants as mark
 use Rattle.stl_parser.specs.declared.statements.Instruction.{Instruction}
 use Rattle.stl_parser.specs.declared.tables.Form.{Form}
 use Rattle.stl_parser.specs.declared.tables.Form.TheVariants as form

@@ -4,28 +4,11 @@ use Rattle.std.specs.Str.{str_eq_ignore_ascii_case}
 use Rattle.stl_lexer.specs.declared.kinds.Token.{Token}
 use Rattle.stl_lexer.specs.declared.kinds.TokenKind.{TokenKind}
 use Rattle.stl_lexer.specs.declared.kinds.TokenKind.TheVariants as kind
+use Rattle.stl_lexer.specs.Marks.{mark_text}
 use Rattle.stl_lexer.specs.Tokens.{text_of}
-use Rattle.stl_parser.specs.declared.keywords.Mark.{Mark}
-use Rattle.stl_parser.specs.declared.keywords.Mark.TheVariants as mark
+use Rattle.stl_lexer.specs.declared.marks.Mark.{Mark}
 use Rattle.stl_parser.specs.declared.keywords.Key.{Key}
 use Rattle.stl_parser.specs.declared.keywords.Key.TheVariants as key
-
--- how a mark is written
-unfoldable pub mark_text : Mark → List ℕ
-mark_text mark.Assign = codes ":="
-mark_text mark.Colon = codes ":"
-mark_text mark.Semicolon = codes ";"
-mark_text mark.Comma = codes ","
-mark_text mark.Dot = codes "."
-mark_text mark.DotDot = codes ".."
-mark_text mark.OpenParen = codes "("
-mark_text mark.CloseParen = codes ")"
-mark_text mark.OpenBracket = codes "["
-mark_text mark.CloseBracket = codes "]"
-mark_text mark.Plus = codes "+"
-mark_text mark.Minus = codes "-"
-mark_text mark.Pointer = codes "P#"
-mark_text mark.Bytes = codes "B#("
 
 -- how a word of the language is written
 unfoldable pub key_text : Key → List ℕ

@@ -1,8 +1,10 @@
 -- Values of literals.
-use Rattle.std.specs.Prelude.{ℕ, ◌+◌, ◌-◌, ◌*◌, ◌^◌, nat_lt, nat_le, ◌&&◌, ◌==◌, if◌then◌else◌, List, [], ◌∷◌, Option, Some, None, ℤ, pos, ◌-ℤ◌}
+use Rattle.std.specs.Prelude.{ℕ, ◌+◌, ◌-◌, ◌*◌, ◌^◌, nat_lt, nat_le, true, false, ◌&&◌, ◌==◌, if◌then◌else◌, List, [], ◌∷◌, Option, Some, None, ℤ, pos, ◌-ℤ◌}
 use Rattle.std.specs.Option.{option_map}
 use Rattle.std.specs.Char.{digit_value}
+use Rattle.plc_base.specs.Decimal.{decimal_up_to}
 use Rattle.stl_lexer.specs.Bytes.{underscore, minus_sign, plus, two_digit, letter_b, letter_c, letter_s, letter_w}
+use Rattle.stl_lexer.specs.Limits.{greatest_long, greatest_count, greatest_s5time}
 use Rattle.stl_lexer.specs.Rules.{first_letter, behind_prefix, within}
 use Rattle.stl_lexer.specs.TimeLiteral.{milliseconds, units}
 use Rattle.stl_ast.specs.declared.literals.Literal.{Literal}
@@ -32,25 +34,25 @@ based_value text = based_literal (first_letter text) (behind_prefix text)
 unfoldable pub long_value : List ℕ → Option ℤ
 long_value [] = None
 long_value (b ∷ bs) =
-    if b == minus_sign then option_map (λ n. pos 0 -ℤ pos n) (value_from (2 ^ 31) 10 0 bs)
-    else (if b == plus then option_map pos (value_from (2 ^ 31 - 1) 10 0 bs)
-    else option_map pos (value_from (2 ^ 31 - 1) 10 0 (b ∷ bs)))
+    if b == minus_sign then option_map (λ n. pos 0 -ℤ pos n) (decimal_up_to (greatest_long true) bs)
+    else (if b == plus then option_map pos (decimal_up_to (greatest_long false) bs)
+    else option_map pos (decimal_up_to (greatest_long false) (b ∷ bs)))
 
 -- `C#` or `L#` and a number
 unfoldable pub long_or_count : List ℕ → Option Literal
 long_or_count text =
-    if first_letter text == letter_c then option_map literal.Count (value_from 999 10 0 (behind_prefix text))
+    if first_letter text == letter_c then option_map literal.Count (decimal_up_to greatest_count (behind_prefix text))
     else option_map literal.Long (long_value (behind_prefix text))
 
 -- the milliseconds of `T#`, with a sign or none
 unfoldable pub time_value : List ℕ → Option ℤ
 time_value [] = None
 time_value (b ∷ bs) =
-    if b == minus_sign then option_map (λ n. pos 0 -ℤ pos n) (within (2 ^ 31) (milliseconds units bs))
-    else option_map pos (within (2 ^ 31 - 1) (milliseconds units (b ∷ bs)))
+    if b == minus_sign then option_map (λ n. pos 0 -ℤ pos n) (within (greatest_long true) (milliseconds units bs))
+    else option_map pos (within (greatest_long false) (milliseconds units (b ∷ bs)))
 
 -- `S5T#` or `T#` and the parts of a time
 unfoldable pub duration : List ℕ → Option Literal
 duration text =
-    if first_letter text == letter_s then option_map literal.S5time (within 9990000 (milliseconds units (behind_prefix text)))
+    if first_letter text == letter_s then option_map literal.S5time (within greatest_s5time (milliseconds units (behind_prefix text)))
     else option_map literal.Time (time_value (behind_prefix text))

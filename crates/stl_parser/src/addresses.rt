@@ -14,14 +14,14 @@ ghost use Rattle.stl_parser.specs.Addresses.{
   is_address_word,
 };
 
-use crate::keywords::{Mark, has_kind, is_mark, text};
+use crate::keywords::{has_kind, is_mark};
 use crate::literals::unquoted;
 use crate::numbers::{all_digits, decimal, number};
 use crate::tables::{ADDRESSES, Address, BLOCK_KINDS, address_of, look_up};
 use plc_base::{BlockId, BlockKind};
 use std::alloc::{AllocError, Global};
 use stl_ast::{BlockName, Name};
-use stl_lexer::{Token, TokenKind};
+use stl_lexer::{Mark, Token, TokenKind};
 
 /// How many bytes stand before the first digit.
 fn letter_count(text: &[u8]) -> usize
@@ -83,7 +83,7 @@ fn numbered<'a, X: Copy + Drop>(
     if !has_kind(token, TokenKind::Word) {
         return None;
     }
-    let word = text(source, token);
+    let word = token.text(source);
     match glued(table, word, rest) {
         Some(found) => Some(found),
         None => separate(table, source, word, rest),
@@ -122,7 +122,7 @@ pub(crate) fn quoted<'a>(
     if !has_kind(token, TokenKind::Quoted) {
         return Ok(None);
     }
-    let name = Name::new(alloc, unquoted(text(source, token)))?;
+    let name = Name::new(alloc, unquoted(token.text(source)))?;
     Ok(Some((BlockName::Quoted { name }, rest)))
 }
 

@@ -48,7 +48,7 @@ ghost use Rattle.stl_parser.specs.Clauses.{
 
 use crate::addresses::block;
 use crate::declarations::{after_colon, declaration, structure};
-use crate::keywords::{Key, Mark, has_kind, is_key, is_mark, text};
+use crate::keywords::{Key, has_kind, is_key, is_mark};
 use crate::literals::literal;
 use crate::operands::local_name;
 use crate::paths::steps;
@@ -61,7 +61,7 @@ use stl_ast::{
     BlockName, Bounds, Declaration, ElementType, Name, PartKind, PathStep, Sequence, Setting,
     Simple, Statement,
 };
-use stl_lexer::{Token, TokenKind};
+use stl_lexer::{Mark, Token, TokenKind};
 
 /// A clause of a source.
 #[derive(Drop)]
@@ -283,7 +283,7 @@ fn result_type<'a>(source: &[u8], tokens: &'a [Token]) -> Option<(Option<Simple>
     if is_key(source, token, Key::Void) {
         return Some((None, rest));
     }
-    let kind = simple_type_of(text(source, token))?;
+    let kind = simple_type_of(token.text(source))?;
     Some((Some(kind), rest))
 }
 
@@ -549,7 +549,7 @@ fn first_step(alloc: Global, source: &[u8], token: &Token) -> Result<Option<Path
 {
     match token.kind {
         TokenKind::Word => {
-            let name = Name::new(alloc, text(source, token))?;
+            let name = Name::new(alloc, token.text(source))?;
             Ok(Some(PathStep::Named { name }))
         }
         TokenKind::Local => {
@@ -731,7 +731,7 @@ fn free_word_clause<'a>(
         ≡ free_word_clause source.now at token.now rest.now tokens.now (look_up head_words
         (text_of source.now token.now))) }
 {
-    match head_word_of(text(source, token)) {
+    match head_word_of(token.text(source)) {
         Some(word) => {
             if is_outer(at) {
                 Ok(head_word_clause(source, at, word, rest))
@@ -757,7 +757,7 @@ fn word_clause<'a>(
         ≡ word_clause source.now at token.now rest.now tokens.now (look_up keywords
         (text_of source.now token.now))) }
 {
-    match keyword_of(text(source, token)) {
+    match keyword_of(token.text(source)) {
         Some(keyword) => keyword_clause(alloc, source, at, token.line, keyword, rest),
         None => free_word_clause(alloc, source, at, token, rest, tokens),
     }

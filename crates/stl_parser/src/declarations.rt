@@ -11,11 +11,11 @@ ghost use Rattle.stl_parser.specs.Declarations.{
   declaration_of,
 };
 
-use crate::keywords::{Key, Mark, has_kind, is_key, is_mark, text};
+use crate::keywords::{Key, has_kind, is_key, is_mark};
 use crate::types::{arrays, element, inits};
 use std::alloc::{AllocError, Global};
 use stl_ast::{Bounds, Declaration, ElementType, Init, Name, Sequence, TypeTree};
-use stl_lexer::{Token, TokenKind};
+use stl_lexer::{Mark, Token, TokenKind};
 
 /// The tokens behind an attribute, where one stands at the front.
 #[tactic(auto, unfolding(crate::specs::Declarations::after_attribute))]
@@ -91,7 +91,7 @@ fn declared(
 ) -> Result<Declaration, AllocError>
     ensures { IfOk result (λ d. d ≡ declared source.now level word.now arrays of init) }
 {
-    let name = Name::new(alloc, text(source, word))?;
+    let name = Name::new(alloc, word.text(source))?;
     Ok(Declaration {
         line: word.line,
         name,

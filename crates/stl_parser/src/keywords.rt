@@ -1,27 +1,7 @@
 ghost use Rattle.std.specs.Prelude.{◌≡◌};
-ghost use Rattle.stl_lexer.specs.Tokens.{text_of};
-ghost use Rattle.stl_parser.specs.Terminals.{mark_text, key_text, is_mark, is_key, has_kind};
+ghost use Rattle.stl_parser.specs.Terminals.{key_text, is_mark, is_key, has_kind};
 
-use stl_lexer::{Token, TokenKind};
-
-/// A mark of the language.
-#[derive(Clone, Copy, Debug, PartialEq, Eq)]
-pub enum Mark {
-    Assign,
-    Colon,
-    Semicolon,
-    Comma,
-    Dot,
-    DotDot,
-    OpenParen,
-    CloseParen,
-    OpenBracket,
-    CloseBracket,
-    Plus,
-    Minus,
-    Pointer,
-    Bytes,
-}
+use stl_lexer::{Mark, Token, TokenKind, mark_text};
 
 /// A word of the language that stands inside a clause.
 #[derive(Clone, Copy, Debug, PartialEq, Eq)]
@@ -38,29 +18,6 @@ pub enum Key {
     B,
     W,
     D,
-}
-
-/// How a mark is written.
-#[tactic(auto, unfolding(crate::specs::Terminals::mark_text))]
-fn mark_text(mark: Mark) -> &'static [u8]
-    ensures { result.now ≡ mark_text mark }
-{
-    match mark {
-        Mark::Assign => b":=",
-        Mark::Colon => b":",
-        Mark::Semicolon => b";",
-        Mark::Comma => b",",
-        Mark::Dot => b".",
-        Mark::DotDot => b"..",
-        Mark::OpenParen => b"(",
-        Mark::CloseParen => b")",
-        Mark::OpenBracket => b"[",
-        Mark::CloseBracket => b"]",
-        Mark::Plus => b"+",
-        Mark::Minus => b"-",
-        Mark::Pointer => b"P#",
-        Mark::Bytes => b"B#(",
-    }
 }
 
 /// How a word of the language is written.
@@ -84,16 +41,6 @@ fn key_text(key: Key) -> &'static [u8]
     }
 }
 
-/// The bytes of a token.
-pub(crate) fn text<'a>(source: &'a [u8], token: &Token) -> &'a [u8]
-    ensures { result.now ≡ text_of source.now token.now }
-{
-    let start = token.start as usize;
-    let length = token.end.saturating_sub(token.start) as usize;
-    let behind = source.get(start..).unwrap_or(&[]);
-    behind.get(..length).unwrap_or(behind)
-}
-
 /// Whether the token is of this kind.
 #[tactic(auto, unfolding(crate::specs::Terminals::has_kind))]
 pub(crate) fn has_kind(token: &Token, kind: TokenKind) -> bool
@@ -107,7 +54,7 @@ pub(crate) fn has_kind(token: &Token, kind: TokenKind) -> bool
 pub(crate) fn is_mark(source: &[u8], token: &Token, mark: Mark) -> bool
     ensures { result ≡ is_mark source.now token.now mark }
 {
-    has_kind(token, TokenKind::Mark) && text(source, token).eq_ignore_ascii_case(mark_text(mark))
+    has_kind(token, TokenKind::Mark) && token.text(source).eq_ignore_ascii_case(mark_text(mark))
 }
 
 /// Whether the token is this word, without case.
@@ -115,5 +62,5 @@ pub(crate) fn is_mark(source: &[u8], token: &Token, mark: Mark) -> bool
 pub(crate) fn is_key(source: &[u8], token: &Token, key: Key) -> bool
     ensures { result ≡ is_key source.now token.now key }
 {
-    has_kind(token, TokenKind::Word) && text(source, token).eq_ignore_ascii_case(key_text(key))
+    has_kind(token, TokenKind::Word) && token.text(source).eq_ignore_ascii_case(key_text(key))
 }

@@ -15,12 +15,12 @@ ghost use Rattle.stl_parser.specs.Literals.{
   literal_of,
 };
 
-use crate::keywords::{Key, Mark, is_key, is_mark, text};
+use crate::keywords::{Key, is_key, is_mark};
 use crate::numbers::{number, signed};
 use crate::values::{based, duration, long_or_count};
 use arrayvec::ArrayVec;
 use stl_ast::{Characters, Literal};
-use stl_lexer::{Token, TokenKind};
+use stl_lexer::{Mark, Token, TokenKind};
 
 /// A token without its first and its last byte.
 #[tactic(auto, unfolding(crate::specs::Literals::unquoted))]
@@ -81,12 +81,12 @@ fn literal_token(source: &[u8], token: &Token) -> Option<Literal>
             Some(Literal::Number { value })
         }
         TokenKind::Characters => {
-            let bytes = characters(unquoted(text(source, token)))?;
+            let bytes = characters(unquoted(token.text(source)))?;
             Some(Literal::Characters { bytes })
         }
-        TokenKind::Based => based(text(source, token)),
-        TokenKind::NumberLiteral => long_or_count(text(source, token)),
-        TokenKind::TimeLiteral => duration(text(source, token)),
+        TokenKind::Based => based(token.text(source)),
+        TokenKind::NumberLiteral => long_or_count(token.text(source)),
+        TokenKind::TimeLiteral => duration(token.text(source)),
         _ => None,
     }
 }

@@ -1,33 +1,13 @@
-ghost use Rattle.std.specs.Prelude.{◌≡◌, ◌&&◌, if◌then◌else◌, min, nat_le};
+ghost use Rattle.std.specs.Prelude.{◌≡◌, ◌≤◌, true, false};
 ghost use Rattle.std.specs.List.{list_all};
 ghost use Rattle.std.specs.Char.{is_ascii_digit};
-ghost use Rattle.stl_lexer.specs.Decimal.{decimal_value};
 ghost use Rattle.std.specs.Option.{option_map};
-ghost use Rattle.stl_parser.specs.Numbers.{decimal_of, number_of, negated_of, signed_at, int_at};
+ghost use Rattle.plc_base.specs.Decimal.{decimal_up_to};
+ghost use Rattle.stl_lexer.specs.Limits.{greatest_number};
+ghost use Rattle.stl_parser.specs.Numbers.{number_up_to, number_of, signed_at, int_at};
 
-use crate::keywords::{Mark, has_kind, is_mark, text};
-use stl_lexer::{Token, TokenKind};
-
-/// The greatest number of a decimal literal, of an address and of a block.
-pub const GREATEST_NUMBER: u32 = 65_535;
-
-/// The greatest number of a decimal literal behind a `-`.
-const GREATEST_NEGATED: u16 = 32_768;
-
-/// Where numbers are cut off.
-const NUMBER_CAP: u32 = GREATEST_NUMBER + 1;
-
-/// The number that decimal digits write, or `NUMBER_CAP` where it is greater.
-#[tactic(auto, using(crate::proofs::NumberLemmas::decimal_value_more, crate::proofs::NumberLemmas::decimal_value_none))]
-fn decimal_value(digits: &[u8]) -> u32
-    ensures { result ≡ min (decimal_value digits.now) 65536 }
-{
-    let mut value: u32 = 0;
-    for digit in digits {
-        value = (10 * value + u32::from(digit.saturating_sub(b'0'))).min(NUMBER_CAP);
-    }
-    value
-}
+use crate::keywords::{has_kind, is_mark};
+use stl_lexer::{GREATEST_NEGATED, GREATEST_NUMBER, Mark, Token, TokenKind};
 
 /// Whether all these bytes are decimal digits.
 pub(crate) fn all_digits(bytes: &[u8]) -> bool
@@ -36,27 +16,33 @@ pub(crate) fn all_digits(bytes: &[u8]) -> bool
     bytes.iter().all(|b| b.is_ascii_digit())
 }
 
-/// The number of these decimal digits, up to 65,535.
-fn number_of_digits(digits: &[u8]) -> Option<u16>
-    ensures { result ≡ (if list_all is_ascii_digit digits.now && nat_le
-        (decimal_value digits.now) 65535 then Some (decimal_value digits.now) else None) }
+/// The number of one or more decimal digits, where it is at most `most`.
+#[tactic(auto, using(crate::proofs::RangeLemmas::decimal_range))]
+fn decimal_up_to(digits: &[u8], most: u32) -> Option<u16>
+    requires { most ≤ 65535 }
+    ensures { result ≡ decimal_up_to most digits.now }
 {
-    let value = decimal_value(digits);
-    if all_digits(digits) && value <= GREATEST_NUMBER {
-        Some(value as u16)
-    } else {
-        None
-    }
+    let number = plc_base::decimal_up_to(digits, most)?;
+    Some(number as u16)
 }
 
 /// The number of one or more decimal digits, up to 65,535.
-#[tactic(auto, unfolding(crate::specs::Numbers::decimal_of))]
 pub(crate) fn decimal(digits: &[u8]) -> Option<u16>
-    ensures { result ≡ decimal_of digits.now }
+    ensures { result ≡ decimal_up_to (greatest_number false) digits.now }
 {
-    match digits {
-        [] => None,
-        [_, ..] => number_of_digits(digits),
+    decimal_up_to(digits, GREATEST_NUMBER)
+}
+
+/// The number of a number token, where it is at most `most`.
+#[tactic(auto, unfolding(crate::specs::Numbers::number_up_to))]
+fn number_up_to(source: &[u8], token: &Token, most: u32) -> Option<u16>
+    requires { most ≤ 65535 }
+    ensures { result ≡ number_up_to most source.now token.now }
+{
+    if has_kind(token, TokenKind::Number) {
+        decimal_up_to(token.text(source), most)
+    } else {
+        None
     }
 }
 
@@ -65,24 +51,7 @@ pub(crate) fn decimal(digits: &[u8]) -> Option<u16>
 pub(crate) fn number(source: &[u8], token: &Token) -> Option<u16>
     ensures { result ≡ number_of source.now token.now }
 {
-    if has_kind(token, TokenKind::Number) {
-        decimal(text(source, token))
-    } else {
-        None
-    }
-}
-
-/// The number of a number token behind a `-`, up to 32,768.
-#[tactic(auto, unfolding(crate::specs::Numbers::negated_of))]
-fn negated(source: &[u8], token: &Token) -> Option<u16>
-    ensures { result ≡ negated_of source.now token.now }
-{
-    let number = number(source, token)?;
-    if number <= GREATEST_NEGATED {
-        Some(number)
-    } else {
-        None
-    }
+    number_up_to(source, token, GREATEST_NUMBER)
 }
 
 /// A number behind its sign, and what follows.
@@ -98,7 +67,7 @@ pub(crate) fn signed<'a>(
         return None;
     };
     if is_mark(source, sign, Mark::Minus) {
-        let number = negated(source, token)?;
+        let number = number_up_to(source, token, GREATEST_NEGATED)?;
         Some((0 - i32::from(number), rest))
     } else if is_mark(source, sign, Mark::Plus) {
         let number = number(source, token)?;

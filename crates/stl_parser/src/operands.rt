@@ -45,7 +45,7 @@ ghost use Rattle.stl_parser.specs.Addresses.{address_at};
 ghost use Rattle.stl_lexer.specs.Tokens.{text_of};
 
 use crate::addresses::{address, bit, is_address_word};
-use crate::keywords::{Key, Mark, has_kind, is_key, is_mark, text};
+use crate::keywords::{Key, has_kind, is_key, is_mark};
 use crate::literals::{literal, unquoted};
 use crate::numbers::number;
 use crate::paths::{all_steps, path};
@@ -53,7 +53,7 @@ use crate::tables::{Address, address_of, flag_of, register_of};
 use plc_base::{BlockId, BlockKind, Width};
 use std::alloc::{AllocError, Global};
 use stl_ast::{BlockName, Letters, Name, Numbered, Operand, PathHead, PathStep, Sequence};
-use stl_lexer::{Token, TokenKind};
+use stl_lexer::{Mark, Token, TokenKind};
 
 /// The bit of an address of this width: `.` and its number for a bit, and nothing for a wider one.
 #[tactic(auto, unfolding(crate::specs::Operands::place_bit))]
@@ -128,7 +128,7 @@ fn block_path(
     }
     let mut first = Vec::new(alloc);
     first.push(PathStep::Named {
-        name: Name::new(alloc, text(source, token))?,
+        name: Name::new(alloc, token.text(source))?,
     })?;
     let Some(steps) = all_steps(alloc, source, first, rest)? else {
         return Ok(None);
@@ -488,7 +488,7 @@ fn pointer(source: &[u8], tokens: &[Token]) -> Option<Operand>
 fn condition(source: &[u8], token: &Token) -> Option<Operand>
     ensures { result ≡ condition_of source.now token.now }
 {
-    let flag = flag_of(text(source, token))?;
+    let flag = flag_of(token.text(source))?;
     Some(Operand::OfStatus { flag })
 }
 
@@ -497,9 +497,9 @@ fn condition(source: &[u8], token: &Token) -> Option<Operand>
 fn other(alloc: Global, source: &[u8], token: &Token) -> Result<Option<Operand>, AllocError>
     ensures { IfOk result (λ found. found ≡ other_of source.now token.now) }
 {
-    match register_of(text(source, token)) {
+    match register_of(token.text(source)) {
         Some(true) => {
-            let name = Name::new(alloc, text(source, token))?;
+            let name = Name::new(alloc, token.text(source))?;
             Ok(Some(Operand::Other { name }))
         }
         _ => Ok(None),
@@ -530,7 +530,7 @@ fn alone(
 fn is_operand_word(source: &[u8], token: &Token) -> bool
     ensures { result ≡ is_operand_word source.now token.now }
 {
-    let word = text(source, token);
+    let word = token.text(source);
     is_address_word(word)
         || flag_of(word).is_some()
         || register_of(word).is_some()
@@ -551,7 +551,7 @@ fn plain_path(
     if is_operand_word(source, token) {
         return Ok(None);
     }
-    let name = Name::new(alloc, text(source, token))?;
+    let name = Name::new(alloc, token.text(source))?;
     path(alloc, source, PathHead::Local { name }, rest)
 }
 
@@ -591,7 +591,7 @@ fn with_number(
 fn with_pointer(source: &[u8], token: &Token, rest: &[Token]) -> Option<Operand>
     ensures { result ≡ with_pointer source.now token.now rest.now }
 {
-    let address = address_of(text(source, token))?;
+    let address = address_of(token.text(source))?;
     indirect(source, address, rest)
 }
 
@@ -631,7 +631,7 @@ fn quoted_operand(
 ) -> Result<Option<Operand>, AllocError>
     ensures { IfOk result (λ found. found ≡ quoted_operand source.now token.now rest.now) }
 {
-    let name = Name::new(alloc, unquoted(text(source, token)))?;
+    let name = Name::new(alloc, unquoted(token.text(source)))?;
     match rest {
         [] => {
             let steps = Sequence::from_vec(Vec::new(alloc));
@@ -672,7 +672,7 @@ fn sign_operand(source: &[u8], token: &Token, rest: &[Token]) -> Option<Operand>
 pub(crate) fn local_name(alloc: Global, source: &[u8], token: &Token) -> Result<Name, AllocError>
     ensures { IfOk result (λ name. name ≡ drop 1 (text_of source.now token.now)) }
 {
-    match text(source, token) {
+    match token.text(source) {
         [] => Name::new(alloc, &[]),
         [_, name @ ..] => Name::new(alloc, name),
     }

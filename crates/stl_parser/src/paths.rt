@@ -4,11 +4,11 @@ ghost use Rattle.stl_parser.specs.Numbers.{int_at};
 ghost use Rattle.stl_parser.specs.Operands.{index_end, name_step, step_at, path_end, steps_from, path_of};
 ghost use Rattle.stl_parser.specs.Parts.{whole};
 
-use crate::keywords::{Mark, has_kind, is_mark, text};
+use crate::keywords::{has_kind, is_mark};
 use crate::numbers::int;
 use std::alloc::{AllocError, Global};
 use stl_ast::{Name, Operand, PathHead, PathStep, Sequence};
-use stl_lexer::{Token, TokenKind};
+use stl_lexer::{Mark, Token, TokenKind};
 
 /// `]` behind the index of a step.
 #[tactic(auto, unfolding(crate::specs::Operands::index_end))]
@@ -41,7 +41,7 @@ fn name_step<'a>(
     if !has_kind(token, TokenKind::Word) {
         return Ok(None);
     }
-    let name = Name::new(alloc, text(source, token))?;
+    let name = Name::new(alloc, token.text(source))?;
     Ok(Some((PathStep::Named { name }, rest)))
 }
 

@@ -35,14 +35,14 @@ ghost use Rattle.stl_parser.specs.Statements.{
 };
 
 use crate::addresses::block;
-use crate::keywords::{Mark, has_kind, is_mark, text};
+use crate::keywords::{has_kind, is_mark};
 use crate::literals::unquoted;
 use crate::operands::operand;
 use crate::tables::{Form, mnemonic_of, opening_mnemonic_of};
 use plc_base::BlockKind;
 use std::alloc::{AllocError, Global};
 use stl_ast::{Actual, BlockName, Mnemonic, Name, Operand, Sequence, Statement};
-use stl_lexer::{Token, TokenKind};
+use stl_lexer::{Mark, Token, TokenKind};
 
 /// The most characters that a label may have.
 pub const LABEL_LENGTH: usize = 4;
@@ -122,7 +122,7 @@ fn actual<'a>(
     let Some(value) = value(alloc, source, value_tokens)? else {
         return Ok(None);
     };
-    let name = Name::new(alloc, text(source, word))?;
+    let name = Name::new(alloc, word.text(source))?;
     Ok(Some((
         Actual {
             line: word.line,
@@ -388,7 +388,7 @@ fn with_operand(
 fn is_long(source: &[u8], token: &Token) -> bool
     ensures { result ≡ is_long source.now token.now }
 {
-    text(source, token).len() > LABEL_LENGTH
+    token.text(source).len() > LABEL_LENGTH
 }
 
 /// A jump, behind the word: a word that stands alone is its label.
@@ -403,7 +403,7 @@ fn jump(
 {
     match tokens {
         [token] if has_kind(token, TokenKind::Word) => {
-            let name = Name::new(alloc, text(source, token))?;
+            let name = Name::new(alloc, token.text(source))?;
             Ok(Some(Instruction {
                 code,
                 operand: Operand::Label { name },
@@ -427,7 +427,7 @@ fn open(
 {
     match tokens {
         [token] if has_kind(token, TokenKind::Quoted) => {
-            let name = Name::new(alloc, unquoted(text(source, token)))?;
+            let name = Name::new(alloc, unquoted(token.text(source)))?;
             let operand = Operand::OpenBlock {
                 di: false,
                 name: BlockName::Quoted { name },
@@ -483,7 +483,7 @@ fn opening(
 ) -> Result<Option<Instruction>, AllocError>
     ensures { IfOk result (λ found. found ≡ opening_of source.now token.now rest.now) }
 {
-    let Some(code) = opening_mnemonic_of(text(source, token)) else {
+    let Some(code) = opening_mnemonic_of(token.text(source)) else {
         return Ok(None);
     };
     let Some(behind) = after_paren(source, rest) else {
@@ -502,7 +502,7 @@ fn closed(
 ) -> Result<Option<Instruction>, AllocError>
     ensures { IfOk result (λ found. found ≡ closed_of source.now token.now rest.now) }
 {
-    let Some((code, form)) = mnemonic_of(text(source, token)) else {
+    let Some((code, form)) = mnemonic_of(token.text(source)) else {
         return Ok(None);
     };
     behind_word(alloc, source, form, code, rest)
@@ -560,7 +560,7 @@ fn labelled(
         return Ok(None);
     };
     let long = instruction.long || is_long(source, word);
-    let label = Name::new(alloc, text(source, word))?;
+    let label = Name::new(alloc, word.text(source))?;
     Ok(Some((statement_with(line, Some(label), instruction), long)))
 }
 

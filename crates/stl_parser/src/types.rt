@@ -24,14 +24,14 @@ ghost use Rattle.stl_parser.specs.Types.{
 };
 
 use crate::addresses::block;
-use crate::keywords::{Key, Mark, has_kind, is_key, is_mark, text};
+use crate::keywords::{Key, has_kind, is_key, is_mark};
 use crate::literals::{literal, literal_at};
 use crate::numbers::{int, number};
 use crate::tables::simple_type_of;
 use plc_base::BlockKind;
 use std::alloc::{AllocError, Global};
 use stl_ast::{BlockName, Bounds, ElementType, Init, Literal, Sequence};
-use stl_lexer::{Token, TokenKind};
+use stl_lexer::{Mark, Token, TokenKind};
 
 /// `] OF` behind the bounds of an array.
 #[tactic(auto, unfolding(crate::specs::Types::array_end))]
@@ -165,7 +165,7 @@ fn simple<'a>(source: &[u8], token: &Token, rest: &'a [Token]) -> Option<(Elemen
     if is_key(source, token, Key::DateAndTime) {
         return Some((ElementType::DateAndTime, rest));
     }
-    let kind = simple_type_of(text(source, token))?;
+    let kind = simple_type_of(token.text(source))?;
     Some((ElementType::Plain { kind }, rest))
 }
 

@@ -1,4 +1,4 @@
-ghost use Rattle.std.specs.Prelude.{◌≡◌, ◌≤◌, ◌+◌, ◌*◌, ◌&&◌, nat_lt, nat_le, if◌then◌else◌, IfSome, Some, None, pos, ◌-ℤ◌};
+ghost use Rattle.std.specs.Prelude.{◌≡◌, ◌≤◌, ◌<◌, ◌^◌, ◌+◌, ◌*◌, ◌&&◌, nat_lt, nat_le, if◌then◌else◌, IfSome, Some, None, pos, ◌-ℤ◌};
 ghost use Rattle.std.specs.Char.{digit_value};
 ghost use Rattle.stl_parser.specs.Values.{
   value_from,
@@ -10,8 +10,12 @@ ghost use Rattle.stl_parser.specs.Values.{
   duration,
 };
 
+use plc_base::decimal_up_to;
 use stl_ast::Literal;
-use stl_lexer::{behind_prefix, first_letter, milliseconds_within};
+use stl_lexer::{
+    GREATEST_COUNT, GREATEST_LONG, GREATEST_NEGATED_LONG, GREATEST_S5TIME, behind_prefix,
+    first_letter, milliseconds_within,
+};
 
 /// The greatest value of `B#16#`.
 pub const GREATEST_BYTE: u32 = 255;
@@ -21,18 +25,6 @@ pub const GREATEST_WORD: u32 = 65_535;
 
 /// The greatest value of `DW#16#` and of `2#`.
 pub const GREATEST_DWORD: u32 = 4_294_967_295;
-
-/// The greatest value of `C#`.
-pub const GREATEST_COUNT: u32 = 999;
-
-/// The greatest value of `L#` and `T#`.
-pub const GREATEST_LONG: u32 = 2_147_483_647;
-
-/// The greatest value of `L#` and `T#` behind a `-`.
-pub const GREATEST_NEGATED_LONG: u32 = 2_147_483_648;
-
-/// The greatest value of `S5T#`.
-pub const GREATEST_S5TIME: u32 = 9_990_000;
 
 /// The value of digits of a base, `_` left out, where it is at most `greatest`.
 #[tactic(auto, unfolding(crate::specs::Values::value_from))]
@@ -103,7 +95,7 @@ pub(crate) fn based(text: &[u8]) -> Option<Literal>
 
 /// A number as a signed one.
 fn positive(number: u32) -> i32
-    requires { number ≤ GREATEST_LONG }
+    requires { number < 2 ^ 31 }
     ensures { result ≡ pos number }
 {
     number as i32
@@ -111,41 +103,41 @@ fn positive(number: u32) -> i32
 
 /// A number behind a `-`.
 fn negated(number: u32) -> i32
-    requires { number ≤ GREATEST_NEGATED_LONG }
+    requires { number ≤ 2 ^ 31 }
     ensures { result ≡ pos 0 -ℤ pos number }
 {
     (0 - i64::from(number)) as i32
 }
 
 /// A decimal number of 32 bits with a sign or none.
-#[tactic(auto, unfolding(crate::specs::Values::long_value))]
+#[tactic(auto, using(crate::proofs::RangeLemmas::decimal_range), unfolding(crate::specs::Values::long_value, stl_lexer::specs::Limits::greatest_long))]
 fn long(text: &[u8]) -> Option<i32>
     ensures { result ≡ long_value text.now }
 {
     match text {
         [] => None,
         [b'-', digits @ ..] => {
-            let number = value(GREATEST_NEGATED_LONG, 10, digits)?;
+            let number = decimal_up_to(digits, GREATEST_NEGATED_LONG)?;
             Some(negated(number))
         }
         [b'+', digits @ ..] => {
-            let number = value(GREATEST_LONG, 10, digits)?;
+            let number = decimal_up_to(digits, GREATEST_LONG)?;
             Some(positive(number))
         }
         [_, ..] => {
-            let number = value(GREATEST_LONG, 10, text)?;
+            let number = decimal_up_to(text, GREATEST_LONG)?;
             Some(positive(number))
         }
     }
 }
 
 /// `C#` or `L#` and a number.
-#[tactic(auto, unfolding(crate::specs::Values::long_or_count))]
+#[tactic(auto, using(crate::proofs::RangeLemmas::decimal_range), unfolding(crate::specs::Values::long_or_count))]
 pub(crate) fn long_or_count(text: &[u8]) -> Option<Literal>
     ensures { result ≡ long_or_count text.now }
 {
     if first_letter(text) == b'c' {
-        let value = value(GREATEST_COUNT, 10, behind_prefix(text))?;
+        let value = decimal_up_to(behind_prefix(text), GREATEST_COUNT)?;
         Some(Literal::Count {
             value: value as u16,
         })
@@ -156,7 +148,7 @@ pub(crate) fn long_or_count(text: &[u8]) -> Option<Literal>
 }
 
 /// The milliseconds of `T#`, with a sign or none.
-#[tactic(auto, unfolding(crate::specs::Values::time_value))]
+#[tactic(auto, unfolding(crate::specs::Values::time_value, stl_lexer::specs::Limits::greatest_long))]
 fn time(text: &[u8]) -> Option<i32>
     ensures { result ≡ time_value text.now }
 {

@@ -1,7 +1,0 @@
-use Rattle.std.proofs.Common.{◌≡◌, min, take}
-use Rattle.stl_lexer.specs.Decimal.{decimal_value}
-use Rattle.stl_parser.specs.declared.numbers.TheConstants.{NUMBER_CAP}
-use Rattle.stl_parser.proofs.numbers.decimal_value.Given as goal
-
-abbrev pub invariant-loop-digit : goal.invariant-loop-digit
-invariant-loop-digit l = l.value ≡ min (decimal_value (take l.digit-index l.digits)) NUMBER_CAP
