@@ -167,18 +167,18 @@ ops_start code = refl
 
 -- ---- one pass over code
 
-last_of : (from : ℕ) (front : List OpData) (op : OpData) → last_place from (front ++ op ∷ []) ≡ from + length (code_bytes front)
+pub last_of : (from : ℕ) (front : List OpData) (op : OpData) → last_place from (front ++ op ∷ []) ≡ from + length (code_bytes front)
 unfolding size
 last_of from [] op = omega arith
 last_of from (a ∷ []) op = omega (arith, length-append (op_bytes a) [])
 last_of from (a ∷ b ∷ front) op = omega (arith, last_of (from + length (op_bytes a)) (b ∷ front) op, length-append (op_bytes a) (code_bytes (b ∷ front)))
 
-ends_at : (front : List OpData) (op : OpData) → ends (front ++ op ∷ []) ≡ (eqb op.code 0x7B && op.last)
+pub ends_at : (front : List OpData) (op : OpData) → ends (front ++ op ∷ []) ≡ (eqb op.code 0x7B && op.last)
 ends_at [] op = refl
 ends_at (a ∷ []) op = refl
 ends_at (a ∷ b ∷ front) op = ends_at (b ∷ front) op
 
-bytes-append : (a b : List OpData) → code_bytes (a ++ b) ≡ code_bytes a ++ code_bytes b
+pub bytes-append : (a b : List OpData) → code_bytes (a ++ b) ≡ code_bytes a ++ code_bytes b
 bytes-append [] b = refl
 bytes-append (op ∷ a) b = ap (λ (z : List ℕ). op_bytes op ++ z) (bytes-append a b) ∙ sym (append_assoc (op_bytes op) (code_bytes a) (code_bytes b))
 

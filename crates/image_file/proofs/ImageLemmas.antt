@@ -64,7 +64,7 @@ run_exact n = record {
 
 -- ---- what no fault says
 
-unless_fine : (b : Bool) (code : ℕ) → is_fine (unless b code) ≡ true → b ≡ true
+pub unless_fine : (b : Bool) (code : ℕ) → is_fine (unless b code) ≡ true → b ≡ true
 unless_fine true code h = refl
 unless_fine false code h = absurd cc
 
@@ -90,7 +90,7 @@ many_count l next s zero (x ∷ xs) h = absurd cc
 many_count l next s (suc n) [] h = absurd cc
 many_count l next s (suc n) (x ∷ xs) h = ap suc (many_count l next (next s x) n xs (and_parts ((l s).good x) (good_many l next (next s x) n xs) h).1)
 
-chain_parts : {A B : Type 0} (l : Layout A) (m : A → Layout B) (x : A × B) → (chain l m).good x ≡ true → (l.good x.0 ≡ true) × ((m x.0).good x.1 ≡ true)
+pub chain_parts : {A B : Type 0} (l : Layout A) (m : A → Layout B) (x : A × B) → (chain l m).good x ≡ true → (l.good x.0 ≡ true) × ((m x.0).good x.1 ≡ true)
 chain_parts l m x h = and_parts (l.good x.0) ((m x.0).good x.1) h
 
 -- ---- parameters
@@ -209,11 +209,11 @@ unfolding code_of
 code_size judged n ops good = eqb-true (length (code_bytes ops)) n (and_parts (are_ops ops && is_nowhere (stop_at judged ops [])) (eqb (length (code_bytes ops)) n) good).1
 
 -- the parts of a block without fault
-record BlockParts (judged : Bool) (before : ℕ × ℕ) (start : ℕ) (x : RawBlock) : Type 0 where
-  head_good : (head before).good x.0 ≡ true
-  params_good : (parameters x.0).good x.1.0 ≡ true
-  code_good : (code_of judged (code_len_in x.0)).good x.1.1.0 ≡ true
-  lines_good : (lines_of judged start x.0 x.1.1.0).good x.1.1.1 ≡ true
+pub record BlockParts (judged : Bool) (before : ℕ × ℕ) (start : ℕ) (x : RawBlock) : Type 0 where
+  pub head_good : (head before).good x.0 ≡ true
+  pub params_good : (parameters x.0).good x.1.0 ≡ true
+  pub code_good : (code_of judged (code_len_in x.0)).good x.1.1.0 ≡ true
+  pub lines_good : (lines_of judged start x.0 x.1.1.0).good x.1.1.1 ≡ true
 
 block_parts : (judged : Bool) (before : ℕ × ℕ) (start : ℕ) (x : RawBlock) → (raw_block judged before start).good x ≡ true → BlockParts judged before start x
 unfolding raw_block code_and_lines
@@ -322,10 +322,10 @@ raw_name_laid before =
     chain_laid width_field name_from_byte (field_laid u8 _ u8_exact) (λ w.
     chain_laid plain_u16 (λ byte. name_bit w) (field_laid u16 plain u16_exact) (λ byte. field_laid u8 _ u8_exact)))))
 
-record NameParts (before : List ℕ) (x : RawName) : Type 0 where
-  len_is : length x.1.0 ≡ x.0
-  area_good : lies_within 129 131 x.1.1.0 ≡ true
-  width_good : lies_within 1 4 x.1.1.1.0 ≡ true
+pub record NameParts (before : List ℕ) (x : RawName) : Type 0 where
+  pub len_is : length x.1.0 ≡ x.0
+  pub area_good : lies_within 129 131 x.1.1.0 ≡ true
+  pub width_good : lies_within 1 4 x.1.1.1.0 ≡ true
 
 within_width : (w : ℕ) → width_field.good w ≡ true → lies_within 1 4 w ≡ true
 unfolding width_field fault_of
@@ -389,11 +389,11 @@ raw_records_laid judged =
     chain_laid (data_blocks c.1.0) (λ datas. names c.1.1.0) (data_blocks_laid c.1.0) (λ datas. names_laid c.1.1.0)))
 
 -- the parts of records without fault
-record RecordParts (judged : Bool) (x : RawRecords) : Type 0 where
-  counts_good : counts.good x.0 ≡ true
-  codes_good : (code_blocks judged x.0.0).good x.1.0 ≡ true
-  datas_good : (data_blocks x.0.1.0).good x.1.1.0 ≡ true
-  names_good : (names x.0.1.1.0).good x.1.1.1 ≡ true
+pub record RecordParts (judged : Bool) (x : RawRecords) : Type 0 where
+  pub counts_good : counts.good x.0 ≡ true
+  pub codes_good : (code_blocks judged x.0.0).good x.1.0 ≡ true
+  pub datas_good : (data_blocks x.0.1.0).good x.1.1.0 ≡ true
+  pub names_good : (names x.0.1.1.0).good x.1.1.1 ≡ true
 
 record_parts : (judged : Bool) (x : RawRecords) → (raw_records judged).good x ≡ true → RecordParts judged x
 unfolding raw_records
@@ -512,7 +512,7 @@ params_there [] = refl
 params_there (p ∷ ps) = rw (width_there p.width, params_there ps) refl
 
 -- the parts of a block record without fault
-record_parts_of : (judged : Bool) (before : ℕ × ℕ) (b : BlockRecord) → (code_block judged before).good b ≡ true → BlockParts judged before 0 (raw_of_block b)
+pub record_parts_of : (judged : Bool) (before : ℕ × ℕ) (b : BlockRecord) → (code_block judged before).good b ≡ true → BlockParts judged before 0 (raw_of_block b)
 unfolding code_block plain_block
 record_parts_of judged before b good = block_parts judged before 0 (raw_of_block b) good
 
@@ -528,7 +528,7 @@ block_there judged before b good =
     ap (λ (k : BlockKind). let r : CodeBlock = record { id = record { kind = k; number = b.id.number }; local_len = b.local_len; instance_len = b.instance_len; params = map param_of (map record_of_param b.params); code = b.code; lines = b.lines } in r) (kind_there b.id.kind (head_kind before (raw_of_block (record_of_block b)).0 p.head_good))
     ∙ ap (λ (ps : List Param). let r : CodeBlock = record { id = b.id; local_len = b.local_len; instance_len = b.instance_len; params = ps; code = b.code; lines = b.lines } in r) (params_there b.params)
 
-name_parts_of : (before : List ℕ) (n : NameRecord) → (name_record before).good n ≡ true → NameParts before (raw_of_name n)
+pub name_parts_of : (before : List ℕ) (n : NameRecord) → (name_record before).good n ≡ true → NameParts before (raw_of_name n)
 unfolding name_record
 name_parts_of before n good = name_parts before (raw_of_name n) good
 
@@ -559,7 +559,7 @@ names_there : (n : ℕ) (es : List NameEntry) → (names n).good (map name_of_en
 unfolding names
 names_there n es good = back_many name_record after_name entry_of_name name_of_entry name_there [] n es good
 
-records_parts : (judged : Bool) (r : Records) → (records judged).good r ≡ true → RecordParts judged (raw_of_records r)
+pub records_parts : (judged : Bool) (r : Records) → (records judged).good r ≡ true → RecordParts judged (raw_of_records r)
 unfolding records
 records_parts judged r good = record_parts judged (raw_of_records r) good
 
@@ -581,7 +581,7 @@ body_laid judged = seen_laid program_of records_of (records judged) (records_bac
 
 -- ---- what is judged changes no byte, and is right where it isn't judged
 
-many_text : {S A : Type 0} (l m : S → Layout A) (next : S → A → S) → ((s : S) (x : A) → (l s).spell x ≡ (m s).spell x) → (s : S) (xs : List A) → spell_many l next s xs ≡ spell_many m next s xs
+pub many_text : {S A : Type 0} (l m : S → Layout A) (next : S → A → S) → ((s : S) (x : A) → (l s).spell x ≡ (m s).spell x) → (s : S) (xs : List A) → spell_many l next s xs ≡ spell_many m next s xs
 many_text l m next same s [] = refl
 many_text l m next same s (x ∷ xs) = rw (same s x, many_text l m next same (next s x) xs) refl
 

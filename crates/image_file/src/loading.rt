@@ -53,7 +53,7 @@ fn key_of(block: &DataBlock) -> (u16, usize)
     (block.number, block.bytes.len())
 }
 
-fn lens_of(alloc: Global, blocks: &[DataBlock]) -> Result<Vec<(u16, usize)>, NoMemory>
+pub(crate) fn lens_of(alloc: Global, blocks: &[DataBlock]) -> Result<Vec<(u16, usize)>, NoMemory>
     ensures { IfOk result (λ v. v.items ≡ lens_of blocks.now) }
 {
     let mut lens = Vec::new(alloc);

@@ -1,4 +1,4 @@
-use crate::faults::LoadFault;
+use crate::faults::{LoadFault, VerifyFault};
 use std::alloc::AllocError;
 
 /// Why bytes aren't loaded.
@@ -18,5 +18,25 @@ impl From<AllocError> for LoadError {
 
     fn from(_e: AllocError) -> LoadError {
         LoadError::NoMemory
+    }
+}
+
+/// Why a program isn't taken for one that verifies.
+#[derive(Clone, Copy, Debug, PartialEq, Eq)]
+pub enum VerifyError {
+    /// It has a fault: the least by offset, then code, of the first block that has one.
+    Fault { fault: VerifyFault },
+    /// Memory was wanting.
+    NoMemory,
+}
+
+impl From<AllocError> for VerifyError {
+    ghost use Rattle.std.specs.Prelude.{◌≡◌};
+    ghost use Rattle.image_file.specs.declared.refusing.VerifyError.TheVariants.{NoMemory};
+
+    ghost from_gives = { λ _ e. e ≡ NoMemory };
+
+    fn from(_e: AllocError) -> VerifyError {
+        VerifyError::NoMemory
     }
 }

@@ -1,0 +1,113 @@
+-- The counts and lengths of a program fit their fields.
+use Rattle.std.proofs.Common.{◌≡◌, ℕ, zero, suc, ◌+◌, ◌<◌, ◌≤◌, Bool, true, false, ltb, leb, eqb, ◌&&◌, List, [], ◌∷◌, length, map, All, refl, sym, subst, ap, ◌∙◌, arith}
+use Rattle.std.proofs.lemmas.Bool.{and_parts, ltb-true}
+use Rattle.std.proofs.lemmas.List.{length-map}
+use Rattle.std.proofs.lemmas.List.Elements.{All-nil, All-cons}
+use Rattle.flat_code.specs.Coding.{u16}
+use Rattle.flat_code.specs.Layout.{Layout, chain, good_many, is_fine}
+use Rattle.flat_code.specs.Codes.{code_bytes}
+use Rattle.flat_code.specs.Faults.{fault_of, name_fault}
+use Rattle.flat_code.specs.Image.{plain_u16, plain_u32, zero_u16, kind_field, parameter_count, block_number, local_bytes, instance_bytes, Head, head, statements_in, code_len_in, record_of_block, name_of_entry, raw_of_block, raw_of_data, raw_of_name, code_block, after_block, code_blocks, data_number, instance_field, data_len, contents, raw_data, data_block, after_data, plain_data_blocks, data_blocks, name_len, name_bytes, name_area, width_field, name_bit, raw_name, name_record, after_name, names, data_count, Counts, counts, raw_of_records, records_of, body, IsProgram}
+use Rattle.flat_code.specs.Programs.{CodeBlock, DataBlock, NameEntry, Program}
+use Rattle.image_file.specs.Writing.{BlockFits, DataFits, NameFits, ProgramFits}
+use Rattle.image_file.proofs.ImageLemmas.{chain_parts, BlockParts, record_parts_of, RecordParts, records_parts}
+
+word_fits : (n : ℕ) → plain_u16.good n ≡ true → n < 65536
+unfolding plain_u16
+word_fits n good = ltb-true n 65536 (and_parts (ltb n 65536) true good).0
+
+dword_fits : (n : ℕ) → plain_u32.good n ≡ true → n < 4294967296
+unfolding plain_u32
+dword_fits n good = ltb-true n 4294967296 (and_parts (ltb n 4294967296) true good).0
+
+head_fits : (before : ℕ × ℕ) (h : Head) → (head before).good h ≡ true → (statements_in h < 65536) × (code_len_in h < 4294967296)
+unfolding head
+head_fits before h good =
+    let a = chain_parts (kind_field before.0) (λ kind. chain (parameter_count kind) (λ params. chain (block_number before.0 before.1 kind) (λ number. chain (local_bytes kind) (λ locals. chain (instance_bytes kind) (λ instance. chain plain_u16 (λ statements. chain zero_u16 (λ zero. plain_u32))))))) h good in
+    let b = chain_parts (parameter_count h.0) (λ params. chain (block_number before.0 before.1 h.0) (λ number. chain (local_bytes h.0) (λ locals. chain (instance_bytes h.0) (λ instance. chain plain_u16 (λ statements. chain zero_u16 (λ zero. plain_u32)))))) h.1 a.1 in
+    let c = chain_parts (block_number before.0 before.1 h.0) (λ number. chain (local_bytes h.0) (λ locals. chain (instance_bytes h.0) (λ instance. chain plain_u16 (λ statements. chain zero_u16 (λ zero. plain_u32))))) h.1.1 b.1 in
+    let d = chain_parts (local_bytes h.0) (λ locals. chain (instance_bytes h.0) (λ instance. chain plain_u16 (λ statements. chain zero_u16 (λ zero. plain_u32)))) h.1.1.1 c.1 in
+    let e = chain_parts (instance_bytes h.0) (λ instance. chain plain_u16 (λ statements. chain zero_u16 (λ zero. plain_u32))) h.1.1.1.1 d.1 in
+    let f = chain_parts plain_u16 (λ statements. chain zero_u16 (λ zero. plain_u32)) h.1.1.1.1.1 e.1 in
+    let g = chain_parts zero_u16 (λ zero. plain_u32) h.1.1.1.1.1.1 f.1 in
+    (word_fits h.1.1.1.1.1.0 f.0, dword_fits h.1.1.1.1.1.1.1 g.1)
+
+block_fits : (before : ℕ × ℕ) (b : CodeBlock) → (code_block false before).good (record_of_block b) ≡ true → BlockFits b
+block_fits before b good =
+    let h = head_fits before (raw_of_block (record_of_block b)).0 (record_parts_of false before (record_of_block b) good).head_good in
+    record { lines = h.0; code = h.1 }
+
+blocks_fit : (s : ℕ × ℕ) (n : ℕ) (bs : List CodeBlock) → good_many (code_block false) after_block s n (map record_of_block bs) ≡ true → All BlockFits bs
+blocks_fit s n [] h = All-nil BlockFits
+blocks_fit s zero (b ∷ bs) h = absurd cc
+blocks_fit s (suc n) (b ∷ bs) h =
+    let r = record_of_block b in
+    let g = and_parts ((code_block false s).good r) (good_many (code_block false) after_block (after_block s r) n (map record_of_block bs)) h in
+    All-cons BlockFits b bs (block_fits s b g.0) (blocks_fit (after_block s r) n bs g.1)
+
+data_fits : (before : ℕ × ℕ) (d : DataBlock) → (data_block before).good d ≡ true → DataFits d
+unfolding data_block raw_data instance_field data_len
+data_fits before d good =
+    let x = raw_of_data d in
+    let a = chain_parts (data_number before.0) (λ number. chain instance_field (λ instance. chain (data_len before.1) (λ n. chain zero_u16 (λ zero. contents n)))) x good in
+    let b = chain_parts instance_field (λ instance. chain (data_len before.1) (λ n. chain zero_u16 (λ zero. contents n))) x.1 a.1 in
+    let c = chain_parts (data_len before.1) (λ n. chain zero_u16 (λ zero. contents n)) x.1.1 b.1 in
+    record { bytes = ltb-true _ 65536 (and_parts _ _ c.0).0; instance = ltb-true _ 65536 (and_parts _ _ b.0).0 }
+
+datas_fit : (s : ℕ × ℕ) (n : ℕ) (ds : List DataBlock) → good_many data_block after_data s n ds ≡ true → All DataFits ds
+datas_fit s n [] h = All-nil DataFits
+datas_fit s zero (d ∷ ds) h = absurd cc
+datas_fit s (suc n) (d ∷ ds) h =
+    let g = and_parts ((data_block s).good d) (good_many data_block after_data (after_data s d) n ds) h in
+    All-cons DataFits d ds (data_fits s d g.0) (datas_fit (after_data s d) n ds g.1)
+
+name_fits : (before : List ℕ) (e : NameEntry) → (name_record before).good (name_of_entry e) ≡ true → NameFits e
+unfolding name_record raw_name name_len
+name_fits before e good =
+    let a = chain_parts name_len (λ n. chain (name_bytes before n) (λ name. chain name_area (λ area. chain width_field (λ w. chain plain_u16 (λ byte. name_bit w))))) (raw_of_name (name_of_entry e)) good in
+    ltb-true _ 256 (and_parts _ _ a.0).0
+
+names_fit : (before : List ℕ) (n : ℕ) (es : List NameEntry) → good_many name_record after_name before n (map name_of_entry es) ≡ true → All NameFits es
+names_fit before n [] h = All-nil NameFits
+names_fit before zero (e ∷ es) h = absurd cc
+names_fit before (suc n) (e ∷ es) h =
+    let r = name_of_entry e in
+    let g = and_parts ((name_record before).good r) (good_many name_record after_name (after_name before r) n (map name_of_entry es)) h in
+    All-cons NameFits e es (name_fits before e g.0) (names_fit (after_name before r) n es g.1)
+
+counts_fit : (c : Counts) → counts.good c ≡ true → (c.0 < 65536) × (c.1.0 < 65536) × (c.1.1.0 < 65536)
+unfolding counts data_count
+counts_fit c good =
+    let a = chain_parts plain_u16 (λ codes. chain data_count (λ datas. chain plain_u16 (λ names. zero_u16))) c good in
+    let b = chain_parts data_count (λ datas. chain plain_u16 (λ names. zero_u16)) c.1 a.1 in
+    let d = chain_parts plain_u16 (λ names. zero_u16) c.1.1 b.1 in
+    (word_fits c.0 a.0, ltb-true _ 65536 (and_parts _ _ b.0).0, word_fits c.1.1.0 d.0)
+
+codes_are : (n : ℕ) (bs : List CodeBlock) → (code_blocks false n).good (map record_of_block bs) ≡ true → All BlockFits bs
+unfolding code_blocks
+codes_are n bs good = blocks_fit (0, 0) n bs good
+
+datas_are : (n : ℕ) (ds : List DataBlock) → (data_blocks n).good ds ≡ true → All DataFits ds
+unfolding data_blocks
+datas_are n ds good = datas_fit (0, 0) n ds good
+
+names_are : (n : ℕ) (es : List NameEntry) → (names n).good (map name_of_entry es) ≡ true → All NameFits es
+unfolding names
+names_are n es good = names_fit [] n es good
+
+fits_by : (p : Program) → RecordParts false (raw_of_records (records_of p)) → IsProgram p → ProgramFits p
+fits_by p q h =
+    let c = counts_fit (raw_of_records (records_of p)).0 q.counts_good in
+    record {
+      code_count = subst (λ (k : ℕ). k < 65536) (length-map p.code_blocks record_of_block) c.0;
+      data_count = c.1;
+      name_count = subst (λ (k : ℕ). k < 65536) (length-map p.names name_of_entry) c.2;
+      code_blocks = codes_are (length (map record_of_block p.code_blocks)) p.code_blocks q.codes_good;
+      data_blocks = datas_are (length p.data_blocks) p.data_blocks q.datas_good;
+      names = names_are (length (map name_of_entry p.names)) p.names q.names_good;
+      total = h.short;
+    }
+
+pub program_fits : (p : Program) → IsProgram p → ProgramFits p
+unfolding body
+program_fits p h = fits_by p (records_parts false (records_of p) h.good) h

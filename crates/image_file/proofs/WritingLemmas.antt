@@ -1,0 +1,72 @@
+-- Records written one behind the other.
+use Rattle.std.proofs.Common.{◌≡◌, ℕ, ◌+◌, ◌<◌, ◌≤◌, false, List, [], ◌∷◌, ◌++◌, length, map, drop, refl, sym, ap, subst, ◌∙◌, append_assoc}
+use Rattle.std.specs.Int.{w32, to_be_bytes}
+use Rattle.flat_code.specs.Codes.{code_bytes, code_of}
+use Rattle.flat_code.specs.Image.{plain_u16, plain_u32, zero_u8, zero_u16, width_field, section_field, parameter_byte, parameter_bit, raw_parameter, parameter, same_state, kind_field, parameter_count, block_number, local_bytes, instance_bytes, Head, head, instance_in, parameters, line_field, line_after, lines_of, code_and_lines, raw_block, raw_of_block, plain_block, code_block, after_block, data_number, instance_field, data_len, contents, raw_data, data_block, after_data, name_len, name_bytes, name_area, name_bit, raw_name, name_record, after_name, names, counts, code_blocks, data_blocks, raw_records, raw_of_records, records_of, records, body}
+use Rattle.flat_code.specs.Layout.{Layout, spell_many}
+use Rattle.flat_code.specs.Programs.{DataBlock, Program}
+use Rattle.flat_code.specs.Records.{BlockRecord, NameRecord}
+use Rattle.flat_code.specs.declared.image_fields.ParameterRecord.{ParameterRecord}
+use Rattle.image_file.proofs.ImageLemmas.{many_text}
+
+-- what was written, and the records that are left to be written from some state, are all
+pub record Left {S A : Type 0} (l : S → Layout A) (next : S → A → S) (out : List ℕ) (xs : List A) (all : List ℕ) : Type 0 where
+  pub state : S
+  pub is : out ++ spell_many l next state xs ≡ all
+
+-- layouts that spell the same, whatever came before
+pub record Spells {S A : Type 0} (l : S → Layout A) (spell : A → List ℕ) : Type 0 where
+  pub same : (s : S) (x : A) → (l s).spell x ≡ spell x
+
+pub one_left : {S A : Type 0} (l : S → Layout A) (next : S → A → S) (spell : A → List ℕ) (out after : List ℕ) (x : A) (xs ys : List A) (all : List ℕ) → Spells l spell → ys ≡ x ∷ xs → after ≡ out ++ spell x → Left l next out ys all → Left l next after xs all
+one_left {A = A} l next spell out after x xs ys all same shape e left =
+    let here = subst (λ (z : List A). out ++ spell_many l next left.state z ≡ all) shape left.is in
+    record {
+      state = next left.state x;
+      is = ap (λ (z : List ℕ). z ++ spell_many l next (next left.state x) xs) (e ∙ ap (λ (z : List ℕ). out ++ z) (sym (same.same left.state x)))
+          ∙ append_assoc out ((l left.state).spell x) (spell_many l next (next left.state x) xs) ∙ here;
+    }
+
+-- ---- no spelling depends on what came before
+
+pub line_spells : Spells (line_field false) (λ n. to_be_bytes w32 n)
+unfolding line_field
+line_spells = record { same = λ s n. refl }
+
+pub block_spells : Spells (code_block false) (λ b. (code_block false (0, 0)).spell b)
+unfolding code_block plain_block raw_block head kind_field block_number
+block_spells = record { same = λ s b. refl }
+
+pub data_spells : Spells data_block (λ d. (data_block (0, 0)).spell d)
+unfolding data_block raw_data data_number data_len
+data_spells = record { same = λ s d. refl }
+
+pub name_spells : Spells name_record (λ n. (name_record []).spell n)
+unfolding name_record raw_name name_bytes
+name_spells = record { same = λ s n. refl }
+
+same_parameter : (kind instance s : ℕ) (p : ParameterRecord) → (parameter 0 0).spell p ≡ (parameter kind instance).spell p
+unfolding parameter raw_parameter parameter_byte parameter_bit
+same_parameter kind instance s p = refl
+
+-- ---- records of parts
+
+pub three_put : (out a b c w x y : List ℕ) → a ≡ out ++ w → b ≡ a ++ x → c ≡ b ++ y → c ≡ out ++ (w ++ (x ++ y))
+three_put out a b c w x y p q r =
+    r ∙ ap (λ (z : List ℕ). z ++ y) (q ∙ ap (λ (z : List ℕ). z ++ x) p) ∙ append_assoc (out ++ w) x y ∙ append_assoc out w (x ++ y)
+
+pub four_put : (out a b c d w x y v : List ℕ) → a ≡ out ++ w → b ≡ a ++ x → c ≡ b ++ y → d ≡ c ++ v → d ≡ out ++ (w ++ (x ++ (y ++ v)))
+four_put out a b c d w x y v p q r s =
+    s ∙ ap (λ (z : List ℕ). z ++ v) (three_put out a b c w x y p q r) ∙ append_assoc out (w ++ (x ++ y)) v
+    ∙ ap (λ (z : List ℕ). out ++ z) (append_assoc w (x ++ y) v ∙ ap (λ (z : List ℕ). w ++ z) (append_assoc x y v))
+
+pub block_spelled : (b : BlockRecord) → (head (0, 0)).spell (raw_of_block b).0 ++ (spell_many (λ s. parameter 0 0) same_state 0 b.params ++ (code_bytes b.code ++ spell_many (line_field false) line_after 0 b.lines)) ≡ (code_block false (0, 0)).spell b
+unfolding code_block plain_block raw_block code_and_lines lines_of code_of parameters
+block_spelled b =
+    let h = (raw_of_block b).0 in
+    ap (λ (z : List ℕ). (head (0, 0)).spell h ++ (z ++ (code_bytes b.code ++ spell_many (line_field false) line_after 0 b.lines)))
+    (many_text (λ s. parameter 0 0) (λ s. parameter h.0 (instance_in h)) same_state (same_parameter h.0 (instance_in h)) 0 b.params)
+
+pub body_spelled : (p : Program) → counts.spell (raw_of_records (records_of p)).0 ++ (spell_many (code_block false) after_block (0, 0) (records_of p).code_blocks ++ (spell_many data_block after_data (0, 0) p.data_blocks ++ spell_many name_record after_name [] (records_of p).names)) ≡ (body false).spell p
+unfolding body records raw_records code_blocks data_blocks names
+body_spelled p = refl

@@ -1,0 +1,71 @@
+-- THE FAULTS OF A PROGRAM, block by block, as `verify` tells them: 5 to 9, by the offset in the block's code.
+use Rattle.std.specs.Prelude.{◌≡◌, ℕ, Bool, true, false, ◌&&◌, List, [], ◌∷◌, ◌++◌, length, map, Option, Some, None}
+use Rattle.plc_base.specs.declared.blocks.BlockId.{BlockId}
+use Rattle.flat_code.specs.declared.image_fields.Field.TheVariants as field_of
+use Rattle.flat_code.specs.Codes.{code_fault, is_nowhere}
+use Rattle.flat_code.specs.Blocks.{Around, at_offset, block_faults}
+use Rattle.flat_code.specs.Faults.{fault_of}
+use Rattle.flat_code.specs.Image.{end_marks, record_of_block}
+use Rattle.flat_code.specs.Loading.{lens_of, around}
+use Rattle.flat_code.specs.Programs.{CodeBlock, DataBlock, Program}
+use Rattle.flat_code.specs.Records.{BlockRecord}
+use Rattle.image_file.specs.declared.faults.LoadFault.{LoadFault}
+use Rattle.image_file.specs.declared.refusing.VerifyError.{VerifyError}
+use Rattle.image_file.specs.declared.refusing.VerifyError.TheVariants as error
+use Rattle.image_file.specs.declared.faults.VerifyFault.{VerifyFault}
+use Rattle.image_file.specs.Least.{IsLeast}
+
+-- 9, at 0: a line that is 0 or falls, behind another line (0 for none)
+abbrev pub line_faults : ℕ → List ℕ → List (ℕ × ℕ)
+line_faults before [] = []
+line_faults before (line ∷ lines) = at_offset 0 (fault_of (field_of.Line before line)) ++ line_faults line lines
+
+-- 9, at 0: another number of statements than end marks
+abbrev pub count_faults : BlockRecord → List (ℕ × ℕ)
+count_faults b = at_offset 0 (fault_of (field_of.StatementCount (end_marks b.code) (length b.lines)))
+
+-- 5 alone, where the code has one; else 9, and those of the ops
+abbrev pub faults_unless : Option ℕ → Around → BlockRecord → List (ℕ × ℕ)
+faults_unless (Some at) around b = (at, 5) ∷ []
+faults_unless None around b = count_faults b ++ line_faults 0 b.lines ++ block_faults around 0 b.code
+
+abbrev pub faults_of_block : Around → BlockRecord → List (ℕ × ℕ)
+faults_of_block around b = faults_unless (code_fault b.code) around b
+
+-- whether no code has a fault 5: only then are calls judged
+abbrev pub are_whole : List BlockRecord → Bool
+are_whole [] = true
+are_whole (b ∷ bs) = is_nowhere (code_fault b.code) && are_whole bs
+
+abbrev pub lens_where : Bool → List DataBlock → Option (List (ℕ × ℕ))
+lens_where true datas = Some (lens_of datas)
+lens_where false datas = None
+
+abbrev pub lens_judged : Program → Option (List (ℕ × ℕ))
+lens_judged p = lens_where (are_whole (map record_of_block p.code_blocks)) p.data_blocks
+
+-- the first block with a fault, and the least of its faults
+abbrev pub DecidesFor : BlockId → VerifyFault → List (ℕ × ℕ) → Type 0 → Type 0
+DecidesFor id f [] Later = Later
+DecidesFor id f (g ∷ gs) Later = (f.block ≡ id) × IsLeast (record { at = f.at; code = f.code }) (g ∷ gs)
+
+abbrev pub IsFirstOf : Option (List (ℕ × ℕ)) → List BlockRecord → List CodeBlock → VerifyFault → Type 0
+IsFirstOf lens all [] f = ⊥
+IsFirstOf lens all (b ∷ bs) f = DecidesFor b.id f (faults_of_block (around lens all (record_of_block b)) (record_of_block b)) (IsFirstOf lens all bs f)
+
+-- the fault of a program: that of the first block that has one
+unfoldable pub IsFaultOf : Program → VerifyFault → Type 0
+IsFaultOf p f = IsFirstOf (lens_judged p) (map record_of_block p.code_blocks) p.code_blocks f
+
+-- no block of a program has a fault
+abbrev pub AreClean : Option (List (ℕ × ℕ)) → List BlockRecord → List CodeBlock → Type 0
+AreClean lens all [] = Unit {0}
+AreClean lens all (b ∷ bs) = (faults_of_block (around lens all (record_of_block b)) (record_of_block b) ≡ []) × AreClean lens all bs
+
+abbrev pub IsClean : Program → Type 0
+IsClean p = AreClean (lens_judged p) (map record_of_block p.code_blocks) p.code_blocks
+
+-- why a program is refused; nothing is said where memory is wanting
+abbrev pub IsUnverified : VerifyError → Program → Type 0
+IsUnverified (error.Fault f) p = IsFaultOf p f
+IsUnverified error.NoMemory p = Unit {0}

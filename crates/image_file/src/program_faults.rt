@@ -1,0 +1,284 @@
+//! A program judged block by block, without its image.
+ghost use Rattle.std.specs.Prelude.{◌≡◌, ◌<◌, length, map, All, IfOk, IfErr, IfSome, IfNone, None, Some, if◌then◌else◌};
+ghost use Rattle.std.specs.Option.{option_map};
+ghost use Rattle.flat_code.specs.Blocks.{signature_of};
+ghost use Rattle.flat_code.specs.Codes.{code_bytes, code_fault, ends, last_place, overlong};
+ghost use Rattle.flat_code.specs.Image.{record_of_block, record_of_param};
+ghost use Rattle.flat_code.specs.Loading.{around, Verifies};
+ghost use Rattle.image_file.specs.Judging.{around_of};
+ghost use Rattle.image_file.specs.Least.{with_faults};
+ghost use Rattle.image_file.specs.Verifying.{are_whole, count_faults, faults_of_block, lens_judged, lens_where, line_faults, AreClean, IsFaultOf, IsFirstOf, IsUnverified};
+ghost use Rattle.image_file.specs.Writing.{BlockFits};
+
+use crate::blocks::end_mark_count;
+use crate::codes::{count_behind, is_end};
+use crate::faults::{LoadFault, VerifyFault};
+use crate::judging::lesser_if;
+use crate::loaded::Loaded;
+use crate::loading::lens_of;
+use crate::operands::{op_size, width_number};
+use crate::refusing::VerifyError;
+use crate::surroundings::{SignatureRead, Surroundings};
+use crate::verifying::judge_block;
+use crate::writing::{code_len, kind_number};
+use flat_code::{CodeBlock, DataBlock, Field, Op, Param, ParameterRecord, Program};
+use plc_base::NoMemory;
+use std::alloc::Global;
+
+/// The offset of the first op that is the 65th of its statement.
+fn overlong(ops: &[Op]) -> Option<u32>
+    requires { length (code_bytes ops.now) < 4294967296 }
+    ensures { result ≡ overlong 0 0 ops.now }
+{
+    let mut at = 0;
+    let mut count = 0;
+    for op in ops {
+        if count == 64 {
+            return Some(at);
+        }
+        count = count_behind(op, count);
+        at += op_size(op);
+    }
+    None
+}
+
+/// The offset of the last op, where it isn't BE with the end mark.
+fn without_end(ops: &[Op]) -> Option<u32>
+    requires { length (code_bytes ops.now) < 4294967296 }
+    ensures { result ≡ (if ends ops.now then None else Some (last_place 0 ops.now)) }
+{
+    match ops {
+        [] => Some(0),
+        [front @ .., last] => {
+            if is_end(last) {
+                None
+            } else {
+                Some(code_len(front))
+            }
+        }
+    }
+}
+
+/// The offset of the fault 5 of code, if it has one.
+fn code_fault(ops: &[Op]) -> Option<u32>
+    requires { length (code_bytes ops.now) < 4294967296 }
+    ensures { result ≡ code_fault ops.now }
+{
+    match overlong(ops) {
+        Some(at) => Some(at),
+        None => without_end(ops),
+    }
+}
+
+/// Whether no code has a fault 5.
+fn are_whole(blocks: &[CodeBlock]) -> bool
+    requires { All BlockFits blocks.now }
+    ensures { result ≡ are_whole (map record_of_block blocks.now) }
+{
+    for block in blocks {
+        if code_fault(block.code.as_slice()).is_some() {
+            return false;
+        }
+    }
+    true
+}
+
+fn record_of_param(param: &Param) -> ParameterRecord
+    ensures { result ≡ record_of_param param.now }
+{
+    ParameterRecord {
+        section: param.section,
+        width: width_number(param.width),
+        byte: param.byte,
+        bit: param.bit,
+    }
+}
+
+fn records_of_params(alloc: Global, params: &[Param]) -> Result<Vec<ParameterRecord>, NoMemory>
+    ensures { IfOk result (λ v. v.items ≡ map record_of_param params.now) }
+{
+    params
+        .iter()
+        .map(|param: &Param| record_of_param(param))
+        .collect(alloc)
+}
+
+/// What a CALL sees of a block.
+fn signature(alloc: Global, block: &CodeBlock) -> Result<SignatureRead, NoMemory>
+    ensures { IfOk result (λ s. s ≡ signature_of (record_of_block block.now)) }
+{
+    let params = records_of_params(alloc, block.params.as_slice())?;
+    Ok(SignatureRead {
+        kind: kind_number(block.id.kind),
+        number: block.id.number,
+        instance_len: block.instance_len,
+        params,
+    })
+}
+
+fn signatures(alloc: Global, blocks: &[CodeBlock]) -> Result<Vec<SignatureRead>, NoMemory>
+    ensures { IfOk result (λ v. v.items ≡ map signature_of (map record_of_block blocks.now)) }
+{
+    let mut signatures = Vec::new(alloc);
+    for block in blocks {
+        let signature = signature(alloc, block)?;
+        signatures.push(signature)?;
+    }
+    Ok(signatures)
+}
+
+/// The lesser of the fault so far and those of lines.
+fn judge_lines(lines: &[u32], least: Option<LoadFault>) -> Option<LoadFault>
+    ensures { result ≡ with_faults least (line_faults 0 lines.now) }
+{
+    let mut least = least;
+    let mut before = 0;
+    for line in lines {
+        let field = Field::Line {
+            before,
+            line: *line,
+        };
+        least = lesser_if(least, 0, field.fault());
+        before = *line;
+    }
+    least
+}
+
+/// The fault 9 of the statement count, if it has one.
+fn judge_count(block: &CodeBlock) -> Option<LoadFault>
+    requires { BlockFits block.now }
+    ensures { result ≡ with_faults None (count_faults (record_of_block block.now)) }
+{
+    let field = Field::StatementCount {
+        end_marks: end_mark_count(block.code.as_slice()),
+        count: block.lines.len() as u16,
+    };
+    lesser_if(None, 0, field.fault())
+}
+
+/// The least fault of a block.
+#[tactic(auto, using(crate::proofs::ProgramFaultLemmas::coded, crate::proofs::ProgramFaultLemmas::uncoded))]
+fn judge_code_block(
+    alloc: Global,
+    around: &Surroundings,
+    block: &CodeBlock,
+) -> Result<Option<LoadFault>, NoMemory>
+    requires { BlockFits block.now }
+    ensures { IfOk result (λ l. l
+        ≡ with_faults None (faults_of_block (around_of around.now) (record_of_block block.now))) }
+{
+    let code = block.code.as_slice();
+    if let Some(at) = code_fault(code) {
+        return Ok(Some(LoadFault { at, code: 5 }));
+    }
+    let least = judge_count(block);
+    let least = judge_lines(block.lines.as_slice(), least);
+    judge_block(alloc, around, 0, code, least)
+}
+
+/// The fault of a block among others, if it has one.
+fn block_fault(
+    alloc: Global,
+    signatures: &[SignatureRead],
+    lens: Option<&[(u16, usize)]>,
+    block: &CodeBlock,
+) -> Result<Option<LoadFault>, NoMemory>
+    requires { BlockFits block.now }
+    ensures { IfOk result (λ l. l ≡ with_faults None (faults_of_block (record {
+      kind = (record_of_block block.now).kind;
+      local_len = block.now.local_len;
+      params = (record_of_block block.now).params;
+      blocks = signatures.now;
+      data_lens = option_map (λ d. d.now) lens.entry;
+    }) (record_of_block block.now))) }
+{
+    let params = records_of_params(alloc, block.params.as_slice())?;
+    let around = Surroundings {
+        kind: kind_number(block.id.kind),
+        local_len: block.local_len,
+        params: params.as_slice(),
+        blocks: signatures,
+        data_lens: lens,
+    };
+    judge_code_block(alloc, &around, block)
+}
+
+/// A fault of a block as one of its program.
+fn fault_in(block: &CodeBlock, fault: LoadFault) -> VerifyFault
+    ensures { result ≡ record { block = block.now.id; at = fault.at; code = fault.code } }
+{
+    VerifyFault {
+        block: block.id,
+        at: fault.at,
+        code: fault.code,
+    }
+}
+
+/// The fault of the first block that has one.
+fn first_among(
+    alloc: Global,
+    signatures: &[SignatureRead],
+    lens: Option<&[(u16, usize)]>,
+    blocks: &[CodeBlock],
+) -> Result<Option<VerifyFault>, NoMemory>
+    requires fit { All BlockFits blocks.now }
+    requires all { signatures.now ≡ map signature_of (map record_of_block blocks.now) }
+    ensures fault { IfOk result (λ f. IfSome f
+        (IsFirstOf (option_map (λ d. d.now) lens.entry) (map record_of_block blocks.now) blocks.now)) }
+    ensures none { IfOk result (λ f. IfNone f
+        (AreClean (option_map (λ d. d.now) lens.entry) (map record_of_block blocks.now) blocks.now)) }
+{
+    for block in blocks {
+        if let Some(fault) = block_fault(alloc, signatures, lens, block)? {
+            return Ok(Some(fault_in(block, fault)));
+        }
+    }
+    Ok(None)
+}
+
+/// The numbers and lengths of the data blocks, where calls are judged.
+fn lens_where(
+    alloc: Global,
+    judged: bool,
+    blocks: &[DataBlock],
+) -> Result<Option<Vec<(u16, usize)>>, NoMemory>
+    ensures { IfOk result (λ l. option_map (λ v. v.items) l ≡ lens_where judged blocks.now) }
+{
+    if !judged {
+        return Ok(None);
+    }
+    let lens = lens_of(alloc, blocks)?;
+    Ok(Some(lens))
+}
+
+/// The fault of a program, if it has one.
+#[tactic(auto, unfolding(crate::specs::Verifying::IsFaultOf), using(crate::proofs::ProgramFaultLemmas::clean_verifies))]
+fn program_fault(alloc: Global, program: &Program) -> Result<Option<VerifyFault>, NoMemory>
+    ensures fault { IfOk result (λ f. IfSome f (IsFaultOf program.now)) }
+    ensures none { IfOk result (λ f. IfNone f (Verifies program.now)) }
+{
+    let blocks = program.code_blocks.as_slice();
+    let signatures = signatures(alloc, blocks)?;
+    let lens = lens_where(alloc, are_whole(blocks), program.data_blocks.as_slice())?;
+    match lens {
+        None => first_among(alloc, signatures.as_slice(), None, blocks),
+        Some(lens) => first_among(alloc, signatures.as_slice(), Some(lens.as_slice()), blocks),
+    }
+}
+
+/// Takes a program for one that verifies.
+///
+/// # Errors
+///
+/// `Fault` exactly where it doesn't, with the least fault by offset, then code, of its first block
+/// that has one: 5 a statement of more than 64 ops, or code that doesn't end with BE; 6 jump targets,
+/// 7 operands and calls, 8 brackets, 9 statement count and lines. `NoMemory`.
+pub fn verify(alloc: Global, program: Program) -> Result<Loaded, VerifyError>
+    ensures gives { IfOk result (λ l. l.program ≡ program) }
+    ensures refused { IfErr result (λ e. IsUnverified e program) }
+{
+    if let Some(fault) = program_fault(alloc, &program)? {
+        return Err(VerifyError::Fault { fault });
+    }
+    Ok(Loaded::new(program))
+}

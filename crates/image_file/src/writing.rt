@@ -1,0 +1,282 @@
+//! The image of a program: its records one behind the other, and the header in front of them.
+ghost use Rattle.std.specs.Prelude.{◌≡◌, ◌++◌, ◌+◌, ◌≤◌, ◌<◌, false, [], map, length, All, IfOk, OnOk};
+ghost use Rattle.flat_code.specs.Codes.{code_bytes};
+ghost use Rattle.flat_code.specs.Image.{raw_of_block, head as head_layout, counts, front, front_of, raw_of_records, records_of, record_of_block, record_of_param, name_of_entry, number_of_kind, number_of_area, number_of_instance, front_size, parameter, same_state, line_field, line_after, code_block, after_block, data_block, after_data, name_record, after_name, body, image};
+ghost use Rattle.flat_code.specs.Layout.{spell_many};
+ghost use Rattle.image_file.specs.Running.{head_values};
+ghost use Rattle.image_file.specs.Writing.{BlockFits, DataFits, NameFits, ProgramFits};
+
+use crate::operands::{op_size, width_number};
+use crate::records::HeadRead;
+use flat_code::{CodeBlock, DataBlock, NameEntry, Op, Param, Program, encode_op};
+use plc_base::{Area, BlockKind, NoMemory, Place};
+use std::alloc::Global;
+
+/// A block kind as an image has it.
+pub(crate) fn kind_number(kind: BlockKind) -> u8
+    ensures { result ≡ number_of_kind kind }
+{
+    match kind {
+        BlockKind::Ob => 1,
+        BlockKind::Fc => 2,
+        BlockKind::Fb => 3,
+        BlockKind::Sfc => 5,
+        _ => 0,
+    }
+}
+
+/// The area of a name's variable as an image has it.
+fn area_number(place: &Place) -> u8
+    ensures { result ≡ number_of_area place.now.number place.now.area }
+{
+    if place.number != 0 {
+        return 0;
+    }
+    match place.area {
+        Area::I => 129,
+        Area::Q => 130,
+        Area::M => 131,
+        _ => 0,
+    }
+}
+
+/// The number of the function block of an instance plus 1, or 0.
+fn instance_number(instance_of: Option<u16>) -> u16
+    requires { number_of_instance instance_of < 65536 }
+    ensures { result ≡ number_of_instance instance_of }
+{
+    match instance_of {
+        None => 0,
+        Some(number) => number + 1,
+    }
+}
+
+/// How many bytes code takes.
+pub(crate) fn code_len(ops: &[Op]) -> u32
+    requires { length (code_bytes ops.now) < 4294967296 }
+    ensures { result ≡ length (code_bytes ops.now) }
+{
+    let mut len = 0;
+    for op in ops {
+        len += op_size(op);
+    }
+    len
+}
+
+#[tactic(auto, unfolding(flat_code::specs::Image::parameter, flat_code::specs::Image::raw_parameter, flat_code::specs::Image::section_field, flat_code::specs::Image::width_field, flat_code::specs::Image::parameter_byte, flat_code::specs::Image::parameter_bit, flat_code::specs::Image::zero_u8))]
+fn put_parameter(out: &mut Vec<u8>, param: &Param) -> Result<(), NoMemory>
+    ensures { OnOk result (out.new.items
+        ≡ out.old.items ++ (parameter 0 0).spell (record_of_param param.now)) }
+{
+    let [a, b] = param.byte.to_be_bytes();
+    out.extend_from_slice(&[param.section, width_number(param.width), a, b, param.bit, 0])
+}
+
+fn put_parameters(out: &mut Vec<u8>, params: &[Param]) -> Result<(), NoMemory>
+    ensures { OnOk result (out.new.items
+        ≡ out.old.items ++ spell_many
+        (λ s. parameter 0 0) same_state 0 (map record_of_param params.now)) }
+{
+    for param in params {
+        put_parameter(out, param)?;
+    }
+    Ok(())
+}
+
+fn put_code(out: &mut Vec<u8>, ops: &[Op]) -> Result<(), NoMemory>
+    ensures { OnOk result (out.new.items ≡ out.old.items ++ code_bytes ops.now) }
+{
+    for op in ops {
+        encode_op(op, out)?;
+    }
+    Ok(())
+}
+
+fn put_lines(out: &mut Vec<u8>, lines: &[u32]) -> Result<(), NoMemory>
+    ensures { OnOk result (out.new.items
+        ≡ out.old.items ++ spell_many (line_field false) line_after 0 lines.now) }
+{
+    for line in lines {
+        out.extend_from_slice(&line.to_be_bytes())?;
+    }
+    Ok(())
+}
+
+/// The head of a code block.
+fn head_of(block: &CodeBlock) -> HeadRead
+    requires { BlockFits block.now }
+    ensures { head_values result ≡ (raw_of_block (record_of_block block.now)).0 }
+{
+    HeadRead {
+        kind: kind_number(block.id.kind),
+        params: block.params.as_slice().len() as u8,
+        number: block.id.number,
+        locals: block.local_len,
+        instance: block.instance_len,
+        statements: block.lines.len() as u16,
+        reserved: 0,
+        size: code_len(block.code.as_slice()),
+    }
+}
+
+#[tactic(auto, unfolding(flat_code::specs::Image::head, flat_code::specs::Image::kind_field, flat_code::specs::Image::parameter_count, flat_code::specs::Image::block_number, flat_code::specs::Image::local_bytes, flat_code::specs::Image::instance_bytes, flat_code::specs::Image::plain_u16, flat_code::specs::Image::zero_u16, flat_code::specs::Image::plain_u32))]
+fn put_head(out: &mut Vec<u8>, head: &HeadRead) -> Result<(), NoMemory>
+    ensures { OnOk result (out.new.items
+        ≡ out.old.items ++ (head_layout (0, 0)).spell (head_values head.now)) }
+{
+    let [a, b] = head.number.to_be_bytes();
+    let [c, d] = head.locals.to_be_bytes();
+    let [e, f] = head.instance.to_be_bytes();
+    let [g, h] = head.statements.to_be_bytes();
+    let [i, j] = head.reserved.to_be_bytes();
+    let [k, l, m, n] = head.size.to_be_bytes();
+    out.extend_from_slice(&[
+        head.kind,
+        head.params,
+        a,
+        b,
+        c,
+        d,
+        e,
+        f,
+        g,
+        h,
+        i,
+        j,
+        k,
+        l,
+        m,
+        n,
+    ])
+}
+
+fn put_code_block(out: &mut Vec<u8>, block: &CodeBlock) -> Result<(), NoMemory>
+    requires { BlockFits block.now }
+    ensures { OnOk result (out.new.items
+        ≡ out.old.items ++ (code_block false (0, 0)).spell (record_of_block block.now)) }
+{
+    put_head(out, &head_of(block))?;
+    put_parameters(out, block.params.as_slice())?;
+    put_code(out, block.code.as_slice())?;
+    put_lines(out, block.lines.as_slice())?;
+    Ok(())
+}
+
+fn put_code_blocks(out: &mut Vec<u8>, blocks: &[CodeBlock]) -> Result<(), NoMemory>
+    requires { All BlockFits blocks.now }
+    ensures { OnOk result (out.new.items
+        ≡ out.old.items ++ spell_many
+        (code_block false) after_block (0, 0) (map record_of_block blocks.now)) }
+{
+    for block in blocks {
+        put_code_block(out, block)?;
+    }
+    Ok(())
+}
+
+#[tactic(auto, unfolding(flat_code::specs::Image::data_block, flat_code::specs::Image::raw_data, flat_code::specs::Image::data_number, flat_code::specs::Image::instance_field, flat_code::specs::Image::data_len, flat_code::specs::Image::zero_u16, flat_code::specs::Image::contents))]
+fn put_data_block(out: &mut Vec<u8>, block: &DataBlock) -> Result<(), NoMemory>
+    requires { DataFits block.now }
+    ensures { OnOk result (out.new.items
+        ≡ out.old.items ++ (data_block (0, 0)).spell block.now) }
+{
+    let [a, b] = block.number.to_be_bytes();
+    let [c, d] = instance_number(block.instance_of).to_be_bytes();
+    let [e, f] = (block.bytes.len() as u16).to_be_bytes();
+    out.extend_from_slice(&[a, b, c, d, e, f, 0, 0])?;
+    out.extend_from_slice(block.bytes.as_slice())
+}
+
+fn put_data_blocks(out: &mut Vec<u8>, blocks: &[DataBlock]) -> Result<(), NoMemory>
+    requires { All DataFits blocks.now }
+    ensures { OnOk result (out.new.items
+        ≡ out.old.items ++ spell_many data_block after_data (0, 0) blocks.now) }
+{
+    for block in blocks {
+        put_data_block(out, block)?;
+    }
+    Ok(())
+}
+
+#[tactic(auto, unfolding(flat_code::specs::Image::name_record, flat_code::specs::Image::raw_name, flat_code::specs::Image::name_len, flat_code::specs::Image::name_bytes, flat_code::specs::Image::name_area, flat_code::specs::Image::width_field, flat_code::specs::Image::plain_u16, flat_code::specs::Image::name_bit))]
+fn put_name(out: &mut Vec<u8>, entry: &NameEntry) -> Result<(), NoMemory>
+    requires { NameFits entry.now }
+    ensures { OnOk result (out.new.items
+        ≡ out.old.items ++ (name_record []).spell (name_of_entry entry.now)) }
+{
+    let [a, b] = entry.place.byte.to_be_bytes();
+    out.push(entry.name.len() as u8)?;
+    out.extend_from_slice(entry.name.as_slice())?;
+    out.extend_from_slice(&[
+        area_number(&entry.place),
+        width_number(entry.width),
+        a,
+        b,
+        entry.place.bit,
+    ])
+}
+
+fn put_names(out: &mut Vec<u8>, entries: &[NameEntry]) -> Result<(), NoMemory>
+    requires { All NameFits entries.now }
+    ensures { OnOk result (out.new.items
+        ≡ out.old.items ++ spell_many
+        name_record after_name [] (map name_of_entry entries.now)) }
+{
+    for entry in entries {
+        put_name(out, entry)?;
+    }
+    Ok(())
+}
+
+/// How many records of each kind there are.
+#[tactic(auto, unfolding(flat_code::specs::Image::counts, flat_code::specs::Image::plain_u16, flat_code::specs::Image::data_count, flat_code::specs::Image::zero_u16))]
+fn put_counts(out: &mut Vec<u8>, program: &Program) -> Result<(), NoMemory>
+    requires { ProgramFits program.now }
+    ensures { OnOk result (out.new.items
+        ≡ out.old.items ++ counts.spell (raw_of_records (records_of program.now)).0) }
+{
+    let [a, b] = (program.code_blocks.len() as u16).to_be_bytes();
+    let [c, d] = (program.data_blocks.len() as u16).to_be_bytes();
+    let [e, f] = (program.names.as_slice().len() as u16).to_be_bytes();
+    out.extend_from_slice(&[a, b, c, d, e, f, 0, 0])
+}
+
+/// All behind the total length.
+fn put_body(out: &mut Vec<u8>, program: &Program) -> Result<(), NoMemory>
+    ensures spelled { OnOk result (out.new.items
+        ≡ out.old.items ++ (body false).spell program.now) }
+    ensures short { front_size + length ((body false).spell program.now) ≤ 8388608 }
+{
+    let code_blocks = program.code_blocks.as_slice();
+    put_counts(out, program)?;
+    put_code_blocks(out, code_blocks)?;
+    put_data_blocks(out, program.data_blocks.as_slice())?;
+    put_names(out, program.names.as_slice())?;
+    Ok(())
+}
+
+/// The header up to the total length.
+#[tactic(auto, unfolding(flat_code::specs::Image::front, flat_code::specs::Image::magic_field, flat_code::specs::Image::version_field, flat_code::specs::Image::zero_u16, flat_code::specs::Image::plain_u32))]
+fn put_front(out: &mut Vec<u8>, total: u32) -> Result<(), NoMemory>
+    ensures { OnOk result (out.new.items ≡ out.old.items ++ front.spell (front_of total)) }
+{
+    let [a, b, c, d] = total.to_be_bytes();
+    out.extend_from_slice(&[0x53, 0x37, 0x46, 0x42, 0, 1, 0, 0, a, b, c, d])
+}
+
+/// The image of a program, whether it verifies or not.
+///
+/// # Errors
+///
+/// `NoMemory` where memory is wanting.
+#[tactic(auto, unfolding(flat_code::specs::Image::image))]
+pub fn write_image(alloc: Global, program: &Program) -> Result<Vec<u8>, NoMemory>
+    ensures { IfOk result (λ v. v.items ≡ image program.now) }
+{
+    let mut body = Vec::new(alloc);
+    put_body(&mut body, program)?;
+    let mut image = Vec::new(alloc);
+    put_front(&mut image, 12 + body.len() as u32)?;
+    image.extend_from_slice(body.as_slice())?;
+    Ok(image)
+}
