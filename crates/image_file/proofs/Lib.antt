@@ -11,3 +11,4 @@ pub mod EndLemmas
 pub mod WritingLemmas
 pub mod FitLemmas
 pub mod ProgramFaultLemmas
+pub mod VerifiedLemmas

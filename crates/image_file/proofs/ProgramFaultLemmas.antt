@@ -141,16 +141,16 @@ no_fives : (o : Option ℕ) (around : Around) (b : BlockRecord) → faults_unles
 no_fives None around b e = refl
 no_fives (Some at) around b e = absurd cc
 
-nil_front : (xs ys : List (ℕ × ℕ)) → xs ++ ys ≡ [] → (xs ≡ []) × (ys ≡ [])
+pub nil_front : (xs ys : List (ℕ × ℕ)) → xs ++ ys ≡ [] → (xs ≡ []) × (ys ≡ [])
 nil_front [] ys e = (refl, e)
 nil_front (x ∷ xs) ys e = absurd cc
 
 -- what a block without faults says
-record Clean (around : Around) (b : BlockRecord) : Type 0 where
-  code : code_fault b.code ≡ None
-  count : count_faults b ≡ []
-  lines : line_faults 0 b.lines ≡ []
-  ops : block_faults around 0 b.code ≡ []
+pub record Clean (around : Around) (b : BlockRecord) : Type 0 where
+  pub code : code_fault b.code ≡ None
+  pub count : count_faults b ≡ []
+  pub lines : line_faults 0 b.lines ≡ []
+  pub ops : block_faults around 0 b.code ≡ []
 
 clean_parts : (around : Around) (b : BlockRecord) → faults_of_block around b ≡ [] → Clean around b
 clean_parts around b e =
@@ -160,10 +160,10 @@ clean_parts around b e =
     let c = nil_front (count_faults b) (line_faults 0 b.lines) a.0 in
     record { code = none; count = c.0; lines = c.1; ops = a.1 }
 
-clean_from : (around : Around) (b : BlockRecord) → Clean around b → faults_of_block around b ≡ []
+pub clean_from : (around : Around) (b : BlockRecord) → Clean around b → faults_of_block around b ≡ []
 clean_from around b h = rw (h.code, h.count, h.lines, h.ops) refl
 
-is_whole : (o : Option ℕ) → o ≡ None → is_nowhere o ≡ true
+pub is_whole : (o : Option ℕ) → o ≡ None → is_nowhere o ≡ true
 is_whole None e = refl
 is_whole (Some at) e = absurd cc
 
@@ -239,7 +239,7 @@ ops_verified : (lens : List (ℕ × ℕ)) (all : List BlockRecord) (bs : List Co
 ops_verified lens all [] h = tt
 ops_verified lens all (b ∷ bs) h = ((clean_parts (around (Some lens) all (record_of_block b)) (record_of_block b) h.0).ops, ops_verified lens all bs h.1)
 
-lens_are : (p : Program) → are_whole (map record_of_block p.code_blocks) ≡ true → lens_judged p ≡ Some (lens_of p.data_blocks)
+pub lens_are : (p : Program) → are_whole (map record_of_block p.code_blocks) ≡ true → lens_judged p ≡ Some (lens_of p.data_blocks)
 lens_are p e = ap (λ (z : Bool). lens_where z p.data_blocks) e
 
 pub clean_verifies : (p : Program) → IsProgram p → IsClean p → Verifies p

@@ -1,0 +1,5 @@
+use Rattle.image_file.proofs.VerifiedLemmas.{given_back}
+use Rattle.image_file.proofs.laws.written_is_loaded.Goals as goal
+
+pub returns : goal.returns
+returns c = given_back
