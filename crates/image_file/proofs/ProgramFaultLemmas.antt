@@ -1,22 +1,22 @@
 -- The faults of a program, block by block.
-use Rattle.std.proofs.Common.{◌≡◌, ℕ, zero, suc, ◌+◌, ◌-◌, ◌<◌, ◌≤◌, Bool, true, false, cond, eqb, ltb, ◌&&◌, List, [], ◌∷◌, ◌++◌, length, map, take, drop, get_or, Option, Some, None, refl, sym, ap, subst, ◌∙◌, append_assoc, length-append, arith}
-use Rattle.std.proofs.lemmas.Bool.{and_parts, and_from, ne_eqb, eq-eqb}
+use Rattle.std.proofs.Common.{◌≡◌, ℕ, zero, suc, ◌+◌, ◌-◌, ◌<◌, ◌≤◌, Bool, true, false, cond, eqb, ltb, ◌&&◌, List, [], ◌∷◌, ◌++◌, length, map, take, drop, get_or, Option, Some, None, refl, sym, ap, subst, ◌∙◌, length-append, arith}
+use Rattle.std.proofs.lemmas.Bool.{and_parts, and_from, ne_eqb}
 use Rattle.std.proofs.Math.ListN.{drop_of_length-le}
 use Rattle.std.proofs.lemmas.List.{take-append-drop}
 use Rattle.flat_code.specs.declared.image_fields.Field.TheVariants.{StatementCount, Line}
 use Rattle.flat_code.specs.Ops.{OpData}
-use Rattle.flat_code.specs.Codes.{size, are_ops, code_bytes, code_fault, code_of, ends, is_nowhere, last_place, only, overlong, stop_at}
+use Rattle.flat_code.specs.Codes.{size, are_ops, code_bytes, code_fault, code_of, ends, is_nowhere, last_place, overlong, stop_at}
 use Rattle.flat_code.specs.Blocks.{Around, Signature, signature_of, at_offset, block_faults}
 use Rattle.flat_code.specs.Faults.{fault_of}
-use Rattle.flat_code.specs.Image.{end_marks, Head, head, parameters, statements_in, code_len_in, line_field, line_after, lines_of, code_and_lines, raw_block, raw_of_block, plain_block, code_block, after_block, code_blocks, data_blocks, names, counts, raw_of_records, raw_records, records, records_of, record_of_block, body, IsProgram, IsRight}
+use Rattle.flat_code.specs.Image.{end_marks, head, parameters, code_len_in, line_field, line_after, lines_of, code_and_lines, raw_block, raw_of_block, plain_block, code_block, after_block, code_blocks, data_blocks, counts, raw_of_records, raw_records, records, records_of, record_of_block, body, IsProgram, IsRight}
 use Rattle.flat_code.specs.Layout.{good_many, is_fine}
 use Rattle.flat_code.specs.Loading.{lens_of, around, AreVerified, Verifies}
-use Rattle.flat_code.specs.Programs.{CodeBlock, DataBlock, Program}
+use Rattle.flat_code.specs.Programs.{CodeBlock, Program}
 use Rattle.flat_code.specs.Records.{BlockRecord}
 use Rattle.image_file.specs.declared.faults.LoadFault.{LoadFault}
 use Rattle.image_file.specs.declared.faults.VerifyFault.{VerifyFault}
-use Rattle.image_file.specs.Least.{with_fault, with_faults, IsLeast}
-use Rattle.image_file.specs.Verifying.{line_faults, count_faults, faults_unless, faults_of_block, are_whole, lens_where, lens_judged, DecidesFor, IsFirstOf, IsFaultOf, AreClean, IsClean}
+use Rattle.image_file.specs.Least.{with_faults, IsLeast}
+use Rattle.image_file.specs.Verifying.{line_faults, count_faults, faults_unless, faults_of_block, are_whole, lens_where, lens_judged, DecidesFor, IsFirstOf, AreClean, IsClean}
 use Rattle.image_file.proofs.CodeLemmas.{bytes-append, ends_at, last_of}
 use Rattle.image_file.proofs.ImageLemmas.{BlockParts, record_parts_of, RecordParts, records_parts}
 use Rattle.image_file.proofs.JudgeLemmas.{next_of}

@@ -1,16 +1,16 @@
 -- A program that verifies has no fault that `verify` tells, and its image is loaded.
-use Rattle.std.proofs.Common.{◌≡◌, ℕ, zero, suc, ◌+◌, ◌<◌, ◌≤◌, ◌⊎◌, Bool, true, false, ltb, eqb, ◌&&◌, List, [], ◌∷◌, ◌++◌, length, map, get_or, Option, Some, None, Result, Ok, Err, IfOk, IfErr, refl, sym, ap, subst, ◌∙◌, arith, inl, inr}
+use Rattle.std.proofs.Common.{◌≡◌, ℕ, zero, suc, ◌<◌, ◌⊎◌, true, ltb, eqb, ◌&&◌, List, [], ◌∷◌, ◌++◌, length, map, get_or, Option, Some, None, Result, Ok, Err, IfOk, IfErr, refl, sym, ap, subst, ◌∙◌, arith, inl, inr}
 use Rattle.std.proofs.lemmas.Bool.{and_parts, and_from}
 use Rattle.std.proofs.lemmas.Option.{same_Some}
 use Rattle.plc_base.specs.declared.blocks.BlockId.{BlockId}
 use Rattle.flat_code.specs.declared.image_fields.Field.TheVariants.{StatementCount, Line}
 use Rattle.flat_code.specs.Ops.{OpData}
-use Rattle.flat_code.specs.Codes.{are_ops, code_bytes, code_fault, code_of, is_nowhere, only, stop_at}
-use Rattle.flat_code.specs.Blocks.{at_offset, block_faults}
+use Rattle.flat_code.specs.Codes.{are_ops, code_bytes, code_fault, code_of, is_nowhere}
+use Rattle.flat_code.specs.Blocks.{at_offset}
 use Rattle.flat_code.specs.Faults.{fault_of}
-use Rattle.flat_code.specs.Image.{end_marks, raw_of_block, code_len_in, line_field, line_after, lines_of, code_block, after_block, code_blocks, raw_of_records, records_of, record_of_block, body, image, IsProgram, IsRight, read_image}
+use Rattle.flat_code.specs.Image.{end_marks, raw_of_block, code_len_in, line_field, line_after, lines_of, code_block, after_block, code_blocks, records_of, record_of_block, body, image, IsProgram, IsRight}
 use Rattle.flat_code.specs.Layout.{Cursor, good_many, is_fine}
-use Rattle.flat_code.specs.Loading.{lens_of, around, AreVerified, Verifies, Gives, IsLoadable, faults_of}
+use Rattle.flat_code.specs.Loading.{lens_of, around, AreVerified, Verifies, Gives, faults_of}
 use Rattle.flat_code.specs.Programs.{CodeBlock, Program}
 use Rattle.flat_code.specs.Records.{BlockRecord}
 use Rattle.image_file.specs.declared.faults.LoadFault.{LoadFault}
@@ -22,10 +22,10 @@ use Rattle.image_file.specs.Least.{with_faults, IsUpTo, IsLeast}
 use Rattle.image_file.specs.Loaded.{LoadedProgram}
 use Rattle.image_file.specs.Refusing.{IsRefusedBy}
 use Rattle.image_file.specs.Verifying.{line_faults, count_faults, faults_of_block, are_whole, lens_judged, DecidesFor, IsFirstOf, IsFaultOf, AreClean, IsClean}
-use Rattle.image_file.proofs.ImageLemmas.{BlockParts, record_parts_of, RecordParts, records_parts}
+use Rattle.image_file.proofs.ImageLemmas.{record_parts_of, records_parts}
 use Rattle.image_file.proofs.LeastLemmas.{kept_is_least}
 use Rattle.image_file.proofs.LoadLemmas.{none_left}
-use Rattle.image_file.proofs.ProgramFaultLemmas.{Lens, nil_front, is_whole, clean_from, lens_are, clean_verifies}
+use Rattle.image_file.proofs.ProgramFaultLemmas.{Lens, is_whole, clean_from, lens_are, clean_verifies}
 use Rattle.image_file.proofs.WholeLemmas.{image_gives}
 
 -- ---- a program that verifies is clean

@@ -1,11 +1,11 @@
 -- Records written one behind the other.
-use Rattle.std.proofs.Common.{◌≡◌, ℕ, ◌+◌, ◌<◌, ◌≤◌, false, List, [], ◌∷◌, ◌++◌, length, map, drop, refl, sym, ap, subst, ◌∙◌, append_assoc}
+use Rattle.std.proofs.Common.{◌≡◌, ℕ, false, List, [], ◌∷◌, ◌++◌, refl, sym, ap, subst, ◌∙◌, append_assoc}
 use Rattle.std.specs.Int.{w32, to_be_bytes}
 use Rattle.flat_code.specs.Codes.{code_bytes, code_of}
-use Rattle.flat_code.specs.Image.{plain_u16, plain_u32, zero_u8, zero_u16, width_field, section_field, parameter_byte, parameter_bit, raw_parameter, parameter, same_state, kind_field, parameter_count, block_number, local_bytes, instance_bytes, Head, head, instance_in, parameters, line_field, line_after, lines_of, code_and_lines, raw_block, raw_of_block, plain_block, code_block, after_block, data_number, instance_field, data_len, contents, raw_data, data_block, after_data, name_len, name_bytes, name_area, name_bit, raw_name, name_record, after_name, names, counts, code_blocks, data_blocks, raw_records, raw_of_records, records_of, records, body}
+use Rattle.flat_code.specs.Image.{parameter_byte, parameter_bit, raw_parameter, parameter, same_state, kind_field, block_number, head, instance_in, parameters, line_field, line_after, lines_of, code_and_lines, raw_block, raw_of_block, plain_block, code_block, after_block, data_number, data_len, raw_data, data_block, after_data, name_bytes, raw_name, name_record, after_name, names, counts, code_blocks, data_blocks, raw_records, raw_of_records, records_of, records, body}
 use Rattle.flat_code.specs.Layout.{Layout, spell_many}
-use Rattle.flat_code.specs.Programs.{DataBlock, Program}
-use Rattle.flat_code.specs.Records.{BlockRecord, NameRecord}
+use Rattle.flat_code.specs.Programs.{Program}
+use Rattle.flat_code.specs.Records.{BlockRecord}
 use Rattle.flat_code.specs.declared.image_fields.ParameterRecord.{ParameterRecord}
 use Rattle.image_file.proofs.ImageLemmas.{many_text}
 

@@ -1,6 +1,6 @@
 -- The image both ways.
-use Rattle.std.specs.Prelude.{◌≡◌, ◌<◌, ◌⊎◌, ℕ, List, [], get_or, Option, Some, None, Result, Ok, Err, IfOk, IfErr}
-use Rattle.flat_code.specs.Layout.{Cursor, Read, faults_in}
+use Rattle.std.specs.Prelude.{◌≡◌, ◌<◌, ◌⊎◌, ℕ, List, [], get_or, Some, None, Result, Ok, Err, IfOk, IfErr}
+use Rattle.flat_code.specs.Layout.{Cursor, faults_in}
 use Rattle.flat_code.specs.Programs.{Program}
 use Rattle.flat_code.specs.Loading.{Gives, IsLoadable, Verifies, faults_of}
 use Rattle.image_file.specs.declared.faults.LoadFault.{LoadFault}
@@ -41,12 +41,17 @@ GivesBack p (Err error.NoMemory) = Unit {0}
 
 -- what `load` answers of the image of a program that verifies, by what it says of any bytes
 abbrev pub WrittenIsLoaded : Type 0
-WrittenIsLoaded = (p : Program) (bytes : List ℕ) (result : Result LoadedProgram LoadError) → ((i : ℕ) → get_or bytes i 0 < 256) → IsProgram p → Verifies p → bytes ≡ image p
-    → IfOk result (λ l. Gives bytes l.program) → IfErr result (λ e. IsRefusedBy e (faults_of bytes)) → GivesBack p result
+WrittenIsLoaded =
+    (p : Program) (bytes : List ℕ) (result : Result LoadedProgram LoadError)
+    → ((i : ℕ) → get_or bytes i 0 < 256) → IsProgram p → Verifies p → bytes ≡ image p
+    → IfOk result (λ l. Gives bytes l.program) → IfErr result (λ e. IsRefusedBy e (faults_of bytes))
+    → GivesBack p result
 
 -- a program verifies or has a fault, and not both
 abbrev pub VerifiesOrHasFault : Type 0
-VerifiesOrHasFault = (p : Program) → IsProgram p → (Verifies p ⊎ ((f : VerifyFault) × IsFaultOf p f)) × (Verifies p → (f : VerifyFault) → IsFaultOf p f → ⊥)
+VerifiesOrHasFault =
+    (p : Program) → IsProgram p → (Verifies p ⊎ ((f : VerifyFault) × IsFaultOf p f))
+    × (Verifies p → (f : VerifyFault) → IsFaultOf p f → ⊥)
 
 -- a program has one fault at most
 abbrev pub FaultsAreOne : Type 0

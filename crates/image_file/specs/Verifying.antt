@@ -1,4 +1,5 @@
--- THE FAULTS OF A PROGRAM, block by block, as `verify` tells them: 5 to 9, by the offset in the block's code.
+-- THE FAULTS OF A PROGRAM, block by block, as `verify` tells them: 5 to 9, by the offset in the
+-- block's code.
 use Rattle.std.specs.Prelude.{◌≡◌, ℕ, Bool, true, false, ◌&&◌, List, [], ◌∷◌, ◌++◌, length, map, Option, Some, None}
 use Rattle.plc_base.specs.declared.blocks.BlockId.{BlockId}
 use Rattle.flat_code.specs.declared.image_fields.Field.TheVariants as field_of
@@ -9,7 +10,6 @@ use Rattle.flat_code.specs.Image.{end_marks, record_of_block}
 use Rattle.flat_code.specs.Loading.{lens_of, around}
 use Rattle.flat_code.specs.Programs.{CodeBlock, DataBlock, Program}
 use Rattle.flat_code.specs.Records.{BlockRecord}
-use Rattle.image_file.specs.declared.faults.LoadFault.{LoadFault}
 use Rattle.image_file.specs.declared.refusing.VerifyError.{VerifyError}
 use Rattle.image_file.specs.declared.refusing.VerifyError.TheVariants as error
 use Rattle.image_file.specs.declared.faults.VerifyFault.{VerifyFault}
@@ -18,16 +18,19 @@ use Rattle.image_file.specs.Least.{IsLeast}
 -- 9, at 0: a line that is 0 or falls, behind another line (0 for none)
 abbrev pub line_faults : ℕ → List ℕ → List (ℕ × ℕ)
 line_faults before [] = []
-line_faults before (line ∷ lines) = at_offset 0 (fault_of (field_of.Line before line)) ++ line_faults line lines
+line_faults before (line ∷ lines) =
+    at_offset 0 (fault_of (field_of.Line before line)) ++ line_faults line lines
 
 -- 9, at 0: another number of statements than end marks
 abbrev pub count_faults : BlockRecord → List (ℕ × ℕ)
-count_faults b = at_offset 0 (fault_of (field_of.StatementCount (end_marks b.code) (length b.lines)))
+count_faults b =
+    at_offset 0 (fault_of (field_of.StatementCount (end_marks b.code) (length b.lines)))
 
 -- 5 alone, where the code has one; else 9, and those of the ops
 abbrev pub faults_unless : Option ℕ → Around → BlockRecord → List (ℕ × ℕ)
 faults_unless (Some at) around b = (at, 5) ∷ []
-faults_unless None around b = count_faults b ++ line_faults 0 b.lines ++ block_faults around 0 b.code
+faults_unless None around b =
+    count_faults b ++ line_faults 0 b.lines ++ block_faults around 0 b.code
 
 abbrev pub faults_of_block : Around → BlockRecord → List (ℕ × ℕ)
 faults_of_block around b = faults_unless (code_fault b.code) around b
@@ -44,14 +47,22 @@ lens_where false datas = None
 abbrev pub lens_judged : Program → Option (List (ℕ × ℕ))
 lens_judged p = lens_where (are_whole (map record_of_block p.code_blocks)) p.data_blocks
 
+-- the faults of a block among all blocks
+abbrev pub faults_among :
+    Option (List (ℕ × ℕ)) → List BlockRecord → CodeBlock → List (ℕ × ℕ)
+faults_among lens all b =
+    faults_of_block (around lens all (record_of_block b)) (record_of_block b)
+
 -- the first block with a fault, and the least of its faults
 abbrev pub DecidesFor : BlockId → VerifyFault → List (ℕ × ℕ) → Type 0 → Type 0
 DecidesFor id f [] Later = Later
-DecidesFor id f (g ∷ gs) Later = (f.block ≡ id) × IsLeast (record { at = f.at; code = f.code }) (g ∷ gs)
+DecidesFor id f (g ∷ gs) Later =
+    (f.block ≡ id) × IsLeast (record { at = f.at; code = f.code }) (g ∷ gs)
 
-abbrev pub IsFirstOf : Option (List (ℕ × ℕ)) → List BlockRecord → List CodeBlock → VerifyFault → Type 0
+abbrev pub IsFirstOf :
+    Option (List (ℕ × ℕ)) → List BlockRecord → List CodeBlock → VerifyFault → Type 0
 IsFirstOf lens all [] f = ⊥
-IsFirstOf lens all (b ∷ bs) f = DecidesFor b.id f (faults_of_block (around lens all (record_of_block b)) (record_of_block b)) (IsFirstOf lens all bs f)
+IsFirstOf lens all (b ∷ bs) f = DecidesFor b.id f (faults_among lens all b) (IsFirstOf lens all bs f)
 
 -- the fault of a program: that of the first block that has one
 unfoldable pub IsFaultOf : Program → VerifyFault → Type 0
@@ -60,7 +71,7 @@ IsFaultOf p f = IsFirstOf (lens_judged p) (map record_of_block p.code_blocks) p.
 -- no block of a program has a fault
 abbrev pub AreClean : Option (List (ℕ × ℕ)) → List BlockRecord → List CodeBlock → Type 0
 AreClean lens all [] = Unit {0}
-AreClean lens all (b ∷ bs) = (faults_of_block (around lens all (record_of_block b)) (record_of_block b) ≡ []) × AreClean lens all bs
+AreClean lens all (b ∷ bs) = (faults_among lens all b ≡ []) × AreClean lens all bs
 
 abbrev pub IsClean : Program → Type 0
 IsClean p = AreClean (lens_judged p) (map record_of_block p.code_blocks) p.code_blocks

@@ -1,5 +1,5 @@
 -- What lets a program's counts and lengths be written in their fields.
-use Rattle.std.specs.Prelude.{ℕ, ◌≤◌, ◌<◌, ◌+◌, false, List, All, length}
+use Rattle.std.specs.Prelude.{◌≤◌, ◌<◌, ◌+◌, false, All, length}
 use Rattle.flat_code.specs.Codes.{code_bytes}
 use Rattle.flat_code.specs.Image.{body, front_size, number_of_instance}
 use Rattle.flat_code.specs.Programs.{CodeBlock, DataBlock, NameEntry, Program}

@@ -1,4 +1,4 @@
-use Rattle.std.proofs.Common.{◌≡◌, ◌++◌, ◌+◌, length, map, drop}
+use Rattle.std.proofs.Common.{◌≡◌, ◌+◌, length, drop}
 use Rattle.flat_code.specs.Codes.{code_bytes}
 use Rattle.image_file.proofs.writing.code_len.Given as goal
 

@@ -1,4 +1,4 @@
-use Rattle.std.proofs.Common.{◌≡◌, ◌++◌, ◌+◌, map, drop, false, []}
+use Rattle.std.proofs.Common.{◌++◌, map, drop, false}
 use Rattle.flat_code.specs.Image.{code_block, after_block, record_of_block}
 use Rattle.flat_code.specs.Layout.{spell_many}
 use Rattle.image_file.proofs.WritingLemmas.{Left}

@@ -1,4 +1,4 @@
-use Rattle.std.proofs.Common.{◌≡◌, ◌++◌, ◌+◌, map, drop, false, []}
+use Rattle.std.proofs.Common.{◌++◌, drop}
 use Rattle.flat_code.specs.Image.{data_block, after_data}
 use Rattle.flat_code.specs.Layout.{spell_many}
 use Rattle.image_file.proofs.WritingLemmas.{Left}

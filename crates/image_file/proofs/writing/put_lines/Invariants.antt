@@ -1,4 +1,4 @@
-use Rattle.std.proofs.Common.{◌≡◌, ◌++◌, ◌+◌, map, drop, false, []}
+use Rattle.std.proofs.Common.{◌++◌, drop, false}
 use Rattle.flat_code.specs.Image.{line_field, line_after}
 use Rattle.flat_code.specs.Layout.{spell_many}
 use Rattle.image_file.proofs.WritingLemmas.{Left}

@@ -1,4 +1,4 @@
-use Rattle.std.proofs.Common.{◌≡◌, ◌++◌, ◌+◌, map, drop, false, []}
+use Rattle.std.proofs.Common.{◌++◌, map, drop, []}
 use Rattle.flat_code.specs.Image.{name_record, after_name, name_of_entry}
 use Rattle.flat_code.specs.Layout.{spell_many}
 use Rattle.image_file.proofs.WritingLemmas.{Left}

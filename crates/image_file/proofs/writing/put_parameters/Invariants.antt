@@ -1,4 +1,4 @@
-use Rattle.std.proofs.Common.{◌≡◌, ◌++◌, ◌+◌, length, map, drop}
+use Rattle.std.proofs.Common.{◌≡◌, ◌++◌, map, drop}
 use Rattle.flat_code.specs.Image.{parameter, same_state, record_of_param}
 use Rattle.flat_code.specs.Layout.{spell_many}
 use Rattle.image_file.proofs.writing.put_parameters.Given as goal
