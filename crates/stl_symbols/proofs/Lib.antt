@@ -1,0 +1,4 @@
+pub mod GatheredLemmas
+pub mod LeastLemmas
+pub mod NameLemmas
+pub mod NumberLemmas

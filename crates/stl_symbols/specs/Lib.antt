@@ -1,0 +1,5 @@
+pub mod Folding
+pub mod Gathered
+pub mod Least
+pub mod Names
+pub mod Numbers

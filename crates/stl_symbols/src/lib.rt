@@ -1,0 +1,12 @@
+//! The symbols of a symbols file, and what the layers that judge a source share: the least refusal
+//! of a list, and names and numbers with their first places.
+#![tactic(auto)]
+
+pub mod laws;
+mod least;
+mod names;
+mod numbers;
+
+pub use least::{broken_if, least_of, lesser, try_least_of};
+pub use names::Names;
+pub use numbers::Numbers;
