@@ -1,3 +1,4 @@
+pub mod FieldLemmas
 pub mod GatheredLemmas
 pub mod LeastLemmas
 pub mod NameLemmas

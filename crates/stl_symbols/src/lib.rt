@@ -2,6 +2,8 @@
 //! of a list, and names and numbers with their first places.
 #![tactic(auto)]
 
+mod columns;
+mod fields;
 pub mod laws;
 mod least;
 mod names;
