@@ -1,3 +1,4 @@
+pub mod Address
 pub mod Fields
 pub mod Folding
 pub mod Gathered
@@ -5,3 +6,5 @@ pub mod Least
 pub mod Line
 pub mod Names
 pub mod Numbers
+pub mod Symbol
+pub mod Symbols

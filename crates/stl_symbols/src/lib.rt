@@ -2,12 +2,14 @@
 //! of a list, and names and numbers with their first places.
 #![tactic(auto)]
 
+mod addresses;
 mod columns;
 mod fields;
 pub mod laws;
 mod least;
 mod names;
 mod numbers;
+mod targets;
 
 pub use least::{broken_if, least_of, lesser, try_least_of};
 pub use names::Names;
