@@ -4,3 +4,4 @@ pub mod GatheredLemmas
 pub mod LeastLemmas
 pub mod NameLemmas
 pub mod NumberLemmas
+pub mod SymbolLemmas

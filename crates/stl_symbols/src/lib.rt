@@ -9,8 +9,11 @@ pub mod laws;
 mod least;
 mod names;
 mod numbers;
+mod symbols;
 mod targets;
 
 pub use least::{broken_if, least_of, lesser, try_least_of};
 pub use names::Names;
 pub use numbers::Numbers;
+pub use symbols::{Symbol, Symbols};
+pub use targets::Target;
