@@ -1,9 +1,9 @@
 -- Numbers of addresses.
-use Rattle.std.proofs.Common.{ℕ, ◌≡◌, ◌≤◌, List, [], ◌∷◌, Option, Some, None, Bool, true, false, cond, refl, arith, find, map, bytes_eq}
+use Rattle.std.proofs.Common.{ℕ, ◌≡◌, ◌≤◌, List, [], ◌∷◌, Some, Bool, true, false, cond, refl, arith, find, map, bytes_eq}
 use Rattle.std.specs.Option.{option_map}
 use Rattle.std.proofs.lemmas.Bool.Decides.{nat_tests}
 use Rattle.stl_symbols.specs.Address.{look_up}
-use Rattle.plc_base.specs.Decimal.{decimal_up_to, decimal_value, is_decimal}
+use Rattle.plc_base.specs.Decimal.{decimal_up_to}
 
 -- a number that is read is at most the greatest one
 pub decimal_within : (most : ℕ) (word : List ℕ) (n : ℕ) → decimal_up_to most word ≡ Some n → n ≤ most

@@ -1,10 +1,10 @@
 -- What the machine that reads CSV does at the steps of a line's fields.
-use Rattle.std.proofs.Common.{ℕ, suc, ◌≡◌, List, [], ◌∷◌, ◌++◌, Option, Some, None, Bool, true, false, not, ◌==◌, ◌||◌, if◌then◌else◌, cond, refl, sym, ◌∙◌, ap, subst, arith, is_some, ⊎_elim, length, length-append, drop, ◌<◌, ◌≤◌}
+use Rattle.std.proofs.Common.{ℕ, suc, ◌≡◌, List, [], ◌∷◌, ◌++◌, Option, Some, None, Bool, true, false, not, ◌==◌, if◌then◌else◌, refl, sym, ◌∙◌, ap, subst, arith, is_some, ⊎_elim, length, length-append, drop, ◌<◌, ◌≤◌}
 use Rattle.std.specs.List.{list_all, prefix_len}
 use Rattle.std.specs.Option.{option_and_then}
 use Rattle.std.proofs.lemmas.Bool.{cases_Bool}
 use Rattle.std.proofs.lemmas.Bool.Decides.{nat_tests}
-use Rattle.csv.specs.Machine.{Read, line_feed, next_record, step as csv_step, after_end, is_end, fields_after, field_after}
+use Rattle.csv.specs.Machine.{Read, line_feed, next_record, step as csv_step, is_end, fields_after, field_after}
 use Rattle.csv.specs.Reading.{default_config}
 use Rattle.csv.specs.declared.parser.State.{State}
 use Rattle.csv.specs.declared.parser.State.TheVariants as state

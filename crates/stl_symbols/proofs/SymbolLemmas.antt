@@ -1,5 +1,5 @@
 -- Symbols by their names.
-use Rattle.std.proofs.Common.{ℕ, suc, ◌≡◌, ◌≤◌, ◌<◌, List, [], ◌∷◌, Option, Some, None, Bool, true, false, cond, refl, sym, ◌∙◌, ap, arith, map, find, slice_get, bytes_eq, length, All, ⊎_elim}
+use Rattle.std.proofs.Common.{ℕ, suc, ◌≡◌, ◌≤◌, ◌<◌, List, [], ◌∷◌, Option, Some, None, true, false, refl, sym, ◌∙◌, ap, arith, map, slice_get, length, All, ⊎_elim}
 use Rattle.std.specs.Option.{option_and_then, option_map}
 use Rattle.std.specs.Char.{to_ascii_uppercase}
 use Rattle.std.proofs.lemmas.Bool.{cases_Bool, false_from_ne_true}

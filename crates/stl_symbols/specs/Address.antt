@@ -1,6 +1,6 @@
 -- The address of a symbol: letters and a number, and where it is a bit's, a point and the number of the
 -- bit behind it.
-use Rattle.std.specs.Prelude.{ℕ, Bool, true, not, ◌==◌, List, [], ◌∷◌, take, drop, find, codes, bytes_eq, Option, Some, None, if◌then◌else◌}
+use Rattle.std.specs.Prelude.{ℕ, Bool, true, not, ◌==◌, List, [], ◌∷◌, take, drop, find, codes, bytes_eq, Option, None}
 use Rattle.std.specs.Char.{is_ascii_digit}
 use Rattle.std.specs.List.{list_any, prefix_len}
 use Rattle.std.specs.Option.{option_and_then, option_map}

@@ -1,5 +1,5 @@
 -- A symbol: a name for a variable, a timer, a counter or a block.
-use Rattle.std.specs.Prelude.{ℕ, Bool, List, Option, find}
+use Rattle.std.specs.Prelude.{ℕ, List, Option, find}
 use Rattle.stl_symbols.specs.Folding.{is_same_name}
 use Rattle.stl_symbols.specs.declared.targets.Target.{Target}
 

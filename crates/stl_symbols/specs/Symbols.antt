@@ -96,3 +96,10 @@ abbrev pub Reads : Result (List Symbol) Refusal → Result (List Symbol) SourceF
 Reads found (Ok symbols) = found ≡ Ok symbols
 Reads found (Err (Refused refusal)) = found ≡ Err refusal
 Reads found (Err NoMemory) = Unit
+
+-- what a reader leaves that adds what one line declares: the symbols, or the refusal of this line, or
+-- that memory is wanting
+abbrev pub Adds : (number : ℕ) → Result (List Symbol) ℕ → (left : List Symbol) → Result (Unit {0}) SourceFault → Type 0
+Adds number found left (Ok done) = found ≡ Ok left
+Adds number found left (Err (Refused refusal)) = (found ≡ Err refusal.rule) × (refusal.line ≡ number)
+Adds number found left (Err NoMemory) = Unit
