@@ -2,7 +2,17 @@
 #![tactic(auto)]
 
 #[cfg(test)]
+mod altered_fields;
+#[cfg(test)]
+mod building;
+#[cfg(test)]
 mod images;
+#[cfg(test)]
+mod judged_calls;
+#[cfg(test)]
+mod judged_ops;
+#[cfg(test)]
+mod large_images;
 #[cfg(test)]
 mod names_found;
 #[cfg(test)]
