@@ -11,4 +11,4 @@ pub mod EndLemmas
 pub mod WritingLemmas
 pub mod FitLemmas
 pub mod ProgramFaultLemmas
-pub mod VerifiedLemmas
+pub mod RefusalLemmas

@@ -180,8 +180,9 @@ fn statements(rt: HostRuntime) -> Result<(), Fail> {
     agree_in_ob(&rt, rt.alloc(), &STATEMENTS)
 }
 
-static BRACKETS: [Row; 16] = [
+static BRACKETS: [Row; 17] = [
     ("98 00; 9E 00; FB 00", 0, 0),
+    ("98 00; 99 00; 9E 00; 9E 00; FB 00", 0, 0),
     ("9E 00; FB 00", 0, 8),
     ("98 00; 9E 00; 9E 00; FB 00", 4, 8),
     // Seven, and an eighth.

@@ -1,4 +1,4 @@
-use Rattle.image_file.proofs.VerifiedLemmas.{verified_or_not, fault_is_one}
+use Rattle.image_file.proofs.RefusalLemmas.{verified_or_not, fault_is_one}
 use Rattle.image_file.proofs.laws.verified_or_refused.Goals as goal
 
 pub returns-clause-either : goal.returns-clause-either

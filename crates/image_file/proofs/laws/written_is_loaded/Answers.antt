@@ -1,4 +1,4 @@
-use Rattle.image_file.proofs.VerifiedLemmas.{given_back}
+use Rattle.image_file.proofs.RefusalLemmas.{given_back}
 use Rattle.image_file.proofs.laws.written_is_loaded.Goals as goal
 
 pub returns : goal.returns
