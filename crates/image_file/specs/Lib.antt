@@ -6,3 +6,5 @@ pub mod Judging
 pub mod Loaded
 pub mod Refusing
 pub mod Typing
+pub mod Readers
+pub mod Seats

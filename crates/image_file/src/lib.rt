@@ -1,20 +1,25 @@
 //! Images of programs: both ways, and verified.
 #![tactic(auto)]
 
+mod block_table;
 mod blocks;
 mod calls;
 mod codes;
+mod copies;
 mod data;
 mod faults;
 mod fields;
+mod heads;
 mod judging;
 pub mod laws;
 mod loaded;
+mod loaded_code;
 mod loading;
 mod operands;
 mod reader;
 mod records;
 mod refusing;
+mod seats;
 mod stops;
 mod surroundings;
 mod typing;
@@ -22,6 +27,8 @@ mod verifying;
 mod whole;
 
 pub use faults::LoadFault;
+pub use heads::Head;
 pub use loaded::Loaded;
+pub use loaded_code::LoadedCode;
 pub use loading::load;
 pub use refusing::LoadError;
