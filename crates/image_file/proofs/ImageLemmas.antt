@@ -64,7 +64,7 @@ run_exact n = record {
 
 -- ---- what no fault says
 
-unless_fine : (b : Bool) (code : ℕ) → is_fine (unless b code) ≡ true → b ≡ true
+pub unless_fine : (b : Bool) (code : ℕ) → is_fine (unless b code) ≡ true → b ≡ true
 unless_fine true code h = refl
 unless_fine false code h = absurd cc
 
@@ -90,7 +90,7 @@ many_count l next s zero (x ∷ xs) h = absurd cc
 many_count l next s (suc n) [] h = absurd cc
 many_count l next s (suc n) (x ∷ xs) h = ap suc (many_count l next (next s x) n xs (and_parts ((l s).good x) (good_many l next (next s x) n xs) h).1)
 
-chain_parts : {A B : Type 0} (l : Layout A) (m : A → Layout B) (x : A × B) → (chain l m).good x ≡ true → (l.good x.0 ≡ true) × ((m x.0).good x.1 ≡ true)
+pub chain_parts : {A B : Type 0} (l : Layout A) (m : A → Layout B) (x : A × B) → (chain l m).good x ≡ true → (l.good x.0 ≡ true) × ((m x.0).good x.1 ≡ true)
 chain_parts l m x h = and_parts (l.good x.0) ((m x.0).good x.1) h
 
 -- ---- parameters
@@ -122,25 +122,25 @@ parameters_laid h = many_laid (λ s. parameter h.0 (instance_in h)) same_state (
 
 -- ---- code blocks
 
-abbrev from_size : Layout ℕ
+abbrev pub from_size : Layout ℕ
 from_size = plain_u32
 
-abbrev from_zero : Layout (ℕ × ℕ)
+abbrev pub from_zero : Layout (ℕ × ℕ)
 from_zero = chain zero_u16 (λ zero. from_size)
 
-abbrev from_statements : Layout (ℕ × (ℕ × ℕ))
+abbrev pub from_statements : Layout (ℕ × (ℕ × ℕ))
 from_statements = chain plain_u16 (λ statements. from_zero)
 
-abbrev from_instance : ℕ → Layout (ℕ × (ℕ × (ℕ × ℕ)))
+abbrev pub from_instance : ℕ → Layout (ℕ × (ℕ × (ℕ × ℕ)))
 from_instance kind = chain (instance_bytes kind) (λ instance. from_statements)
 
-abbrev from_locals : ℕ → Layout (ℕ × (ℕ × (ℕ × (ℕ × ℕ))))
+abbrev pub from_locals : ℕ → Layout (ℕ × (ℕ × (ℕ × (ℕ × ℕ))))
 from_locals kind = chain (local_bytes kind) (λ locals. from_instance kind)
 
-abbrev from_number : ℕ × ℕ → ℕ → Layout (ℕ × (ℕ × (ℕ × (ℕ × (ℕ × ℕ)))))
+abbrev pub from_number : ℕ × ℕ → ℕ → Layout (ℕ × (ℕ × (ℕ × (ℕ × (ℕ × ℕ)))))
 from_number before kind = chain (block_number before.0 before.1 kind) (λ number. from_locals kind)
 
-abbrev from_params : ℕ × ℕ → ℕ → Layout (ℕ × (ℕ × (ℕ × (ℕ × (ℕ × (ℕ × ℕ))))))
+abbrev pub from_params : ℕ × ℕ → ℕ → Layout (ℕ × (ℕ × (ℕ × (ℕ × (ℕ × (ℕ × ℕ))))))
 from_params before kind = chain (parameter_count kind) (λ params. from_number before kind)
 
 head_laid : (before : ℕ × ℕ) → IsLaidOut Head (head before)
@@ -167,7 +167,7 @@ head_zero before h good =
     let g = chain_parts zero_u16 (λ zero. from_size) h.1.1.1.1.1.1 f.1 in
     zero_u16_is h.1.1.1.1.1.1.0 g.0
 
-head_kind : (before : ℕ × ℕ) (h : Head) → (head before).good h ≡ true → lies_within 1 3 h.0 ≡ true
+pub head_kind : (before : ℕ × ℕ) (h : Head) → (head before).good h ≡ true → lies_within 1 3 h.0 ≡ true
 unfolding head kind_field fault_of
 head_kind before h good =
     let a = chain_parts (kind_field before.0) (from_params before) h good in
@@ -209,11 +209,11 @@ unfolding code_of
 code_size judged n ops good = eqb-true (length (code_bytes ops)) n (and_parts (are_ops ops && is_nowhere (stop_at judged ops [])) (eqb (length (code_bytes ops)) n) good).1
 
 -- the parts of a block without fault
-record BlockParts (judged : Bool) (before : ℕ × ℕ) (start : ℕ) (x : RawBlock) : Type 0 where
-  head_good : (head before).good x.0 ≡ true
-  params_good : (parameters x.0).good x.1.0 ≡ true
-  code_good : (code_of judged (code_len_in x.0)).good x.1.1.0 ≡ true
-  lines_good : (lines_of judged start x.0 x.1.1.0).good x.1.1.1 ≡ true
+pub record BlockParts (judged : Bool) (before : ℕ × ℕ) (start : ℕ) (x : RawBlock) : Type 0 where
+  pub head_good : (head before).good x.0 ≡ true
+  pub params_good : (parameters x.0).good x.1.0 ≡ true
+  pub code_good : (code_of judged (code_len_in x.0)).good x.1.1.0 ≡ true
+  pub lines_good : (lines_of judged start x.0 x.1.1.0).good x.1.1.1 ≡ true
 
 block_parts : (judged : Bool) (before : ℕ × ℕ) (start : ℕ) (x : RawBlock) → (raw_block judged before start).good x ≡ true → BlockParts judged before start x
 unfolding raw_block code_and_lines
@@ -389,11 +389,11 @@ raw_records_laid judged =
     chain_laid (data_blocks c.1.0) (λ datas. names c.1.1.0) (data_blocks_laid c.1.0) (λ datas. names_laid c.1.1.0)))
 
 -- the parts of records without fault
-record RecordParts (judged : Bool) (x : RawRecords) : Type 0 where
-  counts_good : counts.good x.0 ≡ true
-  codes_good : (code_blocks judged x.0.0).good x.1.0 ≡ true
-  datas_good : (data_blocks x.0.1.0).good x.1.1.0 ≡ true
-  names_good : (names x.0.1.1.0).good x.1.1.1 ≡ true
+pub record RecordParts (judged : Bool) (x : RawRecords) : Type 0 where
+  pub counts_good : counts.good x.0 ≡ true
+  pub codes_good : (code_blocks judged x.0.0).good x.1.0 ≡ true
+  pub datas_good : (data_blocks x.0.1.0).good x.1.1.0 ≡ true
+  pub names_good : (names x.0.1.1.0).good x.1.1.1 ≡ true
 
 record_parts : (judged : Bool) (x : RawRecords) → (raw_records judged).good x ≡ true → RecordParts judged x
 unfolding raw_records
@@ -512,7 +512,7 @@ params_there [] = refl
 params_there (p ∷ ps) = rw (width_there p.width, params_there ps) refl
 
 -- the parts of a block record without fault
-record_parts_of : (judged : Bool) (before : ℕ × ℕ) (b : BlockRecord) → (code_block judged before).good b ≡ true → BlockParts judged before 0 (raw_of_block b)
+pub record_parts_of : (judged : Bool) (before : ℕ × ℕ) (b : BlockRecord) → (code_block judged before).good b ≡ true → BlockParts judged before 0 (raw_of_block b)
 unfolding code_block plain_block
 record_parts_of judged before b good = block_parts judged before 0 (raw_of_block b) good
 
@@ -559,7 +559,7 @@ names_there : (n : ℕ) (es : List NameEntry) → (names n).good (map name_of_en
 unfolding names
 names_there n es good = back_many name_record after_name entry_of_name name_of_entry name_there [] n es good
 
-records_parts : (judged : Bool) (r : Records) → (records judged).good r ≡ true → RecordParts judged (raw_of_records r)
+pub records_parts : (judged : Bool) (r : Records) → (records judged).good r ≡ true → RecordParts judged (raw_of_records r)
 unfolding records
 records_parts judged r good = record_parts judged (raw_of_records r) good
 

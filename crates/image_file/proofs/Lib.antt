@@ -8,3 +8,6 @@ pub mod WholeLemmas
 pub mod JudgeLemmas
 pub mod LoadLemmas
 pub mod EndLemmas
+pub mod SeatLemmas
+pub mod BlockTableLemmas
+pub mod ProgramLemmas

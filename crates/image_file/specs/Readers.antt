@@ -10,17 +10,18 @@ use Rattle.flat_code.specs.Ops.{OpData}
 use Rattle.flat_code.specs.Placed.{op_placed, line_placed}
 use Rattle.flat_code.specs.Programs.{CodeBlock, DataBlock, Program}
 
-abbrev pub same_kind : BlockKind → BlockKind → Bool
-same_kind kinds.Ob kinds.Ob = true
-same_kind kinds.Fc kinds.Fc = true
-same_kind kinds.Fb kinds.Fb = true
-same_kind kinds.Db kinds.Db = true
-same_kind kinds.Sfc kinds.Sfc = true
-same_kind kinds.Udt kinds.Udt = true
-same_kind _ _ = false
+-- block kinds in their order
+abbrev pub kind_order : BlockKind → ℕ
+kind_order kinds.Ob = 0
+kind_order kinds.Fc = 1
+kind_order kinds.Fb = 2
+kind_order kinds.Db = 3
+kind_order kinds.Sfc = 4
+kind_order kinds.Udt = 5
 
+-- two blocks of the same kind and number are the same
 abbrev pub same_id : BlockId → BlockId → Bool
-same_id a b = same_kind a.kind b.kind && a.number == b.number
+same_id a b = kind_order a.kind == kind_order b.kind && a.number == b.number
 
 -- the code block of a kind and number
 abbrev pub block_of : BlockId → List CodeBlock → Option CodeBlock

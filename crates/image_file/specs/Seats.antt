@@ -1,15 +1,13 @@
 -- Tables by which ops and blocks are found without a search.
-use Rattle.std.specs.Prelude.{◌≡◌, ℕ, suc, ◌+◌, ◌*◌, ◌<◌, ◌≤◌, nat_lt, ◌==◌, Bool, true, if◌then◌else◌, List, [], ◌∷◌, length, drop, slice_get, slice_index_or, Option, Some, None}
-use Rattle.std.specs.Option.{option_map}
+use Rattle.std.specs.Prelude.{◌≡◌, ℕ, suc, ◌+◌, ◌*◌, ◌<◌, ◌≤◌, nat_lt, ◌==◌, Bool, true, ◌&&◌, if◌then◌else◌, List, [], ◌∷◌, length, drop, slice_get, slice_index_or, is_some, Option, Some, None}
+use Rattle.std.specs.Option.{option_map, option_and_then}
 use Rattle.plc_base.specs.declared.blocks.BlockId.{BlockId}
-use Rattle.plc_base.specs.declared.blocks.BlockKind.{BlockKind}
-use Rattle.plc_base.specs.declared.blocks.BlockKind.TheVariants as kinds
 use Rattle.flat_code.specs.Codes.{size, code_bytes}
 use Rattle.flat_code.specs.Ops.{OpData}
 use Rattle.flat_code.specs.Programs.{CodeBlock}
 use Rattle.image_file.specs.declared.seats.Seat.{Seat}
 use Rattle.image_file.specs.declared.seats.Seating.{Seating}
-use Rattle.image_file.specs.Readers.{block_of}
+use Rattle.image_file.specs.Readers.{kind_order, block_of}
 
 -- the place of the first number in a list that is an offset
 abbrev pub place_of : ℕ → List ℕ → Option ℕ
@@ -41,9 +39,16 @@ seats_of from begins (op ∷ ops) lines =
     record { next = from + size op; line = if begins then slice_get lines 0 else None }
     ∷ seats_of (from + size op) op.last ops (if op.last then drop 1 lines else lines)
 
+-- the op at a place of a list of ops, with the offset after it; the line of the statement that begins there
+abbrev pub op_at : ℕ → List OpData → List Seat → Option (OpData × ℕ)
+op_at place ops seats = option_and_then (λ op. option_map (λ s. (op, s.next)) (slice_get seats place)) (slice_get ops place)
+
+abbrev pub line_at : ℕ → List Seat → Option ℕ
+line_at place seats = option_and_then (λ s. s.line) (slice_get seats place)
+
 -- a block's code and lines are as short as those of a program
 pub record IsSmall (block : CodeBlock) : Type 0 where
-  pub code : length (code_bytes block.code) < nowhere
+  pub code : length (code_bytes block.code) ≤ nowhere
   pub lines : length block.lines < 65536
 
 abbrev pub AreSmall : List CodeBlock → Type 0
@@ -66,16 +71,16 @@ AreSeated (b ∷ bs) (s ∷ ss) = IsSeated b s × AreSeated bs ss
 abbrev pub slots : ℕ
 slots = 6144
 
-abbrev pub kind_place : BlockKind → Option ℕ
-kind_place kinds.Ob = Some 0
-kind_place kinds.Fc = Some 1
-kind_place kinds.Fb = Some 2
-kind_place _ = None
-
 abbrev pub slot_of : BlockId → Option ℕ
-slot_of id = if nat_lt id.number 2048 then option_map (λ k. 2048 * k + id.number) (kind_place id.kind) else None
+slot_of id =
+    if nat_lt (kind_order id.kind) 3 && nat_lt id.number 2048 then Some (2048 * kind_order id.kind + id.number) else None
 
--- by its place the table has where a block stands in the list of blocks
+-- a table has, by slot, where a block stands in a list
 pub record FindsBlocks (blocks : List CodeBlock) (table : List ℕ) : Type 0 where
   pub size : length table ≡ slots
   pub there : (id : BlockId) (slot : ℕ) → slot_of id ≡ Some slot → slice_get blocks (slice_index_or table slot 0) ≡ block_of id blocks
+
+-- each block of a program has a slot
+abbrev pub HaveSlots : List CodeBlock → Type 0
+HaveSlots [] = Unit {0}
+HaveSlots (b ∷ bs) = (is_some (slot_of b.id) ≡ true) × HaveSlots bs

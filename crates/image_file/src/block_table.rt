@@ -1,5 +1,6 @@
 //! The table by which a block is found without a search.
-ghost use Rattle.std.specs.Prelude.{◌≡◌, ◌≤◌, length, IfOk};
+ghost use Rattle.std.specs.Prelude.{◌≡◌, ◌≤◌, length, slice_index_or, ◌<◌, IfSome, IfOk};
+ghost use Rattle.std.specs.Option.{option_map};
 ghost use Rattle.image_file.specs.Seats.{slot_of, slots, FindsBlocks};
 
 use flat_code::CodeBlock;
@@ -14,7 +15,8 @@ const NOWHERE: u16 = 0xFFFF;
 
 /// The place of a block in the table.
 pub(crate) fn slot_of(block: BlockId) -> Option<usize>
-    ensures { result ≡ slot_of block }
+    ensures slot { result ≡ slot_of block }
+    ensures small { IfSome result (λ slot. slot < slots) }
 {
     if block.number >= 2048 {
         return None;
@@ -28,7 +30,8 @@ pub(crate) fn slot_of(block: BlockId) -> Option<usize>
     Some(2048 * kind + usize::from(block.number))
 }
 
-fn id_of(block: &CodeBlock) -> BlockId
+/// The kind and number of a block.
+pub(crate) fn id_of(block: &CodeBlock) -> BlockId
     ensures { result ≡ block.now.id }
 {
     block.id
@@ -46,4 +49,13 @@ pub(crate) fn block_table(alloc: Global, blocks: &[CodeBlock]) -> Result<Vec<u16
         }
     }
     Ok(table)
+}
+
+/// Where in its list a block stands by a table.
+pub(crate) fn place_in(table: &[u16], block: BlockId) -> Option<usize>
+    requires { length table.now ≡ slots }
+    ensures { result ≡ option_map (λ slot. slice_index_or table.now slot 0) (slot_of block) }
+{
+    let slot = slot_of(block)?;
+    Some(usize::from(table[slot]))
 }

@@ -1,9 +1,9 @@
-ghost use Rattle.std.specs.Prelude.{◌≡◌, IfOk};
+ghost use Rattle.std.specs.Prelude.{◌≡◌, ◌++◌, map, slice_get, IfOk};
 ghost use Rattle.std.specs.Option.{option_map};
-ghost use Rattle.image_file.specs.Readers.{ids_of, bytes_of};
+ghost use Rattle.image_file.specs.Readers.{data_id, bytes_of};
 ghost use Rattle.image_file.specs.Seats.{AreSeated, AreSmall};
 
-use crate::block_table::{block_table, slot_of};
+use crate::block_table::{block_table, id_of, place_in};
 use crate::copies::program_again;
 use crate::heads::Head;
 use crate::loaded_code::LoadedCode;
@@ -46,20 +46,51 @@ fn seatings_of(alloc: Global, blocks: &[CodeBlock]) -> Result<Vec<Seating>, NoMe
 }
 
 /// The blocks of a program: code blocks, then data blocks.
-fn ids_of(alloc: Global, program: &Program) -> Result<Vec<BlockId>, NoMemory>
-    ensures { IfOk result (λ v. v.items ≡ ids_of program.now) }
+fn ids_of(
+    alloc: Global,
+    code_blocks: &[CodeBlock],
+    data_blocks: &[DataBlock],
+) -> Result<Vec<BlockId>, NoMemory>
+    ensures { IfOk result (λ v. v.items
+        ≡ map (λ b. b.id) code_blocks.now ++ map data_id data_blocks.now) }
 {
     let mut ids = Vec::new(alloc);
-    for block in &program.code_blocks {
-        ids.push(block.id)?;
+    for block in code_blocks {
+        ids.push(id_of(block))?;
     }
-    for block in &program.data_blocks {
-        ids.push(BlockId {
-            kind: BlockKind::Db,
-            number: block.number,
-        })?;
+    for block in data_blocks {
+        ids.push(data_id(block))?;
     }
     Ok(ids)
+}
+
+fn data_id(block: &DataBlock) -> BlockId
+    ensures { result ≡ data_id block.now }
+{
+    BlockId {
+        kind: BlockKind::Db,
+        number: block.number,
+    }
+}
+
+fn code_blocks(program: &Program) -> &[CodeBlock]
+    ensures { result.now ≡ program.now.code_blocks }
+{
+    program.code_blocks.as_slice()
+}
+
+/// The block at a place of a list, with its seating.
+fn code_at<'a>(
+    blocks: &'a [CodeBlock],
+    seatings: &'a [Seating],
+    place: usize,
+) -> Option<LoadedCode<'a>>
+    requires { AreSeated blocks.now seatings.now }
+    ensures { result ≡ slice_get blocks.now place }
+{
+    let block = blocks.get(place)?;
+    let seating = seatings.get(place)?;
+    Some(LoadedCode::new(block, seating))
 }
 
 /// The bytes of the data block of a number.
@@ -85,7 +116,11 @@ impl Loaded {
         requires { Verifies program }
         ensures { IfOk result (λ l. l.program ≡ program) }
     {
-        let ids = ids_of(alloc, &program)?;
+        let ids = ids_of(
+            alloc,
+            program.code_blocks.as_slice(),
+            program.data_blocks.as_slice(),
+        )?;
         let table = block_table(alloc, program.code_blocks.as_slice())?;
         let seatings = seatings_of(alloc, program.code_blocks.as_slice())?;
         Ok(Loaded {
@@ -114,10 +149,8 @@ impl Loaded {
     pub fn code(&self, block: BlockId) -> Option<LoadedCode<'_>>
         ensures { result ≡ block_of block self.now.program.code_blocks }
     {
-        let place = usize::from(self.table[slot_of(block)?]);
-        let found = self.program.code_blocks.as_slice().get(place)?;
-        let seating = self.seatings.as_slice().get(place)?;
-        Some(LoadedCode::new(found, seating))
+        let place = place_in(self.table.as_slice(), block)?;
+        code_at(code_blocks(&self.program), self.seatings.as_slice(), place)
     }
 
     /// The head of a block. `None` exactly where it isn't a loaded code block.

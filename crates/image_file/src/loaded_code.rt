@@ -1,6 +1,8 @@
+ghost use Rattle.std.specs.Prelude.{◌≡◌};
+
 use crate::copies::params_again;
 use crate::heads::Head;
-use crate::seats::Seating;
+use crate::seats::{Seating, line_at, op_at, place_at};
 use flat_code::{CodeBlock, Op, Param};
 use std::marker::Model;
 
@@ -20,6 +22,12 @@ impl<'a> Model for LoadedCode<'a> {
     ghost view = { λ c. c.block.now };
 
     ghost invariant = { λ c. IsSeated c.block.now c.seating.now };
+}
+
+fn ops_of(block: &CodeBlock) -> &[Op]
+    ensures { result.now ≡ block.now.code }
+{
+    block.code.as_slice()
 }
 
 impl<'a> LoadedCode<'a> {
@@ -56,11 +64,8 @@ impl<'a> LoadedCode<'a> {
     pub fn op(&self, at: u32) -> Option<(&'a Op, u32)>
         ensures { option_map (λ r. (r.0.now, r.1)) result ≡ op_placed 0 self.now.code at }
     {
-        let block = self.block;
-        let place = *self.seating.table.as_slice().get(at as usize)? as usize;
-        let op = block.code.as_slice().get(place)?;
-        let seat = self.seating.seats.as_slice().get(place)?;
-        Some((op, seat.next))
+        let place = place_at(self.seating.table.as_slice(), at)?;
+        op_at(ops_of(self.block), self.seating.seats.as_slice(), place)
     }
 
     /// The source line of the statement that begins at an offset in bytes. `None` exactly where no
@@ -68,9 +73,8 @@ impl<'a> LoadedCode<'a> {
     pub fn line(&self, at: u32) -> Option<u32>
         ensures { result ≡ line_placed 0 true self.now.code self.now.lines at }
     {
-        let place = *self.seating.table.as_slice().get(at as usize)? as usize;
-        let seat = self.seating.seats.as_slice().get(place)?;
-        seat.line
+        let place = place_at(self.seating.table.as_slice(), at)?;
+        line_at(self.seating.seats.as_slice(), place)
     }
 
     /// How many bytes the block's local data has.

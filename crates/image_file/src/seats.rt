@@ -1,7 +1,8 @@
 //! Tables by which the ops of a block are found without a search.
-ghost use Rattle.std.specs.Prelude.{◌≡◌, ◌+◌, ◌<◌, ◌≤◌, ◌^◌, length, true, if◌then◌else◌, drop, slice_get, None, IfOk};
+ghost use Rattle.std.specs.Prelude.{◌≡◌, ◌+◌, ◌<◌, ◌≤◌, ◌^◌, length, true, nat_lt, slice_set, if◌then◌else◌, drop, slice_get, None, IfOk};
+ghost use Rattle.std.specs.Option.{option_map};
 ghost use Rattle.flat_code.specs.Codes.{code_bytes};
-ghost use Rattle.image_file.specs.Seats.{IsTableOf, starts_of, seats_of, IsSmall, IsSeated, nowhere};
+ghost use Rattle.image_file.specs.Seats.{IsTableOf, starts_of, seats_of, op_at, line_at, IsSmall, IsSeated, nowhere};
 
 use crate::judging::is_last;
 use crate::operands::op_size;
@@ -28,6 +29,16 @@ pub(crate) struct Seating {
 /// A place past the end of each list, where no op begins.
 const NOWHERE: u32 = 0xFFFF_FFFF;
 
+/// Puts a place into a table, if there is such an offset.
+fn put(table: &mut [u32], at: usize, place: u32)
+    ensures { table.new ≡ (if nat_lt at (length table.old) then slice_set table.old at place
+        else table.old) }
+{
+    if at < table.len() {
+        table[at] = place;
+    }
+}
+
 /// By offset below a length, the place of the start there in a list of starts.
 pub(crate) fn table_of(alloc: Global, starts: &[u32], len: usize) -> Result<Vec<u32>, NoMemory>
     requires { length starts.now ≤ nowhere }
@@ -35,10 +46,7 @@ pub(crate) fn table_of(alloc: Global, starts: &[u32], len: usize) -> Result<Vec<
 {
     let mut table = vec![in alloc; NOWHERE; len]?;
     for i in (0..starts.len()).rev() {
-        let at = starts[i] as usize;
-        if at < table.len() {
-            table[at] = i as u32;
-        }
+        put(&mut table, starts[i] as usize, i as u32);
     }
     Ok(table)
 }
@@ -107,4 +115,29 @@ pub(crate) fn seating_of(alloc: Global, block: &CodeBlock) -> Result<Seating, No
     let (starts, end) = starts_of(alloc, ops)?;
     let table = table_of(alloc, starts.as_slice(), end as usize)?;
     Ok(Seating { table, seats })
+}
+
+/// What a table has at an offset.
+pub(crate) fn place_at(table: &[u32], at: u32) -> Option<usize>
+    ensures { result ≡ slice_get table.now at }
+{
+    let place = table.get(at as usize)?;
+    Some(*place as usize)
+}
+
+/// The op at a place of a list, and the offset after it.
+pub(crate) fn op_at<'a>(ops: &'a [Op], seats: &[Seat], place: usize) -> Option<(&'a Op, u32)>
+    ensures { option_map (λ r. (r.0.now, r.1)) result ≡ op_at place ops.now seats.now }
+{
+    let op = ops.get(place)?;
+    let seat = seats.get(place)?;
+    Some((op, seat.next))
+}
+
+/// The line of the statement that begins at a place of a list.
+pub(crate) fn line_at(seats: &[Seat], place: usize) -> Option<u32>
+    ensures { result ≡ line_at place seats.now }
+{
+    let seat = seats.get(place)?;
+    seat.line
 }
