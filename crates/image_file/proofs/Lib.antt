@@ -11,3 +11,4 @@ pub mod EndLemmas
 pub mod SeatLemmas
 pub mod BlockTableLemmas
 pub mod ProgramLemmas
+pub mod VerifiedLemmas

@@ -8,3 +8,4 @@ pub mod Refusing
 pub mod Typing
 pub mod Readers
 pub mod Seats
+pub mod Verified
