@@ -450,7 +450,7 @@ width_back (suc (suc (suc zero))) h = refl
 width_back (suc (suc (suc (suc zero)))) h = refl
 width_back (suc (suc (suc (suc (suc n))))) h = absurd (let le = leb-true (suc (suc (suc (suc (suc n))))) 4 (and_parts (leb 1 (suc (suc (suc (suc (suc n)))))) (leb (suc (suc (suc (suc (suc n))))) 4) h).1 in omega arith)
 
-width_there : (w : Width) → width_of_number (width_code w) ≡ w
+pub width_there : (w : Width) → width_of_number (width_code w) ≡ w
 width_there width.Bit = refl
 width_there width.Byte = refl
 width_there width.Word = refl

@@ -12,3 +12,5 @@ pub mod SeatLemmas
 pub mod BlockTableLemmas
 pub mod ProgramLemmas
 pub mod VerifiedLemmas
+pub mod LandingLemmas
+pub mod OperandLemmas

@@ -1,17 +1,21 @@
 -- What a program's records have: small numbers, and a slot for each block.
-use Rattle.std.proofs.Common.{◌≡◌, ℕ, zero, suc, ◌+◌, ◌*◌, ◌<◌, ◌≤◌, Bool, true, false, cond, eqb, ltb, leb, not, ◌&&◌, ◌||◌, List, [], ◌∷◌, length, map, is_some, Option, Some, None, refl, sym, ap, ◌∙◌, arith}
-use Rattle.std.proofs.lemmas.Bool.{and_parts, ltb-true, leb-true, lt-ltb}
+use Rattle.std.proofs.Common.{◌≡◌, ℕ, zero, suc, ◌+◌, ◌*◌, ◌<◌, ◌≤◌, Bool, true, false, cond, eqb, ltb, leb, not, ◌&&◌, ◌||◌, List, [], ◌∷◌, length, map, is_some, Option, Some, None, refl, sym, ap, subst, ◌∙◌, arith}
+use Rattle.std.proofs.lemmas.Bool.{and_parts, eqb-true, ltb-true, leb-true, lt-ltb}
 use Rattle.std.proofs.lemmas.Bool.Decides.{nat_tests}
 use Rattle.std.proofs.lemmas.List.{length-map}
+use Rattle.std.proofs.lemmas.Option.{same_Some}
+use Rattle.plc_base.specs.declared.blocks.BlockId.{BlockId}
 use Rattle.plc_base.specs.declared.blocks.BlockKind.{BlockKind}
 use Rattle.plc_base.specs.declared.blocks.BlockKind.TheVariants as kinds
 use Rattle.flat_code.specs.Faults.{fault_of, unless, lies_within, is_ob_number, has_number}
 use Rattle.flat_code.specs.Layout.{Layout, is_fine, chain, good_many}
-use Rattle.flat_code.specs.Codes.{code_bytes}
+use Rattle.flat_code.specs.Codes.{code_bytes, code_of, are_ops, ends, overlong, first_of, is_nowhere, last_place, stop_at, only}
+use Rattle.flat_code.specs.declared.image_fields.Field.TheVariants.{StatementCount}
+use Rattle.flat_code.specs.Ops.{OpData}
 use Rattle.flat_code.specs.Programs.{CodeBlock, Program}
 use Rattle.flat_code.specs.Records.{BlockRecord}
-use Rattle.flat_code.specs.Image.{plain_u16, plain_u32, zero_u16, kind_field, parameter_count, block_number, local_bytes, instance_bytes, Head, head, counts, data_count, code_block, code_blocks, after_block, raw_of_block, records, records_of, raw_of_records, body, number_of_kind, record_of_block, IsProgram}
-use Rattle.image_file.specs.Readers.{kind_order}
+use Rattle.flat_code.specs.Image.{plain_u16, plain_u32, zero_u16, kind_field, parameter_count, block_number, local_bytes, instance_bytes, Head, head, counts, data_count, code_block, code_blocks, after_block, raw_of_block, records, records_of, raw_of_records, body, number_of_kind, record_of_block, IsProgram, IsRight, end_marks, statements_in, lines_of, line_field, line_after}
+use Rattle.image_file.specs.Readers.{kind_order, same_id, block_of}
 use Rattle.image_file.specs.Seats.{nowhere, IsSmall, AreSmall, slot_of, HaveSlots}
 use Rattle.image_file.proofs.ImageLemmas.{chain_parts, unless_fine, records_parts, record_parts_of, head_kind, from_size, from_zero, from_statements, from_instance, from_locals, from_number, from_params}
 
@@ -101,3 +105,59 @@ program_count p h =
     let r = raw_of_records (records_of p) in
     let small = count_small r.0.0 r.0.1.0 r.0.1.1.0 r.0.1.1.1 q.counts_good in
     omega (arith, small, length-map p.code_blocks record_of_block)
+
+-- ---- code and lines of a program without fault
+
+pub record IsRightCode (b : CodeBlock) : Type 0 where
+  pub ended : ends b.code ≡ true
+  pub few : overlong 0 0 b.code ≡ None
+  pub marks : end_marks b.code ≡ length b.lines
+
+abbrev pub AreRight : List CodeBlock → Type 0
+AreRight [] = Unit {0}
+AreRight (b ∷ bs) = IsRightCode b × AreRight bs
+
+stops_nowhere : (long : Option ℕ) (last : ℕ) (ended : Bool) → is_nowhere (first_of long (cond ended None (Some last))) ≡ true → (long ≡ None) × (ended ≡ true)
+stops_nowhere None last true h = (refl, refl)
+stops_nowhere None last false h = absurd cc
+stops_nowhere (Some at) last ended h = absurd cc
+
+code_right : (n : ℕ) (ops : List OpData) → (code_of true n).good ops ≡ true → (overlong 0 0 ops ≡ None) × (ends ops ≡ true)
+unfolding code_of
+code_right n ops h =
+    let a = and_parts (are_ops ops && is_nowhere (stop_at true ops [])) (eqb (length (code_bytes ops)) n) h in
+    let b = and_parts (are_ops ops) (is_nowhere (stop_at true ops [])) a.0 in
+    stops_nowhere (overlong 0 0 ops) (last_place 0 ops) (ends ops) b.1
+
+lines_right : (start : ℕ) (h : Head) (ops : List OpData) (lines : List ℕ) → (lines_of true start h ops).good lines ≡ true → end_marks ops ≡ statements_in h
+unfolding lines_of fault_of
+lines_right start h ops lines good =
+    let c = and_parts (is_fine (only true (fault_of (StatementCount (end_marks ops) (statements_in h))))) (good_many (line_field true) line_after 0 (statements_in h) lines) good in
+    eqb-true (end_marks ops) (statements_in h) (unless_fine (eqb (end_marks ops) (statements_in h)) 9 c.0)
+
+blocks_right : (s : ℕ × ℕ) (n : ℕ) (bs : List CodeBlock) → good_many (code_block true) after_block s n (map record_of_block bs) ≡ true → AreRight bs
+blocks_right s zero [] h = tt
+blocks_right s zero (b ∷ bs) h = absurd cc
+blocks_right s (suc n) [] h = absurd cc
+blocks_right s (suc n) (b ∷ bs) h =
+    let r = record_of_block b in
+    let g = and_parts ((code_block true s).good r) (good_many (code_block true) after_block (after_block s r) n (map record_of_block bs)) h in
+    let p = record_parts_of true s r g.0 in
+    let c = code_right (length (code_bytes b.code)) b.code p.code_good in
+    (record { ended = c.1; few = c.0; marks = lines_right 0 (raw_of_block r).0 b.code b.lines p.lines_good }, blocks_right (after_block s r) n bs g.1)
+
+codes_right : (n : ℕ) (bs : List CodeBlock) → (code_blocks true n).good (map record_of_block bs) ≡ true → AreRight bs
+unfolding code_blocks
+codes_right n bs good = blocks_right (0, 0) n bs good
+
+pub program_right : (p : Program) → IsRight p → AreRight p.code_blocks
+unfolding body
+program_right p h = let q = records_parts true (records_of p) h in codes_right (length (map record_of_block p.code_blocks)) p.code_blocks q.codes_good
+
+pub right_at : (bs : List CodeBlock) (b : CodeBlock) (id : BlockId) → AreRight bs → block_of id bs ≡ Some b → IsRightCode b
+right_at [] b id h found = absurd cc
+right_at (c ∷ bs) b id h found = by (same_id c.id id) found (λ e. right_at bs b id h.1 e)
+  where
+    by : (t : Bool) → cond t (Some c) (block_of id bs) ≡ Some b → (block_of id bs ≡ Some b → IsRightCode b) → IsRightCode b
+    by true e more = subst IsRightCode (same_Some c b e) h.0
+    by false e more = more e

@@ -1,20 +1,20 @@
 -- What a program that verifies gives.
 use Rattle.std.proofs.Common.{◌≡◌, ◌⊎◌, ℕ, zero, suc, ◌+◌, ◌-◌, ◌<◌, ◌≤◌, Bool, true, false, cond, eqb, leb, ltb, not, ◌&&◌, ◌||◌, List, [], ◌∷◌, ◌++◌, length, map, take, drop, slice_get, length-append, Option, Some, None, option_map, refl, sym, ap, subst, ◌∙◌, arith, inl, inr}
-use Rattle.std.proofs.lemmas.Bool.{and_parts, eqb-true, eq-eqb, ne_eqb, leb-true, le-leb, ltb-false, cases_lt}
+use Rattle.std.proofs.lemmas.Bool.{and_parts, eqb-true, eqb-false, eq-eqb, ne_eqb, leb-true, le-leb, ltb-false, cases_lt}
 use Rattle.std.proofs.lemmas.Option.{same_Some}
 use Rattle.flat_code.specs.declared.image_fields.OpenBracket.{OpenBracket}
 use Rattle.flat_code.specs.declared.operands.Operand.{Operand}
 use Rattle.flat_code.specs.declared.operands.Operand.TheVariants as operand
 use Rattle.flat_code.specs.Ops.{OpData, op_bytes}
-use Rattle.flat_code.specs.Codes.{size, code_bytes, ends}
+use Rattle.flat_code.specs.Codes.{size, code_bytes, ends, overlong}
 use Rattle.flat_code.specs.Programs.{CodeBlock, DataBlock, Program}
 use Rattle.flat_code.specs.Records.{BlockRecord}
-use Rattle.flat_code.specs.Image.{record_of_block}
+use Rattle.flat_code.specs.Image.{record_of_block, end_marks}
 use Rattle.flat_code.specs.Loading.{Verifies, AreVerified, lens_of, around}
-use Rattle.flat_code.specs.Placed.{Placed, placed, places, op_placed, begins, is_empty, bracket_codes, few, Spot, spots, spots_from, spot_at, opens, inner, opened, open_behind, before_next}
+use Rattle.flat_code.specs.Placed.{Placed, placed, places, op_placed, line_placed, begins, is_empty, bracket_codes, few, Spot, spots, spots_from, spot_at, opens, inner, opened, open_behind, before_next}
 use Rattle.flat_code.specs.Blocks.{Around, same_codes, differing, target_fault, is_bad_list, jump_fault, operand_fault, call_fault, mark_fault, bracket_fault, at_offset, op_faults, faults_over, open_faults, block_faults, prepares, leads, seven_if}
 use Rattle.image_file.specs.Readers.{same_id, block_of}
-use Rattle.image_file.specs.Verified.{place_at, IsOp, IsRead, Next, Lands, BracketsAreRight}
+use Rattle.image_file.specs.Verified.{place_at, IsOp, IsRead, Next, Lands, BracketsAreRight, StatementIsRight, HasLine}
 
 -- ---- no fault of a block is none of its ops
 
@@ -60,8 +60,8 @@ each a ss start [] at q none found = absurd cc
 each a ss start (p ∷ rest) at q none found =
     let n = nil_left (op_faults a ss start p) (faults_over a ss start rest) none in
     chosen (eqb p.at at) p (place_at at rest) q found (op_faults a ss start q ≡ [])
-        (λ t e. subst (λ (z : Placed). op_faults a ss start z ≡ []) e n.0)
-        (λ f e. each a ss start rest at q n.1 e)
+    (λ t e. subst (λ (z : Placed). op_faults a ss start z ≡ []) e n.0)
+    (λ f e. each a ss start rest at q n.1 e)
 
 -- what surrounds a block of a program
 abbrev pub around_in : Program → CodeBlock → Around
@@ -71,8 +71,8 @@ verified_at : (lens : List (ℕ × ℕ)) (all : List BlockRecord) (bs : List Cod
 verified_at lens all [] b id h found = absurd cc
 verified_at lens all (c ∷ bs) b id h found =
     chosen (same_id c.id id) c (block_of id bs) b found (block_faults (around (Some lens) all (record_of_block b)) 0 b.code ≡ [])
-        (λ t e. subst (λ (z : CodeBlock). block_faults (around (Some lens) all (record_of_block z)) 0 z.code ≡ []) e h.0)
-        (λ f e. verified_at lens all bs b id h.1 e)
+    (λ t e. subst (λ (z : CodeBlock). block_faults (around (Some lens) all (record_of_block z)) 0 z.code ≡ []) e h.0)
+    (λ f e. verified_at lens all bs b id h.1 e)
 
 -- the parts of a block without fault
 record NoneIn (a : Around) (ops : List OpData) : Type 0 where
@@ -117,7 +117,7 @@ read_at from brackets before (o ∷ ops) at op next e = by (eqb from at) refl e 
 
 -- ---- places follow each other
 
-op_long : (op : OpData) → 0 < size op
+pub op_long : (op : OpData) → 0 < size op
 unfolding size op_bytes
 op_long op = omega arith
 
@@ -145,15 +145,15 @@ pub place_offset : (qs : List Placed) (at : ℕ) (q : Placed) → place_at at qs
 place_offset [] at q found = absurd cc
 place_offset (p ∷ qs) at q found =
     chosen (eqb p.at at) p (place_at at qs) q found (q.at ≡ at)
-        (λ t e. sym (ap (λ (z : Placed). z.at) e) ∙ eqb-true p.at at t)
-        (λ f e. place_offset qs at q e)
+    (λ t e. sym (ap (λ (z : Placed). z.at) e) ∙ eqb-true p.at at t)
+    (λ f e. place_offset qs at q e)
 
 next_in : (from : ℕ) (brackets : List OpenBracket) (before ops : List OpData) (at : ℕ) (q : Placed) → place_at at (placed from brackets before ops) ≡ Some q → NextIn (placed from brackets before ops) q q.rest
 next_in from brackets before [] at q found = absurd cc
 next_in from brackets before (o ∷ ops) at q found =
     chosen (eqb from at) here behind q found (NextIn (placed from brackets before (o ∷ ops)) q q.rest)
-        (λ t e. subst (λ (z : Placed). NextIn (placed from brackets before (o ∷ ops)) z z.rest) e (first ops))
-        (λ f e. later q.rest (next_in (from + size o) (opened from o.code brackets) (before_next o before) ops at q e) (place_is (from + size o) (opened from o.code brackets) (before_next o before) ops at q e) (place_offset (placed (from + size o) (opened from o.code brackets) (before_next o before) ops) at q e))
+    (λ t e. subst (λ (z : Placed). NextIn (placed from brackets before (o ∷ ops)) z z.rest) e (first ops))
+    (λ f e. later q.rest (next_in (from + size o) (opened from o.code brackets) (before_next o before) ops at q e) (place_is (from + size o) (opened from o.code brackets) (before_next o before) ops at q e) (place_offset (placed (from + size o) (opened from o.code brackets) (before_next o before) ops) at q e))
   where
     here : Placed
     here = record { at = from; brackets = brackets; before = before; op = o; rest = ops }
@@ -189,12 +189,12 @@ same_behind : (from : ℕ) (brackets : List OpenBracket) (before ops : List OpDa
 same_behind from brackets before [] at q found = absurd cc
 same_behind from brackets before (o ∷ []) at q found =
     chosen (eqb from at) (record { at = from; brackets = brackets; before = before; op = o; rest = [] }) None q found (Same from brackets (o ∷ []) q)
-        (λ t e. subst (λ (z : Placed). Same from brackets (o ∷ []) z) e (record { open_same = refl; ends_same = refl }))
-        (λ f e. absurd cc)
+    (λ t e. subst (λ (z : Placed). Same from brackets (o ∷ []) z) e (record { open_same = refl; ends_same = refl }))
+    (λ f e. absurd cc)
 same_behind from brackets before (o ∷ n ∷ ops) at q found =
     chosen (eqb from at) (record { at = from; brackets = brackets; before = before; op = o; rest = n ∷ ops }) (place_at at (placed (from + size o) (opened from o.code brackets) (before_next o before) (n ∷ ops))) q found (Same from brackets (o ∷ n ∷ ops) q)
-        (λ t e. subst (λ (z : Placed). Same from brackets (o ∷ n ∷ ops) z) e (record { open_same = refl; ends_same = refl }))
-        (λ f e. let more = same_behind (from + size o) (opened from o.code brackets) (before_next o before) (n ∷ ops) at q e in record { open_same = more.open_same; ends_same = more.ends_same })
+    (λ t e. subst (λ (z : Placed). Same from brackets (o ∷ n ∷ ops) z) e (record { open_same = refl; ends_same = refl }))
+    (λ f e. let more = same_behind (from + size o) (opened from o.code brackets) (before_next o before) (n ∷ ops) at q e in record { open_same = more.open_same; ends_same = more.ends_same })
 
 last_brackets : (at code : ℕ) (brackets : List OpenBracket) → code ≡ 0x7B → opened at code brackets ≡ [] → brackets ≡ []
 last_brackets at code brackets is none = rw is at none
@@ -250,8 +250,8 @@ few_at a ss from brackets before (o ∷ ops) at q none most found =
     let here : Placed = record { at = from; brackets = brackets; before = before; op = o; rest = ops } in
     let n = nil_left (op_faults a ss 0 here) (faults_over a ss 0 (placed (from + size o) (opened from o.code brackets) (before_next o before) ops)) none in
     chosen (eqb from at) here (place_at at (placed (from + size o) (opened from o.code brackets) (before_next o before) ops)) q found (length q.brackets ≤ 7)
-        (λ t e. subst (λ (z : Placed). length z.brackets ≤ 7) e most)
-        (λ f e. few_at a ss (from + size o) (opened from o.code brackets) (before_next o before) ops at q n.1 (few_opened from o.code brackets (no_fault a ss 0 here n.0).bracket most) e)
+    (λ t e. subst (λ (z : Placed). length z.brackets ≤ 7) e most)
+    (λ f e. few_at a ss (from + size o) (opened from o.code brackets) (before_next o before) ops at q n.1 (few_opened from o.code brackets (no_fault a ss 0 here n.0).bracket most) e)
 
 there_by : (code : ℕ) (brackets : List OpenBracket) → bracket_fault code brackets ≡ None → code ≡ 0x1E → 0 < length brackets
 there_by code [] none is = let e : ◌≡◌ {A = Option ℕ} (Some 8) None = rw is at none in absurd cc
@@ -265,3 +265,98 @@ brackets_right p b q h =
       room = λ e. room_for q.op.code q.brackets none.bracket e;
       there = λ e. there_by q.op.code q.brackets none.bracket e;
     }
+
+-- ---- statements
+
+few_next : (op : OpData) (before : List OpData) → length (before_next op before) ≡ cond op.last 0 (suc (length before))
+few_next op before = by op.last
+  where
+    by : (b : Bool) → length (cond b [] (before ++ op ∷ [])) ≡ cond b 0 (suc (length before))
+    by true = refl
+    by false = length-append before (op ∷ []) ∙ omega arith
+
+pub none_if : (b : Bool) (from : ℕ) (more : Option ℕ) → cond b (Some from) more ≡ None → (b ≡ false) × (more ≡ None)
+none_if true from more e = absurd cc
+none_if false from more e = (refl, e)
+
+few_before : (from : ℕ) (brackets : List OpenBracket) (before ops : List OpData) (at : ℕ) (q : Placed) → overlong (length before) from ops ≡ None → length before ≤ 64 → place_at at (placed from brackets before ops) ≡ Some q → length q.before < 64
+few_before from brackets before [] at q none most found = absurd cc
+few_before from brackets before (o ∷ ops) at q none most found =
+    let n = none_if (eqb (length before) 64) from (overlong (cond o.last 0 (suc (length before))) (from + size o) ops) none in
+    let lt : length before < 64 = let ne = eqb-false (length before) 64 n.0 in grind (arith, ne, most) in
+    let next = few_next o before in
+    let more : overlong (length (before_next o before)) (from + size o) ops ≡ None = ap (λ (k : ℕ). overlong k (from + size o) ops) next ∙ n.1 in
+    chosen (eqb from at) (record { at = from; brackets = brackets; before = before; op = o; rest = ops }) (place_at at (placed (from + size o) (opened from o.code brackets) (before_next o before) ops)) q found (length q.before < 64)
+    (λ t e. subst (λ (z : Placed). length z.before < 64) e lt)
+    (λ f e. few_before (from + size o) (opened from o.code brackets) (before_next o before) ops at q more (most_next o.last next lt) e)
+  where
+    most_next : (b : Bool) → length (before_next o before) ≡ cond b 0 (suc (length before)) → length before < 64 → length (before_next o before) ≤ 64
+    most_next true e lt = omega (arith, e)
+    most_next false e lt = omega (arith, e, lt)
+
+ended_by : (code : ℕ) (last : Bool) → seven_if (cond (prepares code) last (not last)) ≡ None → last ≡ not (prepares code)
+ended_by code last none = by (prepares code) last none
+  where
+    by : (p l : Bool) → seven_if (cond p l (not l)) ≡ None → l ≡ not p
+    by true true e = absurd cc
+    by true false e = refl
+    by false true e = refl
+    by false false e = absurd cc
+
+pub statement_right : (p : Program) (b : CodeBlock) (q : Placed) → overlong 0 0 b.code ≡ None → IsOp p b q → StatementIsRight q
+statement_right p b q none h = record {
+  few = few_before 0 [] [] b.code q.at q none (omega arith) h.place;
+  ended = ended_by q.op.code q.op.last (op_none p b q h).mark;
+}
+
+-- ---- lines
+
+mark_there : (ops : List OpData) → ends ops ≡ true → 0 < end_marks ops
+mark_there [] e = absurd cc
+mark_there (o ∷ []) e = let last = (and_parts (eqb o.code 0x7B) o.last e).1 in rw last (omega arith)
+mark_there (o ∷ n ∷ ops) e = let more = mark_there (n ∷ ops) e in omega (arith, more)
+
+first_line : (lines : List ℕ) → 0 < length lines → (line : ℕ) × (slice_get lines 0 ≡ Some line)
+first_line [] lt = absurd (omega (arith, lt))
+first_line (line ∷ lines) lt = (line, refl)
+
+pub empty_next : (op : OpData) (before : List OpData) → is_empty (before_next op before) ≡ op.last
+empty_next op before = by op.last before
+  where
+    by : (b : Bool) (xs : List OpData) → is_empty (cond b [] (xs ++ op ∷ [])) ≡ b
+    by true xs = refl
+    by false [] = refl
+    by false (x ∷ xs) = refl
+
+line_room : (last : Bool) (marks : ℕ) (lines : List ℕ) → cond last 1 0 + marks ≤ length lines → marks ≤ length (cond last (drop 1 lines) lines)
+line_room true marks [] le = absurd (omega (arith, le))
+line_room true marks (line ∷ lines) le = omega (arith, le)
+line_room false marks lines le = omega (arith, le)
+
+abbrev Lined : ℕ → Bool → List OpData → List ℕ → ℕ → Type 0
+Lined from begin ops lines at = (line : ℕ) × (line_placed from begin ops lines at ≡ Some line)
+
+line_here : (from : ℕ) (begin : Bool) (o : OpData) (ops : List OpData) (lines : List ℕ) (at : ℕ) → ends (o ∷ ops) ≡ true → end_marks (o ∷ ops) ≤ length lines → eqb from at ≡ true → begin ≡ true → Lined from begin (o ∷ ops) lines at
+line_here from begin o ops lines at ended most t is =
+    let mark = mark_there (o ∷ ops) ended in
+    let l = first_line lines (omega (arith, mark, most)) in
+    (l.0, rw (t, is) l.1)
+
+line_later : (from : ℕ) (begin : Bool) (o : OpData) (ops : List OpData) (lines : List ℕ) (at : ℕ) → eqb from at ≡ false → Lined (from + size o) o.last ops (cond o.last (drop 1 lines) lines) at → Lined from begin (o ∷ ops) lines at
+line_later from begin o ops lines at f l = (l.0, rw f l.1)
+
+line_there : (from : ℕ) (brackets : List OpenBracket) (before ops : List OpData) (lines : List ℕ) (at : ℕ) (q : Placed) → ends ops ≡ true → end_marks ops ≤ length lines → place_at at (placed from brackets before ops) ≡ Some q → is_empty q.before ≡ true → Lined from (is_empty before) ops lines at
+line_there from brackets before [] lines at q ended most found first = absurd cc
+line_there from brackets before (o ∷ []) lines at q ended most found first =
+    chosen (eqb from at) (record { at = from; brackets = brackets; before = before; op = o; rest = [] }) None q found (Lined from (is_empty before) (o ∷ []) lines at)
+    (λ t e. line_here from (is_empty before) o [] lines at ended most t (ap (λ (z : Placed). is_empty z.before) e ∙ first))
+    (λ f e. absurd cc)
+line_there from brackets before (o ∷ n ∷ ops) lines at q ended most found first =
+    chosen (eqb from at) (record { at = from; brackets = brackets; before = before; op = o; rest = n ∷ ops }) (place_at at (placed (from + size o) (opened from o.code brackets) (before_next o before) (n ∷ ops))) q found (Lined from (is_empty before) (o ∷ n ∷ ops) lines at)
+    (λ t e. line_here from (is_empty before) o (n ∷ ops) lines at ended most t (ap (λ (z : Placed). is_empty z.before) e ∙ first))
+    (λ f e. line_later from (is_empty before) o (n ∷ ops) lines at f
+    (subst (λ (z : Bool). Lined (from + size o) z (n ∷ ops) (cond o.last (drop 1 lines) lines) at) (empty_next o before)
+    (line_there (from + size o) (opened from o.code brackets) (before_next o before) (n ∷ ops) (cond o.last (drop 1 lines) lines) at q ended (line_room o.last (end_marks (n ∷ ops)) lines most) e first)))
+
+pub has_line : (p : Program) (b : CodeBlock) (q : Placed) → ends b.code ≡ true → end_marks b.code ≡ length b.lines → IsOp p b q → begins q ≡ true → HasLine b q.at
+has_line p b q ended marks h first = let l = line_there 0 [] [] b.code b.lines q.at q ended (omega (arith, marks)) h.place first in record { line = l.0; is = l.1 }

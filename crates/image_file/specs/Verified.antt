@@ -174,4 +174,4 @@ pub record IsCalled (p : Program) (kind number : ℕ) (called : Callee) : Type 0
   pub same : called ≡ (kind, block.instance_len, map record_of_param block.params)
 
 abbrev pub CalledAreThere : Type 0
-CalledAreThere = (p : Program) (kind number : ℕ) (called : Callee) → Verifies p → (kind ≡ 2) ⊎ (kind ≡ 3) → callee (signatures p) kind number ≡ Some called → IsCalled p kind number called
+CalledAreThere = (p : Program) (kind number : ℕ) (called : Callee) → (kind ≡ 2) ⊎ (kind ≡ 3) → callee (signatures p) kind number ≡ Some called → IsCalled p kind number called
