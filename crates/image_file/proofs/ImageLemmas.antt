@@ -122,25 +122,25 @@ parameters_laid h = many_laid (λ s. parameter h.0 (instance_in h)) same_state (
 
 -- ---- code blocks
 
-abbrev from_size : Layout ℕ
+abbrev pub from_size : Layout ℕ
 from_size = plain_u32
 
-abbrev from_zero : Layout (ℕ × ℕ)
+abbrev pub from_zero : Layout (ℕ × ℕ)
 from_zero = chain zero_u16 (λ zero. from_size)
 
-abbrev from_statements : Layout (ℕ × (ℕ × ℕ))
+abbrev pub from_statements : Layout (ℕ × (ℕ × ℕ))
 from_statements = chain plain_u16 (λ statements. from_zero)
 
-abbrev from_instance : ℕ → Layout (ℕ × (ℕ × (ℕ × ℕ)))
+abbrev pub from_instance : ℕ → Layout (ℕ × (ℕ × (ℕ × ℕ)))
 from_instance kind = chain (instance_bytes kind) (λ instance. from_statements)
 
-abbrev from_locals : ℕ → Layout (ℕ × (ℕ × (ℕ × (ℕ × ℕ))))
+abbrev pub from_locals : ℕ → Layout (ℕ × (ℕ × (ℕ × (ℕ × ℕ))))
 from_locals kind = chain (local_bytes kind) (λ locals. from_instance kind)
 
-abbrev from_number : ℕ × ℕ → ℕ → Layout (ℕ × (ℕ × (ℕ × (ℕ × (ℕ × ℕ)))))
+abbrev pub from_number : ℕ × ℕ → ℕ → Layout (ℕ × (ℕ × (ℕ × (ℕ × (ℕ × ℕ)))))
 from_number before kind = chain (block_number before.0 before.1 kind) (λ number. from_locals kind)
 
-abbrev from_params : ℕ × ℕ → ℕ → Layout (ℕ × (ℕ × (ℕ × (ℕ × (ℕ × (ℕ × ℕ))))))
+abbrev pub from_params : ℕ × ℕ → ℕ → Layout (ℕ × (ℕ × (ℕ × (ℕ × (ℕ × (ℕ × ℕ))))))
 from_params before kind = chain (parameter_count kind) (λ params. from_number before kind)
 
 head_laid : (before : ℕ × ℕ) → IsLaidOut Head (head before)
@@ -167,7 +167,7 @@ head_zero before h good =
     let g = chain_parts zero_u16 (λ zero. from_size) h.1.1.1.1.1.1 f.1 in
     zero_u16_is h.1.1.1.1.1.1.0 g.0
 
-head_kind : (before : ℕ × ℕ) (h : Head) → (head before).good h ≡ true → lies_within 1 3 h.0 ≡ true
+pub head_kind : (before : ℕ × ℕ) (h : Head) → (head before).good h ≡ true → lies_within 1 3 h.0 ≡ true
 unfolding head kind_field fault_of
 head_kind before h good =
     let a = chain_parts (kind_field before.0) (from_params before) h good in
@@ -450,7 +450,7 @@ width_back (suc (suc (suc zero))) h = refl
 width_back (suc (suc (suc (suc zero)))) h = refl
 width_back (suc (suc (suc (suc (suc n))))) h = absurd (let le = leb-true (suc (suc (suc (suc (suc n))))) 4 (and_parts (leb 1 (suc (suc (suc (suc (suc n)))))) (leb (suc (suc (suc (suc (suc n))))) 4) h).1 in omega arith)
 
-width_there : (w : Width) → width_of_number (width_code w) ≡ w
+pub width_there : (w : Width) → width_of_number (width_code w) ≡ w
 width_there width.Bit = refl
 width_there width.Byte = refl
 width_there width.Word = refl

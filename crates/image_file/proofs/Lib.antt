@@ -12,3 +12,9 @@ pub mod WritingLemmas
 pub mod FitLemmas
 pub mod ProgramFaultLemmas
 pub mod RefusalLemmas
+pub mod SeatLemmas
+pub mod BlockTableLemmas
+pub mod ProgramLemmas
+pub mod VerifiedLemmas
+pub mod LandingLemmas
+pub mod OperandLemmas

@@ -8,3 +8,6 @@ pub mod Refusing
 pub mod Typing
 pub mod Writing
 pub mod Verifying
+pub mod Readers
+pub mod Seats
+pub mod Verified

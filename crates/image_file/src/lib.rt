@@ -1,21 +1,26 @@
 //! Images of programs: both ways, and verified.
 #![tactic(auto)]
 
+mod block_table;
 mod blocks;
 mod calls;
 mod codes;
+mod copies;
 mod data;
 mod faults;
 mod fields;
+mod heads;
 mod judging;
 pub mod laws;
 mod loaded;
+mod loaded_code;
 mod loading;
 mod operands;
 mod program_faults;
 mod reader;
 mod records;
 mod refusing;
+mod seats;
 mod stops;
 mod surroundings;
 mod typing;
@@ -24,7 +29,9 @@ mod whole;
 mod writing;
 
 pub use faults::{LoadFault, VerifyFault};
+pub use heads::Head;
 pub use loaded::Loaded;
+pub use loaded_code::LoadedCode;
 pub use loading::load;
 pub use program_faults::verify;
 pub use refusing::{LoadError, VerifyError};

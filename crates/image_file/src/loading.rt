@@ -217,7 +217,8 @@ pub fn load(alloc: Global, bytes: &[u8]) -> Result<Loaded, LoadError>
             None => unreachable!(),
             Some(datas) => {
                 let program = program(alloc, blocks, datas, names)?;
-                Ok(Loaded::new(program))
+                let loaded = Loaded::new(alloc, program)?;
+                Ok(loaded)
             }
         },
     }

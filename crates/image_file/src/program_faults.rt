@@ -280,5 +280,6 @@ pub fn verify(alloc: Global, program: Program) -> Result<Loaded, VerifyError>
     if let Some(fault) = program_fault(alloc, &program)? {
         return Err(VerifyError::Fault { fault });
     }
-    Ok(Loaded::new(program))
+    let loaded = Loaded::new(alloc, program)?;
+    Ok(loaded)
 }

@@ -63,6 +63,6 @@ new-requires c =
 pub returns-clause-gives : goal.returns-clause-gives
 returns-clause-gives c =
     let j = c.in_ok-least.field-0 in
-    rw (c.new.ensures, c.in_ok-program-in-Some-datas.ensures)
+    rw (c.in_ok-loaded-in-Some-datas.ensures, c.in_ok-program-in-Some-datas.ensures)
     (loads c.args.bytes.now (map started j.blocks.items) c.in-Some-datas.datas.items c.in-Some-names.names.items (λ i. omega (arith, c.type_inv.bytes i)) (clean c.args.bytes.now j c.in_ok-least.ensures.least c.in_default.is)
     (with_datas c.args.bytes.now j (Some c.in-Some-datas.datas.items) (Some c.in-Some-names.names.items) (ap (option_map (λ v. v.items)) c.in-Some-datas.is) (ap (option_map (λ v. v.items)) c.in-Some-names.is) c.in_ok-least.ensures.found)).gives

@@ -1,0 +1,362 @@
+-- What a program that verifies gives.
+use Rattle.std.proofs.Common.{◌≡◌, ◌⊎◌, ℕ, zero, suc, ◌+◌, ◌-◌, ◌<◌, ◌≤◌, Bool, true, false, cond, eqb, leb, ltb, not, ◌&&◌, ◌||◌, List, [], ◌∷◌, ◌++◌, length, map, take, drop, slice_get, length-append, Option, Some, None, option_map, refl, sym, ap, subst, ◌∙◌, arith, inl, inr}
+use Rattle.std.proofs.lemmas.Bool.{and_parts, eqb-true, eqb-false, eq-eqb, ne_eqb, leb-true, le-leb, ltb-false, cases_lt}
+use Rattle.std.proofs.lemmas.Option.{same_Some}
+use Rattle.flat_code.specs.declared.image_fields.OpenBracket.{OpenBracket}
+use Rattle.flat_code.specs.declared.operands.Operand.{Operand}
+use Rattle.flat_code.specs.declared.operands.Operand.TheVariants as operand
+use Rattle.flat_code.specs.Ops.{OpData, op_bytes}
+use Rattle.flat_code.specs.Codes.{size, code_bytes, ends, overlong}
+use Rattle.flat_code.specs.Programs.{CodeBlock, DataBlock, Program}
+use Rattle.flat_code.specs.Records.{BlockRecord}
+use Rattle.flat_code.specs.Image.{record_of_block, end_marks}
+use Rattle.flat_code.specs.Loading.{Verifies, AreVerified, lens_of, around}
+use Rattle.flat_code.specs.Placed.{Placed, placed, places, op_placed, line_placed, begins, is_empty, bracket_codes, few, Spot, spots, spots_from, spot_at, opens, inner, opened, open_behind, before_next}
+use Rattle.flat_code.specs.Blocks.{Around, same_codes, differing, target_fault, is_bad_list, jump_fault, operand_fault, call_fault, mark_fault, bracket_fault, at_offset, op_faults, faults_over, open_faults, block_faults, prepares, leads, seven_if}
+use Rattle.image_file.specs.Readers.{same_id, block_of}
+use Rattle.image_file.specs.Verified.{place_at, IsOp, IsRead, Next, Lands, BracketsAreRight, StatementIsRight, HasLine}
+
+-- ---- no fault of a block is none of its ops
+
+nil_left : {A : Type 0} (xs ys : List A) → xs ++ ys ≡ [] → (xs ≡ []) × (ys ≡ [])
+nil_left [] ys e = (refl, e)
+nil_left (x ∷ xs) ys e = absurd cc
+
+pub chosen : {A : Type 0} (b : Bool) (x : A) (o : Option A) (y : A) → cond b (Some x) o ≡ Some y → (P : Type 0) → (b ≡ true → x ≡ y → P) → (b ≡ false → o ≡ Some y → P) → P
+chosen true x o y e P f g = f refl (same_Some x y e)
+chosen false x o y e P f g = g refl e
+
+none_here : (at : ℕ) (o : Option ℕ) → at_offset at o ≡ [] → o ≡ None
+none_here at None e = refl
+none_here at (Some code) e = absurd cc
+
+-- an op without fault
+pub record NoFault (a : Around) (ss : List Spot) (q : Placed) : Type 0 where
+  pub operand : operand_fault a ss q q.op.operand ≡ None
+  pub call : call_fault a a.data_lens q ≡ None
+  pub mark : mark_fault q.op ≡ None
+  pub bracket : bracket_fault q.op.code q.brackets ≡ None
+
+no_fault : (a : Around) (ss : List Spot) (start : ℕ) (q : Placed) → op_faults a ss start q ≡ [] → NoFault a ss q
+unfolding op_faults
+no_fault a ss start q none =
+    let at = start + q.at in
+    let one = at_offset at (operand_fault a ss q q.op.operand) in
+    let two = at_offset at (call_fault a a.data_lens q) in
+    let three = at_offset at (mark_fault q.op) in
+    let four = at_offset at (bracket_fault q.op.code q.brackets) in
+    let x = nil_left (one ++ two ++ three) four none in
+    let y = nil_left (one ++ two) three x.0 in
+    let z = nil_left one two y.0 in
+    record {
+      operand = none_here at (operand_fault a ss q q.op.operand) z.0;
+      call = none_here at (call_fault a a.data_lens q) z.1;
+      mark = none_here at (mark_fault q.op) y.1;
+      bracket = none_here at (bracket_fault q.op.code q.brackets) x.1;
+    }
+
+each : (a : Around) (ss : List Spot) (start : ℕ) (rest : List Placed) (at : ℕ) (q : Placed) → faults_over a ss start rest ≡ [] → place_at at rest ≡ Some q → op_faults a ss start q ≡ []
+each a ss start [] at q none found = absurd cc
+each a ss start (p ∷ rest) at q none found =
+    let n = nil_left (op_faults a ss start p) (faults_over a ss start rest) none in
+    chosen (eqb p.at at) p (place_at at rest) q found (op_faults a ss start q ≡ [])
+    (λ t e. subst (λ (z : Placed). op_faults a ss start z ≡ []) e n.0)
+    (λ f e. each a ss start rest at q n.1 e)
+
+-- what surrounds a block of a program
+abbrev pub around_in : Program → CodeBlock → Around
+around_in p b = around (Some (lens_of p.data_blocks)) (map record_of_block p.code_blocks) (record_of_block b)
+
+verified_at : (lens : List (ℕ × ℕ)) (all : List BlockRecord) (bs : List CodeBlock) (b : CodeBlock) (id : _) → AreVerified lens all (map record_of_block bs) → block_of id bs ≡ Some b → block_faults (around (Some lens) all (record_of_block b)) 0 b.code ≡ []
+verified_at lens all [] b id h found = absurd cc
+verified_at lens all (c ∷ bs) b id h found =
+    chosen (same_id c.id id) c (block_of id bs) b found (block_faults (around (Some lens) all (record_of_block b)) 0 b.code ≡ [])
+    (λ t e. subst (λ (z : CodeBlock). block_faults (around (Some lens) all (record_of_block z)) 0 z.code ≡ []) e h.0)
+    (λ f e. verified_at lens all bs b id h.1 e)
+
+-- the parts of a block without fault
+record NoneIn (a : Around) (ops : List OpData) : Type 0 where
+  over : faults_over a (spots ops) 0 (places ops) ≡ []
+  ends : open_behind 0 [] ops ≡ []
+
+none_open : (start : ℕ) (bs : List OpenBracket) → open_faults start bs ≡ [] → bs ≡ []
+none_open start [] e = refl
+none_open start (b ∷ bs) e = absurd cc
+
+none_in : (a : Around) (ops : List OpData) → block_faults a 0 ops ≡ [] → NoneIn a ops
+unfolding block_faults
+none_in a ops e =
+    let n = nil_left (faults_over a (spots ops) 0 (places ops)) (open_faults 0 (open_behind 0 [] ops)) e in
+    record { over = n.0; ends = none_open 0 (open_behind 0 [] ops) n.1 }
+
+none_of : (p : Program) (b : CodeBlock) (q : Placed) → IsOp p b q → NoneIn (around_in p b) b.code
+none_of p b q h = none_in (around_in p b) b.code (verified_at (lens_of p.data_blocks) (map record_of_block p.code_blocks) p.code_blocks b h.id h.verifies.blocks h.block)
+
+pub op_none : (p : Program) (b : CodeBlock) (q : Placed) → IsOp p b q → NoFault (around_in p b) (spots b.code) q
+op_none p b q h = no_fault (around_in p b) (spots b.code) 0 q (each (around_in p b) (spots b.code) 0 (places b.code) q.at q (none_of p b q h).over h.place)
+
+-- ---- the readers' op is the one in its place
+
+pub read_at : (from : ℕ) (brackets : List OpenBracket) (before ops : List OpData) (at : ℕ) (op : OpData) (next : ℕ) → op_placed from ops at ≡ Some (op, next) → (q : Placed) × (place_at at (placed from brackets before ops) ≡ Some q) × (q.at ≡ at) × (q.op ≡ op) × (next ≡ at + size op)
+read_at from brackets before [] at op next e = absurd cc
+read_at from brackets before (o ∷ ops) at op next e = by (eqb from at) refl e (λ h. read_at (from + size o) (opened from o.code brackets) (before_next o before) ops at op next h)
+  where
+    here : Placed
+    here = record { at = from; brackets = brackets; before = before; op = o; rest = ops }
+
+    by : (b : Bool) → eqb from at ≡ b → cond b (Some (o, from + size o)) (op_placed (from + size o) ops at) ≡ Some (op, next)
+        → (op_placed (from + size o) ops at ≡ Some (op, next) → (q : Placed) × (place_at at (placed (from + size o) (opened from o.code brackets) (before_next o before) ops) ≡ Some q) × (q.at ≡ at) × (q.op ≡ op) × (next ≡ at + size op))
+        → (q : Placed) × (cond b (Some here) (place_at at (placed (from + size o) (opened from o.code brackets) (before_next o before) ops)) ≡ Some q) × (q.at ≡ at) × (q.op ≡ op) × (next ≡ at + size op)
+    by true t f more =
+        let s = same_Some (o, from + size o) (op, next) f in
+        let same : o ≡ op = ap (λ (z : OpData × ℕ). z.0) s in
+        let here_at : from ≡ at = eqb-true from at t in
+        let after : from + size o ≡ next = ap (λ (z : OpData × ℕ). z.1) s in
+        (here, refl, here_at, same, sym after ∙ ap (λ (k : ℕ). k + size o) here_at ∙ ap (λ (z : OpData). at + size z) same)
+    by false t f more = more f
+
+-- ---- places follow each other
+
+pub op_long : (op : OpData) → 0 < size op
+unfolding size op_bytes
+op_long op = omega arith
+
+-- no op of code begins before it
+not_before : (from : ℕ) (brackets : List OpenBracket) (before ops : List OpData) (at : ℕ) → at < from → place_at at (placed from brackets before ops) ≡ None
+not_before from brackets before [] at lt = refl
+not_before from brackets before (op ∷ ops) at lt =
+    let other : eqb from at ≡ false = ne_eqb from at (λ e. omega (arith, e, lt)) in
+    let p = op_long op in
+    rw other (not_before (from + size op) (opened from op.code brackets) (before_next op before) ops at (omega (arith, lt, p)))
+
+place_is : (from : ℕ) (brackets : List OpenBracket) (before ops : List OpData) (at : ℕ) (q : Placed) → place_at at (placed from brackets before ops) ≡ Some q → from ≤ at
+place_is from brackets before ops at q found = by (cases_lt at from)
+  where
+    by : (at < from) ⊎ (from ≤ at) → from ≤ at
+    by (inl lt) = let e : ◌≡◌ {A = Option Placed} None (Some q) = sym (not_before from brackets before ops at lt) ∙ found in absurd cc
+    by (inr le) = le
+
+-- behind an op stands the next one of its list
+abbrev pub NextIn : List Placed → Placed → List OpData → Type 0
+NextIn ps q [] = Unit {0}
+NextIn ps q (op ∷ ops) = place_at (q.at + size q.op) ps ≡ Some (record { at = q.at + size q.op; brackets = opened q.at q.op.code q.brackets; before = before_next q.op q.before; op = op; rest = ops })
+
+pub place_offset : (qs : List Placed) (at : ℕ) (q : Placed) → place_at at qs ≡ Some q → q.at ≡ at
+place_offset [] at q found = absurd cc
+place_offset (p ∷ qs) at q found =
+    chosen (eqb p.at at) p (place_at at qs) q found (q.at ≡ at)
+    (λ t e. sym (ap (λ (z : Placed). z.at) e) ∙ eqb-true p.at at t)
+    (λ f e. place_offset qs at q e)
+
+next_in : (from : ℕ) (brackets : List OpenBracket) (before ops : List OpData) (at : ℕ) (q : Placed) → place_at at (placed from brackets before ops) ≡ Some q → NextIn (placed from brackets before ops) q q.rest
+next_in from brackets before [] at q found = absurd cc
+next_in from brackets before (o ∷ ops) at q found =
+    chosen (eqb from at) here behind q found (NextIn (placed from brackets before (o ∷ ops)) q q.rest)
+    (λ t e. subst (λ (z : Placed). NextIn (placed from brackets before (o ∷ ops)) z z.rest) e (first ops))
+    (λ f e. later q.rest (next_in (from + size o) (opened from o.code brackets) (before_next o before) ops at q e) (place_is (from + size o) (opened from o.code brackets) (before_next o before) ops at q e) (place_offset (placed (from + size o) (opened from o.code brackets) (before_next o before) ops) at q e))
+  where
+    here : Placed
+    here = record { at = from; brackets = brackets; before = before; op = o; rest = ops }
+
+    behind : Option Placed
+    behind = place_at at (placed (from + size o) (opened from o.code brackets) (before_next o before) ops)
+
+    first : (rest : List OpData) → NextIn (placed from brackets before (o ∷ rest)) (record { at = from; brackets = brackets; before = before; op = o; rest = rest }) rest
+    first [] = tt
+    first (n ∷ rest) =
+        let p = op_long o in
+        let other : eqb from (from + size o) ≡ false = ne_eqb from (from + size o) (λ e. omega (arith, e, p)) in
+        rw (other, eq-eqb (from + size o) (from + size o) refl) refl
+
+    later : (rest : List OpData) → NextIn (placed (from + size o) (opened from o.code brackets) (before_next o before) ops) q rest → from + size o ≤ at → q.at ≡ at → NextIn (placed from brackets before (o ∷ ops)) q rest
+    later [] h le is = tt
+    later (n ∷ rest) h le is =
+        let p = op_long o in
+        let other : eqb from (q.at + size q.op) ≡ false = ne_eqb from (q.at + size q.op) (λ e. omega (arith, e, le, is, p)) in
+        rw other h
+
+pub goes_on : (ops : List OpData) (q : Placed) → place_at q.at (places ops) ≡ Some q → NextIn (places ops) q q.rest
+goes_on ops q found = next_in 0 [] [] ops q.at q found
+
+-- ---- the last op
+
+-- what stands behind an op is what the whole comes to
+record Same (from : ℕ) (brackets : List OpenBracket) (ops : List OpData) (q : Placed) : Type 0 where
+  open_same : open_behind from brackets ops ≡ open_behind (q.at + size q.op) (opened q.at q.op.code q.brackets) q.rest
+  ends_same : ends ops ≡ ends (q.op ∷ q.rest)
+
+same_behind : (from : ℕ) (brackets : List OpenBracket) (before ops : List OpData) (at : ℕ) (q : Placed) → place_at at (placed from brackets before ops) ≡ Some q → Same from brackets ops q
+same_behind from brackets before [] at q found = absurd cc
+same_behind from brackets before (o ∷ []) at q found =
+    chosen (eqb from at) (record { at = from; brackets = brackets; before = before; op = o; rest = [] }) None q found (Same from brackets (o ∷ []) q)
+    (λ t e. subst (λ (z : Placed). Same from brackets (o ∷ []) z) e (record { open_same = refl; ends_same = refl }))
+    (λ f e. absurd cc)
+same_behind from brackets before (o ∷ n ∷ ops) at q found =
+    chosen (eqb from at) (record { at = from; brackets = brackets; before = before; op = o; rest = n ∷ ops }) (place_at at (placed (from + size o) (opened from o.code brackets) (before_next o before) (n ∷ ops))) q found (Same from brackets (o ∷ n ∷ ops) q)
+    (λ t e. subst (λ (z : Placed). Same from brackets (o ∷ n ∷ ops) z) e (record { open_same = refl; ends_same = refl }))
+    (λ f e. let more = same_behind (from + size o) (opened from o.code brackets) (before_next o before) (n ∷ ops) at q e in record { open_same = more.open_same; ends_same = more.ends_same })
+
+last_brackets : (at code : ℕ) (brackets : List OpenBracket) → code ≡ 0x7B → opened at code brackets ≡ [] → brackets ≡ []
+last_brackets at code brackets is none = rw is at none
+
+pub next_of_op : (p : Program) (b : CodeBlock) (q : Placed) → ends b.code ≡ true → IsOp p b q → (rest : List OpData) → q.rest ≡ rest → Next b q rest
+next_of_op p b q ended h [] is =
+    let same = same_behind 0 [] [] b.code q.at q h.place in
+    let last : ends (q.op ∷ []) ≡ true = ap (λ (z : List OpData). ends (q.op ∷ z)) (sym is) ∙ sym same.ends_same ∙ ended in
+    let parts = and_parts (eqb q.op.code 0x7B) q.op.last last in
+    let code : q.op.code ≡ 0x7B = eqb-true q.op.code 0x7B parts.0 in
+    let none : opened q.at q.op.code q.brackets ≡ [] = sym (ap (open_behind (q.at + size q.op) (opened q.at q.op.code q.brackets)) is) ∙ sym same.open_same ∙ (none_of p b q h).ends in
+    (code, parts.1, last_brackets q.at q.op.code q.brackets code none)
+next_of_op p b q ended h (op ∷ ops) is = subst (λ (z : List OpData). NextIn (places b.code) q z) is (goes_on b.code q h.place)
+
+-- ---- brackets
+
+length_take : (n : ℕ) (bs : List OpenBracket) → length (take n bs) ≤ length bs
+length_take zero bs = omega arith
+length_take (suc n) [] = omega arith
+length_take (suc n) (b ∷ bs) = let more = length_take n bs in omega (arith, more)
+
+room_by : (b : Bool) → cond {A = Option ℕ} b (Some 8) None ≡ None → b ≡ false
+room_by true e = absurd cc
+room_by false e = refl
+
+room_for : (code : ℕ) (brackets : List OpenBracket) → bracket_fault code brackets ≡ None → opens code ≡ true → length brackets < 7
+room_for code brackets none open_one =
+    let full : cond {A = Option ℕ} (leb 7 (length brackets)) (Some 8) None ≡ None = rw open_one at none in
+    let e = room_by (leb 7 (length brackets)) full in
+    leb_false (length brackets) e
+  where
+    leb_false : (n : ℕ) → leb 7 n ≡ false → n < 7
+    leb_false n e = by (cases_lt n 7)
+      where
+        by : (n < 7) ⊎ (7 ≤ n) → n < 7
+        by (inl lt) = lt
+        by (inr le) = let t = le-leb 7 n le in let f : true ≡ false = sym t ∙ e in absurd cc
+
+few_opened : (at code : ℕ) (brackets : List OpenBracket) → bracket_fault code brackets ≡ None → length brackets ≤ 7 → length (opened at code brackets) ≤ 7
+few_opened at code brackets none most = by (opens code) refl
+  where
+    by_close : (c : Bool) → length (cond c (inner brackets) brackets) ≤ 7
+    by_close true = let l = length_take (length brackets - 1) brackets in omega (arith, l, most)
+    by_close false = most
+
+    by : (b : Bool) → opens code ≡ b → length (cond b (brackets ++ record { at = at; code = code } ∷ []) (cond (eqb code 0x1E) (inner brackets) brackets)) ≤ 7
+    by true e = let room = room_for code brackets none e in let l = length-append brackets (record { at = at; code = code } ∷ []) in omega (arith, room, l)
+    by false e = by_close (eqb code 0x1E)
+
+few_at : (a : Around) (ss : List Spot) (from : ℕ) (brackets : List OpenBracket) (before ops : List OpData) (at : ℕ) (q : Placed) → faults_over a ss 0 (placed from brackets before ops) ≡ [] → length brackets ≤ 7 → place_at at (placed from brackets before ops) ≡ Some q → length q.brackets ≤ 7
+few_at a ss from brackets before [] at q none most found = absurd cc
+few_at a ss from brackets before (o ∷ ops) at q none most found =
+    let here : Placed = record { at = from; brackets = brackets; before = before; op = o; rest = ops } in
+    let n = nil_left (op_faults a ss 0 here) (faults_over a ss 0 (placed (from + size o) (opened from o.code brackets) (before_next o before) ops)) none in
+    chosen (eqb from at) here (place_at at (placed (from + size o) (opened from o.code brackets) (before_next o before) ops)) q found (length q.brackets ≤ 7)
+    (λ t e. subst (λ (z : Placed). length z.brackets ≤ 7) e most)
+    (λ f e. few_at a ss (from + size o) (opened from o.code brackets) (before_next o before) ops at q n.1 (few_opened from o.code brackets (no_fault a ss 0 here n.0).bracket most) e)
+
+there_by : (code : ℕ) (brackets : List OpenBracket) → bracket_fault code brackets ≡ None → code ≡ 0x1E → 0 < length brackets
+there_by code [] none is = let e : ◌≡◌ {A = Option ℕ} (Some 8) None = rw is at none in absurd cc
+there_by code (b ∷ bs) none is = omega arith
+
+pub brackets_right : (p : Program) (b : CodeBlock) (q : Placed) → IsOp p b q → BracketsAreRight q
+brackets_right p b q h =
+    let none = op_none p b q h in
+    record {
+      few = few_at (around_in p b) (spots b.code) 0 [] [] b.code q.at q (none_of p b q h).over (omega arith) h.place;
+      room = λ e. room_for q.op.code q.brackets none.bracket e;
+      there = λ e. there_by q.op.code q.brackets none.bracket e;
+    }
+
+-- ---- statements
+
+few_next : (op : OpData) (before : List OpData) → length (before_next op before) ≡ cond op.last 0 (suc (length before))
+few_next op before = by op.last
+  where
+    by : (b : Bool) → length (cond b [] (before ++ op ∷ [])) ≡ cond b 0 (suc (length before))
+    by true = refl
+    by false = length-append before (op ∷ []) ∙ omega arith
+
+pub none_if : (b : Bool) (from : ℕ) (more : Option ℕ) → cond b (Some from) more ≡ None → (b ≡ false) × (more ≡ None)
+none_if true from more e = absurd cc
+none_if false from more e = (refl, e)
+
+few_before : (from : ℕ) (brackets : List OpenBracket) (before ops : List OpData) (at : ℕ) (q : Placed) → overlong (length before) from ops ≡ None → length before ≤ 64 → place_at at (placed from brackets before ops) ≡ Some q → length q.before < 64
+few_before from brackets before [] at q none most found = absurd cc
+few_before from brackets before (o ∷ ops) at q none most found =
+    let n = none_if (eqb (length before) 64) from (overlong (cond o.last 0 (suc (length before))) (from + size o) ops) none in
+    let lt : length before < 64 = let ne = eqb-false (length before) 64 n.0 in grind (arith, ne, most) in
+    let next = few_next o before in
+    let more : overlong (length (before_next o before)) (from + size o) ops ≡ None = ap (λ (k : ℕ). overlong k (from + size o) ops) next ∙ n.1 in
+    chosen (eqb from at) (record { at = from; brackets = brackets; before = before; op = o; rest = ops }) (place_at at (placed (from + size o) (opened from o.code brackets) (before_next o before) ops)) q found (length q.before < 64)
+    (λ t e. subst (λ (z : Placed). length z.before < 64) e lt)
+    (λ f e. few_before (from + size o) (opened from o.code brackets) (before_next o before) ops at q more (most_next o.last next lt) e)
+  where
+    most_next : (b : Bool) → length (before_next o before) ≡ cond b 0 (suc (length before)) → length before < 64 → length (before_next o before) ≤ 64
+    most_next true e lt = omega (arith, e)
+    most_next false e lt = omega (arith, e, lt)
+
+ended_by : (code : ℕ) (last : Bool) → seven_if (cond (prepares code) last (not last)) ≡ None → last ≡ not (prepares code)
+ended_by code last none = by (prepares code) last none
+  where
+    by : (p l : Bool) → seven_if (cond p l (not l)) ≡ None → l ≡ not p
+    by true true e = absurd cc
+    by true false e = refl
+    by false true e = refl
+    by false false e = absurd cc
+
+pub statement_right : (p : Program) (b : CodeBlock) (q : Placed) → overlong 0 0 b.code ≡ None → IsOp p b q → StatementIsRight q
+statement_right p b q none h = record {
+  few = few_before 0 [] [] b.code q.at q none (omega arith) h.place;
+  ended = ended_by q.op.code q.op.last (op_none p b q h).mark;
+}
+
+-- ---- lines
+
+mark_there : (ops : List OpData) → ends ops ≡ true → 0 < end_marks ops
+mark_there [] e = absurd cc
+mark_there (o ∷ []) e = let last = (and_parts (eqb o.code 0x7B) o.last e).1 in rw last (omega arith)
+mark_there (o ∷ n ∷ ops) e = let more = mark_there (n ∷ ops) e in omega (arith, more)
+
+first_line : (lines : List ℕ) → 0 < length lines → (line : ℕ) × (slice_get lines 0 ≡ Some line)
+first_line [] lt = absurd (omega (arith, lt))
+first_line (line ∷ lines) lt = (line, refl)
+
+pub empty_next : (op : OpData) (before : List OpData) → is_empty (before_next op before) ≡ op.last
+empty_next op before = by op.last before
+  where
+    by : (b : Bool) (xs : List OpData) → is_empty (cond b [] (xs ++ op ∷ [])) ≡ b
+    by true xs = refl
+    by false [] = refl
+    by false (x ∷ xs) = refl
+
+line_room : (last : Bool) (marks : ℕ) (lines : List ℕ) → cond last 1 0 + marks ≤ length lines → marks ≤ length (cond last (drop 1 lines) lines)
+line_room true marks [] le = absurd (omega (arith, le))
+line_room true marks (line ∷ lines) le = omega (arith, le)
+line_room false marks lines le = omega (arith, le)
+
+abbrev Lined : ℕ → Bool → List OpData → List ℕ → ℕ → Type 0
+Lined from begin ops lines at = (line : ℕ) × (line_placed from begin ops lines at ≡ Some line)
+
+line_here : (from : ℕ) (begin : Bool) (o : OpData) (ops : List OpData) (lines : List ℕ) (at : ℕ) → ends (o ∷ ops) ≡ true → end_marks (o ∷ ops) ≤ length lines → eqb from at ≡ true → begin ≡ true → Lined from begin (o ∷ ops) lines at
+line_here from begin o ops lines at ended most t is =
+    let mark = mark_there (o ∷ ops) ended in
+    let l = first_line lines (omega (arith, mark, most)) in
+    (l.0, rw (t, is) l.1)
+
+line_later : (from : ℕ) (begin : Bool) (o : OpData) (ops : List OpData) (lines : List ℕ) (at : ℕ) → eqb from at ≡ false → Lined (from + size o) o.last ops (cond o.last (drop 1 lines) lines) at → Lined from begin (o ∷ ops) lines at
+line_later from begin o ops lines at f l = (l.0, rw f l.1)
+
+line_there : (from : ℕ) (brackets : List OpenBracket) (before ops : List OpData) (lines : List ℕ) (at : ℕ) (q : Placed) → ends ops ≡ true → end_marks ops ≤ length lines → place_at at (placed from brackets before ops) ≡ Some q → is_empty q.before ≡ true → Lined from (is_empty before) ops lines at
+line_there from brackets before [] lines at q ended most found first = absurd cc
+line_there from brackets before (o ∷ []) lines at q ended most found first =
+    chosen (eqb from at) (record { at = from; brackets = brackets; before = before; op = o; rest = [] }) None q found (Lined from (is_empty before) (o ∷ []) lines at)
+    (λ t e. line_here from (is_empty before) o [] lines at ended most t (ap (λ (z : Placed). is_empty z.before) e ∙ first))
+    (λ f e. absurd cc)
+line_there from brackets before (o ∷ n ∷ ops) lines at q ended most found first =
+    chosen (eqb from at) (record { at = from; brackets = brackets; before = before; op = o; rest = n ∷ ops }) (place_at at (placed (from + size o) (opened from o.code brackets) (before_next o before) (n ∷ ops))) q found (Lined from (is_empty before) (o ∷ n ∷ ops) lines at)
+    (λ t e. line_here from (is_empty before) o (n ∷ ops) lines at ended most t (ap (λ (z : Placed). is_empty z.before) e ∙ first))
+    (λ f e. line_later from (is_empty before) o (n ∷ ops) lines at f
+    (subst (λ (z : Bool). Lined (from + size o) z (n ∷ ops) (cond o.last (drop 1 lines) lines) at) (empty_next o before)
+    (line_there (from + size o) (opened from o.code brackets) (before_next o before) (n ∷ ops) (cond o.last (drop 1 lines) lines) at q ended (line_room o.last (end_marks (n ∷ ops)) lines most) e first)))
+
+pub has_line : (p : Program) (b : CodeBlock) (q : Placed) → ends b.code ≡ true → end_marks b.code ≡ length b.lines → IsOp p b q → begins q ≡ true → HasLine b q.at
+has_line p b q ended marks h first = let l = line_there 0 [] [] b.code b.lines q.at q ended (omega (arith, marks)) h.place first in record { line = l.0; is = l.1 }

@@ -1,0 +1,8 @@
+use Rattle.std.proofs.Common.{◌≡◌, true, List, [], ap, sym, subst, ◌∙◌}
+use Rattle.flat_code.specs.Names.{names_rise}
+use Rattle.flat_code.specs.Programs.{NameEntry}
+use Rattle.flat_code.proofs.ProgramLemmas.{names_of_program}
+use Rattle.image_file.proofs.copies.program_again.Goals as goal
+
+pub new-requires : goal.new-requires
+new-requires c = subst (λ (z : List NameEntry). names_rise [] z ≡ true) (sym (c.in_ok-entries.ensures ∙ c.as_slice-3.ensures)) (names_of_program _ c.program.invariant)

@@ -1,0 +1,67 @@
+-- The parts of a loaded program, as its readers give them.
+use Rattle.std.specs.Prelude.{ℕ, ◌==◌, Bool, true, false, ◌&&◌, if◌then◌else◌, List, [], ◌∷◌, ◌++◌, length, map, Option, Some, None}
+use Rattle.std.specs.Option.{option_and_then}
+use Rattle.plc_base.specs.declared.blocks.BlockId.{BlockId}
+use Rattle.plc_base.specs.declared.blocks.BlockKind.{BlockKind}
+use Rattle.plc_base.specs.declared.blocks.BlockKind.TheVariants as kinds
+use Rattle.flat_code.specs.declared.programs.Param.{Param}
+use Rattle.flat_code.specs.Codes.{code_bytes}
+use Rattle.flat_code.specs.Ops.{OpData}
+use Rattle.flat_code.specs.Placed.{op_placed, line_placed}
+use Rattle.flat_code.specs.Programs.{CodeBlock, DataBlock, Program}
+
+-- block kinds in their order
+abbrev pub kind_order : BlockKind → ℕ
+kind_order kinds.Ob = 0
+kind_order kinds.Fc = 1
+kind_order kinds.Fb = 2
+kind_order kinds.Db = 3
+kind_order kinds.Sfc = 4
+kind_order kinds.Udt = 5
+
+-- two blocks of the same kind and number are the same
+abbrev pub same_id : BlockId → BlockId → Bool
+same_id a b = kind_order a.kind == kind_order b.kind && a.number == b.number
+
+-- the code block of a kind and number
+abbrev pub block_of : BlockId → List CodeBlock → Option CodeBlock
+block_of id [] = None
+block_of id (b ∷ bs) = if same_id b.id id then Some b else block_of id bs
+
+-- the op of a block at an offset, and the offset after it
+abbrev pub op_of : BlockId → ℕ → List CodeBlock → Option (OpData × ℕ)
+op_of id at blocks = option_and_then (λ b. op_placed 0 b.code at) (block_of id blocks)
+
+-- the source line of the statement of a block at an offset
+abbrev pub line_of : BlockId → ℕ → List CodeBlock → Option ℕ
+line_of id at blocks = option_and_then (λ b. line_placed 0 true b.code b.lines at) (block_of id blocks)
+
+-- the bytes of the data block of a number
+abbrev pub bytes_of : ℕ → List DataBlock → Option (List ℕ)
+bytes_of number [] = None
+bytes_of number (d ∷ ds) = if d.number == number then Some d.bytes else bytes_of number ds
+
+-- the blocks: code blocks, then data blocks, in the image's order
+abbrev pub data_id : DataBlock → BlockId
+data_id d = record { kind = kinds.Db; number = d.number }
+
+abbrev pub ids_of : Program → List BlockId
+ids_of p = map (λ b. b.id) p.code_blocks ++ map data_id p.data_blocks
+
+-- what the head of a code block says: the bytes of its local data and of an instance, how many
+-- statements it has, how many bytes its code takes, its parameters
+pub record HeadData : Type 0 where
+  pub local_len : ℕ
+  pub instance_len : ℕ
+  pub statements : ℕ
+  pub code_len : ℕ
+  pub params : List Param
+
+abbrev pub head_of : CodeBlock → HeadData
+head_of b = record {
+  local_len = b.local_len;
+  instance_len = b.instance_len;
+  statements = length b.lines;
+  code_len = length (code_bytes b.code);
+  params = b.params;
+}

@@ -1,0 +1,86 @@
+-- Tables by which ops and blocks are found without a search.
+use Rattle.std.specs.Prelude.{◌≡◌, ℕ, suc, ◌+◌, ◌*◌, ◌<◌, ◌≤◌, nat_lt, ◌==◌, Bool, true, ◌&&◌, if◌then◌else◌, List, [], ◌∷◌, length, drop, slice_get, slice_index_or, is_some, Option, Some, None}
+use Rattle.std.specs.Option.{option_map, option_and_then}
+use Rattle.plc_base.specs.declared.blocks.BlockId.{BlockId}
+use Rattle.flat_code.specs.Codes.{size, code_bytes}
+use Rattle.flat_code.specs.Ops.{OpData}
+use Rattle.flat_code.specs.Programs.{CodeBlock}
+use Rattle.image_file.specs.declared.seats.Seat.{Seat}
+use Rattle.image_file.specs.declared.seats.Seating.{Seating}
+use Rattle.image_file.specs.Readers.{kind_order, block_of}
+
+-- the place of the first number in a list that is an offset
+abbrev pub place_of : ℕ → List ℕ → Option ℕ
+place_of at [] = None
+place_of at (start ∷ starts) = if start == at then Some 0 else option_map suc (place_of at starts)
+
+-- a place as a table has it: where there is none, one that is past the end of each list
+abbrev pub nowhere : ℕ
+nowhere = 0xFFFF_FFFF
+
+abbrev pub entry : Option ℕ → ℕ
+entry None = nowhere
+entry (Some place) = place
+
+-- a table of a length has, by offset, the place of the start there
+pub record IsTableOf (starts : List ℕ) (len : ℕ) (table : List ℕ) : Type 0 where
+  pub size : length table ≡ len
+  pub places : (at : ℕ) → at < len → slice_index_or table at nowhere ≡ entry (place_of at starts)
+
+-- the offsets of ops from an offset on
+abbrev pub starts_of : ℕ → List OpData → List ℕ
+starts_of from [] = []
+starts_of from (op ∷ ops) = from ∷ starts_of (from + size op) ops
+
+-- the seats of ops that begin at an offset
+abbrev pub seats_of : ℕ → Bool → List OpData → List ℕ → List Seat
+seats_of from begins [] lines = []
+seats_of from begins (op ∷ ops) lines =
+    record { next = from + size op; line = if begins then slice_get lines 0 else None }
+    ∷ seats_of (from + size op) op.last ops (if op.last then drop 1 lines else lines)
+
+-- the op at a place of a list of ops, with the offset after it; the line of the statement that begins there
+abbrev pub op_at : ℕ → List OpData → List Seat → Option (OpData × ℕ)
+op_at place ops seats = option_and_then (λ op. option_map (λ s. (op, s.next)) (slice_get seats place)) (slice_get ops place)
+
+abbrev pub line_at : ℕ → List Seat → Option ℕ
+line_at place seats = option_and_then (λ s. s.line) (slice_get seats place)
+
+-- a block's code and lines are as short as those of a program
+pub record IsSmall (block : CodeBlock) : Type 0 where
+  pub code : length (code_bytes block.code) ≤ nowhere
+  pub lines : length block.lines < 65536
+
+abbrev pub AreSmall : List CodeBlock → Type 0
+AreSmall [] = Unit {0}
+AreSmall (b ∷ bs) = IsSmall b × AreSmall bs
+
+-- how the ops of a block are found
+pub record IsSeated (block : CodeBlock) (seating : Seating) : Type 0 where
+  pub table : IsTableOf (starts_of 0 block.code) (length (code_bytes block.code)) seating.table.items
+  pub seats : seating.seats.items ≡ seats_of 0 true block.code block.lines
+  pub small : IsSmall block
+
+abbrev pub AreSeated : List CodeBlock → List Seating → Type 0
+AreSeated [] [] = Unit {0}
+AreSeated [] (s ∷ ss) = ⊥
+AreSeated (b ∷ bs) [] = ⊥
+AreSeated (b ∷ bs) (s ∷ ss) = IsSeated b s × AreSeated bs ss
+
+-- the place of a block in the table of blocks: OB, FC and FB 0 to 2047
+abbrev pub slots : ℕ
+slots = 6144
+
+abbrev pub slot_of : BlockId → Option ℕ
+slot_of id =
+    if nat_lt (kind_order id.kind) 3 && nat_lt id.number 2048 then Some (2048 * kind_order id.kind + id.number) else None
+
+-- a table has, by slot, where a block stands in a list
+pub record FindsBlocks (blocks : List CodeBlock) (table : List ℕ) : Type 0 where
+  pub size : length table ≡ slots
+  pub there : (id : BlockId) (slot : ℕ) → slot_of id ≡ Some slot → slice_get blocks (slice_index_or table slot 0) ≡ block_of id blocks
+
+-- each block of a program has a slot
+abbrev pub HaveSlots : List CodeBlock → Type 0
+HaveSlots [] = Unit {0}
+HaveSlots (b ∷ bs) = (is_some (slot_of b.id) ≡ true) × HaveSlots bs

@@ -1,0 +1,177 @@
+-- WHAT A PROGRAM THAT VERIFIES GIVES: laws of each op of each of its blocks, in its place in the code.
+use Rattle.std.specs.Prelude.{◌≡◌, ◌⊎◌, ℕ, ◌+◌, ◌<◌, ◌≤◌, nat_le, Bool, true, false, ◌&&◌, not, List, [], ◌∷◌, length, map, slice_get, ◌==◌, if◌then◌else◌, Option, Some, None}
+use Rattle.plc_base.specs.declared.blocks.BlockId.{BlockId}
+use Rattle.plc_base.specs.declared.blocks.BlockKind.TheVariants as kinds
+use Rattle.plc_base.specs.declared.places.Area.{Area}
+use Rattle.plc_base.specs.declared.places.Area.TheVariants as area
+use Rattle.plc_base.specs.declared.places.Width.{Width}
+use Rattle.flat_code.specs.declared.programs.Param.{Param}
+use Rattle.flat_code.specs.declared.image_fields.ParameterRecord.{ParameterRecord}
+use Rattle.flat_code.specs.declared.operands.Operand.{Operand}
+use Rattle.flat_code.specs.declared.operands.Operand.TheVariants as operand
+use Rattle.flat_code.specs.declared.operands.Passed.{Passed}
+use Rattle.flat_code.specs.declared.operands.Passed.TheVariants as passed
+use Rattle.flat_code.specs.Forms.{width_code}
+use Rattle.flat_code.specs.Faults.{size_of_width}
+use Rattle.flat_code.specs.Ops.{OpData}
+use Rattle.flat_code.specs.Codes.{size}
+use Rattle.flat_code.specs.Programs.{CodeBlock, Program}
+use Rattle.flat_code.specs.Image.{record_of_block, record_of_param, kind_of_number}
+use Rattle.flat_code.specs.Loading.{Verifies, lens_of, around}
+use Rattle.flat_code.specs.Table.{takes_of, has_width}
+use Rattle.flat_code.specs.Placed.{Placed, op_placed, line_placed, places, begins, bracket_codes, opens, opened, before_next, last_op}
+use Rattle.flat_code.specs.Blocks.{Around, Signature, signature_of, Callee, callee, writes, prepares, is_odd_bit, is_in_db, is_above, pass_before, are_passed, is_bad_instance, misfits_parameter, leads}
+use Rattle.image_file.specs.Readers.{block_of}
+
+-- the op of code that begins at an offset
+abbrev pub place_at : ℕ → List Placed → Option Placed
+place_at at [] = None
+place_at at (q ∷ qs) = if q.at == at then Some q else place_at at qs
+
+-- an op, in its place, of a block of a program that verifies
+pub record IsOp (p : Program) (b : CodeBlock) (q : Placed) : Type 0 where
+  pub verifies : Verifies p
+  pub id : BlockId
+  pub block : block_of id p.code_blocks ≡ Some b
+  pub place : place_at q.at (places b.code) ≡ Some q
+
+-- ---- places
+
+-- the readers' op is the one in its place
+pub record IsRead (ops : List OpData) (at : ℕ) (op : OpData) (next : ℕ) : Type 0 where
+  pub here : Placed
+  pub place : place_at at (places ops) ≡ Some here
+  pub offset : here.at ≡ at
+  pub op_is : here.op ≡ op
+  pub next_is : next ≡ at + size op
+
+abbrev pub OpsArePlaced : Type 0
+OpsArePlaced = (ops : List OpData) (at : ℕ) (op : OpData) (next : ℕ) → op_placed 0 ops at ≡ Some (op, next) → IsRead ops at op next
+
+-- behind an op stands the next one; the last op of a block is BE, ends its statement, and no bracket stands open there
+abbrev pub Next : CodeBlock → Placed → List OpData → Type 0
+Next b q [] = (q.op.code ≡ 0x7B) × (q.op.last ≡ true) × (q.brackets ≡ [])
+Next b q (op ∷ ops) = place_at (q.at + size q.op) (places b.code) ≡ Some (record { at = q.at + size q.op; brackets = opened q.at q.op.code q.brackets; before = before_next q.op q.before; op = op; rest = ops })
+
+abbrev pub CodeGoesOn : Type 0
+CodeGoesOn = (p : Program) (b : CodeBlock) (q : Placed) → IsOp p b q → Next b q q.rest
+
+-- a statement has at most 64 ops; only USEDB and PASS stand before its last one
+pub record StatementIsRight (q : Placed) : Type 0 where
+  pub few : length q.before < 64
+  pub ended : q.op.last ≡ not (prepares q.op.code)
+
+abbrev pub StatementsAreRight : Type 0
+StatementsAreRight = (p : Program) (b : CodeBlock) (q : Placed) → IsOp p b q → StatementIsRight q
+
+-- each statement has a line
+pub record HasLine (b : CodeBlock) (at : ℕ) : Type 0 where
+  pub line : ℕ
+  pub is : line_placed 0 true b.code b.lines at ≡ Some line
+
+abbrev pub StatementsHaveLines : Type 0
+StatementsHaveLines = (p : Program) (b : CodeBlock) (q : Placed) → IsOp p b q → begins q ≡ true → HasLine b q.at
+
+-- ---- jumps and brackets
+
+-- a jump's target is a statement of the block, where the same brackets stand open
+pub record Lands (b : CodeBlock) (q : Placed) (target : ℕ) : Type 0 where
+  pub there : Placed
+  pub place : place_at target (places b.code) ≡ Some there
+  pub offset : there.at ≡ target
+  pub statement : begins there ≡ true
+  pub same : bracket_codes q.brackets ≡ bracket_codes there.brackets
+
+abbrev pub JumpsLand : Type 0
+JumpsLand = (p : Program) (b : CodeBlock) (q : Placed) (kind target : ℕ) → IsOp p b q → q.op.operand ≡ operand.Jump kind target → Lands b q target
+
+-- between a JL (kind 1) and its target stand at most 255 JU and nothing else
+abbrev pub ListsLead : Type 0
+ListsLead = (p : Program) (b : CodeBlock) (q : Placed) (target : ℕ) → IsOp p b q → q.op.operand ≡ operand.Jump 1 target → leads 255 target (q.at + size q.op) q.rest ≡ true
+
+-- at most seven brackets stand open, one of A( to XN( finds room, `)` finds an open one
+pub record BracketsAreRight (q : Placed) : Type 0 where
+  pub few : length q.brackets ≤ 7
+  pub room : opens q.op.code ≡ true → length q.brackets < 7
+  pub there : q.op.code ≡ 0x1E → 0 < length q.brackets
+
+abbrev pub BracketsFit : Type 0
+BracketsFit = (p : Program) (b : CodeBlock) (q : Placed) → IsOp p b q → BracketsAreRight q
+
+-- ---- operands
+
+-- a local place lies within the block's local bytes
+abbrev pub LiesWithin : CodeBlock → Area → Width → ℕ → Type 0
+LiesWithin b area.L w byte = byte + size_of_width (width_code w) ≤ b.local_len
+LiesWithin b _ w byte = Unit {0}
+
+-- a parameter of the function, of a width
+pub record HasParam (b : CodeBlock) (index : ℕ) (w : Width) (param : Param) : Type 0 where
+  pub kind : b.id.kind ≡ kinds.Fc
+  pub there : slice_get b.params index ≡ Some param
+  pub width : param.width ≡ w
+
+-- the width is one of the instruction's; a bit number stands only where a bit is meant; local places lie
+-- within the local bytes; a parameter of the function is there, and an input of it isn't written
+abbrev pub FitsOperand : CodeBlock → OpData → Operand → Type 0
+FitsOperand b op (operand.Direct a w byte bit) = (has_width (takes_of op.code) w ≡ true) × (is_odd_bit w bit ≡ false) × LiesWithin b a w byte
+FitsOperand b op (operand.ByMemory a w from byte) = has_width (takes_of op.code) w ≡ true
+FitsOperand b op (operand.ByRegister a w register bits) = has_width (takes_of op.code) w ≡ true
+FitsOperand b op (operand.Parameter index w) = (has_width (takes_of op.code) w ≡ true) × (param : Param) × HasParam b index w param × (writes op.code ≡ true → param.section ≡ 1 → ⊥)
+FitsOperand b op _ = Unit {0}
+
+abbrev pub OperandsFit : Type 0
+OperandsFit = (p : Program) (b : CodeBlock) (q : Placed) → IsOp p b q → FitsOperand b q.op q.op.operand
+
+-- ---- USEDB and PASS
+
+-- what is passed, by itself: as operands are
+abbrev pub FitsPassed : CodeBlock → Passed → Type 0
+FitsPassed b (passed.Literal value) = Unit {0}
+FitsPassed b (passed.Direct a w byte bit) = (is_odd_bit w bit ≡ false) × LiesWithin b a w byte
+FitsPassed b (passed.Parameter index w) = (param : Param) × HasParam b index w param
+FitsPassed b (passed.InBlock number a w byte bit) = (a ≡ area.Db) × (is_odd_bit w bit ≡ false)
+
+-- USEDB stands first, in a statement whose last op has a place in DB; PASS stands in a statement that ends
+-- by CALL, with an index above that of the PASS before it
+abbrev pub FitsPrepared : CodeBlock → Placed → Operand → Type 0
+FitsPrepared b q (operand.UseDb number) = (begins q ≡ true) × (is_in_db (last_op q).operand ≡ true)
+FitsPrepared b q (operand.Pass index actual) = ((last_op q).code ≡ 0x78) × (is_above index (pass_before None q.before) ≡ true) × FitsPassed b actual
+FitsPrepared b q _ = Unit {0}
+
+abbrev pub PreparedFit : Type 0
+PreparedFit = (p : Program) (b : CodeBlock) (q : Placed) → IsOp p b q → FitsPrepared b q q.op.operand
+
+-- ---- calls
+
+abbrev pub signatures : Program → List Signature
+signatures p = map signature_of (map record_of_block p.code_blocks)
+
+-- what is called is there; a function or system function is passed each parameter; an instance is given
+-- to a function block alone, is there and long enough, and is left out only where there are no parameters
+pub record FitsCall (p : Program) (q : Placed) (kind number instance : ℕ) : Type 0 where
+  pub called : Callee
+  pub there : callee (signatures p) kind number ≡ Some called
+  pub all : (called.0 ≡ 3 → ⊥) → are_passed 0 called.2 q.before ≡ true
+  pub instance_fits : is_bad_instance (lens_of p.data_blocks) called instance ≡ false
+
+abbrev pub CallsFit : Type 0
+CallsFit = (p : Program) (b : CodeBlock) (q : Placed) (kind number instance : ℕ) → IsOp p b q → q.op.operand ≡ operand.Called kind number instance → FitsCall p q kind number instance
+
+-- what is passed fits a parameter of what the statement calls
+pub record FitsParameter (p : Program) (b : CodeBlock) (called : Callee) (index : ℕ) (actual : Passed) : Type 0 where
+  pub parameter : ParameterRecord
+  pub there : slice_get called.2 index ≡ Some parameter
+  pub fits : misfits_parameter (around (Some (lens_of p.data_blocks)) (map record_of_block p.code_blocks) (record_of_block b)) parameter actual ≡ false
+
+abbrev pub PassedFit : Type 0
+PassedFit = (p : Program) (b : CodeBlock) (q : Placed) (index : ℕ) (actual : Passed) (kind number instance : ℕ) (called : Callee) → IsOp p b q → q.op.operand ≡ operand.Pass index actual → (last_op q).operand ≡ operand.Called kind number instance → callee (signatures p) kind number ≡ Some called → FitsParameter p b called index actual
+
+-- a function (2) or function block (3) that is called is a block of the program
+pub record IsCalled (p : Program) (kind number : ℕ) (called : Callee) : Type 0 where
+  pub block : CodeBlock
+  pub there : block_of (record { kind = kind_of_number kind; number = number }) p.code_blocks ≡ Some block
+  pub same : called ≡ (kind, block.instance_len, map record_of_param block.params)
+
+abbrev pub CalledAreThere : Type 0
+CalledAreThere = (p : Program) (kind number : ℕ) (called : Callee) → (kind ≡ 2) ⊎ (kind ≡ 3) → callee (signatures p) kind number ≡ Some called → IsCalled p kind number called
