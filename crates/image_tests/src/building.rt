@@ -96,7 +96,7 @@ pub fn put_hex(out: &mut Vec<u8>, text: &str) -> Result<(), AllocError> {
             match high {
                 None => high = Some(low),
                 Some(digit) => {
-                    out.push(digit * 16 + low)?;
+                    out.push((digit % 16) * 16 + low)?;
                     high = None;
                 }
             }
