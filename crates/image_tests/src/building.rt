@@ -187,11 +187,8 @@ pub fn image(
     let mut body = Vec::new(alloc);
     for block in blocks {
         let mut code = Vec::new(alloc);
-        let mut statements = 0;
-        for statement in block.code.split(';') {
-            put_hex(&mut code, statement)?;
-            statements += 1;
-        }
+        put_hex(&mut code, block.code)?;
+        let statements = block.code.split(';').count();
         put_code_block(&mut body, block, code.as_slice(), short(statements))?;
     }
     for data in datas {
