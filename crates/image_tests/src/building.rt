@@ -96,7 +96,7 @@ pub fn put_hex(out: &mut Vec<u8>, text: &str) -> Result<(), AllocError> {
             match high {
                 None => high = Some(low),
                 Some(digit) => {
-                    out.push(digit * 16 + low)?;
+                    out.push((digit % 16) * 16 + low)?;
                     high = None;
                 }
             }
@@ -187,11 +187,8 @@ pub fn image(
     let mut body = Vec::new(alloc);
     for block in blocks {
         let mut code = Vec::new(alloc);
-        let mut statements = 0;
-        for statement in block.code.split(';') {
-            put_hex(&mut code, statement)?;
-            statements += 1;
-        }
+        put_hex(&mut code, block.code)?;
+        let statements = block.code.split(';').count();
         put_code_block(&mut body, block, code.as_slice(), short(statements))?;
     }
     for data in datas {
