@@ -171,11 +171,12 @@ static CONSTANTS: [Row; 21] = [
 ];
 
 /// Labels, calls and instruction words.
-static INSTRUCTIONS: [Row; 23] = [
+static INSTRUCTIONS: [Row; 24] = [
     // Labels and jumps.
     (Frame::Body, ";", "2 Empty Nothing\n"),
     (Frame::Body, "abcd: A(;", "2 abcd: AOpen Nothing\n"),
     (Frame::Body, "JU M1;", "2 Ju Label M1\n"),
+    (Frame::Body, "JU a.b;", "2 Ju Local a.b\n"),
     (Frame::Body, "_001: JC STW;", "2 _001: Jc Label STW\n"),
     (Frame::Body, "LOOP MW 2;", "2 Loop Direct M Word 2.0\n"),
     (Frame::Body, "+ 5;", "2 Add Number 5\n"),

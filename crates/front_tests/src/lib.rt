@@ -6,6 +6,8 @@ mod clause_tests;
 #[cfg(test)]
 mod describe;
 #[cfg(test)]
+mod reading_tests;
+#[cfg(test)]
 mod refusal_tests;
 #[cfg(test)]
 mod rows;

@@ -6,7 +6,7 @@ use stl_parser::law_of_clauses;
 
 /// Each source with the line and the rule of its refusal, worked out by hand from the grammar and
 /// docs/REFUSALS.md.
-static REFUSALS: [(&str, u32, u16); 53] = [
+static REFUSALS: [(&str, u32, u16); 52] = [
     // Rule 10: not in the grammar.
     (
         "FUNCTION FC 1 : VOID\nBEGIN\nL DB10.DBW 2.x;\nEND_FUNCTION",
@@ -121,11 +121,6 @@ static REFUSALS: [(&str, u32, u16); 53] = [
     ),
     (
         "FUNCTION FC 1 : VOID\nVAR_IN_OUT\na : STRUCT\nb : INT;\nEND_STRUCT;\nEND_VAR\nBEGIN\nEND_FUNCTION",
-        3,
-        10,
-    ),
-    (
-        "ORGANIZATION_BLOCK OB 1\nBEGIN\nJU a.b;\na: SET;\nEND_ORGANIZATION_BLOCK",
         3,
         10,
     ),

@@ -1,3 +1,6 @@
+ghost use Rattle.std.specs.Prelude.{IfOk};
+ghost use Rattle.stl_ast.specs.WellFormed.{IsWellFormed};
+
 use crate::describe::described;
 use plc_base::{Refusal, SourceFault};
 use std::alloc::{AllocError, Global};
@@ -8,7 +11,9 @@ use stl_lexer::{SOURCE_LIMIT, lex};
 use stl_parser::parse;
 
 /// The tree of a source, or its refusal.
-pub(crate) fn parsed(alloc: Global, source: &[u8]) -> Result<Tree, SourceFault> {
+pub(crate) fn parsed(alloc: Global, source: &[u8]) -> Result<Tree, SourceFault>
+    ensures { IfOk result IsWellFormed }
+{
     if source.len() > SOURCE_LIMIT {
         return Err(SourceFault::NoMemory);
     }

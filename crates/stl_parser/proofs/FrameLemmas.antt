@@ -116,7 +116,7 @@ passes : (b : Bool) (q : Place) (cs : List Clause) → SpellsBehind (if b then S
 passes true q cs h = (refl, h)
 passes false q cs h = absurd h
 
-same_kind : (e k : BlockKind) → nat_eq (block_rank e) (block_rank k) ≡ true → e ≡ k
+pub same_kind : (e k : BlockKind) → nat_eq (block_rank e) (block_rank k) ≡ true → e ≡ k
 same_kind kinds.Ob kinds.Ob h = refl
 same_kind kinds.Fc kinds.Fc h = refl
 same_kind kinds.Fb kinds.Fb h = refl
@@ -466,7 +466,7 @@ was_right : (p : Place) (read : Read) (d : Clause) (behind : List Token) (q : Pl
 was_right p None d behind q same = cc
 was_right p (Some r) d behind q same = was_placed p r.0 r.1 r.2 (follow p r.0) d behind q same refl
 
-level_of : (source : List ℕ) (p : Place) (tokens : List Token) (c : Clause) (rest : List Token) →
+pub level_of : (source : List ℕ) (p : Place) (tokens : List Token) (c : Clause) (rest : List Token) →
     clause_at source p tokens ≡ Some (c, rest, false) → IsAt (level_at p) c
 level_of source p tokens (clause.Declares d) rest h = read_level source p tokens d rest false h
 level_of source p tokens _ rest h = tt
@@ -495,4 +495,4 @@ reads_spell source p ts (c ∷ cs) rest reads =
 pub tree_there : ClausesHaveTree
 tree_there source tokens cs right =
     let spelled = reads_spell source place.Outside tokens cs [] right in
-    (record { blocks = spelled.0 }, record { clauses = cs; right = right; those = sym spelled.1 }, spelled.2)
+    (record { blocks = spelled.0 }, record { clauses = cs; reads = right; those = sym spelled.1 }, spelled.2)

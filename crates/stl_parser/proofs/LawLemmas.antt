@@ -18,7 +18,7 @@ ok_no_err : {A B : Type 0} (a : A) (b : B) → ◌≡◌ {A = Result A B} (Ok a)
 ok_no_err a b same = cc
 
 -- no clause is read where no token is left
-end_is_stuck : (source : List ℕ) (q : Place) → step_of source q [] ≡ Err 10
+pub end_is_stuck : (source : List ℕ) (q : Place) → step_of source q [] ≡ Err 10
 unfolding step_of clause_at
 end_is_stuck source q = refl
 

@@ -2,6 +2,7 @@ pub mod TableLemmas
 pub mod PartLemmas
 pub mod TreeLemmas
 pub mod SourceLemmas
+pub mod BlockLemmas
 pub mod LawLemmas
 pub mod SpellingLemmas
 pub mod FrameLemmas

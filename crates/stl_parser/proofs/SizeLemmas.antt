@@ -90,7 +90,7 @@ blocks_spelled (b ∷ bs) =
 -- by its tokens
 pub bounded_by_tokens : (source : List ℕ) (tokens : List Token) (t : Tree) → IsTree source tokens t → tree_size t ≤ 4 * length tokens
 bounded_by_tokens source tokens t is =
-    let fits = clauses_fit source place.Outside tokens is.clauses place.Outside [] is.right in
+    let fits = clauses_fit source place.Outside tokens is.clauses place.Outside [] is.reads in
     omega (arith, blocks_spelled t.blocks, ap (sum_by clause_size) is.those, kept_fit is.clauses, fits)
 
 -- each token has a byte at least
@@ -107,7 +107,7 @@ fewer_tokens source tokens are = omega (arith, tokens_fit source 0 false tokens 
 -- the one tree of a source is well-formed
 pub well_formed : (source : List ℕ) (tokens : List Token) (t : Tree) → IsTree source tokens t → IsWellFormed t
 well_formed source tokens t is =
-    let there = tree_there source tokens is.clauses is.right in
+    let there = tree_there source tokens is.clauses is.reads in
     subst IsWellFormed (one_tree source tokens there.0 t there.1 is) there.2
 
 -- the tree that is built of the kept clauses

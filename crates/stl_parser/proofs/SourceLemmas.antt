@@ -1,59 +1,71 @@
-use Rattle.std.proofs.Common.{ℕ, ◌≡◌, true, false, List, [], ◌∷◌, ◌++◌, filter, Ok, Err, refl, sym, ◌∙◌, ap, subst}
+-- Right clauses, one behind the other.
+use Rattle.std.proofs.Common.{ℕ, ◌≡◌, true, List, [], ◌∷◌, ◌++◌, filter, Ok, refl, sym, ◌∙◌, ap, subst}
 use Rattle.std.proofs.lemmas.List.Elements.{filter-append}
+use Rattle.plc_base.specs.declared.refusals.SourceFault.{SourceFault}
+use Rattle.plc_base.specs.declared.refusals.SourceFault.TheVariants as fault
 use Rattle.stl_lexer.specs.declared.kinds.Token.{Token}
 use Rattle.stl_parser.specs.declared.clauses.Clause.{Clause}
 use Rattle.stl_parser.specs.declared.places.Place.{Place}
 use Rattle.stl_parser.specs.declared.places.Place.TheVariants as place
-use Rattle.stl_parser.specs.declared.sources.TheConstants.{OPEN_BLOCK}
-use Rattle.stl_parser.specs.Source.{step_of, Reads, ReadSoFar, AreKept, IsViolation, is_outside, last_line}
+use Rattle.stl_parser.specs.Source.{step_of, Reads, ReadsKept, IsBrokenAt, IsBrokenBehind, is_outside}
 use Rattle.stl_parser.specs.Spelling.{is_kept}
 
--- one clause more
-pub Reads-more : (source : List ℕ) (p : Place) (tokens : List Token) (cs : List Clause) (q : Place) (rest : List Token)
-    (c : Clause) (behind : List Token) (next : Place) → Reads source p tokens cs q rest → step_of source q rest ≡ Ok (c, behind, next) →
-    Reads source p tokens (cs ++ c ∷ []) next behind
-Reads-more source p tokens [] q rest c behind next reads found =
-    (behind, next, ap (λ r. step_of source r tokens) reads.0 ∙ ap (step_of source q) reads.1 ∙ found, (refl, refl))
-Reads-more source p tokens (d ∷ cs) q rest c behind next reads found =
-    (reads.0, reads.1, reads.2, Reads-more source reads.1 reads.0 cs q rest c behind next reads.3 found)
-
--- and the clauses that are kept
-pub kept-more : (cs : List Clause) (c : Clause) (kept : List Clause) → kept ≡ filter is_kept cs →
-    kept ++ filter is_kept (c ∷ []) ≡ filter is_kept (cs ++ c ∷ [])
-kept-more cs c kept those = ap (λ ks. ks ++ filter is_kept (c ∷ [])) those ∙ sym (filter-append is_kept cs (c ∷ []))
+reads_then : (source : List ℕ) (p : Place) (tokens : List Token) (cs : List Clause) (q : Place) (rest : List Token) (ds : List Clause)
+    (next : Place) (behind : List Token) → Reads source p tokens cs q rest → Reads source q rest ds next behind →
+    Reads source p tokens (cs ++ ds) next behind
+reads_then source p tokens [] q rest ds next behind first second =
+    subst (λ ts. Reads source p ts ds next behind) (sym first.1) (subst (λ at. Reads source at rest ds next behind) (sym first.0) second)
+reads_then source p tokens (c ∷ cs) q rest ds next behind first second =
+    (first.0, first.1, first.2, reads_then source first.1 first.0 cs q rest ds next behind first.3 second)
 
 -- nothing is read yet
-pub read_nothing : (source : List ℕ) (tokens : List Token) → ReadSoFar source tokens place.Outside tokens []
-read_nothing source tokens = record { clauses = []; reads = (refl, refl); those = refl }
+pub kept_none : (source : List ℕ) (p : Place) (tokens : List Token) → ReadsKept source p tokens [] p tokens
+kept_none source p tokens = record { clauses = []; reads = (refl, refl); those = refl }
+
+-- more is read behind what was read
+pub kept_then : (source : List ℕ) (p : Place) (tokens : List Token) (kept : List Clause) (q : Place) (rest : List Token)
+    (more : List Clause) (next : Place) (behind : List Token) → ReadsKept source p tokens kept q rest →
+    ReadsKept source q rest more next behind → ReadsKept source p tokens (kept ++ more) next behind
+kept_then source p tokens kept q rest more next behind first second =
+    record {
+      clauses = first.clauses ++ second.clauses;
+      reads = reads_then source p tokens first.clauses q rest second.clauses next behind first.reads second.reads;
+      those = ap (λ ks. ks ++ more) first.those ∙ ap (λ ks. filter is_kept first.clauses ++ ks) second.those
+          ∙ sym (filter-append is_kept first.clauses second.clauses);
+    }
+
+-- one clause is read
+pub kept_one : (source : List ℕ) (p : Place) (tokens : List Token) (c : Clause) (behind : List Token) (next : Place) →
+    step_of source p tokens ≡ Ok (c, behind, next) → ReadsKept source p tokens (filter is_kept (c ∷ [])) next behind
+kept_one source p tokens c behind next found =
+    record { clauses = c ∷ []; reads = (behind, next, found, (refl, refl)); those = refl }
 
 -- one clause more is read
-pub read_more : (source : List ℕ) (tokens : List Token) (at : Place) (rest : List Token) (kept : List Clause)
-    (c : Clause) (behind : List Token) (next : Place) (now : List Clause) → ReadSoFar source tokens at rest kept →
-    Ok (c, behind, next) ≡ step_of source at rest → now ≡ kept ++ filter is_kept (c ∷ []) → ReadSoFar source tokens next behind now
-read_more source tokens at rest kept c behind next now so_far found kept_now =
-    record {
-      clauses = so_far.clauses ++ c ∷ [];
-      reads = Reads-more source place.Outside tokens so_far.clauses at rest c behind next so_far.reads (sym found);
-      those = kept_now ∙ kept-more so_far.clauses c kept so_far.those;
-    }
+pub kept_more : (source : List ℕ) (p : Place) (tokens : List Token) (kept : List Clause) (q : Place) (rest : List Token) (c : Clause)
+    (behind : List Token) (next : Place) → ReadsKept source p tokens kept q rest → step_of source q rest ≡ Ok (c, behind, next) →
+    ReadsKept source p tokens (kept ++ filter is_kept (c ∷ [])) next behind
+kept_more source p tokens kept q rest c behind next so_far found =
+    kept_then source p tokens kept q rest (filter is_kept (c ∷ [])) next behind so_far (kept_one source q rest c behind next found)
 
--- the clause at the front breaks a rule
-pub refused_here : (source : List ℕ) (tokens : List Token) (at : Place) (t : Token) (ts : List Token) (kept : List Clause) (rule : ℕ) →
-    ReadSoFar source tokens at (t ∷ ts) kept → Err rule ≡ step_of source at (t ∷ ts) → IsViolation source tokens t.line rule
-refused_here source tokens at t ts kept rule so_far broken =
-    record { before = so_far.clauses; at = at; rest = t ∷ ts; reads = so_far.reads; breaks = (refl, sym broken) }
-
--- no token is left and a block is open
-pub open_at_end : (source : List ℕ) (tokens : List Token) (at : Place) (rest : List Token) (kept : List Clause) (line : ℕ) → rest ≡ [] →
-    ReadSoFar source tokens at rest kept → is_outside at ≡ false → line ≡ last_line 0 tokens → IsViolation source tokens line OPEN_BLOCK
-open_at_end source tokens at rest kept line none so_far open_ last =
+-- a rule is broken behind what was read
+pub broken_behind : (source : List ℕ) (p : Place) (tokens : List Token) (kept : List Clause) (q : Place) (rest : List Token) (last : ℕ)
+    (f : SourceFault) → ReadsKept source p tokens kept q rest → IsBrokenBehind source q rest last f → IsBrokenBehind source p tokens last f
+broken_behind source p tokens kept q rest last (fault.Refused refusal) so_far broken =
     record {
-      before = so_far.clauses;
-      at = at;
-      rest = [];
-      reads = subst (λ r. Reads source place.Outside tokens so_far.clauses at r) none so_far.reads;
-      breaks = (open_, last, refl);
+      before = so_far.clauses ++ broken.before;
+      at = broken.at;
+      rest = broken.rest;
+      reads = reads_then source p tokens so_far.clauses q rest broken.before broken.at broken.rest so_far.reads broken.reads;
+      breaks = broken.breaks;
     }
+broken_behind source p tokens kept q rest last fault.NoMemory so_far broken = tt
+
+-- by the clause right behind it
+pub broken_at : (source : List ℕ) (p : Place) (tokens : List Token) (kept : List Clause) (q : Place) (rest : List Token) (last : ℕ)
+    (f : SourceFault) → ReadsKept source p tokens kept q rest → IsBrokenAt source q rest last f → IsBrokenBehind source p tokens last f
+broken_at source p tokens kept q rest last (fault.Refused refusal) so_far broken =
+    record { before = so_far.clauses; at = q; rest = rest; reads = so_far.reads; breaks = broken }
+broken_at source p tokens kept q rest last fault.NoMemory so_far broken = tt
 
 pub outside_is : (at : Place) → is_outside at ≡ true → at ≡ place.Outside
 outside_is place.Outside h = refl
@@ -64,14 +76,3 @@ outside_is (place.Shape k l) h = cc
 outside_is (place.Shaped k) h = cc
 outside_is (place.Body k) h = cc
 outside_is place.Settings h = cc
-
--- no token is left and no block is open
-pub right_at_end : (source : List ℕ) (tokens : List Token) (at : Place) (rest : List Token) (kept : List Clause) → rest ≡ [] →
-    ReadSoFar source tokens at rest kept → is_outside at ≡ true → AreKept source tokens kept
-right_at_end source tokens at rest kept none so_far outside =
-    record {
-      clauses = so_far.clauses;
-      right = subst (λ q. Reads source place.Outside tokens so_far.clauses q []) (outside_is at outside)
-          (subst (λ r. Reads source place.Outside tokens so_far.clauses at r) none so_far.reads);
-      those = so_far.those;
-    }

@@ -235,8 +235,8 @@ all_kept cs ds those =
 
 pub one_tree : IsTreeUnique
 one_tree source tokens t u a b =
-    let same = one_list source tokens a.clauses b.clauses a.right b.right in
+    let same = one_list source tokens a.clauses b.clauses a.reads b.reads in
     same_tree t u (all_kept _ a.clauses a.those) (a.those ∙ ap (filter is_kept) same ∙ sym b.those)
 
 pub tree_or_violation : TreeExcludesViolation
-tree_or_violation source tokens t line rule a v = list_or_violation source tokens a.clauses line rule a.right v
+tree_or_violation source tokens t line rule a v = list_or_violation source tokens a.clauses line rule a.reads v

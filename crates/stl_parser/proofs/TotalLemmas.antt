@@ -4,7 +4,6 @@ use Rattle.stl_lexer.specs.declared.kinds.Token.{Token}
 use Rattle.stl_parser.specs.declared.clauses.Clause.{Clause}
 use Rattle.stl_parser.specs.declared.places.Place.{Place}
 use Rattle.stl_parser.specs.declared.places.Place.TheVariants as place
-use Rattle.stl_parser.specs.declared.sources.TheConstants.{OPEN_BLOCK}
 use Rattle.stl_parser.specs.Source.{Step, step_of, Reads, Breaks, is_outside, last_line, HasTreeOrViolation, IsTotal}
 use Rattle.stl_parser.proofs.SourceLemmas.{outside_is}
 use Rattle.stl_parser.proofs.LengthLemmas.{read_rest}
@@ -19,7 +18,7 @@ Ends source p ts last =
 
 at_end : (source : List ℕ) (p : Place) (last : ℕ) (b : Bool) → is_outside p ≡ b → Ends source p [] last
 at_end source p last true outside = inl ([], (outside_is p outside, refl))
-at_end source p last false outside = inr ([], p, [], last, OPEN_BLOCK, (refl, refl), (outside, refl, refl))
+at_end source p last false outside = inr ([], p, [], last, 13, (refl, refl), (outside, refl, refl))
 
 -- one clause more in front of them
 in_front : (source : List ℕ) (p : Place) (ts : List Token) (last : ℕ) (c : Clause) (behind : List Token) (q : Place) →

@@ -13,3 +13,4 @@ pub mod Clauses
 pub mod Frame
 pub mod Source
 pub mod Spelling
+pub mod BlockReading

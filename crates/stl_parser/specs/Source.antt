@@ -9,10 +9,6 @@ use Rattle.stl_lexer.specs.declared.kinds.Token.{Token}
 use Rattle.stl_parser.specs.declared.clauses.Clause.{Clause}
 use Rattle.stl_parser.specs.declared.places.Place.{Place}
 use Rattle.stl_parser.specs.declared.places.Place.TheVariants as place
-use Rattle.stl_parser.specs.declared.sources.Step as Sources
-use Rattle.stl_parser.specs.declared.sources.Step.TheVariants as step
-use Rattle.stl_parser.specs.declared.sources.Outcome.{Outcome}
-use Rattle.stl_parser.specs.declared.sources.Outcome.TheVariants as outcome
 use Rattle.stl_parser.specs.Spelling.{is_kept, spelled_block}
 use Rattle.stl_parser.specs.Clauses.{Read, clause_at}
 use Rattle.stl_parser.specs.Frame.{follow}
@@ -36,11 +32,6 @@ judged p (Some r) = placed r.0 r.1 r.2 (follow p r.0)
 unfoldable pub step_of : List ℕ → Place → List Token → Result Step ℕ
 step_of source p tokens = judged p (clause_at source p tokens)
 
--- how a step is seen: without the reference to what follows
-abbrev pub seen : Sources.Step → Result Step ℕ
-seen (step.Right c rest next) = Ok (c, rest.now, next)
-seen (step.Breaks rule) = Err rule
-
 -- these clauses, all right, follow one another from the front of the tokens, and behind them stand the tokens `rest` at
 -- the place `q`
 abbrev pub Reads : List ℕ → Place → List Token → List Clause → Place → List Token → Type 0
@@ -63,33 +54,41 @@ abbrev pub Breaks : List ℕ → Place → List Token → ℕ → ℕ → ℕ �
 Breaks source p [] last line rule = (is_outside p ≡ false) × (line ≡ last) × (rule ≡ 13)
 Breaks source p (t ∷ ts) last line rule = (line ≡ t.line) × (step_of source p (t ∷ ts) ≡ Err rule)
 
--- the first violation of a source by its clauses: all the clauses before it are right
-pub record IsViolation (source : List ℕ) (tokens : List Token) (line rule : ℕ) : Type 0 where
+-- the same of what a refusal says; nothing is said of want of memory
+abbrev pub IsBrokenAt : List ℕ → Place → List Token → ℕ → SourceFault → Type 0
+IsBrokenAt source p tokens last (fault.Refused refusal) = Breaks source p tokens last refusal.line refusal.rule
+IsBrokenAt source p tokens last fault.NoMemory = Unit {0}
+
+-- from the front of the tokens, at the place `p`, on: the first clause that breaks a rule; all the clauses before it are right
+pub record BreaksBehind (source : List ℕ) (p : Place) (tokens : List Token) (last line rule : ℕ) : Type 0 where
   pub before : List Clause
   pub at : Place
   pub rest : List Token
-  pub reads : Reads source place.Outside tokens before at rest
-  pub breaks : Breaks source at rest (last_line 0 tokens) line rule
+  pub reads : Reads source p tokens before at rest
+  pub breaks : Breaks source at rest last line rule
+
+abbrev pub IsBrokenBehind : List ℕ → Place → List Token → ℕ → SourceFault → Type 0
+IsBrokenBehind source p tokens last (fault.Refused refusal) = BreaksBehind source p tokens last refusal.line refusal.rule
+IsBrokenBehind source p tokens last fault.NoMemory = Unit {0}
+
+-- the first violation of a source by its clauses
+abbrev pub IsViolation : List ℕ → List Token → ℕ → ℕ → Type 0
+IsViolation source tokens line rule = BreaksBehind source place.Outside tokens (last_line 0 tokens) line rule
 
 -- the clauses of a source without violation: they are all right, no token is left behind them, and no block is open
 abbrev pub AreClauses : List ℕ → List Token → List Clause → Type 0
 AreClauses source tokens clauses = Reads source place.Outside tokens clauses place.Outside []
 
--- the clauses up to this place are right, and `kept` are those of them that a tree keeps
-pub record ReadSoFar (source : List ℕ) (tokens : List Token) (at : Place) (rest : List Token) (kept : List Clause) : Type 0 where
+-- right clauses lead from the front of the tokens, at the place `p`, to the tokens `rest` at the place `q`, and `kept` are
+-- those of them that a tree keeps
+pub record ReadsKept (source : List ℕ) (p : Place) (tokens : List Token) (kept : List Clause) (q : Place) (rest : List Token) : Type 0 where
   pub clauses : List Clause
-  pub reads : Reads source place.Outside tokens clauses at rest
+  pub reads : Reads source p tokens clauses q rest
   pub those : kept ≡ filter is_kept clauses
 
 -- the clauses of the source are right, and `kept` are those of them that a tree keeps
-pub record AreKept (source : List ℕ) (tokens : List Token) (kept : List Clause) : Type 0 where
-  pub clauses : List Clause
-  pub right : AreClauses source tokens clauses
-  pub those : kept ≡ filter is_kept clauses
-
-abbrev pub IsOutcome : List ℕ → List Token → Outcome → Type 0
-IsOutcome source tokens (outcome.Right kept) = AreKept source tokens kept.items
-IsOutcome source tokens (outcome.Refused refusal) = IsViolation source tokens refusal.line refusal.rule
+abbrev pub AreKept : List ℕ → List Token → List Clause → Type 0
+AreKept source tokens kept = ReadsKept source place.Outside tokens kept place.Outside []
 
 -- the tree of a source: the clauses that it keeps are those that spell it
 abbrev pub IsTree : List ℕ → List Token → Tree → Type 0
@@ -97,8 +96,7 @@ IsTree source tokens tree = AreKept source tokens (flat_map spelled_block tree.b
 
 -- the source is refused by its first violation
 abbrev pub IsRefusedBy : List ℕ → List Token → SourceFault → Type 0
-IsRefusedBy source tokens (fault.Refused refusal) = IsViolation source tokens refusal.line refusal.rule
-IsRefusedBy source tokens fault.NoMemory = Unit {0}
+IsRefusedBy source tokens refused = IsBrokenBehind source place.Outside tokens (last_line 0 tokens) refused
 
 -- there is at most one list of clauses, none where there is a violation, and one first violation
 abbrev pub AreClausesUnique : Type 0

@@ -1,5 +1,5 @@
 -- A tree as it is spelled by clauses.
-use Rattle.std.specs.Prelude.{◌≡◌, Bool, true, false, List, [], ◌∷◌, ◌++◌, if◌then◌else◌, map, Option, Some, None}
+use Rattle.std.specs.Prelude.{Bool, true, false, List, [], ◌∷◌, ◌++◌, if◌then◌else◌, map, Option, Some, None}
 use Rattle.std.specs.List.{flat_map}
 use Rattle.plc_base.specs.declared.blocks.BlockKind.{BlockKind}
 use Rattle.plc_base.specs.declared.blocks.BlockKind.TheVariants as kinds
@@ -64,42 +64,11 @@ spelled_shape None (Some name) [] = if is_udt name then nowhere else clause.Base
 spelled_shape (Some of_) None components = spelled_type of_.arrays of_.of components
 spelled_shape _ _ _ = nowhere
 
--- a block: its first clause, its sections, its shape, its settings, its statements, its END clause
+-- a block behind its first clause: its sections, its shape, its settings, its statements, its END clause
+abbrev pub spelled_behind_head : Block → List Clause
+spelled_behind_head b =
+    flat_map spelled_part b.parts ++ (spelled_shape b.shape b.instance_of b.components
+    ++ (map clause.Sets b.settings ++ (map clause.Runs b.body ++ clause.Ends b.end_line b.kind ∷ [])))
+
 abbrev pub spelled_block : Block → List Clause
-spelled_block b =
-    clause.Head b.line b.kind b.name b.result ∷ (flat_map spelled_part b.parts ++ (spelled_shape b.shape b.instance_of b.components
-    ++ (map clause.Sets b.settings ++ (map clause.Runs b.body ++ clause.Ends b.end_line b.kind ∷ []))))
-
--- kinds of clauses, of which a block has all that stand together
-abbrev pub is_declaration : Clause → Bool
-is_declaration (clause.Declares d) = true
-is_declaration _ = false
-
-abbrev pub is_section : Clause → Bool
-is_section (clause.Section line k) = true
-is_section _ = false
-
-abbrev pub is_setting : Clause → Bool
-is_setting (clause.Sets s) = true
-is_setting _ = false
-
-abbrev pub is_statement : Clause → Bool
-is_statement (clause.Runs s) = true
-is_statement _ = false
-
-abbrev pub is_shape : Clause → Bool
-is_shape clause.Structure = true
-is_shape (clause.Based name) = true
-is_shape _ = false
-
--- no clause of a kind stands at the front
-abbrev pub FrontIsNo : (Clause → Bool) → List Clause → Type 0
-FrontIsNo is [] = Unit {0}
-FrontIsNo is (c ∷ cs) = is c ≡ false
-
--- the clauses of a shape were taken off the front of these whole: no shape is left where there was none, and no component of a
--- structure
-abbrev pub IsWholeShape : (taken rest : List Clause) → Type 0
-IsWholeShape [] rest = FrontIsNo is_shape rest
-IsWholeShape (clause.Structure ∷ components) rest = FrontIsNo is_declaration rest
-IsWholeShape (c ∷ cs) rest = Unit {0}
+spelled_block b = clause.Head b.line b.kind b.name b.result ∷ spelled_behind_head b

@@ -1,12 +1,12 @@
-ghost use Rattle.std.specs.Prelude.{◌≡◌, IfOk};
+ghost use Rattle.std.specs.Prelude.{◌≡◌, ◌<◌};
 ghost use Rattle.stl_ast.specs.Outline.{level_behind};
 ghost use Rattle.stl_ast.specs.Blocks as blocks;
+ghost use Rattle.stl_parser.specs.Clauses.{level_at};
 ghost use Rattle.stl_parser.specs.Frame as frame;
 
 use crate::clauses::{Clause, block_rank};
 use crate::places::Place;
 use plc_base::BlockKind;
-use std::alloc::AllocError;
 use stl_ast::{Bounds, Declaration, ElementType, Init, PartKind};
 
 /// Whether a block of this kind has a body.
@@ -109,13 +109,14 @@ fn may_declare(kind: BlockKind, part: PartKind, level: u32, declaration: &Declar
             || may_date(part, level, declaration.of.arrays.as_slice()))
 }
 
-/// The level behind a declaration. No source has as many open structures as a level can't count.
-pub(crate) fn level_behind(level: u32, of: &ElementType) -> Result<u32, AllocError>
-    ensures { IfOk result (λ behind. behind ≡ level_behind level of.now) }
+/// The level behind a declaration.
+fn level_behind(level: u32, of: &ElementType) -> u32
+    requires { level < 4294967295 }
+    ensures { result ≡ level_behind level of.now }
 {
     match of {
-        ElementType::Structure => level.checked_add(1).ok_or(AllocError),
-        _ => Ok(level),
+        ElementType::Structure => level + 1,
+        _ => level,
     }
 }
 
@@ -197,31 +198,28 @@ fn follow_head(kind: BlockKind, clause: &Clause) -> Option<Place>
 
 /// What may stand in a section.
 #[tactic(auto, unfolding(crate::specs::Frame::follow_section))]
-fn follow_section(
-    kind: BlockKind,
-    part: PartKind,
-    level: u32,
-    clause: &Clause,
-) -> Result<Option<Place>, AllocError>
-    ensures { IfOk result (λ next. next ≡ frame.follow_section kind part level clause.now) }
+fn follow_section(kind: BlockKind, part: PartKind, level: u32, clause: &Clause) -> Option<Place>
+    requires { level < 4294967295 }
+    ensures { result ≡ frame.follow_section kind part level clause.now }
 {
     match clause {
         Clause::EndSection => {
             if level == 0 {
-                Ok(Some(Place::Between { kind, last: part }))
+                Some(Place::Between { kind, last: part })
             } else {
-                Ok(None)
+                None
             }
         }
         Clause::Declares { declaration } => {
-            if !may_declare(kind, part, level, declaration) {
-                return Ok(None);
+            if may_declare(kind, part, level, declaration) {
+                let level = level_behind(level, &declaration.of.of);
+                Some(Place::Section { kind, part, level })
+            } else {
+                None
             }
-            let level = level_behind(level, &declaration.of.of)?;
-            Ok(Some(Place::Section { kind, part, level }))
         }
-        Clause::EndStructure => Ok(section_behind(kind, part, level)),
-        _ => Ok(None),
+        Clause::EndStructure => section_behind(kind, part, level),
+        _ => None,
     }
 }
 
@@ -252,19 +250,21 @@ fn follow_between(kind: BlockKind, last: PartKind, clause: &Clause) -> Option<Pl
 
 /// What may stand in the structure of a data block or of a `TYPE` block.
 #[tactic(auto, unfolding(crate::specs::Frame::follow_shape))]
-fn follow_shape(kind: BlockKind, level: u32, clause: &Clause) -> Result<Option<Place>, AllocError>
-    ensures { IfOk result (λ next. next ≡ frame.follow_shape kind level clause.now) }
+fn follow_shape(kind: BlockKind, level: u32, clause: &Clause) -> Option<Place>
+    requires { level < 4294967295 }
+    ensures { result ≡ frame.follow_shape kind level clause.now }
 {
     match clause {
         Clause::Declares { declaration } => {
             if is_date_and_time(&declaration.of.of) {
-                return Ok(None);
+                None
+            } else {
+                let level = level_behind(level, &declaration.of.of);
+                Some(Place::Shape { kind, level })
             }
-            let level = level_behind(level, &declaration.of.of)?;
-            Ok(Some(Place::Shape { kind, level }))
         }
-        Clause::EndStructure => Ok(shape_behind(kind, level)),
-        _ => Ok(None),
+        Clause::EndStructure => shape_behind(kind, level),
+        _ => None,
     }
 }
 
@@ -345,17 +345,18 @@ fn follow_outside(clause: &Clause) -> Option<Place>
 
 /// Where the next clause stands, or None where such a clause may not stand here.
 #[tactic(auto, unfolding(crate::specs::Frame::follow))]
-pub(crate) fn follow(at: Place, clause: &Clause) -> Result<Option<Place>, AllocError>
-    ensures { IfOk result (λ next. next ≡ frame.follow at clause.now) }
+pub(crate) fn follow(at: Place, clause: &Clause) -> Option<Place>
+    requires { level_at at < 4294967295 }
+    ensures { result ≡ frame.follow at clause.now }
 {
     match at {
-        Place::Outside => Ok(follow_outside(clause)),
-        Place::Head { kind } => Ok(follow_head(kind, clause)),
+        Place::Outside => follow_outside(clause),
+        Place::Head { kind } => follow_head(kind, clause),
         Place::Section { kind, part, level } => follow_section(kind, part, level, clause),
-        Place::Between { kind, last } => Ok(follow_between(kind, last, clause)),
+        Place::Between { kind, last } => follow_between(kind, last, clause),
         Place::Shape { kind, level } => follow_shape(kind, level, clause),
-        Place::Shaped { kind } => Ok(follow_shaped(kind, clause)),
-        Place::Body { kind } => Ok(follow_body(kind, clause)),
-        Place::Settings => Ok(follow_settings(clause)),
+        Place::Shaped { kind } => follow_shaped(kind, clause),
+        Place::Body { kind } => follow_body(kind, clause),
+        Place::Settings => follow_settings(clause),
     }
 }

@@ -3,6 +3,7 @@
 #![tactic(auto)]
 
 mod addresses;
+mod blocks;
 mod clauses;
 mod declarations;
 mod frames;
@@ -14,8 +15,8 @@ mod paths;
 mod places;
 mod sources;
 mod statements;
+mod steps;
 mod tables;
-mod trees;
 mod types;
 mod values;
 

@@ -1,0 +1,434 @@
+ghost use Rattle.std.specs.Prelude.{◌≡◌, ◌≤◌, ◌∷◌, [], ◌++◌, map, filter, length, false, true, IfOk, IfErr};
+ghost use Rattle.std.specs.List.{flat_map};
+ghost use Rattle.stl_parser.specs.declared.clauses.Clause.TheVariants as spelled;
+ghost use Rattle.stl_parser.specs.declared.places.Place.TheVariants as place;
+ghost use Rattle.stl_parser.specs.Clauses.{level_at};
+ghost use Rattle.stl_parser.specs.BlockReading.{
+  Opens,
+  OpensNoSection,
+  OpensShape,
+  ReadsShape,
+  behind_inside,
+  declared_by,
+  is_begin,
+  is_inside,
+  set_by,
+  stated_by,
+};
+ghost use Rattle.stl_parser.specs.Source.{ReadsKept, IsBrokenBehind};
+ghost use Rattle.stl_parser.specs.Spelling.{
+  is_kept,
+  is_udt,
+  spelled_block,
+  spelled_behind_head,
+  spelled_part,
+  spelled_shape,
+};
+
+use crate::clauses::Clause;
+use crate::places::Place;
+use crate::steps::next_clause;
+use plc_base::{BlockKind, SourceFault};
+use std::alloc::{AllocError, Global};
+use stl_ast::{
+    Block, BlockName, Declaration, Declarations, ElementType, Part, Sequence, Setting, Simple,
+    Statement, TypeTree,
+};
+use stl_lexer::Token;
+
+/// Whether a place lies inside a section or a structure.
+fn is_inside(at: Place) -> bool
+    ensures { result ≡ is_inside at }
+{
+    match at {
+        Place::Section {
+            kind: _,
+            part: _,
+            level: _,
+        } => true,
+        Place::Shape { kind: _, level: _ } => true,
+        _ => false,
+    }
+}
+
+/// Keeps a declaration, where the clause is one.
+fn keep_declaration(items: &mut Vec<Declaration>, clause: Clause) -> Result<(), AllocError>
+    ensures { IfOk result (λ _. items.new.items ≡ items.old.items ++ declared_by clause) }
+{
+    match clause {
+        Clause::Declares { declaration } => {
+            items.push(declaration)?;
+            Ok(())
+        }
+        _ => Ok(()),
+    }
+}
+
+/// Keeps a setting, where the clause is one.
+fn keep_setting(settings: &mut Vec<Setting>, clause: Clause) -> Result<(), AllocError>
+    ensures { IfOk result (λ _. settings.new.items ≡ settings.old.items ++ set_by clause) }
+{
+    match clause {
+        Clause::Sets { setting } => {
+            settings.push(setting)?;
+            Ok(())
+        }
+        _ => Ok(()),
+    }
+}
+
+/// Keeps a statement, where the clause is one.
+fn keep_statement(body: &mut Vec<Statement>, clause: Clause) -> Result<(), AllocError>
+    ensures { IfOk result (λ _. body.new.items ≡ body.old.items ++ stated_by clause) }
+{
+    match clause {
+        Clause::Runs { statement } => {
+            body.push(statement)?;
+            Ok(())
+        }
+        _ => Ok(()),
+    }
+}
+
+/// The declarations of a section or of a structure, and what follows its end.
+fn declarations<'a>(
+    alloc: Global,
+    source: &[u8],
+    last: u32,
+    from: Place,
+    tokens: &'a [Token],
+) -> Result<(Declarations, &'a [Token]), SourceFault>
+    requires inside { is_inside from ≡ true }
+    requires outer { level_at from ≡ 0 }
+    requires few { length tokens.now ≤ 1048576 }
+    ensures read { IfOk result (λ r. ReadsKept source.now from tokens.now
+        (map spelled.Declares r.0) (behind_inside from) r.1.now) }
+    ensures broken { IfErr result (IsBrokenBehind source.now from tokens.now last) }
+{
+    let mut items: Vec<Declaration> = Vec::new(alloc);
+    let mut at = from;
+    let mut rest = tokens;
+    loop {
+        let (clause, behind, next) = next_clause(alloc, source, last, at, rest)?;
+        if !is_inside(next) {
+            return Ok((Declarations::from_vec(items), behind));
+        }
+        keep_declaration(&mut items, clause)?;
+        at = next;
+        rest = behind;
+    }
+}
+
+/// The statements of a block, the line of its END clause, and what follows it.
+fn body<'a>(
+    alloc: Global,
+    source: &[u8],
+    last: u32,
+    kind: BlockKind,
+    tokens: &'a [Token],
+) -> Result<(Sequence<Statement>, u32, &'a [Token]), SourceFault>
+    ensures read { IfOk result (λ r. ReadsKept source.now (place.Body kind) tokens.now
+        (map spelled.Runs r.0 ++ spelled.Ends r.1 kind ∷ []) place.Outside r.2.now) }
+    ensures broken { IfErr result (IsBrokenBehind source.now (place.Body kind) tokens.now last) }
+{
+    let mut statements: Vec<Statement> = Vec::new(alloc);
+    let mut rest = tokens;
+    loop {
+        let (clause, behind, _) = next_clause(alloc, source, last, Place::Body { kind }, rest)?;
+        match clause {
+            Clause::Ends { line, kind: _ } => {
+                return Ok((Sequence::from_vec(statements), line, behind));
+            }
+            other => {
+                keep_statement(&mut statements, other)?;
+                rest = behind;
+            }
+        }
+    }
+}
+
+/// The settings behind the type of a block, the line of its END clause, and what follows it.
+fn settings<'a>(
+    alloc: Global,
+    source: &[u8],
+    last: u32,
+    kind: BlockKind,
+    tokens: &'a [Token],
+) -> Result<(Sequence<Setting>, u32, &'a [Token]), SourceFault>
+    ensures read { IfOk result (λ r. ReadsKept source.now (place.Shaped kind) tokens.now
+        (map spelled.Sets r.0 ++ spelled.Ends r.1 kind ∷ []) place.Outside r.2.now) }
+    ensures broken { IfErr result (IsBrokenBehind source.now (place.Shaped kind) tokens.now last) }
+{
+    let mut settings: Vec<Setting> = Vec::new(alloc);
+    let mut at = Place::Shaped { kind };
+    let mut rest = tokens;
+    loop {
+        let (clause, behind, next) = next_clause(alloc, source, last, at, rest)?;
+        match clause {
+            Clause::Ends { line, kind: _ } => {
+                return Ok((Sequence::from_vec(settings), line, behind));
+            }
+            other => {
+                keep_setting(&mut settings, other)?;
+                at = next;
+                rest = behind;
+            }
+        }
+    }
+}
+
+/// The first clause behind the head of a block that opens a section, a structure or the body, what
+/// follows it, and where that stands.
+fn opening<'a>(
+    alloc: Global,
+    source: &[u8],
+    last: u32,
+    kind: BlockKind,
+    tokens: &'a [Token],
+) -> Result<(Clause, &'a [Token], Place), SourceFault>
+    ensures read { IfOk result (λ r. ReadsKept source.now (place.Head kind) tokens.now
+        (filter is_kept (r.0 ∷ [])) r.2 r.1.now) }
+    ensures opens { IfOk result (λ r. Opens kind r.0 r.2) }
+    ensures broken { IfErr result (IsBrokenBehind source.now (place.Head kind) tokens.now last) }
+{
+    let mut rest = tokens;
+    loop {
+        let (clause, behind, next) = next_clause(alloc, source, last, Place::Head { kind }, rest)?;
+        match clause {
+            Clause::Note | Clause::Title => rest = behind,
+            other => return Ok((other, behind, next)),
+        }
+    }
+}
+
+/// The sections behind the head of a block, the clause that opens its structure or its body, what
+/// follows that, and where it stands.
+fn sections<'a>(
+    alloc: Global,
+    source: &[u8],
+    last: u32,
+    kind: BlockKind,
+    tokens: &'a [Token],
+) -> Result<(Sequence<Part>, Clause, &'a [Token], Place), SourceFault>
+    requires few { length tokens.now ≤ 1048576 }
+    ensures read { IfOk result (λ r. ReadsKept source.now (place.Head kind) tokens.now
+        (flat_map spelled_part r.0 ++ filter is_kept (r.1 ∷ [])) r.3 r.2.now) }
+    ensures opens { IfOk result (λ r. OpensNoSection kind r.1 r.3) }
+    ensures few { IfOk result (λ r. length r.2.now ≤ 1048576) }
+    ensures broken { IfErr result (IsBrokenBehind source.now (place.Head kind) tokens.now last) }
+{
+    let mut parts: Vec<Part> = Vec::new(alloc);
+    let (mut clause, mut rest, mut at) = opening(alloc, source, last, kind, tokens)?;
+    loop {
+        match clause {
+            Clause::Section { line, kind: part } => {
+                let (items, behind) = declarations(alloc, source, last, at, rest)?;
+                parts.push(Part {
+                    line,
+                    kind: part,
+                    items,
+                })?;
+                let between = Place::Between { kind, last: part };
+                let found = next_clause(alloc, source, last, between, behind)?;
+                clause = found.0;
+                rest = found.1;
+                at = found.2;
+            }
+            other => return Ok((Sequence::from_vec(parts), other, rest, at)),
+        }
+    }
+}
+
+/// A type that is no array.
+fn single_type(alloc: Global, of: ElementType) -> TypeTree
+    ensures { result ≡ record { arrays = []; of = of } }
+{
+    TypeTree {
+        arrays: Sequence::from_vec(Vec::new(alloc)),
+        of,
+    }
+}
+
+/// No declarations.
+fn no_components(alloc: Global) -> Declarations
+    ensures { result ≡ [] }
+{
+    Declarations::from_vec(Vec::new(alloc))
+}
+
+/// The shape of a block with its components, or the function block of an instance.
+#[derive(Drop)]
+struct Shape {
+    shape: Option<TypeTree>,
+    instance_of: Option<BlockName>,
+    components: Declarations,
+}
+
+/// Whether this is the name of a user-defined data type, by its number.
+fn is_udt(name: &BlockName) -> bool
+    ensures { result ≡ is_udt name.now }
+{
+    match name {
+        BlockName::Number { id } => matches!(id.kind, BlockKind::Udt),
+        BlockName::Quoted { name: _ } => false,
+    }
+}
+
+/// The shape that a name stands for: a data type, or else the function block of an instance.
+fn based(alloc: Global, name: BlockName) -> Shape
+    ensures { spelled_shape result.shape result.instance_of result.components
+        ≡ spelled.Based name ∷ [] }
+{
+    let components = no_components(alloc);
+    if is_udt(&name) {
+        let shape = Some(single_type(alloc, ElementType::Udt { name }));
+        Shape {
+            shape,
+            instance_of: None,
+            components,
+        }
+    } else {
+        Shape {
+            shape: None,
+            instance_of: Some(name),
+            components,
+        }
+    }
+}
+
+/// The shape that is a structure with these components.
+fn structured(alloc: Global, components: Declarations) -> Shape
+    ensures { spelled_shape result.shape result.instance_of result.components
+        ≡ spelled.Structure ∷ map spelled.Declares components }
+{
+    let shape = Some(single_type(alloc, ElementType::Structure));
+    Shape {
+        shape,
+        instance_of: None,
+        components,
+    }
+}
+
+/// The shape that a clause opens, and what follows it.
+fn opened_shape<'a>(
+    alloc: Global,
+    source: &[u8],
+    last: u32,
+    kind: BlockKind,
+    clause: Clause,
+    at: Place,
+    tokens: &'a [Token],
+) -> Result<(Shape, &'a [Token]), SourceFault>
+    requires opens { OpensShape kind clause at }
+    requires few { length tokens.now ≤ 1048576 }
+    ensures read { IfOk result (λ r. ReadsShape source.now kind clause at tokens.now
+        (spelled_shape r.0.shape r.0.instance_of r.0.components) r.1.now) }
+    ensures broken { IfErr result (IsBrokenBehind source.now at tokens.now last) }
+{
+    match clause {
+        Clause::Structure => {
+            let (components, behind) = declarations(alloc, source, last, at, tokens)?;
+            Ok((structured(alloc, components), behind))
+        }
+        Clause::Based { name } => Ok((based(alloc, name), tokens)),
+        _ => unreachable!(),
+    }
+}
+
+/// Whether a clause opens the body of a block.
+fn is_begin(clause: &Clause) -> bool
+    ensures { result ≡ is_begin clause.now }
+{
+    matches!(clause, Clause::Begins)
+}
+
+/// The block whose first clause was read, and what follows it.
+fn block<'a>(
+    alloc: Global,
+    source: &[u8],
+    last: u32,
+    line: u32,
+    kind: BlockKind,
+    name: BlockName,
+    returns: Option<Simple>,
+    tokens: &'a [Token],
+) -> Result<(Block, &'a [Token]), SourceFault>
+    requires few { length tokens.now ≤ 1048576 }
+    ensures head { IfOk result (λ r. spelled_block r.0
+        ≡ spelled.Head line kind name returns ∷ spelled_behind_head r.0) }
+    ensures read { IfOk result (λ r. ReadsKept source.now (place.Head kind) tokens.now
+        (spelled_behind_head r.0) place.Outside r.1.now) }
+    ensures broken { IfErr result (IsBrokenBehind source.now (place.Head kind) tokens.now last) }
+{
+    let (parts, clause, rest, at) = sections(alloc, source, last, kind, tokens)?;
+    if is_begin(&clause) {
+        let (body, end_line, rest) = body(alloc, source, last, kind, rest)?;
+        let block = Block {
+            line,
+            end_line,
+            kind,
+            name,
+            result: returns,
+            parts,
+            shape: None,
+            components: no_components(alloc),
+            instance_of: None,
+            settings: Sequence::from_vec(Vec::new(alloc)),
+            body,
+        };
+        return Ok((block, rest));
+    }
+    let (shape, rest) = opened_shape(alloc, source, last, kind, clause, at, rest)?;
+    let (settings, end_line, rest) = settings(alloc, source, last, kind, rest)?;
+    let Shape {
+        shape,
+        instance_of,
+        components,
+    } = shape;
+    let block = Block {
+        line,
+        end_line,
+        kind,
+        name,
+        result: returns,
+        parts,
+        shape,
+        components,
+        instance_of,
+        settings,
+        body: Sequence::from_vec(Vec::new(alloc)),
+    };
+    Ok((block, rest))
+}
+
+/// The blocks of a source.
+pub(crate) fn source_blocks(
+    alloc: Global,
+    source: &[u8],
+    last: u32,
+    tokens: &[Token],
+) -> Result<Vec<Block>, SourceFault>
+    requires few { length tokens.now ≤ 1048576 }
+    ensures read { IfOk result (λ blocks. ReadsKept source.now place.Outside tokens.now
+        (flat_map spelled_block blocks.items) place.Outside []) }
+    ensures broken { IfErr result (IsBrokenBehind source.now place.Outside tokens.now last) }
+{
+    let mut blocks: Vec<Block> = Vec::new(alloc);
+    let mut rest = tokens;
+    while let [_, ..] = rest {
+        let (clause, behind, _) = next_clause(alloc, source, last, Place::Outside, rest)?;
+        let Clause::Head {
+            line,
+            kind,
+            name,
+            result,
+        } = clause
+        else {
+            unreachable!();
+        };
+        let (block, behind) = block(alloc, source, last, line, kind, name, result, behind)?;
+        blocks.push(block)?;
+        rest = behind;
+    }
+    Ok(blocks)
+}
