@@ -20,8 +20,8 @@ use Rattle.stl_ast.specs.Outline.{IsOutline, deepest_behind, level_behind}
 use Rattle.stl_ast.specs.Blocks.{may_have, may_declare, has_body, has_shape, is_date_and_time, part_rank}
 use Rattle.stl_parser.specs.declared.clauses.Clause.{Clause}
 use Rattle.stl_parser.specs.declared.clauses.Clause.TheVariants as clause
-use Rattle.stl_parser.specs.declared.places.Place.{Place}
-use Rattle.stl_parser.specs.declared.places.Place.TheVariants as place
+use Rattle.stl_parser.specs.declared.places.ClausePlace.{ClausePlace}
+use Rattle.stl_parser.specs.declared.places.ClausePlace.TheVariants as place
 use Rattle.stl_parser.specs.BlockReading.{is_inside, behind_inside, declared_by, set_by, stated_by, is_begin, Opens, OpensNoSection, OpensShape, ReadsShape}
 use Rattle.stl_parser.specs.Clauses.{level_at, block_rank}
 use Rattle.stl_parser.specs.Frame.{follow, follow_outside, follow_head, follow_section, follow_between, follow_shape, follow_shaped, follow_body, follow_settings}
@@ -49,7 +49,7 @@ ok_no_err : {A B : Type 0} (a : A) (b : B) → ◌≡◌ {A = Result A B} (Ok a)
 ok_no_err a b same = cc
 
 -- a right clause takes a token at least
-pub fewer : (source : List ℕ) (p : Place) (ts : List Token) (c : Clause) (behind : List Token) (q : Place) →
+pub fewer : (source : List ℕ) (p : ClausePlace) (ts : List Token) (c : Clause) (behind : List Token) (q : ClausePlace) →
     step_of source p ts ≡ Ok (c, behind, q) → length behind < length ts
 fewer source p [] c behind q found = absurd (ok_no_err {A = Step} {B = ℕ} (c, behind, q) 10 (sym found ∙ end_is_stuck source p))
 fewer source p (t ∷ ts) c behind q found = fewer_left source p (t ∷ ts) c behind q (omega arith) (sym found)
@@ -60,19 +60,19 @@ level_after level (clause.Declares d) = level_behind level d.of.of
 level_after level _ = level
 
 -- where the next clause stands: inside, too, or behind the end
-abbrev StaysInside : Place → Clause → Place → Type 0
+abbrev StaysInside : ClausePlace → Clause → ClausePlace → Type 0
 StaysInside p c q =
     (behind_inside q ≡ behind_inside p) × (filter is_kept (c ∷ []) ≡ map clause.Declares (declared_by c))
     × (level_at q ≤ level_after (level_at p) c)
 
-abbrev EndsInside : Place → Clause → Place → Type 0
+abbrev EndsInside : ClausePlace → Clause → ClausePlace → Type 0
 EndsInside p c q = (q ≡ behind_inside p) × (filter is_kept (c ∷ []) ≡ [])
 
-abbrev InsideStep : Place → Clause → Place → Bool → Type 0
+abbrev InsideStep : ClausePlace → Clause → ClausePlace → Bool → Type 0
 InsideStep p c q true = StaysInside p c q
 InsideStep p c q false = EndsInside p c q
 
-in_section : (k : BlockKind) (p : PartKind) (level : ℕ) (c : Clause) (q : Place) → follow_section k p level c ≡ Some q →
+in_section : (k : BlockKind) (p : PartKind) (level : ℕ) (c : Clause) (q : ClausePlace) → follow_section k p level c ≡ Some q →
     InsideStep (place.Section k p level) c q (is_inside q)
 unfolding follow_section
 in_section k p level (clause.Declares d) q h =
@@ -86,7 +86,7 @@ in_section k p (suc level) clause.EndStructure q h =
     subst (λ x. InsideStep (place.Section k p (suc level)) clause.EndStructure x (is_inside x)) (sym (same_some q _ (sym h))) (refl, refl, omega arith)
 in_section k p level _ q h = cc
 
-in_shape : (k : BlockKind) (level : ℕ) (c : Clause) (q : Place) → follow_shape k level c ≡ Some q →
+in_shape : (k : BlockKind) (level : ℕ) (c : Clause) (q : ClausePlace) → follow_shape k level c ≡ Some q →
     InsideStep (place.Shape k level) c q (is_inside q)
 unfolding follow_shape
 in_shape k level (clause.Declares d) q h =
@@ -98,13 +98,13 @@ in_shape k (suc level) clause.EndStructure q h =
     subst (λ x. InsideStep (place.Shape k (suc level)) clause.EndStructure x (is_inside x)) (sym (same_some q _ (sym h))) (refl, refl, omega arith)
 in_shape k level _ q h = cc
 
-inside_follows : (p : Place) (c : Clause) (q : Place) → is_inside p ≡ true → follow p c ≡ Some q → InsideStep p c q (is_inside q)
+inside_follows : (p : ClausePlace) (c : Clause) (q : ClausePlace) → is_inside p ≡ true → follow p c ≡ Some q → InsideStep p c q (is_inside q)
 unfolding follow
 inside_follows (place.Section k p level) c q inside h = in_section k p level c q h
 inside_follows (place.Shape k level) c q inside h = in_shape k level c q h
 inside_follows _ c q inside h = cc
 
-pub inside_is_open : (p : Place) → is_inside p ≡ true → is_outside p ≡ false
+pub inside_is_open : (p : ClausePlace) → is_inside p ≡ true → is_outside p ≡ false
 inside_is_open place.Outside h = cc
 inside_is_open _ h = refl
 
@@ -128,7 +128,7 @@ level_rises level (clause.Declares d) = by_type level d.of.of
 level_rises level _ = omega arith
 
 -- what the loop over declarations has read
-pub record DeclarationsRead (source : List ℕ) (from : Place) (tokens : List Token) (items : List Declaration) (at : Place)
+pub record DeclarationsRead (source : List ℕ) (from : ClausePlace) (tokens : List Token) (items : List Declaration) (at : ClausePlace)
     (rest : List Token) : Type 0 where
   pub reads : ReadsKept source from tokens (map clause.Declares items) at rest
   pub inside : is_inside at ≡ true
@@ -137,7 +137,7 @@ pub record DeclarationsRead (source : List ℕ) (from : Place) (tokens : List To
   pub deepest : level_at at ≤ deepest_behind 0 items
   pub few : level_at at + length rest ≤ 1048576
 
-pub declarations_none : (source : List ℕ) (from : Place) (tokens : List Token) → is_inside from ≡ true → level_at from ≡ 0 →
+pub declarations_none : (source : List ℕ) (from : ClausePlace) (tokens : List Token) → is_inside from ≡ true → level_at from ≡ 0 →
     length tokens ≤ 1048576 → DeclarationsRead source from tokens [] from tokens
 declarations_none source from tokens inside level few =
     record {
@@ -149,13 +149,13 @@ declarations_none source from tokens inside level few =
       few = omega (arith, level, few);
     }
 
-inside_step : (source : List ℕ) (p : Place) (rest : List Token) (c : Clause) (behind : List Token) (q : Place) (b : Bool) →
+inside_step : (source : List ℕ) (p : ClausePlace) (rest : List Token) (c : Clause) (behind : List Token) (q : ClausePlace) (b : Bool) →
     is_inside p ≡ true → step_of source p rest ≡ Ok (c, behind, q) → is_inside q ≡ b → InsideStep p c q b
 inside_step source p rest c behind q b inside found is =
     subst (InsideStep p c q) is (inside_follows p c q inside (right_clause source p rest c behind q found).1)
 
-pub declarations_more : (source : List ℕ) (from : Place) (tokens : List Token) (items : List Declaration) (at : Place)
-    (rest : List Token) (c : Clause) (behind : List Token) (next : Place) (now : List Declaration) →
+pub declarations_more : (source : List ℕ) (from : ClausePlace) (tokens : List Token) (items : List Declaration) (at : ClausePlace)
+    (rest : List Token) (c : Clause) (behind : List Token) (next : ClausePlace) (now : List Declaration) →
     DeclarationsRead source from tokens items at rest → step_of source at rest ≡ Ok (c, behind, next) → is_inside next ≡ true →
     now ≡ items ++ declared_by c → DeclarationsRead source from tokens now next behind
 declarations_more source from tokens items at rest c behind next now so_far found inside kept =
@@ -174,8 +174,8 @@ declarations_more source from tokens items at rest c behind next now so_far foun
       few = omega (arith, so_far.few, stays.2, level_rises (level_at at) c, fewer source at rest c behind next found);
     })
 
-pub declarations_end : (source : List ℕ) (from : Place) (tokens : List Token) (items : List Declaration) (at : Place)
-    (rest : List Token) (c : Clause) (behind : List Token) (next : Place) →
+pub declarations_end : (source : List ℕ) (from : ClausePlace) (tokens : List Token) (items : List Declaration) (at : ClausePlace)
+    (rest : List Token) (c : Clause) (behind : List Token) (next : ClausePlace) →
     DeclarationsRead source from tokens items at rest → step_of source at rest ≡ Ok (c, behind, next) → is_inside next ≡ false →
     ReadsKept source from tokens (map clause.Declares items) (behind_inside from) behind
 declarations_end source from tokens items at rest c behind next so_far found inside =
@@ -187,11 +187,11 @@ declarations_end source from tokens items at rest c behind next so_far found ins
     (kept_more source from tokens (map clause.Declares items) at rest c behind next so_far.reads found))
 
 -- in a body: the END clause of the block, or the place stays
-abbrev pub BodyStep : BlockKind → Clause → Place → Type 0
+abbrev pub BodyStep : BlockKind → Clause → ClausePlace → Type 0
 BodyStep k (clause.Ends line e) q = (e ≡ k) × (q ≡ place.Outside)
 BodyStep k c q = (q ≡ place.Body k) × (filter is_kept (c ∷ []) ≡ map clause.Runs (stated_by c))
 
-body_follows : (k : BlockKind) (c : Clause) (q : Place) → follow_body k c ≡ Some q → BodyStep k c q
+body_follows : (k : BlockKind) (c : Clause) (q : ClausePlace) → follow_body k c ≡ Some q → BodyStep k c q
 unfolding follow_body
 body_follows k (clause.Runs s) q h = (same_some q _ (sym h), refl)
 body_follows k clause.Network q h = (same_some q _ (sym h), refl)
@@ -200,60 +200,60 @@ body_follows k (clause.Ends line e) q h =
     let s = if_some (nat_eq (block_rank e) (block_rank k)) place.Outside q h in (same_kind e k s.0, s.1)
 body_follows k _ q h = cc
 
-pub body_step : (source : List ℕ) (k : BlockKind) (rest : List Token) (c : Clause) (behind : List Token) (q : Place) →
+pub body_step : (source : List ℕ) (k : BlockKind) (rest : List Token) (c : Clause) (behind : List Token) (q : ClausePlace) →
     step_of source (place.Body k) rest ≡ Ok (c, behind, q) → BodyStep k c q
 unfolding follow
 body_step source k rest c behind q found = body_follows k c q (right_clause source (place.Body k) rest c behind q found).1
 
 -- behind the type of a block and among its settings
-abbrev pub IsTail : BlockKind → Place → Type 0
+abbrev pub IsTail : BlockKind → ClausePlace → Type 0
 IsTail k (place.Shaped j) = j ≡ k
 IsTail k place.Settings = kinds.Db ≡ k
 IsTail k _ = ⊥
 
-abbrev pub TailStep : BlockKind → Clause → Place → Type 0
+abbrev pub TailStep : BlockKind → Clause → ClausePlace → Type 0
 TailStep k (clause.Ends line e) q = (e ≡ k) × (q ≡ place.Outside)
 TailStep k c q = IsTail k q × (filter is_kept (c ∷ []) ≡ map clause.Sets (set_by c))
 
-shaped_follows : (k : BlockKind) (c : Clause) (q : Place) → follow_shaped k c ≡ Some q → TailStep k c q
+shaped_follows : (k : BlockKind) (c : Clause) (q : ClausePlace) → follow_shaped k c ≡ Some q → TailStep k c q
 unfolding follow_shaped
 shaped_follows kinds.Db clause.Begins q h = (subst (IsTail kinds.Db) (same_some _ q h) refl, refl)
 shaped_follows kinds.Udt (clause.Ends line kinds.Udt) q h = (refl, same_some q _ (sym h))
 shaped_follows _ _ q h = cc
 
-settings_follow : (c : Clause) (q : Place) → follow_settings c ≡ Some q → TailStep kinds.Db c q
+settings_follow : (c : Clause) (q : ClausePlace) → follow_settings c ≡ Some q → TailStep kinds.Db c q
 unfolding follow_settings
 settings_follow (clause.Sets s) q h = (subst (IsTail kinds.Db) (same_some _ q h) refl, refl)
 settings_follow (clause.Ends line kinds.Db) q h = (refl, same_some q _ (sym h))
 settings_follow _ q h = cc
 
-tail_follows : (k : BlockKind) (p : Place) (c : Clause) (q : Place) → IsTail k p → follow p c ≡ Some q → TailStep k c q
+tail_follows : (k : BlockKind) (p : ClausePlace) (c : Clause) (q : ClausePlace) → IsTail k p → follow p c ≡ Some q → TailStep k c q
 unfolding follow
 tail_follows k (place.Shaped j) c q is h = subst (λ k. TailStep k c q) is (shaped_follows j c q h)
 tail_follows k place.Settings c q is h = subst (λ k. TailStep k c q) is (settings_follow c q h)
 tail_follows k _ c q is h = absurd is
 
-pub tail_step : (source : List ℕ) (k : BlockKind) (p : Place) (rest : List Token) (c : Clause) (behind : List Token) (q : Place) →
+pub tail_step : (source : List ℕ) (k : BlockKind) (p : ClausePlace) (rest : List Token) (c : Clause) (behind : List Token) (q : ClausePlace) →
     IsTail k p → step_of source p rest ≡ Ok (c, behind, q) → TailStep k c q
 tail_step source k p rest c behind q is found = tail_follows k p c q is (right_clause source p rest c behind q found).1
 
-pub tail_is_open : (k : BlockKind) (p : Place) → IsTail k p → is_outside p ≡ false
+pub tail_is_open : (k : BlockKind) (p : ClausePlace) → IsTail k p → is_outside p ≡ false
 tail_is_open k (place.Shaped j) is = refl
 tail_is_open k place.Settings is = refl
 tail_is_open k _ is = absurd is
 
-pub tail_level : (k : BlockKind) (p : Place) → IsTail k p → level_at p ≡ 0
+pub tail_level : (k : BlockKind) (p : ClausePlace) → IsTail k p → level_at p ≡ 0
 tail_level k (place.Shaped j) is = refl
 tail_level k place.Settings is = refl
 tail_level k _ is = absurd is
 
 -- behind the head of a block
-abbrev pub HeadStep : BlockKind → Clause → Place → Type 0
+abbrev pub HeadStep : BlockKind → Clause → ClausePlace → Type 0
 HeadStep k clause.Note q = q ≡ place.Head k
 HeadStep k clause.Title q = q ≡ place.Head k
 HeadStep k c q = Opens k c q
 
-head_follows : (k : BlockKind) (c : Clause) (q : Place) → follow_head k c ≡ Some q → HeadStep k c q
+head_follows : (k : BlockKind) (c : Clause) (q : ClausePlace) → follow_head k c ≡ Some q → HeadStep k c q
 unfolding follow_head
 head_follows k clause.Note q h = same_some q _ (sym h)
 head_follows k clause.Title q h = same_some q _ (sym h)
@@ -263,13 +263,13 @@ head_follows k clause.Structure q h = (if_some (has_shape k) (place.Shape k 0) q
 head_follows k (clause.Based name) q h = (if_some (nat_eq (block_rank k) 3) (place.Shaped k) q h).1
 head_follows k _ q h = cc
 
-pub head_step : (source : List ℕ) (k : BlockKind) (rest : List Token) (c : Clause) (behind : List Token) (q : Place) →
+pub head_step : (source : List ℕ) (k : BlockKind) (rest : List Token) (c : Clause) (behind : List Token) (q : ClausePlace) →
     step_of source (place.Head k) rest ≡ Ok (c, behind, q) → HeadStep k c q
 unfolding follow
 head_step source k rest c behind q found = head_follows k c q (right_clause source (place.Head k) rest c behind q found).1
 
 -- a note more behind the head
-pub note_more : (source : List ℕ) (k : BlockKind) (tokens rest : List Token) (c : Clause) (behind : List Token) (q : Place) →
+pub note_more : (source : List ℕ) (k : BlockKind) (tokens rest : List Token) (c : Clause) (behind : List Token) (q : ClausePlace) →
     ReadsKept source (place.Head k) tokens [] (place.Head k) rest → step_of source (place.Head k) rest ≡ Ok (c, behind, q) →
     (c ≡ clause.Note) ⊎ (c ≡ clause.Title) → ReadsKept source (place.Head k) tokens [] (place.Head k) behind
 note_more source k tokens rest clause.Note behind q so_far found is =
@@ -281,47 +281,47 @@ note_more source k tokens rest clause.Title behind q so_far found is =
 note_more source k tokens rest c behind q so_far found (inl is) = cc
 note_more source k tokens rest c behind q so_far found (inr is) = cc
 
-pub no_note_opens : (k : BlockKind) (c : Clause) (q : Place) → (c ≡ clause.Note → ⊥) → (c ≡ clause.Title → ⊥) → HeadStep k c q → Opens k c q
+pub no_note_opens : (k : BlockKind) (c : Clause) (q : ClausePlace) → (c ≡ clause.Note → ⊥) → (c ≡ clause.Title → ⊥) → HeadStep k c q → Opens k c q
 no_note_opens k clause.Note q no_note no_title step = absurd (no_note refl)
 no_note_opens k clause.Title q no_note no_title step = absurd (no_title refl)
 no_note_opens k _ q no_note no_title step = step
 
-between_follows : (k : BlockKind) (last : PartKind) (c : Clause) (q : Place) → follow_between k last c ≡ Some q → Opens k c q
+between_follows : (k : BlockKind) (last : PartKind) (c : Clause) (q : ClausePlace) → follow_between k last c ≡ Some q → Opens k c q
 unfolding follow_between
 between_follows k last (clause.Section line p) q h =
     (if_some (may_have k p && nat_lt (part_rank last) (part_rank p)) (place.Section k p 0) q h).1
 between_follows k last clause.Begins q h = same_some q _ (sym h)
 between_follows k last _ q h = cc
 
-pub between_step : (source : List ℕ) (k : BlockKind) (last : PartKind) (rest : List Token) (c : Clause) (behind : List Token) (q : Place) →
+pub between_step : (source : List ℕ) (k : BlockKind) (last : PartKind) (rest : List Token) (c : Clause) (behind : List Token) (q : ClausePlace) →
     step_of source (place.Between k last) rest ≡ Ok (c, behind, q) → Opens k c q
 unfolding follow
 between_step source k last rest c behind q found =
     between_follows k last c q (right_clause source (place.Between k last) rest c behind q found).1
 
 -- between blocks
-abbrev pub OutsideStep : Clause → Place → Type 0
+abbrev pub OutsideStep : Clause → ClausePlace → Type 0
 OutsideStep (clause.Head line k name result) q = q ≡ place.Head k
 OutsideStep _ q = ⊥
 
-outside_follows : (c : Clause) (q : Place) → follow_outside c ≡ Some q → OutsideStep c q
+outside_follows : (c : Clause) (q : ClausePlace) → follow_outside c ≡ Some q → OutsideStep c q
 unfolding follow_outside
 outside_follows (clause.Head line k name result) q h = same_some q _ (sym h)
 outside_follows _ q h = cc
 
-pub outside_step : (source : List ℕ) (rest : List Token) (c : Clause) (behind : List Token) (q : Place) →
+pub outside_step : (source : List ℕ) (rest : List Token) (c : Clause) (behind : List Token) (q : ClausePlace) →
     step_of source place.Outside rest ≡ Ok (c, behind, q) → OutsideStep c q
 unfolding follow
 outside_step source rest c behind q found = outside_follows c q (right_clause source place.Outside rest c behind q found).1
 
 -- no more tokens are left
-reads_fewer : (source : List ℕ) (p : Place) (tokens : List Token) (cs : List Clause) (q : Place) (rest : List Token) →
+reads_fewer : (source : List ℕ) (p : ClausePlace) (tokens : List Token) (cs : List Clause) (q : ClausePlace) (rest : List Token) →
     Reads source p tokens cs q rest → length rest ≤ length tokens
 reads_fewer source p tokens [] q rest reads = omega (arith, ap length reads.1)
 reads_fewer source p tokens (c ∷ cs) q rest reads =
     omega (arith, fewer source p tokens c reads.0 reads.1 reads.2, reads_fewer source reads.1 reads.0 cs q rest reads.3)
 
-pub kept_fewer : (source : List ℕ) (p : Place) (tokens : List Token) (kept : List Clause) (q : Place) (rest : List Token) →
+pub kept_fewer : (source : List ℕ) (p : ClausePlace) (tokens : List Token) (kept : List Clause) (q : ClausePlace) (rest : List Token) →
     ReadsKept source p tokens kept q rest → length rest ≤ length tokens
 kept_fewer source p tokens kept q rest read = reads_fewer source p tokens read.clauses q rest read.reads
 
@@ -334,13 +334,13 @@ pub never_ends : (c : Clause) → ((line : ℕ) (k : BlockKind) → c ≡ clause
 never_ends (clause.Ends line k) never = absurd (never line k refl)
 never_ends _ never = refl
 
-stays_in_body : (k : BlockKind) (c : Clause) (q : Place) → not_end c ≡ true → BodyStep k c q →
+stays_in_body : (k : BlockKind) (c : Clause) (q : ClausePlace) → not_end c ≡ true → BodyStep k c q →
     (q ≡ place.Body k) × (filter is_kept (c ∷ []) ≡ map clause.Runs (stated_by c))
 stays_in_body k (clause.Ends line e) q no_end h = cc
 stays_in_body k _ q no_end h = h
 
 pub body_more : (source : List ℕ) (k : BlockKind) (tokens : List Token) (ss : List Statement) (rest : List Token) (c : Clause)
-    (behind : List Token) (q : Place) (now : List Statement) →
+    (behind : List Token) (q : ClausePlace) (now : List Statement) →
     ReadsKept source (place.Body k) tokens (map clause.Runs ss) (place.Body k) rest →
     step_of source (place.Body k) rest ≡ Ok (c, behind, q) → not_end c ≡ true → now ≡ ss ++ stated_by c →
     ReadsKept source (place.Body k) tokens (map clause.Runs now) (place.Body k) behind
@@ -353,7 +353,7 @@ body_more source k tokens ss rest c behind q now so_far found no_end kept =
     (kept_more source (place.Body k) tokens (map clause.Runs ss) (place.Body k) rest c behind q so_far found))
 
 pub body_end : (source : List ℕ) (k : BlockKind) (tokens : List Token) (ss : List Statement) (rest : List Token) (line : ℕ) (e : BlockKind)
-    (behind : List Token) (q : Place) →
+    (behind : List Token) (q : ClausePlace) →
     ReadsKept source (place.Body k) tokens (map clause.Runs ss) (place.Body k) rest →
     step_of source (place.Body k) rest ≡ Ok (clause.Ends line e, behind, q) →
     ReadsKept source (place.Body k) tokens (map clause.Runs ss ++ clause.Ends line k ∷ []) place.Outside behind
@@ -364,20 +364,20 @@ body_end source k tokens ss rest line e behind q so_far found =
     (kept_more source (place.Body k) tokens (map clause.Runs ss) (place.Body k) rest (clause.Ends line e) behind q so_far found))
 
 -- settings: one clause more, or the end
-pub record SettingsRead (source : List ℕ) (k : BlockKind) (tokens : List Token) (ss : List Setting) (at : Place) (rest : List Token) : Type 0 where
+pub record SettingsRead (source : List ℕ) (k : BlockKind) (tokens : List Token) (ss : List Setting) (at : ClausePlace) (rest : List Token) : Type 0 where
   pub reads : ReadsKept source (place.Shaped k) tokens (map clause.Sets ss) at rest
   pub tail : IsTail k at
 
 pub settings_none : (source : List ℕ) (k : BlockKind) (tokens : List Token) → SettingsRead source k tokens [] (place.Shaped k) tokens
 settings_none source k tokens = record { reads = kept_none source (place.Shaped k) tokens; tail = refl }
 
-stays_in_tail : (k : BlockKind) (c : Clause) (q : Place) → not_end c ≡ true → TailStep k c q →
+stays_in_tail : (k : BlockKind) (c : Clause) (q : ClausePlace) → not_end c ≡ true → TailStep k c q →
     IsTail k q × (filter is_kept (c ∷ []) ≡ map clause.Sets (set_by c))
 stays_in_tail k (clause.Ends line e) q no_end h = cc
 stays_in_tail k _ q no_end h = h
 
-pub settings_more : (source : List ℕ) (k : BlockKind) (tokens : List Token) (ss : List Setting) (at : Place) (rest : List Token) (c : Clause)
-    (behind : List Token) (q : Place) (now : List Setting) → SettingsRead source k tokens ss at rest →
+pub settings_more : (source : List ℕ) (k : BlockKind) (tokens : List Token) (ss : List Setting) (at : ClausePlace) (rest : List Token) (c : Clause)
+    (behind : List Token) (q : ClausePlace) (now : List Setting) → SettingsRead source k tokens ss at rest →
     step_of source at rest ≡ Ok (c, behind, q) → not_end c ≡ true → now ≡ ss ++ set_by c → SettingsRead source k tokens now q behind
 settings_more source k tokens ss at rest c behind q now so_far found no_end kept =
     let stays = stays_in_tail k c q no_end (tail_step source k at rest c behind q so_far.tail found) in
@@ -389,8 +389,8 @@ settings_more source k tokens ss at rest c behind q now so_far found no_end kept
       tail = stays.0;
     }
 
-pub settings_end : (source : List ℕ) (k : BlockKind) (tokens : List Token) (ss : List Setting) (at : Place) (rest : List Token) (line : ℕ)
-    (e : BlockKind) (behind : List Token) (q : Place) → SettingsRead source k tokens ss at rest →
+pub settings_end : (source : List ℕ) (k : BlockKind) (tokens : List Token) (ss : List Setting) (at : ClausePlace) (rest : List Token) (line : ℕ)
+    (e : BlockKind) (behind : List Token) (q : ClausePlace) → SettingsRead source k tokens ss at rest →
     step_of source at rest ≡ Ok (clause.Ends line e, behind, q) →
     ReadsKept source (place.Shaped k) tokens (map clause.Sets ss ++ clause.Ends line k ∷ []) place.Outside behind
 settings_end source k tokens ss at rest line e behind q so_far found =
@@ -400,13 +400,13 @@ settings_end source k tokens ss at rest line e behind q so_far found =
     (kept_more source (place.Shaped k) tokens (map clause.Sets ss) at rest (clause.Ends line e) behind q so_far.reads found))
 
 -- sections: one more
-pub record SectionsRead (source : List ℕ) (k : BlockKind) (tokens : List Token) (parts : List Part) (c : Clause) (at : Place)
+pub record SectionsRead (source : List ℕ) (k : BlockKind) (tokens : List Token) (parts : List Part) (c : Clause) (at : ClausePlace)
     (rest : List Token) : Type 0 where
   pub reads : ReadsKept source (place.Head k) tokens (flat_map spelled_part parts ++ filter is_kept (c ∷ [])) at rest
   pub opens : Opens k c at
   pub few : length rest ≤ 1048576
 
-pub sections_none : (source : List ℕ) (k : BlockKind) (tokens : List Token) (c : Clause) (at : Place) (rest : List Token) →
+pub sections_none : (source : List ℕ) (k : BlockKind) (tokens : List Token) (c : Clause) (at : ClausePlace) (rest : List Token) →
     ReadsKept source (place.Head k) tokens (filter is_kept (c ∷ [])) at rest → Opens k c at → length tokens ≤ 1048576 →
     SectionsRead source k tokens [] c at rest
 sections_none source k tokens c at rest reads opens few =
@@ -417,7 +417,7 @@ sections_none source k tokens c at rest reads opens few =
     }
 
 -- a section whose declarations are read
-pub section_read : (source : List ℕ) (k : BlockKind) (tokens : List Token) (parts : List Part) (line : ℕ) (p : PartKind) (at : Place)
+pub section_read : (source : List ℕ) (k : BlockKind) (tokens : List Token) (parts : List Part) (line : ℕ) (p : PartKind) (at : ClausePlace)
     (rest : List Token) (items : List Declaration) (behind : List Token) →
     SectionsRead source k tokens parts (clause.Section line p) at rest →
     ReadsKept source at rest (map clause.Declares items) (behind_inside at) behind →
@@ -435,7 +435,7 @@ section_read source k tokens parts line p at rest items behind so_far read =
     (subst (λ ks. ReadsKept source (place.Head k) tokens ks (behind_inside at) behind) spelled both)
 
 pub sections_more : (source : List ℕ) (k : BlockKind) (tokens : List Token) (parts : List Part) (last : PartKind)
-    (rest : List Token) (c : Clause) (behind : List Token) (q : Place) → length tokens ≤ 1048576 →
+    (rest : List Token) (c : Clause) (behind : List Token) (q : ClausePlace) → length tokens ≤ 1048576 →
     ReadsKept source (place.Head k) tokens (flat_map spelled_part parts) (place.Between k last) rest →
     step_of source (place.Between k last) rest ≡ Ok (c, behind, q) → SectionsRead source k tokens parts c q behind
 sections_more source k tokens parts last rest c behind q few so_far found =
@@ -451,12 +451,12 @@ abbrev pub not_section : Clause → Bool
 not_section (clause.Section line p) = false
 not_section _ = true
 
-pub opens_no_section : (k : BlockKind) (c : Clause) (at : Place) → not_section c ≡ true → Opens k c at → OpensNoSection k c at
+pub opens_no_section : (k : BlockKind) (c : Clause) (at : ClausePlace) → not_section c ≡ true → Opens k c at → OpensNoSection k c at
 opens_no_section k (clause.Section line p) at no_section opens = cc
 opens_no_section k _ at no_section opens = opens
 
 -- the body is opened
-pub begins_body : (source : List ℕ) (k : BlockKind) (tokens : List Token) (xs : List Clause) (c : Clause) (at : Place) (rest : List Token) →
+pub begins_body : (source : List ℕ) (k : BlockKind) (tokens : List Token) (xs : List Clause) (c : Clause) (at : ClausePlace) (rest : List Token) →
     ReadsKept source (place.Head k) tokens (xs ++ filter is_kept (c ∷ [])) at rest → OpensNoSection k c at → is_begin c ≡ true →
     ReadsKept source (place.Head k) tokens xs (place.Body k) rest
 begins_body source k tokens xs clause.Begins at rest reads opens begins =
@@ -464,17 +464,17 @@ begins_body source k tokens xs clause.Begins at rest reads opens begins =
     (subst (λ ks. ReadsKept source (place.Head k) tokens ks at rest) (append_none xs) reads)
 begins_body source k tokens xs _ at rest reads opens begins = cc
 
-pub opens_shape : (k : BlockKind) (c : Clause) (at : Place) → OpensNoSection k c at → is_begin c ≡ false → OpensShape k c at
+pub opens_shape : (k : BlockKind) (c : Clause) (at : ClausePlace) → OpensNoSection k c at → is_begin c ≡ false → OpensShape k c at
 opens_shape k clause.Begins at opens begins = cc
 opens_shape k _ at opens begins = opens
 
-opens_kept : (k : BlockKind) (c : Clause) (at : Place) → OpensShape k c at → filter is_kept (c ∷ []) ≡ c ∷ []
+opens_kept : (k : BlockKind) (c : Clause) (at : ClausePlace) → OpensShape k c at → filter is_kept (c ∷ []) ≡ c ∷ []
 opens_kept k clause.Structure at opens = refl
 opens_kept k (clause.Based name) at opens = refl
 opens_kept k _ at opens = absurd opens
 
 -- the shape is read
-pub shape_read : (source : List ℕ) (k : BlockKind) (tokens : List Token) (xs : List Clause) (c : Clause) (at : Place) (rest : List Token)
+pub shape_read : (source : List ℕ) (k : BlockKind) (tokens : List Token) (xs : List Clause) (c : Clause) (at : ClausePlace) (rest : List Token)
     (spelled : List Clause) (behind : List Token) → ReadsKept source (place.Head k) tokens (xs ++ filter is_kept (c ∷ [])) at rest →
     OpensShape k c at → ReadsShape source k c at rest spelled behind →
     ReadsKept source (place.Head k) tokens (xs ++ spelled) (place.Shaped k) behind
@@ -504,7 +504,7 @@ data_block source k tokens xs shape rest sets line runs behind head inside none 
     (kept_then source (place.Head k) tokens (xs ++ shape) (place.Shaped k) rest (sets ++ clause.Ends line k ∷ []) place.Outside behind head inside))
 
 -- only a head stands between blocks
-pub only_heads : (source : List ℕ) (rest : List Token) (c : Clause) (behind : List Token) (q : Place) →
+pub only_heads : (source : List ℕ) (rest : List Token) (c : Clause) (behind : List Token) (q : ClausePlace) →
     step_of source place.Outside rest ≡ Ok (c, behind, q) →
     ((line : ℕ) (k : BlockKind) (name : BlockName) (returns : Option Simple) → c ≡ clause.Head line k name returns → ⊥) → ⊥
 only_heads source rest (clause.Head line k name returns) behind q found never = never line k name returns refl
@@ -512,7 +512,7 @@ only_heads source rest _ behind q found never = absurd (outside_step source rest
 
 -- a head is read
 pub head_read : (source : List ℕ) (tokens : List Token) (kept : List Clause) (rest : List Token) (line : ℕ) (k : BlockKind)
-    (name : BlockName) (returns : Option Simple) (behind : List Token) (q : Place) →
+    (name : BlockName) (returns : Option Simple) (behind : List Token) (q : ClausePlace) →
     ReadsKept source place.Outside tokens kept place.Outside rest →
     step_of source place.Outside rest ≡ Ok (clause.Head line k name returns, behind, q) →
     ReadsKept source place.Outside tokens (kept ++ clause.Head line k name returns ∷ []) (place.Head k) behind
@@ -523,7 +523,7 @@ head_read source tokens kept rest line k name returns behind q so_far found =
 
 -- one block more
 pub blocks_more : (source : List ℕ) (tokens : List Token) (bs : List Block) (rest : List Token) (line : ℕ) (k : BlockKind)
-    (name : BlockName) (returns : Option Simple) (behind : List Token) (q : Place) (b : Block) (left : List Token) →
+    (name : BlockName) (returns : Option Simple) (behind : List Token) (q : ClausePlace) (b : Block) (left : List Token) →
     ReadsKept source place.Outside tokens (flat_map spelled_block bs) place.Outside rest →
     step_of source place.Outside rest ≡ Ok (clause.Head line k name returns, behind, q) →
     ReadsKept source (place.Head k) behind (spelled_behind_head b) place.Outside left →

@@ -23,7 +23,7 @@ use Rattle.stl_ast.specs.WellFormed.{IsHeadName, MayReturn, IsSetting}
 use Rattle.stl_parser.specs.declared.clauses.Clause.{Clause}
 use Rattle.stl_parser.specs.declared.clauses.Clause.TheVariants as clause
 use Rattle.stl_lexer.specs.declared.marks.Mark.TheVariants as mark
-use Rattle.stl_parser.specs.declared.places.Place.{Place}
+use Rattle.stl_parser.specs.declared.places.ClausePlace.{ClausePlace}
 use Rattle.stl_parser.specs.declared.tables.HeadWord.{HeadWord}
 use Rattle.stl_parser.specs.declared.tables.Keyword.{Keyword}
 use Rattle.stl_parser.specs.declared.tables.Keyword.TheVariants as keyword
@@ -48,7 +48,7 @@ abbrev pub IsBaseName : BlockName → Type 0
 IsBaseName name = IsNameOf (λ k. (k ≡ kinds.Fb) ⊎ (k ≡ kinds.Udt)) name
 
 -- what a right clause keeps at a place
-abbrev pub IsRight : Place → Clause → Type 0
+abbrev pub IsRight : ClausePlace → Clause → Type 0
 IsRight p (clause.Head line k name result) = IsHeadName k name × MayReturn k result
 IsRight p (clause.Based name) = IsBaseName name
 IsRight p (clause.Declares d) = IsDeclaration d × (spec.takes_parameters p ≡ true → is_elementary d ≡ true)
@@ -63,7 +63,7 @@ Fits n (clause.Runs s) left = statement_size s + 4 * left ≤ 4 * n
 Fits n _ left = Unit {0}
 
 -- a clause that is read of n tokens; it is right where no label in it is too long
-abbrev pub IsReadAt : Place → ℕ → Clause × List Token × Bool → Type 0
+abbrev pub IsReadAt : ClausePlace → ℕ → Clause × List Token × Bool → Type 0
 IsReadAt p n r = (r.2 ≡ false → IsRight p r.0) × Fits n r.0 (length r.1)
 
 -- a clause of n tokens before its `;`
@@ -72,7 +72,7 @@ FitsInside n (clause.Head line k name result) = ⊥
 FitsInside n (clause.Runs s) = statement_size s ≤ 4 + 4 * n
 FitsInside n _ = Unit {0}
 
-abbrev IsInside : Place → ℕ → Clause × Bool → Type 0
+abbrev IsInside : ClausePlace → ℕ → Clause × Bool → Type 0
 IsInside p n r = (r.1 ≡ false → IsRight p r.0) × FitsInside n r.0
 
 same_rank : (e k : BlockKind) → nat_eq (spec.block_rank e) (spec.block_rank k) ≡ true → e ≡ k
@@ -113,7 +113,7 @@ return_fits kinds.Fc left n h = omega (arith, h)
 return_fits kinds.Fb left n h = omega (arith, h)
 return_fits _ left n h = omega (arith, h)
 
-head_holds : (source : List ℕ) (p : Place) (line : ℕ) (k : BlockKind) (tokens : List Token) →
+head_holds : (source : List ℕ) (p : ClausePlace) (line : ℕ) (k : BlockKind) (tokens : List Token) →
     IfSome (spec.head_of source line k tokens) (IsReadAt p (suc (length tokens)))
 unfolding spec.head_of
 head_holds source p line k tokens =
@@ -123,24 +123,24 @@ head_holds source p line k tokens =
     (result_rest source k b.1))
     (λ r l. (λ test. (h.0, l.0), return_fits k (length r.1) (suc (length tokens)) (omega (arith, h.1, l.1)))))
 
-inner_end_holds : (source : List ℕ) (p : Place) (n : ℕ) (tokens : List Token) → IfSome (spec.inner_end source tokens) (IsReadAt p n)
+inner_end_holds : (source : List ℕ) (p : ClausePlace) (n : ℕ) (tokens : List Token) → IfSome (spec.inner_end source tokens) (IsReadAt p n)
 unfolding spec.inner_end
 inner_end_holds source p n [] = tt
 inner_end_holds source p n (t ∷ rest) = passed (is_mark source t mark.Semicolon) _ (IsReadAt p n) (λ test. (λ short. tt, tt))
 
-structure_end_holds : (source : List ℕ) (p : Place) (n : ℕ) (tokens : List Token) → IfSome (spec.structure_end source p tokens) (IsReadAt p n)
+structure_end_holds : (source : List ℕ) (p : ClausePlace) (n : ℕ) (tokens : List Token) → IfSome (spec.structure_end source p tokens) (IsReadAt p n)
 unfolding spec.structure_end
 structure_end_holds source p n tokens =
     both (nat_lt 0 (spec.level_at p)) _ _ (IsReadAt p n) (inner_end_holds source p n tokens) (λ short. tt, tt)
 
-keyword_holds : (source : List ℕ) (p : Place) (line : ℕ) (k : Keyword) (rest : List Token) →
+keyword_holds : (source : List ℕ) (p : ClausePlace) (line : ℕ) (k : Keyword) (rest : List Token) →
     IfSome (spec.keyword_clause source p line k rest) (IsReadAt p (suc (length rest)))
 unfolding spec.keyword_clause
 keyword_holds source p line (keyword.Opens k) rest = head_holds source p line k rest
 keyword_holds source p line keyword.EndStructure rest = structure_end_holds source p (suc (length rest)) rest
 keyword_holds source p line _ rest = (λ short. tt, tt)
 
-head_word_holds : (source : List ℕ) (p : Place) (w : HeadWord) (n : ℕ) (rest : List Token) →
+head_word_holds : (source : List ℕ) (p : ClausePlace) (w : HeadWord) (n : ℕ) (rest : List Token) →
     IfSome (spec.head_word_clause source p w rest) (IsReadAt p n)
 unfolding spec.head_word_clause
 head_word_holds source p w n rest =
@@ -156,7 +156,7 @@ base_name : (name : BlockName) → IsAnyName name → spec.is_base name ≡ true
 base_name (block.Number id) h test = (base_kind id.kind test, h.1)
 base_name (block.Quoted name) h test = tt
 
-based_holds : (source : List ℕ) (p : Place) (n : ℕ) (tokens : List Token) → IfSome (spec.based_at source tokens) (IsReadAt p n)
+based_holds : (source : List ℕ) (p : ClausePlace) (n : ℕ) (tokens : List Token) → IfSome (spec.based_at source tokens) (IsReadAt p n)
 unfolding spec.based_at
 based_holds source p n tokens =
     chained (block_at source tokens) _ (λ r. IsAnyName r.0) (IsReadAt p n) (block_holds source tokens)
@@ -166,7 +166,7 @@ true_is_no_false : {A : Type 0} (b : Bool) → b ≡ false → b ≡ true → A
 true_is_no_false true h k = cc
 true_is_no_false false h k = cc
 
-structure_clause_holds : (source : List ℕ) (p : Place) (n : ℕ) (tokens : List Token) →
+structure_clause_holds : (source : List ℕ) (p : ClausePlace) (n : ℕ) (tokens : List Token) →
     IfSome (spec.structure_clause source p tokens) (IsReadAt p n)
 unfolding spec.structure_clause
 structure_clause_holds source p n tokens =
@@ -180,7 +180,7 @@ elementary true true h k = refl
 elementary true false h k = cc
 elementary false plain h k = cc
 
-declaration_clause_holds : (source : List ℕ) (p : Place) (n : ℕ) (tokens : List Token) →
+declaration_clause_holds : (source : List ℕ) (p : ClausePlace) (n : ℕ) (tokens : List Token) →
     IfSome (spec.declaration_clause source p tokens) (IsInside p n)
 unfolding spec.declaration_clause
 declaration_clause_holds source p n tokens =
@@ -188,7 +188,7 @@ declaration_clause_holds source p n tokens =
     (λ d h. failed (spec.takes_parameters p && not (is_elementary d)) _ (IsInside p n)
     (λ test. (λ short. (h, elementary (spec.takes_parameters p) (is_elementary d) test), tt)))
 
-statement_clause_holds : (source : List ℕ) (p : Place) (line : ℕ) (tokens : List Token) →
+statement_clause_holds : (source : List ℕ) (p : ClausePlace) (line : ℕ) (tokens : List Token) →
     IfSome (spec.statement_clause source line tokens) (IsInside p (length tokens))
 unfolding spec.statement_clause
 statement_clause_holds source p line tokens =
@@ -220,13 +220,13 @@ setting_holds source line (t ∷ rest) =
     (λ first h. chained (steps_from source (first ∷ []) rest) _ (λ r. IsNamedPath r.0) IsSetting (named_steps_hold source (first ∷ []) rest h)
     (λ r k. value_behind_holds source line r.0 r.1 k))
 
-setting_clause_holds : (source : List ℕ) (p : Place) (line n : ℕ) (tokens : List Token) →
+setting_clause_holds : (source : List ℕ) (p : ClausePlace) (line n : ℕ) (tokens : List Token) →
     IfSome (spec.setting_clause source line tokens) (IsInside p n)
 unfolding spec.setting_clause
 setting_clause_holds source p line n tokens =
     mapped (spec.setting_of source line tokens) _ IsSetting (IsInside p n) (setting_holds source line tokens) (λ s h. (λ short. h, tt))
 
-inside_holds : (source : List ℕ) (p : Place) (line : ℕ) (tokens : List Token) →
+inside_holds : (source : List ℕ) (p : ClausePlace) (line : ℕ) (tokens : List Token) →
     IfSome (spec.inside_clause source p line tokens) (IsInside p (length tokens))
 unfolding spec.inside_clause
 inside_holds source p line tokens =
@@ -258,7 +258,7 @@ fits_with n inside left (clause.Head line k name result) all h = absurd h
 fits_with n inside left (clause.Runs s) all h = omega (arith, all, h)
 fits_with n inside left _ all h = tt
 
-semicolon_holds : (source : List ℕ) (p : Place) (line : ℕ) (tokens : List Token) →
+semicolon_holds : (source : List ℕ) (p : ClausePlace) (line : ℕ) (tokens : List Token) →
     IfSome (spec.semicolon_clause source p line tokens) (IsReadAt p (length tokens))
 unfolding spec.semicolon_clause
 semicolon_holds source p line tokens =
@@ -267,14 +267,14 @@ semicolon_holds source p line tokens =
     (λ cut all. mapped (spec.inside_clause source p line cut.0) _ (IsInside p (length cut.0)) (IsReadAt p (length tokens))
     (inside_holds source p line cut.0) (λ c h. (h.0, fits_with (length tokens) (length cut.0) (length cut.1) c.0 all h.1)))
 
-plain_holds : (source : List ℕ) (p : Place) (line : ℕ) (tokens : List Token) →
+plain_holds : (source : List ℕ) (p : ClausePlace) (line : ℕ) (tokens : List Token) →
     IfSome (spec.plain_clause source p line tokens) (IsReadAt p (length tokens))
 unfolding spec.plain_clause
 plain_holds source p line tokens =
     either (spec.structure_clause source p tokens) _ (IsReadAt p (length tokens)) (structure_clause_holds source p (length tokens) tokens)
     (semicolon_holds source p line tokens)
 
-other_holds : (source : List ℕ) (p : Place) (line : ℕ) (tokens : List Token) →
+other_holds : (source : List ℕ) (p : ClausePlace) (line : ℕ) (tokens : List Token) →
     IfSome (spec.other_clause source p line tokens) (IsReadAt p (length tokens))
 unfolding spec.other_clause
 other_holds source p line tokens =
@@ -283,7 +283,7 @@ other_holds source p line tokens =
     (plain_holds source p line tokens))
     (plain_holds source p line tokens)
 
-free_word_holds : (source : List ℕ) (p : Place) (t : Token) (rest tokens : List Token) (w : Option HeadWord) →
+free_word_holds : (source : List ℕ) (p : ClausePlace) (t : Token) (rest tokens : List Token) (w : Option HeadWord) →
     IfSome (spec.free_word_clause source p t rest tokens w) (IsReadAt p (length tokens))
 unfolding spec.free_word_clause
 free_word_holds source p t rest tokens (Some w) =
@@ -291,13 +291,13 @@ free_word_holds source p t rest tokens (Some w) =
     (other_holds source p t.line tokens)
 free_word_holds source p t rest tokens None = other_holds source p t.line tokens
 
-word_holds : (source : List ℕ) (p : Place) (t : Token) (rest : List Token) (k : Option Keyword) →
+word_holds : (source : List ℕ) (p : ClausePlace) (t : Token) (rest : List Token) (k : Option Keyword) →
     IfSome (spec.word_clause source p t rest (t ∷ rest) k) (IsReadAt p (suc (length rest)))
 unfolding spec.word_clause
 word_holds source p t rest (Some k) = keyword_holds source p t.line k rest
 word_holds source p t rest None = free_word_holds source p t rest (t ∷ rest) (look_up head_words (text_of source t))
 
-kind_holds : (source : List ℕ) (p : Place) (t : Token) (rest : List Token) (k : TokenKind) →
+kind_holds : (source : List ℕ) (p : ClausePlace) (t : Token) (rest : List Token) (k : TokenKind) →
     IfSome (spec.clause_by_kind source p t rest (t ∷ rest) k) (IsReadAt p (suc (length rest)))
 unfolding spec.clause_by_kind
 kind_holds source p t rest kind.Word = word_holds source p t rest (look_up keywords (text_of source t))
@@ -306,7 +306,7 @@ kind_holds source p t rest kind.Title = (λ short. tt, tt)
 kind_holds source p t rest _ = other_holds source p t.line (t ∷ rest)
 
 -- the clause at the front
-pub clause_holds : (source : List ℕ) (p : Place) (tokens : List Token) →
+pub clause_holds : (source : List ℕ) (p : ClausePlace) (tokens : List Token) →
     IfSome (spec.clause_at source p tokens) (IsReadAt p (length tokens))
 unfolding spec.clause_at
 clause_holds source p [] = tt

@@ -21,8 +21,8 @@ use Rattle.stl_ast.specs.Outline.{IsOutline, level_behind}
 use Rattle.stl_ast.specs.declared.statements.Statement.{Statement}
 use Rattle.stl_parser.specs.declared.clauses.Clause.{Clause}
 use Rattle.stl_parser.specs.declared.clauses.Clause.TheVariants as clause
-use Rattle.stl_parser.specs.declared.places.Place.{Place}
-use Rattle.stl_parser.specs.declared.places.Place.TheVariants as place
+use Rattle.stl_parser.specs.declared.places.ClausePlace.{ClausePlace}
+use Rattle.stl_parser.specs.declared.places.ClausePlace.TheVariants as place
 use Rattle.stl_parser.specs.Clauses.{Read, level_at, block_rank, clause_at}
 use Rattle.stl_parser.specs.Frame.{follow, follow_outside, follow_head, follow_section, follow_between, follow_shape, follow_shaped, follow_body, follow_settings}
 use Rattle.stl_ast.specs.Blocks.{may_have, may_declare, has_body, has_shape, has_settings, part_rank, is_date_and_time}
@@ -78,7 +78,7 @@ record IsInside (k : BlockKind) (ps : List Part) (s : Option TypeTree) (i : Opti
   runs : IsBody k xs
 
 -- the kept clauses from a place on are those of the rest of a tree, which is well-formed
-abbrev Spells : Place → List Clause → Type 0
+abbrev Spells : ClausePlace → List Clause → Type 0
 Spells place.Outside cs = (bs : List Block) × (cs ≡ flat_map spelled_block bs) × AreBlocks bs
 Spells (place.Head k) cs =
     (ps : List Part) × (s : Option TypeTree) × (i : Option BlockName) × (ds : List Declaration) × (ss : List Setting)
@@ -104,7 +104,7 @@ Spells place.Settings cs =
     × AreBlocks bs
 
 -- the same behind a clause, where it may stand
-abbrev SpellsBehind : Option Place → List Clause → Type 0
+abbrev SpellsBehind : Option ClausePlace → List Clause → Type 0
 SpellsBehind None cs = ⊥
 SpellsBehind (Some q) cs = Spells q cs
 
@@ -112,7 +112,7 @@ SpellsBehind (Some q) cs = Spells q cs
 abbrev kept_with : Clause → List Clause → List Clause
 kept_with c cs = cond (is_kept c) (c ∷ cs) cs
 
-passes : (b : Bool) (q : Place) (cs : List Clause) → SpellsBehind (if b then Some q else None) cs → (b ≡ true) × Spells q cs
+passes : (b : Bool) (q : ClausePlace) (cs : List Clause) → SpellsBehind (if b then Some q else None) cs → (b ≡ true) × Spells q cs
 passes true q cs h = (refl, h)
 passes false q cs h = absurd h
 
@@ -384,7 +384,7 @@ from_between k p (clause.Section line q) cs h =
 from_between k p clause.Begins cs h = ([], h.0, h.1, h.2, h.3, (tt, tt), h.4, h.5)
 from_between k p _ cs h = absurd h
 
-not_date : (b : Bool) (q : Place) (cs : List Clause) → SpellsBehind (if b then None else Some q) cs → (b ≡ false) × Spells q cs
+not_date : (b : Bool) (q : ClausePlace) (cs : List Clause) → SpellsBehind (if b then None else Some q) cs → (b ≡ false) × Spells q cs
 not_date true q cs h = absurd h
 not_date false q cs h = (refl, h)
 
@@ -438,7 +438,7 @@ from_settings (clause.Ends line kinds.Db) cs right h =
     ([], line, h.0, ap (λ xs. clause.Ends line kinds.Db ∷ xs) h.1, tt, h.2)
 from_settings _ cs right h = absurd h
 
-one_more : (p : Place) (c : Clause) (cs : List Clause) → IsRight p c → IsAt (level_at p) c → SpellsBehind (follow p c) cs →
+one_more : (p : ClausePlace) (c : Clause) (cs : List Clause) → IsRight p c → IsAt (level_at p) c → SpellsBehind (follow p c) cs →
     Spells p (kept_with c cs)
 unfolding follow
 one_more place.Outside c cs right at h = from_outside c cs right h
@@ -450,7 +450,7 @@ one_more (place.Shaped k) c cs right at h = from_shaped k c cs h
 one_more (place.Body k) c cs right at h = from_body k c cs right h
 one_more place.Settings c cs right at h = from_settings c cs right h
 
-was_placed : (p : Place) (c : Clause) (rest : List Token) (long : Bool) (f : Option Place) (d : Clause) (behind : List Token) (q : Place) →
+was_placed : (p : ClausePlace) (c : Clause) (rest : List Token) (long : Bool) (f : Option ClausePlace) (d : Clause) (behind : List Token) (q : ClausePlace) →
     placed c rest long f ≡ Ok (d, behind, q) → follow p c ≡ f →
     (◌≡◌ {A = Read} (Some (c, rest, long)) (Some (d, behind, false))) × (follow p d ≡ Some q)
 was_placed p c rest long None d behind q same followed = cc
@@ -458,33 +458,33 @@ was_placed p c rest true (Some next) d behind q same followed = cc
 was_placed p c rest false (Some next) d behind q same followed =
     let read_of : Result Step ℕ → Read = λ r. elim r [ Ok s ↦ Some (s.0, s.1, false) | Err e ↦ None ] in
     let clause_of : Result Step ℕ → Clause = λ r. elim r [ Ok s ↦ s.0 | Err e ↦ c ] in
-    let next_of : Result Step ℕ → Place = λ r. elim r [ Ok s ↦ s.2 | Err e ↦ next ] in
+    let next_of : Result Step ℕ → ClausePlace = λ r. elim r [ Ok s ↦ s.2 | Err e ↦ next ] in
     (ap read_of same, sym (ap (λ r. follow p (clause_of r)) same) ∙ followed ∙ ap (λ r. Some (next_of r)) same)
 
-was_right : (p : Place) (read : Read) (d : Clause) (behind : List Token) (q : Place) → judged p read ≡ Ok (d, behind, q) →
+was_right : (p : ClausePlace) (read : Read) (d : Clause) (behind : List Token) (q : ClausePlace) → judged p read ≡ Ok (d, behind, q) →
     (read ≡ Some (d, behind, false)) × (follow p d ≡ Some q)
 was_right p None d behind q same = cc
 was_right p (Some r) d behind q same = was_placed p r.0 r.1 r.2 (follow p r.0) d behind q same refl
 
-pub level_of : (source : List ℕ) (p : Place) (tokens : List Token) (c : Clause) (rest : List Token) →
+pub level_of : (source : List ℕ) (p : ClausePlace) (tokens : List Token) (c : Clause) (rest : List Token) →
     clause_at source p tokens ≡ Some (c, rest, false) → IsAt (level_at p) c
 level_of source p tokens (clause.Declares d) rest h = read_level source p tokens d rest false h
 level_of source p tokens _ rest h = tt
 
 -- a right clause has no label that is too long, and the frame lets it stand there
-pub right_clause : (source : List ℕ) (p : Place) (tokens : List Token) (c : Clause) (behind : List Token) (q : Place) →
+pub right_clause : (source : List ℕ) (p : ClausePlace) (tokens : List Token) (c : Clause) (behind : List Token) (q : ClausePlace) →
     step_of source p tokens ≡ Ok (c, behind, q) → (clause_at source p tokens ≡ Some (c, behind, false)) × (follow p c ≡ Some q)
 unfolding step_of
 right_clause source p tokens c behind q same = was_right p (clause_at source p tokens) c behind q same
 
 -- what is read keeps what a right clause keeps, and its code fits into its tokens
-pub read_holds : (source : List ℕ) (p : Place) (tokens : List Token) (c : Clause) (rest : List Token) →
+pub read_holds : (source : List ℕ) (p : ClausePlace) (tokens : List Token) (c : Clause) (rest : List Token) →
     clause_at source p tokens ≡ Some (c, rest, false) → IsRight p c × Fits (length tokens) c (length rest)
 read_holds source p tokens c rest h =
     let held = some_holds (clause_at source p tokens) (c, rest, false) (IsReadAt p (length tokens)) h (clause_holds source p tokens) in
     (held.0 refl, held.1)
 
-reads_spell : (source : List ℕ) (p : Place) (ts : List Token) (cs : List Clause) (rest : List Token) →
+reads_spell : (source : List ℕ) (p : ClausePlace) (ts : List Token) (cs : List Clause) (rest : List Token) →
     Reads source p ts cs place.Outside rest → Spells p (filter is_kept cs)
 reads_spell source p ts [] rest reads = subst (λ q. Spells q []) (sym reads.0) ([], refl, tt)
 reads_spell source p ts (c ∷ cs) rest reads =

@@ -1,8 +1,8 @@
 use Rattle.std.proofs.Common.{ℕ, ◌≡◌, true, false, List, [], ◌∷◌, Result, Ok, Err, refl, sym, ◌∙◌, ap, subst}
 use Rattle.stl_lexer.specs.declared.kinds.Token.{Token}
 use Rattle.stl_parser.specs.declared.clauses.Clause.{Clause}
-use Rattle.stl_parser.specs.declared.places.Place.{Place}
-use Rattle.stl_parser.specs.declared.places.Place.TheVariants as place
+use Rattle.stl_parser.specs.declared.places.ClausePlace.{ClausePlace}
+use Rattle.stl_parser.specs.declared.places.ClausePlace.TheVariants as place
 use Rattle.stl_parser.specs.Source.{Step, step_of, Reads, Breaks, is_outside, last_line, AreClausesUnique, ExcludesViolation, IsViolationUnique}
 use Rattle.stl_parser.specs.Clauses.{clause_at}
 
@@ -18,12 +18,12 @@ ok_no_err : {A B : Type 0} (a : A) (b : B) → ◌≡◌ {A = Result A B} (Ok a)
 ok_no_err a b same = cc
 
 -- no clause is read where no token is left
-pub end_is_stuck : (source : List ℕ) (q : Place) → step_of source q [] ≡ Err 10
+pub end_is_stuck : (source : List ℕ) (q : ClausePlace) → step_of source q [] ≡ Err 10
 unfolding step_of clause_at
 end_is_stuck source q = refl
 
 -- the clauses that can be read are one list, up to where none can be read
-reads_once : (source : List ℕ) (p : Place) (ts : List Token) (cs ds : List Clause) (q q' : Place) (rest rest' : List Token) (r r' : ℕ) →
+reads_once : (source : List ℕ) (p : ClausePlace) (ts : List Token) (cs ds : List Clause) (q q' : ClausePlace) (rest rest' : List Token) (r r' : ℕ) →
     Reads source p ts cs q rest → step_of source q rest ≡ Err r → Reads source p ts ds q' rest' → step_of source q' rest' ≡ Err r' →
     (cs ≡ ds) × (q ≡ q') × (rest ≡ rest')
 reads_once source p ts [] [] q q' rest rest' r r' a ea b eb = (refl, sym a.0 ∙ b.0, sym a.1 ∙ b.1)
@@ -40,7 +40,7 @@ reads_once source p ts (c ∷ cs) (d ∷ ds) q q' rest rest' r r' a ea b eb =
     (ap (λ (s : Step). s.0 ∷ cs) same ∙ ap (λ xs. d ∷ xs) behind.0, behind.1, behind.2)
 
 -- where a rule is broken no clause is read
-breaks_is_stuck : (source : List ℕ) (p : Place) (rest : List Token) (last line rule : ℕ) → Breaks source p rest last line rule →
+breaks_is_stuck : (source : List ℕ) (p : ClausePlace) (rest : List Token) (last line rule : ℕ) → Breaks source p rest last line rule →
     (r : ℕ) × (step_of source p rest ≡ Err r)
 breaks_is_stuck source p [] last line rule breaks = (10, end_is_stuck source p)
 breaks_is_stuck source p (t ∷ ts) last line rule breaks = (rule, breaks.1)
@@ -56,7 +56,7 @@ true_no_false same = cc
 no_token : {A : Type 0} (t : A) (ts : List A) → [] ≡ t ∷ ts → ⊥
 no_token t ts same = cc
 
-not_open : (source : List ℕ) (p : Place) (rest : List Token) (last line rule : ℕ) → place.Outside ≡ p → [] ≡ rest →
+not_open : (source : List ℕ) (p : ClausePlace) (rest : List Token) (last line rule : ℕ) → place.Outside ≡ p → [] ≡ rest →
     Breaks source p rest last line rule → ⊥
 not_open source p [] last line rule outside none breaks = true_no_false (ap is_outside outside ∙ breaks.0)
 not_open source p (t ∷ ts) last line rule outside none breaks = no_token t ts none
@@ -68,7 +68,7 @@ list_or_violation source tokens cs line rule a v =
     (end_is_stuck source place.Outside) v.reads stuck.1 in
     not_open source v.at v.rest (last_line 0 tokens) line rule same.1 same.2 v.breaks
 
-one_break : (source : List ℕ) (p : Place) (rest : List Token) (last line rule line' rule' : ℕ) →
+one_break : (source : List ℕ) (p : ClausePlace) (rest : List Token) (last line rule line' rule' : ℕ) →
     Breaks source p rest last line rule → Breaks source p rest last line' rule' → (line ≡ line') × (rule ≡ rule')
 one_break source p [] last line rule line' rule' a b = (a.1 ∙ sym b.1, a.2 ∙ sym b.2)
 one_break source p (t ∷ ts) last line rule line' rule' a b = (a.0 ∙ sym b.0, err_same {A = Step} {B = ℕ} rule rule' (sym a.1 ∙ b.1))

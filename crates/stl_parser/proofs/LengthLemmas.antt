@@ -16,7 +16,7 @@ use Rattle.stl_parser.specs.Terminals.{has_kind, is_mark, is_key}
 use Rattle.stl_parser.specs.declared.keywords.Key.TheVariants as key
 use Rattle.stl_lexer.specs.declared.kinds.TokenKind.TheVariants as kind
 use Rattle.std.specs.Prelude.{◌&&◌}
-use Rattle.stl_parser.specs.declared.places.Place.{Place}
+use Rattle.stl_parser.specs.declared.places.ClausePlace.{ClausePlace}
 use Rattle.stl_parser.specs.declared.tables.HeadWord.{HeadWord}
 use Rattle.stl_parser.specs.declared.tables.Keyword.{Keyword}
 use Rattle.stl_parser.specs.Numbers.{signed_at, int_at}
@@ -116,17 +116,17 @@ semicolon_skipped : (source : List ℕ) (tokens : List Token) → length (skip_s
 unfolding skip_semicolon
 semicolon_skipped source tokens = grind arith
 
-structure_end_rest : (source : List ℕ) (p : Place) (tokens : List Token) (r : Clause × List Token × Bool) →
+structure_end_rest : (source : List ℕ) (p : ClausePlace) (tokens : List Token) (r : Clause × List Token × Bool) →
     structure_end source p tokens ≡ Some r → length r.1 ≤ length tokens
 unfolding structure_end inner_end
 structure_end_rest source p tokens r h = grind (arith, semicolon_skipped)
 
-keyword_rest : (source : List ℕ) (p : Place) (line : ℕ) (k : Keyword) (tokens : List Token) (r : Clause × List Token × Bool) →
+keyword_rest : (source : List ℕ) (p : ClausePlace) (line : ℕ) (k : Keyword) (tokens : List Token) (r : Clause × List Token × Bool) →
     keyword_clause source p line k tokens ≡ Some r → length r.1 ≤ length tokens
 unfolding keyword_clause
 keyword_rest source p line k tokens r h = grind (arith, head_rest, structure_end_rest)
 
-note_rest : (source : List ℕ) (p : Place) (rest : List Token) → length (behind_note source p rest) ≤ length rest
+note_rest : (source : List ℕ) (p : ClausePlace) (rest : List Token) → length (behind_note source p rest) ≤ length rest
 unfolding behind_note
 note_rest source p rest = grind (arith, semicolon_skipped)
 
@@ -135,7 +135,7 @@ head_word_rest : (source : List ℕ) (w : HeadWord) (tokens rest : List Token) �
 unfolding head_word_at version_at word_at
 head_word_rest source w tokens rest h = grind arith
 
-head_word_clause_rest : (source : List ℕ) (p : Place) (w : HeadWord) (tokens : List Token) (r : Clause × List Token × Bool) →
+head_word_clause_rest : (source : List ℕ) (p : ClausePlace) (w : HeadWord) (tokens : List Token) (r : Clause × List Token × Bool) →
     head_word_clause source p w tokens ≡ Some r → length r.1 ≤ length tokens
 unfolding head_word_clause
 head_word_clause_rest source p w tokens r h = grind (arith, head_word_rest, note_rest)
@@ -225,7 +225,7 @@ structure_rest source level tokens r h =
     (λ d y e. let within : length y.1 ≤ length d.1 = chain (arrays_at source d.1) _ (λ a. length a.1) (λ z. length z.1) (length d.1) y e (arrays_rest source d.1)
     (λ a z f. mapped (after_struct source a.1) _ (λ x. length x.1) (length a.1) z f (struct_rest source a.1)) in omega (arith, within))
 
-structure_clause_rest : (source : List ℕ) (p : Place) (tokens : List Token) (r : Clause × List Token × Bool) →
+structure_clause_rest : (source : List ℕ) (p : ClausePlace) (tokens : List Token) (r : Clause × List Token × Bool) →
     structure_clause source p tokens ≡ Some r → length r.1 < length tokens
 unfolding structure_clause
 structure_clause_rest source p tokens r h = grind (arith, structure_rest)
@@ -235,42 +235,42 @@ until_rest : (source : List ℕ) (tokens : List Token) (r : List Token × List T
 unfolding until_semicolon
 until_rest source tokens r h = grind (arith, length-drop)
 
-semicolon_rest : (source : List ℕ) (p : Place) (line : ℕ) (tokens : List Token) (r : Clause × List Token × Bool) →
+semicolon_rest : (source : List ℕ) (p : ClausePlace) (line : ℕ) (tokens : List Token) (r : Clause × List Token × Bool) →
     semicolon_clause source p line tokens ≡ Some r → length r.1 ≤ length tokens - 1
 unfolding semicolon_clause
 semicolon_rest source p line tokens r h = grind (arith, until_rest)
 
-plain_rest : (source : List ℕ) (p : Place) (line : ℕ) (tokens : List Token) (r : Clause × List Token × Bool) →
+plain_rest : (source : List ℕ) (p : ClausePlace) (line : ℕ) (tokens : List Token) (r : Clause × List Token × Bool) →
     plain_clause source p line tokens ≡ Some r → length r.1 ≤ length tokens - 1
 unfolding plain_clause
 plain_rest source p line tokens r h = grind (arith, structure_clause_rest, semicolon_rest)
 
-other_rest : (source : List ℕ) (p : Place) (line : ℕ) (tokens : List Token) (r : Clause × List Token × Bool) →
+other_rest : (source : List ℕ) (p : ClausePlace) (line : ℕ) (tokens : List Token) (r : Clause × List Token × Bool) →
     other_clause source p line tokens ≡ Some r → length r.1 ≤ length tokens - 1
 unfolding other_clause
 other_rest source p line tokens r h = grind (arith, based_rest, plain_rest)
 
-other_behind : (source : List ℕ) (p : Place) (line : ℕ) (t : Token) (more : List Token) (r : Clause × List Token × Bool) →
+other_behind : (source : List ℕ) (p : ClausePlace) (line : ℕ) (t : Token) (more : List Token) (r : Clause × List Token × Bool) →
     other_clause source p line (t ∷ more) ≡ Some r → length r.1 ≤ length more
 other_behind source p line t more r h = omega (arith, other_rest source p line (t ∷ more) r h)
 
-free_word_rest : (source : List ℕ) (p : Place) (t : Token) (more : List Token) (w : Option HeadWord) (r : Clause × List Token × Bool) →
+free_word_rest : (source : List ℕ) (p : ClausePlace) (t : Token) (more : List Token) (w : Option HeadWord) (r : Clause × List Token × Bool) →
     free_word_clause source p t more (t ∷ more) w ≡ Some r → length r.1 ≤ length more
 unfolding free_word_clause
 free_word_rest source p t more w r h = grind (arith, head_word_clause_rest, other_behind)
 
-word_rest : (source : List ℕ) (p : Place) (t : Token) (more : List Token) (k : Option Keyword) (r : Clause × List Token × Bool) →
+word_rest : (source : List ℕ) (p : ClausePlace) (t : Token) (more : List Token) (k : Option Keyword) (r : Clause × List Token × Bool) →
     word_clause source p t more (t ∷ more) k ≡ Some r → length r.1 ≤ length more
 unfolding word_clause
 word_rest source p t more k r h = grind (arith, keyword_rest, free_word_rest)
 
-kind_rest : (source : List ℕ) (p : Place) (t : Token) (more : List Token) (k : TokenKind) (r : Clause × List Token × Bool) →
+kind_rest : (source : List ℕ) (p : ClausePlace) (t : Token) (more : List Token) (k : TokenKind) (r : Clause × List Token × Bool) →
     clause_by_kind source p t more (t ∷ more) k ≡ Some r → length r.1 ≤ length more
 unfolding clause_by_kind
 kind_rest source p t more k r h = grind (arith, word_rest, note_rest, other_behind)
 
 -- what follows a clause is shorter
-pub read_rest : (source : List ℕ) (p : Place) (t : Token) (more : List Token) (r : Clause × List Token × Bool) →
+pub read_rest : (source : List ℕ) (p : ClausePlace) (t : Token) (more : List Token) (r : Clause × List Token × Bool) →
     clause_at source p (t ∷ more) ≡ Some r → length r.1 ≤ length more
 unfolding clause_at
 read_rest source p t more r h = kind_rest source p t more t.kind r h

@@ -12,8 +12,8 @@ use Rattle.stl_ast.specs.Sizes.{statement_size, return_size, body_size, tree_siz
 use Rattle.stl_ast.specs.WellFormed.{IsWellFormed}
 use Rattle.stl_parser.specs.declared.clauses.Clause.{Clause}
 use Rattle.stl_parser.specs.declared.clauses.Clause.TheVariants as clause
-use Rattle.stl_parser.specs.declared.places.Place.{Place}
-use Rattle.stl_parser.specs.declared.places.Place.TheVariants as place
+use Rattle.stl_parser.specs.declared.places.ClausePlace.{ClausePlace}
+use Rattle.stl_parser.specs.declared.places.ClausePlace.TheVariants as place
 use Rattle.stl_parser.specs.Clauses.{clause_at}
 use Rattle.stl_parser.specs.Source.{Reads, AreKept, IsTree}
 use Rattle.stl_parser.specs.Spelling.{is_kept, spelled_part, spelled_shape, spelled_block}
@@ -36,14 +36,14 @@ sized n left (clause.Head line k name result) fewer h = h
 sized n left (clause.Runs s) fewer h = h
 sized n left _ fewer h = omega (arith, fewer)
 
-fewer_behind : (source : List ℕ) (p : Place) (ts : List Token) (c : Clause) (behind : List Token) →
+fewer_behind : (source : List ℕ) (p : ClausePlace) (ts : List Token) (c : Clause) (behind : List Token) →
     clause_at source p ts ≡ Some (c, behind, false) → length behind ≤ length ts
 unfolding clause_at
 fewer_behind source p [] c behind h = cc
 fewer_behind source p (t ∷ ts) c behind h = omega (arith, read_rest source p t ts (c, behind, false) h)
 
 -- the code of clauses fits into the tokens that they take
-clauses_fit : (source : List ℕ) (p : Place) (ts : List Token) (cs : List Clause) (q : Place) (rest : List Token) →
+clauses_fit : (source : List ℕ) (p : ClausePlace) (ts : List Token) (cs : List Clause) (q : ClausePlace) (rest : List Token) →
     Reads source p ts cs q rest → sum_by clause_size cs + 4 * length rest ≤ 4 * length ts
 clauses_fit source p ts [] q rest reads = omega (arith, ap length reads.1)
 clauses_fit source p ts (c ∷ cs) q rest reads =

@@ -5,13 +5,13 @@ use Rattle.plc_base.specs.declared.refusals.SourceFault.{SourceFault}
 use Rattle.plc_base.specs.declared.refusals.SourceFault.TheVariants as fault
 use Rattle.stl_lexer.specs.declared.kinds.Token.{Token}
 use Rattle.stl_parser.specs.declared.clauses.Clause.{Clause}
-use Rattle.stl_parser.specs.declared.places.Place.{Place}
-use Rattle.stl_parser.specs.declared.places.Place.TheVariants as place
+use Rattle.stl_parser.specs.declared.places.ClausePlace.{ClausePlace}
+use Rattle.stl_parser.specs.declared.places.ClausePlace.TheVariants as place
 use Rattle.stl_parser.specs.Source.{step_of, Reads, ReadsKept, IsBrokenAt, IsBrokenBehind, is_outside}
 use Rattle.stl_parser.specs.Spelling.{is_kept}
 
-reads_then : (source : List ℕ) (p : Place) (tokens : List Token) (cs : List Clause) (q : Place) (rest : List Token) (ds : List Clause)
-    (next : Place) (behind : List Token) → Reads source p tokens cs q rest → Reads source q rest ds next behind →
+reads_then : (source : List ℕ) (p : ClausePlace) (tokens : List Token) (cs : List Clause) (q : ClausePlace) (rest : List Token) (ds : List Clause)
+    (next : ClausePlace) (behind : List Token) → Reads source p tokens cs q rest → Reads source q rest ds next behind →
     Reads source p tokens (cs ++ ds) next behind
 reads_then source p tokens [] q rest ds next behind first second =
     subst (λ ts. Reads source p ts ds next behind) (sym first.1) (subst (λ at. Reads source at rest ds next behind) (sym first.0) second)
@@ -19,12 +19,12 @@ reads_then source p tokens (c ∷ cs) q rest ds next behind first second =
     (first.0, first.1, first.2, reads_then source first.1 first.0 cs q rest ds next behind first.3 second)
 
 -- nothing is read yet
-pub kept_none : (source : List ℕ) (p : Place) (tokens : List Token) → ReadsKept source p tokens [] p tokens
+pub kept_none : (source : List ℕ) (p : ClausePlace) (tokens : List Token) → ReadsKept source p tokens [] p tokens
 kept_none source p tokens = record { clauses = []; reads = (refl, refl); those = refl }
 
 -- more is read behind what was read
-pub kept_then : (source : List ℕ) (p : Place) (tokens : List Token) (kept : List Clause) (q : Place) (rest : List Token)
-    (more : List Clause) (next : Place) (behind : List Token) → ReadsKept source p tokens kept q rest →
+pub kept_then : (source : List ℕ) (p : ClausePlace) (tokens : List Token) (kept : List Clause) (q : ClausePlace) (rest : List Token)
+    (more : List Clause) (next : ClausePlace) (behind : List Token) → ReadsKept source p tokens kept q rest →
     ReadsKept source q rest more next behind → ReadsKept source p tokens (kept ++ more) next behind
 kept_then source p tokens kept q rest more next behind first second =
     record {
@@ -35,20 +35,20 @@ kept_then source p tokens kept q rest more next behind first second =
     }
 
 -- one clause is read
-pub kept_one : (source : List ℕ) (p : Place) (tokens : List Token) (c : Clause) (behind : List Token) (next : Place) →
+pub kept_one : (source : List ℕ) (p : ClausePlace) (tokens : List Token) (c : Clause) (behind : List Token) (next : ClausePlace) →
     step_of source p tokens ≡ Ok (c, behind, next) → ReadsKept source p tokens (filter is_kept (c ∷ [])) next behind
 kept_one source p tokens c behind next found =
     record { clauses = c ∷ []; reads = (behind, next, found, (refl, refl)); those = refl }
 
 -- one clause more is read
-pub kept_more : (source : List ℕ) (p : Place) (tokens : List Token) (kept : List Clause) (q : Place) (rest : List Token) (c : Clause)
-    (behind : List Token) (next : Place) → ReadsKept source p tokens kept q rest → step_of source q rest ≡ Ok (c, behind, next) →
+pub kept_more : (source : List ℕ) (p : ClausePlace) (tokens : List Token) (kept : List Clause) (q : ClausePlace) (rest : List Token) (c : Clause)
+    (behind : List Token) (next : ClausePlace) → ReadsKept source p tokens kept q rest → step_of source q rest ≡ Ok (c, behind, next) →
     ReadsKept source p tokens (kept ++ filter is_kept (c ∷ [])) next behind
 kept_more source p tokens kept q rest c behind next so_far found =
     kept_then source p tokens kept q rest (filter is_kept (c ∷ [])) next behind so_far (kept_one source q rest c behind next found)
 
 -- a rule is broken behind what was read
-pub broken_behind : (source : List ℕ) (p : Place) (tokens : List Token) (kept : List Clause) (q : Place) (rest : List Token) (last : ℕ)
+pub broken_behind : (source : List ℕ) (p : ClausePlace) (tokens : List Token) (kept : List Clause) (q : ClausePlace) (rest : List Token) (last : ℕ)
     (f : SourceFault) → ReadsKept source p tokens kept q rest → IsBrokenBehind source q rest last f → IsBrokenBehind source p tokens last f
 broken_behind source p tokens kept q rest last (fault.Refused refusal) so_far broken =
     record {
@@ -61,13 +61,13 @@ broken_behind source p tokens kept q rest last (fault.Refused refusal) so_far br
 broken_behind source p tokens kept q rest last fault.NoMemory so_far broken = tt
 
 -- by the clause right behind it
-pub broken_at : (source : List ℕ) (p : Place) (tokens : List Token) (kept : List Clause) (q : Place) (rest : List Token) (last : ℕ)
+pub broken_at : (source : List ℕ) (p : ClausePlace) (tokens : List Token) (kept : List Clause) (q : ClausePlace) (rest : List Token) (last : ℕ)
     (f : SourceFault) → ReadsKept source p tokens kept q rest → IsBrokenAt source q rest last f → IsBrokenBehind source p tokens last f
 broken_at source p tokens kept q rest last (fault.Refused refusal) so_far broken =
     record { before = so_far.clauses; at = q; rest = rest; reads = so_far.reads; breaks = broken }
 broken_at source p tokens kept q rest last fault.NoMemory so_far broken = tt
 
-pub outside_is : (at : Place) → is_outside at ≡ true → at ≡ place.Outside
+pub outside_is : (at : ClausePlace) → is_outside at ≡ true → at ≡ place.Outside
 outside_is place.Outside h = refl
 outside_is (place.Head k) h = cc
 outside_is (place.Section k p l) h = cc

@@ -19,8 +19,8 @@ use Rattle.stl_parser.specs.declared.clauses.Clause.{Clause}
 use Rattle.stl_parser.specs.declared.clauses.Clause.TheVariants as clause
 use Rattle.stl_lexer.specs.declared.marks.Mark.TheVariants as mark
 use Rattle.stl_parser.specs.declared.keywords.Key.TheVariants as key
-use Rattle.stl_parser.specs.declared.places.Place.{Place}
-use Rattle.stl_parser.specs.declared.places.Place.TheVariants as place
+use Rattle.stl_parser.specs.declared.places.ClausePlace.{ClausePlace}
+use Rattle.stl_parser.specs.declared.places.ClausePlace.TheVariants as place
 use Rattle.stl_parser.specs.declared.tables.HeadWord.{HeadWord}
 use Rattle.stl_parser.specs.declared.tables.HeadWord.TheVariants as head_word
 use Rattle.stl_parser.specs.declared.tables.Keyword.{Keyword}
@@ -47,17 +47,17 @@ unfoldable pub until_semicolon : List ℕ → List Token → Option (List Token 
 until_semicolon source tokens = option_map (λ n. (take n tokens, drop (n + 1) tokens)) (semicolon_place source tokens)
 
 -- the place is in the head of a block
-abbrev pub in_head : Place → Bool
+abbrev pub in_head : ClausePlace → Bool
 in_head (place.Head k) = true
 in_head _ = false
 
 -- the place is in the head of a data block
-abbrev pub in_data_head : Place → Bool
+abbrev pub in_data_head : ClausePlace → Bool
 in_data_head (place.Head kinds.Db) = true
 in_data_head _ = false
 
 -- the place is outside of sections, structures, bodies and settings
-abbrev pub is_outer : Place → Bool
+abbrev pub is_outer : ClausePlace → Bool
 is_outer place.Outside = true
 is_outer (place.Head k) = true
 is_outer (place.Between k last) = true
@@ -65,13 +65,13 @@ is_outer (place.Shaped k) = true
 is_outer _ = false
 
 -- how many structures are open, inside the one of a data block
-abbrev pub level_at : Place → ℕ
+abbrev pub level_at : ClausePlace → ℕ
 level_at (place.Section k p level) = level
 level_at (place.Shape k level) = level
 level_at _ = 0
 
 -- the parameters of a block are declared here
-abbrev pub takes_parameters : Place → Bool
+abbrev pub takes_parameters : ClausePlace → Bool
 takes_parameters (place.Section k p level) = is_parameter p
 takes_parameters _ = false
 
@@ -88,7 +88,7 @@ abbrev pub Read : Type 0
 Read = Option (Clause × List Token × Bool)
 
 -- what follows a clause that may end with a `;` in a head
-unfoldable pub behind_note : List ℕ → Place → List Token → List Token
+unfoldable pub behind_note : List ℕ → ClausePlace → List Token → List Token
 behind_note source p rest = if in_head p then skip_semicolon source rest else rest
 
 -- a block of this kind may have this name: it has the kind, or it is a quoted name
@@ -123,12 +123,12 @@ inner_end source [] = None
 inner_end source (t ∷ rest) = if is_mark source t mark.Semicolon then Some (clause.EndStructure, rest, false) else None
 
 -- END_STRUCT, behind the word: with a `;` for an inner structure, and else with or without one
-unfoldable pub structure_end : List ℕ → Place → List Token → Read
+unfoldable pub structure_end : List ℕ → ClausePlace → List Token → Read
 structure_end source p tokens =
     if nat_lt 0 (level_at p) then inner_end source tokens else Some (clause.EndStructure, skip_semicolon source tokens, false)
 
 -- a clause that begins with a keyword, behind it
-unfoldable pub keyword_clause : List ℕ → Place → ℕ → Keyword → List Token → Read
+unfoldable pub keyword_clause : List ℕ → ClausePlace → ℕ → Keyword → List Token → Read
 keyword_clause source p line (keyword.Opens k) rest = head_of source line k rest
 keyword_clause source p line (keyword.Ends k) rest = Some (clause.Ends line k, rest, false)
 keyword_clause source p line (keyword.Section k) rest = Some (clause.Section line k, rest, false)
@@ -157,7 +157,7 @@ head_word_at source head_word.Named rest = word_at source rest
 head_word_at source head_word.Alone rest = Some rest
 
 -- a clause that begins with a word of the head, behind it
-unfoldable pub head_word_clause : List ℕ → Place → HeadWord → List Token → Read
+unfoldable pub head_word_clause : List ℕ → ClausePlace → HeadWord → List Token → Read
 head_word_clause source p w rest = option_map (λ behind. (clause.Note, behind_note source p behind, false)) (head_word_at source w rest)
 
 abbrev pub is_base_kind : BlockKind → Bool
@@ -175,13 +175,13 @@ based_at source tokens =
     option_and_then (λ r. if is_base r.0 then Some (clause.Based r.0, r.1, false) else None) (block_at source tokens)
 
 -- a declaration that opens a structure; a parameter is no structure
-unfoldable pub structure_clause : List ℕ → Place → List Token → Read
+unfoldable pub structure_clause : List ℕ → ClausePlace → List Token → Read
 structure_clause source p tokens =
     if takes_parameters p then None
     else option_map (λ r. (clause.Declares r.0, r.1, false)) (structure_at source (level_at p) tokens)
 
 -- a declaration before its `;`; a parameter has an elementary type
-unfoldable pub declaration_clause : List ℕ → Place → List Token → Option (Clause × Bool)
+unfoldable pub declaration_clause : List ℕ → ClausePlace → List Token → Option (Clause × Bool)
 declaration_clause source p inside =
     option_and_then (λ d. if takes_parameters p && not (is_elementary d) then None else Some (clause.Declares d, false))
     (declaration_of source (level_at p) inside)
@@ -216,43 +216,43 @@ unfoldable pub setting_clause : List ℕ → ℕ → List Token → Option (Clau
 setting_clause source line inside = option_map (λ s. (clause.Sets s, false)) (setting_of source line inside)
 
 -- a clause before its `;`: a declaration, a statement or a setting
-unfoldable pub inside_clause : List ℕ → Place → ℕ → List Token → Option (Clause × Bool)
+unfoldable pub inside_clause : List ℕ → ClausePlace → ℕ → List Token → Option (Clause × Bool)
 inside_clause source p line inside =
     option_or (declaration_clause source p inside) (option_or (statement_clause source line inside) (setting_clause source line inside))
 
 -- a clause that runs to its `;`
-unfoldable pub semicolon_clause : List ℕ → Place → ℕ → List Token → Read
+unfoldable pub semicolon_clause : List ℕ → ClausePlace → ℕ → List Token → Read
 semicolon_clause source p line tokens =
     option_and_then (λ cut. option_map (λ c. (c.0, cut.1, c.1)) (inside_clause source p line cut.0)) (until_semicolon source tokens)
 
 -- a clause that opens a structure or runs to its `;`
-unfoldable pub plain_clause : List ℕ → Place → ℕ → List Token → Read
+unfoldable pub plain_clause : List ℕ → ClausePlace → ℕ → List Token → Read
 plain_clause source p line tokens = option_or (structure_clause source p tokens) (semicolon_clause source p line tokens)
 
 -- a clause that begins with no keyword; in the head of a data block it may name what the block is based on
-unfoldable pub other_clause : List ℕ → Place → ℕ → List Token → Read
+unfoldable pub other_clause : List ℕ → ClausePlace → ℕ → List Token → Read
 other_clause source p line tokens =
     if in_data_head p then option_or (based_at source tokens) (plain_clause source p line tokens) else plain_clause source p line tokens
 
 -- a clause that begins with a word which is no keyword; `tokens` are the word and the rest
-unfoldable pub free_word_clause : List ℕ → Place → Token → List Token → List Token → Option HeadWord → Read
+unfoldable pub free_word_clause : List ℕ → ClausePlace → Token → List Token → List Token → Option HeadWord → Read
 free_word_clause source p t rest tokens (Some w) =
     if is_outer p then head_word_clause source p w rest else other_clause source p t.line tokens
 free_word_clause source p t rest tokens None = other_clause source p t.line tokens
 
 -- a clause that begins with a word; `tokens` are the word and the rest
-unfoldable pub word_clause : List ℕ → Place → Token → List Token → List Token → Option Keyword → Read
+unfoldable pub word_clause : List ℕ → ClausePlace → Token → List Token → List Token → Option Keyword → Read
 word_clause source p t rest tokens (Some k) = keyword_clause source p t.line k rest
 word_clause source p t rest tokens None = free_word_clause source p t rest tokens (look_up head_words (text_of source t))
 
 -- a clause, by the kind of its first token; `tokens` are it and the rest
-unfoldable pub clause_by_kind : List ℕ → Place → Token → List Token → List Token → TokenKind → Read
+unfoldable pub clause_by_kind : List ℕ → ClausePlace → Token → List Token → List Token → TokenKind → Read
 clause_by_kind source p t rest tokens kind.Word = word_clause source p t rest tokens (look_up keywords (text_of source t))
 clause_by_kind source p t rest tokens kind.Attribute = Some (clause.Note, behind_note source p rest, false)
 clause_by_kind source p t rest tokens kind.Title = Some (clause.Title, behind_note source p rest, false)
 clause_by_kind source p t rest tokens _ = other_clause source p t.line tokens
 
 -- the clause at the front, what follows it, and whether a label in it is too long; None where it isn't in the grammar
-unfoldable pub clause_at : List ℕ → Place → List Token → Read
+unfoldable pub clause_at : List ℕ → ClausePlace → List Token → Read
 clause_at source p [] = None
 clause_at source p (t ∷ rest) = clause_by_kind source p t rest (t ∷ rest) t.kind

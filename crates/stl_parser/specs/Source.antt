@@ -7,37 +7,37 @@ use Rattle.plc_base.specs.declared.refusals.SourceFault.{SourceFault}
 use Rattle.plc_base.specs.declared.refusals.SourceFault.TheVariants as fault
 use Rattle.stl_lexer.specs.declared.kinds.Token.{Token}
 use Rattle.stl_parser.specs.declared.clauses.Clause.{Clause}
-use Rattle.stl_parser.specs.declared.places.Place.{Place}
-use Rattle.stl_parser.specs.declared.places.Place.TheVariants as place
+use Rattle.stl_parser.specs.declared.places.ClausePlace.{ClausePlace}
+use Rattle.stl_parser.specs.declared.places.ClausePlace.TheVariants as place
 use Rattle.stl_parser.specs.Spelling.{is_kept, spelled_block}
 use Rattle.stl_parser.specs.Clauses.{Read, clause_at}
 use Rattle.stl_parser.specs.Frame.{follow}
 
 -- a clause that is right, what follows it, and where that stands
 abbrev pub Step : Type 0
-Step = Clause × List Token × Place
+Step = Clause × List Token × ClausePlace
 
 -- a clause in the grammar: it breaks rule 11 where its kind may not stand here, else rule 12 where a label is too long
-abbrev pub placed : Clause → List Token → Bool → Option Place → Result Step ℕ
+abbrev pub placed : Clause → List Token → Bool → Option ClausePlace → Result Step ℕ
 placed c rest long None = Err 11
 placed c rest true (Some next) = Err 12
 placed c rest false (Some next) = Ok (c, rest, next)
 
 -- a clause that isn't in the grammar breaks rule 10, whatever else it breaks
-abbrev pub judged : Place → Read → Result Step ℕ
+abbrev pub judged : ClausePlace → Read → Result Step ℕ
 judged p None = Err 10
 judged p (Some r) = placed r.0 r.1 r.2 (follow p r.0)
 
 -- the clause at the front of the tokens, or the rule that it breaks
-unfoldable pub step_of : List ℕ → Place → List Token → Result Step ℕ
+unfoldable pub step_of : List ℕ → ClausePlace → List Token → Result Step ℕ
 step_of source p tokens = judged p (clause_at source p tokens)
 
 -- these clauses, all right, follow one another from the front of the tokens, and behind them stand the tokens `rest` at
 -- the place `q`
-abbrev pub Reads : List ℕ → Place → List Token → List Clause → Place → List Token → Type 0
+abbrev pub Reads : List ℕ → ClausePlace → List Token → List Clause → ClausePlace → List Token → Type 0
 Reads source p tokens [] q rest = (p ≡ q) × (tokens ≡ rest)
 Reads source p tokens (c ∷ cs) q rest =
-    (behind : List Token) × (next : Place) × (step_of source p tokens ≡ Ok (c, behind, next)) × Reads source next behind cs q rest
+    (behind : List Token) × (next : ClausePlace) × (step_of source p tokens ≡ Ok (c, behind, next)) × Reads source next behind cs q rest
 
 -- the line of the last token
 abbrev pub last_line : ℕ → List Token → ℕ
@@ -45,29 +45,29 @@ last_line line [] = line
 last_line line (t ∷ ts) = last_line t.line ts
 
 -- no block is open
-abbrev pub is_outside : Place → Bool
+abbrev pub is_outside : ClausePlace → Bool
 is_outside place.Outside = true
 is_outside _ = false
 
 -- at this place the clause at the front breaks the rule; where no token is left, the source ends inside a block
-abbrev pub Breaks : List ℕ → Place → List Token → ℕ → ℕ → ℕ → Type 0
+abbrev pub Breaks : List ℕ → ClausePlace → List Token → ℕ → ℕ → ℕ → Type 0
 Breaks source p [] last line rule = (is_outside p ≡ false) × (line ≡ last) × (rule ≡ 13)
 Breaks source p (t ∷ ts) last line rule = (line ≡ t.line) × (step_of source p (t ∷ ts) ≡ Err rule)
 
 -- the same of what a refusal says; nothing is said of want of memory
-abbrev pub IsBrokenAt : List ℕ → Place → List Token → ℕ → SourceFault → Type 0
+abbrev pub IsBrokenAt : List ℕ → ClausePlace → List Token → ℕ → SourceFault → Type 0
 IsBrokenAt source p tokens last (fault.Refused refusal) = Breaks source p tokens last refusal.line refusal.rule
 IsBrokenAt source p tokens last fault.NoMemory = Unit {0}
 
 -- from the front of the tokens, at the place `p`, on: the first clause that breaks a rule; all the clauses before it are right
-pub record BreaksBehind (source : List ℕ) (p : Place) (tokens : List Token) (last line rule : ℕ) : Type 0 where
+pub record BreaksBehind (source : List ℕ) (p : ClausePlace) (tokens : List Token) (last line rule : ℕ) : Type 0 where
   pub before : List Clause
-  pub at : Place
+  pub at : ClausePlace
   pub rest : List Token
   pub reads : Reads source p tokens before at rest
   pub breaks : Breaks source at rest last line rule
 
-abbrev pub IsBrokenBehind : List ℕ → Place → List Token → ℕ → SourceFault → Type 0
+abbrev pub IsBrokenBehind : List ℕ → ClausePlace → List Token → ℕ → SourceFault → Type 0
 IsBrokenBehind source p tokens last (fault.Refused refusal) = BreaksBehind source p tokens last refusal.line refusal.rule
 IsBrokenBehind source p tokens last fault.NoMemory = Unit {0}
 
@@ -81,7 +81,7 @@ AreClauses source tokens clauses = Reads source place.Outside tokens clauses pla
 
 -- right clauses lead from the front of the tokens, at the place `p`, to the tokens `rest` at the place `q`, and `kept` are
 -- those of them that a tree keeps
-pub record ReadsKept (source : List ℕ) (p : Place) (tokens : List Token) (kept : List Clause) (q : Place) (rest : List Token) : Type 0 where
+pub record ReadsKept (source : List ℕ) (p : ClausePlace) (tokens : List Token) (kept : List Clause) (q : ClausePlace) (rest : List Token) : Type 0 where
   pub clauses : List Clause
   pub reads : Reads source p tokens clauses q rest
   pub those : kept ≡ filter is_kept clauses

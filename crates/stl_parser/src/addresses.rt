@@ -16,8 +16,9 @@ ghost use Rattle.stl_parser.specs.Addresses.{
 
 use crate::keywords::{has_kind, is_mark};
 use crate::literals::unquoted;
+use crate::lookups::{address_of, look_up};
 use crate::numbers::{all_digits, decimal, number};
-use crate::tables::{ADDRESSES, Address, BLOCK_KINDS, address_of, look_up};
+use crate::tables::{ADDRESSES, Address, BLOCK_KINDS};
 use plc_base::{BlockId, BlockKind};
 use std::alloc::{AllocError, Global};
 use stl_ast::{BlockName, Name};

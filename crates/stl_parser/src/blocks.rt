@@ -1,7 +1,7 @@
 ghost use Rattle.std.specs.Prelude.{◌≡◌, ◌≤◌, ◌∷◌, [], ◌++◌, map, filter, length, false, true, IfOk, IfErr};
 ghost use Rattle.std.specs.List.{flat_map};
 ghost use Rattle.stl_parser.specs.declared.clauses.Clause.TheVariants as spelled;
-ghost use Rattle.stl_parser.specs.declared.places.Place.TheVariants as place;
+ghost use Rattle.stl_parser.specs.declared.places.ClausePlace.TheVariants as place;
 ghost use Rattle.stl_parser.specs.Clauses.{level_at};
 ghost use Rattle.stl_parser.specs.BlockReading.{
   Opens,
@@ -26,7 +26,7 @@ ghost use Rattle.stl_parser.specs.Spelling.{
 };
 
 use crate::clauses::Clause;
-use crate::places::Place;
+use crate::places::ClausePlace;
 use crate::steps::next_clause;
 use plc_base::{BlockKind, SourceFault};
 use std::alloc::{AllocError, Global};
@@ -37,16 +37,16 @@ use stl_ast::{
 use stl_lexer::Token;
 
 /// Whether a place lies inside a section or a structure.
-fn is_inside(at: Place) -> bool
+fn is_inside(at: ClausePlace) -> bool
     ensures { result ≡ is_inside at }
 {
     match at {
-        Place::Section {
+        ClausePlace::Section {
             kind: _,
             part: _,
             level: _,
         } => true,
-        Place::Shape { kind: _, level: _ } => true,
+        ClausePlace::Shape { kind: _, level: _ } => true,
         _ => false,
     }
 }
@@ -95,7 +95,7 @@ fn declarations<'a>(
     alloc: Global,
     source: &[u8],
     last: u32,
-    from: Place,
+    from: ClausePlace,
     tokens: &'a [Token],
 ) -> Result<(Declarations, &'a [Token]), SourceFault>
     requires inside { is_inside from ≡ true }
@@ -134,7 +134,13 @@ fn body<'a>(
     let mut statements: Vec<Statement> = Vec::new(alloc);
     let mut rest = tokens;
     loop {
-        let (clause, behind, _) = next_clause(alloc, source, last, Place::Body { kind }, rest)?;
+        let (clause, behind, _) = next_clause(
+            alloc,
+            source,
+            last,
+            ClausePlace::Body { kind },
+            rest,
+        )?;
         match clause {
             Clause::Ends { line, kind: _ } => {
                 return Ok((Sequence::from_vec(statements), line, behind));
@@ -160,7 +166,7 @@ fn settings<'a>(
     ensures broken { IfErr result (IsBrokenBehind source.now (place.Shaped kind) tokens.now last) }
 {
     let mut settings: Vec<Setting> = Vec::new(alloc);
-    let mut at = Place::Shaped { kind };
+    let mut at = ClausePlace::Shaped { kind };
     let mut rest = tokens;
     loop {
         let (clause, behind, next) = next_clause(alloc, source, last, at, rest)?;
@@ -185,7 +191,7 @@ fn opening<'a>(
     last: u32,
     kind: BlockKind,
     tokens: &'a [Token],
-) -> Result<(Clause, &'a [Token], Place), SourceFault>
+) -> Result<(Clause, &'a [Token], ClausePlace), SourceFault>
     ensures read { IfOk result (λ r. ReadsKept source.now (place.Head kind) tokens.now
         (filter is_kept (r.0 ∷ [])) r.2 r.1.now) }
     ensures opens { IfOk result (λ r. Opens kind r.0 r.2) }
@@ -193,7 +199,13 @@ fn opening<'a>(
 {
     let mut rest = tokens;
     loop {
-        let (clause, behind, next) = next_clause(alloc, source, last, Place::Head { kind }, rest)?;
+        let (clause, behind, next) = next_clause(
+            alloc,
+            source,
+            last,
+            ClausePlace::Head { kind },
+            rest,
+        )?;
         match clause {
             Clause::Note | Clause::Title => rest = behind,
             other => return Ok((other, behind, next)),
@@ -209,7 +221,7 @@ fn sections<'a>(
     last: u32,
     kind: BlockKind,
     tokens: &'a [Token],
-) -> Result<(Sequence<Part>, Clause, &'a [Token], Place), SourceFault>
+) -> Result<(Sequence<Part>, Clause, &'a [Token], ClausePlace), SourceFault>
     requires few { length tokens.now ≤ 1048576 }
     ensures read { IfOk result (λ r. ReadsKept source.now (place.Head kind) tokens.now
         (flat_map spelled_part r.0 ++ filter is_kept (r.1 ∷ [])) r.3 r.2.now) }
@@ -228,7 +240,7 @@ fn sections<'a>(
                     kind: part,
                     items,
                 })?;
-                let between = Place::Between { kind, last: part };
+                let between = ClausePlace::Between { kind, last: part };
                 let found = next_clause(alloc, source, last, between, behind)?;
                 clause = found.0;
                 rest = found.1;
@@ -316,7 +328,7 @@ fn opened_shape<'a>(
     last: u32,
     kind: BlockKind,
     clause: Clause,
-    at: Place,
+    at: ClausePlace,
     tokens: &'a [Token],
 ) -> Result<(Shape, &'a [Token]), SourceFault>
     requires opens { OpensShape kind clause at }
@@ -416,7 +428,7 @@ pub(crate) fn source_blocks(
     let mut blocks: Vec<Block> = Vec::new(alloc);
     let mut rest = tokens;
     while let [_, ..] = rest {
-        let (clause, behind, _) = next_clause(alloc, source, last, Place::Outside, rest)?;
+        let (clause, behind, _) = next_clause(alloc, source, last, ClausePlace::Outside, rest)?;
         let Clause::Head {
             line,
             kind,

@@ -1,39 +1,16 @@
 ghost use Rattle.std.specs.Prelude.{◌≡◌, ◌<◌, length, IfOk, IfSome};
-ghost use Rattle.std.specs.Option.{option_map, option_and_then};
+ghost use Rattle.std.specs.Option.{option_map};
 ghost use Rattle.stl_lexer.specs.Tokens.{text_of};
 ghost use Rattle.stl_ast.specs.Declarations.{is_plain, is_elementary};
-ghost use Rattle.stl_parser.specs.Declarations.{after_colon};
 ghost use Rattle.stl_parser.specs.Tables.{look_up, keywords, head_words};
 ghost use Rattle.stl_parser.specs.Clauses.{
-  skip_semicolon,
   semicolon_place,
   until_semicolon,
-  in_head,
-  in_data_head,
-  is_outer,
-  level_at,
-  takes_parameters,
-  behind_note,
-  block_rank,
-  is_of_kind,
-  named_at,
-  result_type,
-  result_at,
-  head_of,
   inner_end,
   structure_end,
   keyword_clause,
-  version_at,
-  word_at,
-  head_word_at,
-  head_word_clause,
-  is_base,
-  based_at,
   structure_clause,
   declaration_clause,
-  first_step,
-  value_behind,
-  setting_of,
   statement_clause,
   setting_clause,
   inside_clause,
@@ -46,21 +23,17 @@ ghost use Rattle.stl_parser.specs.Clauses.{
   clause_at,
 };
 
-use crate::addresses::block;
-use crate::declarations::{after_colon, declaration, structure};
-use crate::keywords::{Key, has_kind, is_key, is_mark};
-use crate::literals::literal;
-use crate::operands::local_name;
-use crate::paths::steps;
-use crate::places::Place;
+use crate::declarations::{declaration, structure};
+use crate::heads::{based, behind_note, head, head_word_clause, skip_semicolon};
+use crate::keywords::is_mark;
+use crate::lookups::{head_word_of, keyword_of};
+use crate::places::{ClausePlace, in_data_head, is_outer, level_at, takes_parameters};
+use crate::settings::setting_of;
 use crate::statements::statement;
-use crate::tables::{HeadWord, Keyword, head_word_of, keyword_of, simple_type_of};
+use crate::tables::{HeadWord, Keyword};
 use plc_base::BlockKind;
 use std::alloc::{AllocError, Global};
-use stl_ast::{
-    BlockName, Bounds, Declaration, ElementType, Name, PartKind, PathStep, Sequence, Setting,
-    Simple, Statement,
-};
+use stl_ast::{BlockName, Bounds, Declaration, ElementType, PartKind, Setting, Simple, Statement};
 use stl_lexer::{Mark, Token, TokenKind};
 
 /// A clause of a source.
@@ -116,24 +89,7 @@ pub enum Clause {
 }
 
 /// A clause with what follows it, and whether a label in it is too long.
-type Reading<'a> = (Clause, &'a [Token], bool);
-
-/// What is left behind a `;` where one stands at the front.
-#[tactic(auto, unfolding(crate::specs::Clauses::skip_semicolon))]
-fn skip_semicolon<'a>(source: &[u8], tokens: &'a [Token]) -> &'a [Token]
-    ensures { result.now ≡ skip_semicolon source.now tokens.now }
-{
-    match tokens {
-        [] => tokens,
-        [token, rest @ ..] => {
-            if is_mark(source, token, Mark::Semicolon) {
-                rest
-            } else {
-                tokens
-            }
-        }
-    }
-}
+pub(crate) type ReadClause<'a> = (Clause, &'a [Token], bool);
 
 /// How many tokens stand before the first `;`, or None where there is none.
 #[tactic(auto, unfolding(crate::specs::Clauses::semicolon_place))]
@@ -155,196 +111,9 @@ fn until_semicolon<'a>(source: &[u8], tokens: &'a [Token]) -> Option<(&'a [Token
     Some((&tokens[..count], &tokens[count + 1..]))
 }
 
-/// Whether the place is in the head of a block.
-fn in_head(at: Place) -> bool
-    ensures { result ≡ in_head at }
-{
-    matches!(at, Place::Head { kind: _ })
-}
-
-/// Whether the place is in the head of a data block.
-fn in_data_head(at: Place) -> bool
-    ensures { result ≡ in_data_head at }
-{
-    match at {
-        Place::Head { kind } => matches!(kind, BlockKind::Db),
-        _ => false,
-    }
-}
-
-/// Whether the place is outside of sections, structures, bodies and settings.
-fn is_outer(at: Place) -> bool
-    ensures { result ≡ is_outer at }
-{
-    match at {
-        Place::Outside
-        | Place::Head { kind: _ }
-        | Place::Between { kind: _, last: _ }
-        | Place::Shaped { kind: _ } => true,
-        _ => false,
-    }
-}
-
-/// How many structures are open, inside the one of a data block.
-fn level_at(at: Place) -> u32
-    ensures { result ≡ level_at at }
-{
-    match at {
-        Place::Section {
-            kind: _,
-            part: _,
-            level,
-        } => level,
-        Place::Shape { kind: _, level } => level,
-        _ => 0,
-    }
-}
-
-/// Whether the parameters of a block are declared here.
-fn takes_parameters(at: Place) -> bool
-    ensures { result ≡ takes_parameters at }
-{
-    match at {
-        Place::Section {
-            kind: _,
-            part,
-            level: _,
-        } => { matches!(part, PartKind::Input | PartKind::Output | PartKind::InOut) }
-        _ => false,
-    }
-}
-
-/// What follows a clause that may end with a `;` in a head.
-#[tactic(auto, unfolding(crate::specs::Clauses::behind_note))]
-fn behind_note<'a>(source: &[u8], at: Place, tokens: &'a [Token]) -> &'a [Token]
-    ensures { result.now ≡ behind_note source.now at tokens.now }
-{
-    if in_head(at) {
-        skip_semicolon(source, tokens)
-    } else {
-        tokens
-    }
-}
-
-/// The place of a kind in the list of kinds.
-pub(crate) fn block_rank(kind: BlockKind) -> u8
-    ensures { result ≡ block_rank kind }
-{
-    match kind {
-        BlockKind::Ob => 0,
-        BlockKind::Fc => 1,
-        BlockKind::Fb => 2,
-        BlockKind::Db => 3,
-        BlockKind::Sfc => 4,
-        BlockKind::Udt => 5,
-    }
-}
-
-/// Whether a block of this kind may have this name: it has the kind, or it is a quoted name.
-#[tactic(auto, unfolding(crate::specs::Clauses::is_of_kind))]
-fn is_of_kind(kind: BlockKind, name: &BlockName) -> bool
-    ensures { result ≡ is_of_kind kind name.now }
-{
-    match name {
-        BlockName::Number { id } => block_rank(id.kind) == block_rank(kind),
-        BlockName::Quoted { name: _ } => true,
-    }
-}
-
-/// The name of a block of this kind, and what follows.
-#[tactic(auto, unfolding(crate::specs::Clauses::named_at))]
-fn named<'a>(
-    alloc: Global,
-    source: &[u8],
-    kind: BlockKind,
-    tokens: &'a [Token],
-) -> Result<Option<(BlockName, &'a [Token])>, AllocError>
-    ensures { IfOk result (λ found. option_map (λ r. (r.0, r.1.now)) found
-        ≡ named_at source.now kind tokens.now) }
-{
-    let Some((name, rest)) = block(alloc, source, tokens)? else {
-        return Ok(None);
-    };
-    if is_of_kind(kind, &name) {
-        Ok(Some((name, rest)))
-    } else {
-        Ok(None)
-    }
-}
-
-/// VOID or the elementary type of a return value, and what follows.
-#[tactic(auto, unfolding(crate::specs::Clauses::result_type))]
-fn result_type<'a>(source: &[u8], tokens: &'a [Token]) -> Option<(Option<Simple>, &'a [Token])>
-    ensures { option_map (λ r. (r.0, r.1.now)) result ≡ result_type source.now tokens.now }
-{
-    let [token, rest @ ..] = tokens else {
-        return None;
-    };
-    if is_key(source, token, Key::Void) {
-        return Some((None, rest));
-    }
-    let kind = simple_type_of(token.text(source))?;
-    Some((Some(kind), rest))
-}
-
-/// `:` and the type of a return value, and what follows.
-fn typed_result<'a>(source: &[u8], tokens: &'a [Token]) -> Option<(Option<Simple>, &'a [Token])>
-    ensures { option_map (λ r. (r.0, r.1.now)) result
-        ≡ option_and_then (λ rest. result_type source.now rest)
-        (after_colon source.now tokens.now) }
-{
-    let rest = after_colon(source, tokens)?;
-    result_type(source, rest)
-}
-
-/// What stands behind the name of a block: the type of a function's return value, and else nothing.
-#[tactic(auto, unfolding(crate::specs::Clauses::result_at))]
-fn result_of<'a>(
-    source: &[u8],
-    kind: BlockKind,
-    tokens: &'a [Token],
-) -> Option<(Option<Simple>, &'a [Token])>
-    ensures { option_map (λ r. (r.0, r.1.now)) result ≡ result_at source.now kind tokens.now }
-{
-    match kind {
-        BlockKind::Fc => typed_result(source, tokens),
-        _ => Some((None, tokens)),
-    }
-}
-
-/// The first clause of a block, behind its keyword.
-#[tactic(auto, unfolding(crate::specs::Clauses::head_of))]
-fn head<'a>(
-    alloc: Global,
-    source: &[u8],
-    line: u32,
-    kind: BlockKind,
-    tokens: &'a [Token],
-) -> Result<Option<Reading<'a>>, AllocError>
-    ensures { IfOk result (λ found. option_map (λ r. (r.0, r.1.now, r.2)) found
-        ≡ head_of source.now line kind tokens.now) }
-{
-    let Some((name, rest)) = named(alloc, source, kind, tokens)? else {
-        return Ok(None);
-    };
-    let Some((result, rest)) = result_of(source, kind, rest) else {
-        return Ok(None);
-    };
-    Ok(Some((
-        Clause::Head {
-            line,
-            kind,
-            name,
-            result,
-        },
-        rest,
-        false,
-    )))
-}
-
 /// END_STRUCT of an inner structure, behind the word: its `;`.
 #[tactic(auto, unfolding(crate::specs::Clauses::inner_end))]
-fn inner_end<'a>(source: &[u8], tokens: &'a [Token]) -> Option<Reading<'a>>
+fn inner_end<'a>(source: &[u8], tokens: &'a [Token]) -> Option<ReadClause<'a>>
     ensures { option_map (λ r. (r.0, r.1.now, r.2)) result ≡ inner_end source.now tokens.now }
 {
     let [token, rest @ ..] = tokens else {
@@ -359,7 +128,7 @@ fn inner_end<'a>(source: &[u8], tokens: &'a [Token]) -> Option<Reading<'a>>
 
 /// END_STRUCT, behind the word: with a `;` for an inner structure, and else with or without one.
 #[tactic(auto, unfolding(crate::specs::Clauses::structure_end))]
-fn structure_end<'a>(source: &[u8], at: Place, tokens: &'a [Token]) -> Option<Reading<'a>>
+fn structure_end<'a>(source: &[u8], at: ClausePlace, tokens: &'a [Token]) -> Option<ReadClause<'a>>
     ensures { option_map (λ r. (r.0, r.1.now, r.2)) result
         ≡ structure_end source.now at tokens.now }
 {
@@ -375,11 +144,11 @@ fn structure_end<'a>(source: &[u8], at: Place, tokens: &'a [Token]) -> Option<Re
 fn keyword_clause<'a>(
     alloc: Global,
     source: &[u8],
-    at: Place,
+    at: ClausePlace,
     line: u32,
     keyword: Keyword,
     rest: &'a [Token],
-) -> Result<Option<Reading<'a>>, AllocError>
+) -> Result<Option<ReadClause<'a>>, AllocError>
     ensures { IfOk result (λ found. option_map (λ r. (r.0, r.1.now, r.2)) found
         ≡ keyword_clause source.now at line keyword rest.now) }
 {
@@ -395,105 +164,14 @@ fn keyword_clause<'a>(
     }
 }
 
-/// `: n.n` behind VERSION, and what follows.
-#[tactic(auto, unfolding(crate::specs::Clauses::version_at))]
-fn version<'a>(source: &[u8], tokens: &'a [Token]) -> Option<&'a [Token]>
-    ensures { option_map (λ r. r.now) result ≡ version_at source.now tokens.now }
-{
-    let [colon, major, dot, minor, rest @ ..] = tokens else {
-        return None;
-    };
-    if is_mark(source, colon, Mark::Colon)
-        && has_kind(major, TokenKind::Number)
-        && is_mark(source, dot, Mark::Dot)
-        && has_kind(minor, TokenKind::Number)
-    {
-        Some(rest)
-    } else {
-        None
-    }
-}
-
-/// `: word`, and what follows.
-#[tactic(auto, unfolding(crate::specs::Clauses::word_at))]
-fn named_word<'a>(source: &[u8], tokens: &'a [Token]) -> Option<&'a [Token]>
-    ensures { option_map (λ r. r.now) result ≡ word_at source.now tokens.now }
-{
-    let [colon, word, rest @ ..] = tokens else {
-        return None;
-    };
-    if is_mark(source, colon, Mark::Colon) && has_kind(word, TokenKind::Word) {
-        Some(rest)
-    } else {
-        None
-    }
-}
-
-/// What stands behind a word of the head, and what follows.
-#[tactic(auto, unfolding(crate::specs::Clauses::head_word_at))]
-fn behind_head_word<'a>(source: &[u8], word: HeadWord, tokens: &'a [Token]) -> Option<&'a [Token]>
-    ensures { option_map (λ r. r.now) result ≡ head_word_at source.now word tokens.now }
-{
-    match word {
-        HeadWord::Version => version(source, tokens),
-        HeadWord::Named => named_word(source, tokens),
-        HeadWord::Alone => Some(tokens),
-    }
-}
-
-/// A clause that begins with a word of the head, behind it.
-#[tactic(auto, unfolding(crate::specs::Clauses::head_word_clause))]
-fn head_word_clause<'a>(
-    source: &[u8],
-    at: Place,
-    word: HeadWord,
-    tokens: &'a [Token],
-) -> Option<Reading<'a>>
-    ensures { option_map (λ r. (r.0, r.1.now, r.2)) result
-        ≡ head_word_clause source.now at word tokens.now }
-{
-    let rest = behind_head_word(source, word, tokens)?;
-    Some((Clause::Note, behind_note(source, at, rest), false))
-}
-
-/// Whether a data block may be based on this: a function block, or a user-defined data type.
-fn is_base(name: &BlockName) -> bool
-    ensures { result ≡ is_base name.now }
-{
-    match name {
-        BlockName::Number { id } => matches!(id.kind, BlockKind::Fb | BlockKind::Udt),
-        BlockName::Quoted { name: _ } => true,
-    }
-}
-
-/// What a data block is based on.
-#[tactic(auto, unfolding(crate::specs::Clauses::based_at))]
-fn based<'a>(
-    alloc: Global,
-    source: &[u8],
-    tokens: &'a [Token],
-) -> Result<Option<Reading<'a>>, AllocError>
-    ensures { IfOk result (λ found. option_map (λ r. (r.0, r.1.now, r.2)) found
-        ≡ based_at source.now tokens.now) }
-{
-    let Some((name, rest)) = block(alloc, source, tokens)? else {
-        return Ok(None);
-    };
-    if is_base(&name) {
-        Ok(Some((Clause::Based { name }, rest, false)))
-    } else {
-        Ok(None)
-    }
-}
-
 /// A declaration that opens a structure; a parameter is no structure.
 #[tactic(auto, unfolding(crate::specs::Clauses::structure_clause))]
 fn structure_clause<'a>(
     alloc: Global,
     source: &[u8],
-    at: Place,
+    at: ClausePlace,
     tokens: &'a [Token],
-) -> Result<Option<Reading<'a>>, AllocError>
+) -> Result<Option<ReadClause<'a>>, AllocError>
     ensures { IfOk result (λ found. option_map (λ r. (r.0, r.1.now, r.2)) found
         ≡ structure_clause source.now at tokens.now) }
 {
@@ -528,7 +206,7 @@ fn is_elementary(declaration: &Declaration) -> bool
 fn declaration_clause(
     alloc: Global,
     source: &[u8],
-    at: Place,
+    at: ClausePlace,
     inside: &[Token],
 ) -> Result<Option<(Clause, bool)>, AllocError>
     ensures { IfOk result (λ found. found ≡ declaration_clause source.now at inside.now) }
@@ -540,68 +218,6 @@ fn declaration_clause(
         return Ok(None);
     }
     Ok(Some((Clause::Declares { declaration }, false)))
-}
-
-/// The first step of a setting's path: a word, with or without `#`.
-#[tactic(auto, unfolding(crate::specs::Clauses::first_step))]
-fn first_step(alloc: Global, source: &[u8], token: &Token) -> Result<Option<PathStep>, AllocError>
-    ensures { IfOk result (λ found. found ≡ first_step source.now token.now token.now.kind) }
-{
-    match token.kind {
-        TokenKind::Word => {
-            let name = Name::new(alloc, token.text(source))?;
-            Ok(Some(PathStep::Named { name }))
-        }
-        TokenKind::Local => {
-            let name = local_name(alloc, source, token)?;
-            Ok(Some(PathStep::Named { name }))
-        }
-        _ => Ok(None),
-    }
-}
-
-/// The value of a setting, behind its path.
-#[tactic(auto, unfolding(crate::specs::Clauses::value_behind))]
-fn value_behind(
-    source: &[u8],
-    line: u32,
-    path: Sequence<PathStep>,
-    tokens: &[Token],
-) -> Option<Setting>
-    ensures { result ≡ value_behind source.now line path tokens.now }
-{
-    let [assign, rest @ ..] = tokens else {
-        return None;
-    };
-    if !is_mark(source, assign, Mark::Assign) {
-        return None;
-    }
-    let value = literal(source, rest)?;
-    Some(Setting { line, path, value })
-}
-
-/// A setting that is all of the tokens before its `;`.
-#[tactic(auto, unfolding(crate::specs::Clauses::setting_of))]
-fn setting_of(
-    alloc: Global,
-    source: &[u8],
-    line: u32,
-    tokens: &[Token],
-) -> Result<Option<Setting>, AllocError>
-    ensures { IfOk result (λ found. found ≡ setting_of source.now line tokens.now) }
-{
-    let [token, rest @ ..] = tokens else {
-        return Ok(None);
-    };
-    let Some(step) = first_step(alloc, source, token)? else {
-        return Ok(None);
-    };
-    let mut first = Vec::new(alloc);
-    first.push(step)?;
-    let Some((path, rest)) = steps(alloc, source, first, rest)? else {
-        return Ok(None);
-    };
-    Ok(value_behind(source, line, path, rest))
 }
 
 /// A statement before its `;`, and whether a label in it is too long.
@@ -641,7 +257,7 @@ fn setting_clause(
 fn inside_clause(
     alloc: Global,
     source: &[u8],
-    at: Place,
+    at: ClausePlace,
     line: u32,
     inside: &[Token],
 ) -> Result<Option<(Clause, bool)>, AllocError>
@@ -661,10 +277,10 @@ fn inside_clause(
 fn semicolon_clause<'a>(
     alloc: Global,
     source: &[u8],
-    at: Place,
+    at: ClausePlace,
     line: u32,
     tokens: &'a [Token],
-) -> Result<Option<Reading<'a>>, AllocError>
+) -> Result<Option<ReadClause<'a>>, AllocError>
     ensures { IfOk result (λ found. option_map (λ r. (r.0, r.1.now, r.2)) found
         ≡ semicolon_clause source.now at line tokens.now) }
 {
@@ -682,10 +298,10 @@ fn semicolon_clause<'a>(
 fn plain_clause<'a>(
     alloc: Global,
     source: &[u8],
-    at: Place,
+    at: ClausePlace,
     line: u32,
     tokens: &'a [Token],
-) -> Result<Option<Reading<'a>>, AllocError>
+) -> Result<Option<ReadClause<'a>>, AllocError>
     ensures { IfOk result (λ found. option_map (λ r. (r.0, r.1.now, r.2)) found
         ≡ plain_clause source.now at line tokens.now) }
 {
@@ -701,10 +317,10 @@ fn plain_clause<'a>(
 fn other_clause<'a>(
     alloc: Global,
     source: &[u8],
-    at: Place,
+    at: ClausePlace,
     line: u32,
     tokens: &'a [Token],
-) -> Result<Option<Reading<'a>>, AllocError>
+) -> Result<Option<ReadClause<'a>>, AllocError>
     ensures { IfOk result (λ found. option_map (λ r. (r.0, r.1.now, r.2)) found
         ≡ other_clause source.now at line tokens.now) }
 {
@@ -722,11 +338,11 @@ fn other_clause<'a>(
 fn free_word_clause<'a>(
     alloc: Global,
     source: &[u8],
-    at: Place,
+    at: ClausePlace,
     token: &Token,
     rest: &'a [Token],
     tokens: &'a [Token],
-) -> Result<Option<Reading<'a>>, AllocError>
+) -> Result<Option<ReadClause<'a>>, AllocError>
     ensures { IfOk result (λ found. option_map (λ r. (r.0, r.1.now, r.2)) found
         ≡ free_word_clause source.now at token.now rest.now tokens.now (look_up head_words
         (text_of source.now token.now))) }
@@ -748,11 +364,11 @@ fn free_word_clause<'a>(
 fn word_clause<'a>(
     alloc: Global,
     source: &[u8],
-    at: Place,
+    at: ClausePlace,
     token: &Token,
     rest: &'a [Token],
     tokens: &'a [Token],
-) -> Result<Option<Reading<'a>>, AllocError>
+) -> Result<Option<ReadClause<'a>>, AllocError>
     ensures { IfOk result (λ found. option_map (λ r. (r.0, r.1.now, r.2)) found
         ≡ word_clause source.now at token.now rest.now tokens.now (look_up keywords
         (text_of source.now token.now))) }
@@ -768,11 +384,11 @@ fn word_clause<'a>(
 fn clause_by_kind<'a>(
     alloc: Global,
     source: &[u8],
-    at: Place,
+    at: ClausePlace,
     token: &Token,
     rest: &'a [Token],
     tokens: &'a [Token],
-) -> Result<Option<Reading<'a>>, AllocError>
+) -> Result<Option<ReadClause<'a>>, AllocError>
     ensures { IfOk result (λ found. option_map (λ r. (r.0, r.1.now, r.2)) found
         ≡ clause_by_kind source.now at token.now rest.now tokens.now token.now.kind) }
 {
@@ -790,9 +406,9 @@ fn clause_by_kind<'a>(
 pub(crate) fn clause_at<'a>(
     alloc: Global,
     source: &[u8],
-    at: Place,
+    at: ClausePlace,
     tokens: &'a [Token],
-) -> Result<Option<Reading<'a>>, AllocError>
+) -> Result<Option<ReadClause<'a>>, AllocError>
     ensures { IfOk result (λ found. option_map (λ r. (r.0, r.1.now, r.2)) found
         ≡ clause_at source.now at tokens.now) }
 {

@@ -4,8 +4,8 @@ ghost use Rattle.stl_ast.specs.Blocks as blocks;
 ghost use Rattle.stl_parser.specs.Clauses.{level_at};
 ghost use Rattle.stl_parser.specs.Frame as frame;
 
-use crate::clauses::{Clause, block_rank};
-use crate::places::Place;
+use crate::clauses::Clause;
+use crate::places::{ClausePlace, block_rank};
 use plc_base::BlockKind;
 use stl_ast::{Bounds, Declaration, ElementType, Init, PartKind};
 
@@ -121,13 +121,13 @@ fn level_behind(level: u32, of: &ElementType) -> u32
 }
 
 /// Where the clauses behind an END_STRUCT stand, in a section.
-fn section_behind(kind: BlockKind, part: PartKind, level: u32) -> Option<Place>
+fn section_behind(kind: BlockKind, part: PartKind, level: u32) -> Option<ClausePlace>
     ensures { result ≡ frame.section_behind kind part level }
 {
     if level == 0 {
         None
     } else {
-        Some(Place::Section {
+        Some(ClausePlace::Section {
             kind,
             part,
             level: level - 1,
@@ -136,13 +136,13 @@ fn section_behind(kind: BlockKind, part: PartKind, level: u32) -> Option<Place>
 }
 
 /// Where the clauses behind an END_STRUCT stand, in a data block or a `TYPE` block.
-fn shape_behind(kind: BlockKind, level: u32) -> Option<Place>
+fn shape_behind(kind: BlockKind, level: u32) -> Option<ClausePlace>
     ensures { result ≡ frame.shape_behind kind level }
 {
     if level == 0 {
-        Some(Place::Shaped { kind })
+        Some(ClausePlace::Shaped { kind })
     } else {
-        Some(Place::Shape {
+        Some(ClausePlace::Shape {
             kind,
             level: level - 1,
         })
@@ -151,18 +151,18 @@ fn shape_behind(kind: BlockKind, level: u32) -> Option<Place>
 
 /// What may stand in the head of a block.
 #[tactic(auto, unfolding(crate::specs::Frame::follow_head))]
-fn follow_head(kind: BlockKind, clause: &Clause) -> Option<Place>
+fn follow_head(kind: BlockKind, clause: &Clause) -> Option<ClausePlace>
     ensures { result ≡ frame.follow_head kind clause.now }
 {
     match clause {
-        Clause::Note => Some(Place::Head { kind }),
-        Clause::Title => Some(Place::Head { kind }),
+        Clause::Note => Some(ClausePlace::Head { kind }),
+        Clause::Title => Some(ClausePlace::Head { kind }),
         Clause::Section {
             line: _,
             kind: part,
         } => {
             if may_have(kind, *part) {
-                Some(Place::Section {
+                Some(ClausePlace::Section {
                     kind,
                     part: *part,
                     level: 0,
@@ -173,21 +173,21 @@ fn follow_head(kind: BlockKind, clause: &Clause) -> Option<Place>
         }
         Clause::Begins => {
             if has_body(kind) {
-                Some(Place::Body { kind })
+                Some(ClausePlace::Body { kind })
             } else {
                 None
             }
         }
         Clause::Structure => {
             if has_shape(kind) {
-                Some(Place::Shape { kind, level: 0 })
+                Some(ClausePlace::Shape { kind, level: 0 })
             } else {
                 None
             }
         }
         Clause::Based { name: _ } => {
             if block_rank(kind) == 3 {
-                Some(Place::Shaped { kind })
+                Some(ClausePlace::Shaped { kind })
             } else {
                 None
             }
@@ -198,14 +198,19 @@ fn follow_head(kind: BlockKind, clause: &Clause) -> Option<Place>
 
 /// What may stand in a section.
 #[tactic(auto, unfolding(crate::specs::Frame::follow_section))]
-fn follow_section(kind: BlockKind, part: PartKind, level: u32, clause: &Clause) -> Option<Place>
+fn follow_section(
+    kind: BlockKind,
+    part: PartKind,
+    level: u32,
+    clause: &Clause,
+) -> Option<ClausePlace>
     requires { level < 4294967295 }
     ensures { result ≡ frame.follow_section kind part level clause.now }
 {
     match clause {
         Clause::EndSection => {
             if level == 0 {
-                Some(Place::Between { kind, last: part })
+                Some(ClausePlace::Between { kind, last: part })
             } else {
                 None
             }
@@ -213,7 +218,7 @@ fn follow_section(kind: BlockKind, part: PartKind, level: u32, clause: &Clause) 
         Clause::Declares { declaration } => {
             if may_declare(kind, part, level, declaration) {
                 let level = level_behind(level, &declaration.of.of);
-                Some(Place::Section { kind, part, level })
+                Some(ClausePlace::Section { kind, part, level })
             } else {
                 None
             }
@@ -225,7 +230,7 @@ fn follow_section(kind: BlockKind, part: PartKind, level: u32, clause: &Clause) 
 
 /// What may stand behind a section: a later section, or the body.
 #[tactic(auto, unfolding(crate::specs::Frame::follow_between))]
-fn follow_between(kind: BlockKind, last: PartKind, clause: &Clause) -> Option<Place>
+fn follow_between(kind: BlockKind, last: PartKind, clause: &Clause) -> Option<ClausePlace>
     ensures { result ≡ frame.follow_between kind last clause.now }
 {
     match clause {
@@ -234,7 +239,7 @@ fn follow_between(kind: BlockKind, last: PartKind, clause: &Clause) -> Option<Pl
             kind: part,
         } => {
             if may_have(kind, *part) && part_rank(last) < part_rank(*part) {
-                Some(Place::Section {
+                Some(ClausePlace::Section {
                     kind,
                     part: *part,
                     level: 0,
@@ -243,14 +248,14 @@ fn follow_between(kind: BlockKind, last: PartKind, clause: &Clause) -> Option<Pl
                 None
             }
         }
-        Clause::Begins => Some(Place::Body { kind }),
+        Clause::Begins => Some(ClausePlace::Body { kind }),
         _ => None,
     }
 }
 
 /// What may stand in the structure of a data block or of a `TYPE` block.
 #[tactic(auto, unfolding(crate::specs::Frame::follow_shape))]
-fn follow_shape(kind: BlockKind, level: u32, clause: &Clause) -> Option<Place>
+fn follow_shape(kind: BlockKind, level: u32, clause: &Clause) -> Option<ClausePlace>
     requires { level < 4294967295 }
     ensures { result ≡ frame.follow_shape kind level clause.now }
 {
@@ -260,7 +265,7 @@ fn follow_shape(kind: BlockKind, level: u32, clause: &Clause) -> Option<Place>
                 None
             } else {
                 let level = level_behind(level, &declaration.of.of);
-                Some(Place::Shape { kind, level })
+                Some(ClausePlace::Shape { kind, level })
             }
         }
         Clause::EndStructure => shape_behind(kind, level),
@@ -270,19 +275,19 @@ fn follow_shape(kind: BlockKind, level: u32, clause: &Clause) -> Option<Place>
 
 /// What may stand behind it: the settings of a data block, or the end of a `TYPE` block.
 #[tactic(auto, unfolding(crate::specs::Frame::follow_shaped))]
-fn follow_shaped(kind: BlockKind, clause: &Clause) -> Option<Place>
+fn follow_shaped(kind: BlockKind, clause: &Clause) -> Option<ClausePlace>
     ensures { result ≡ frame.follow_shaped kind clause.now }
 {
     match kind {
         BlockKind::Db => match clause {
-            Clause::Begins => Some(Place::Settings),
+            Clause::Begins => Some(ClausePlace::Settings),
             _ => None,
         },
         BlockKind::Udt => match clause {
             Clause::Ends {
                 line: _,
                 kind: BlockKind::Udt,
-            } => Some(Place::Outside),
+            } => Some(ClausePlace::Outside),
             _ => None,
         },
         _ => None,
@@ -291,19 +296,19 @@ fn follow_shaped(kind: BlockKind, clause: &Clause) -> Option<Place>
 
 /// What may stand in a body.
 #[tactic(auto, unfolding(crate::specs::Frame::follow_body))]
-fn follow_body(kind: BlockKind, clause: &Clause) -> Option<Place>
+fn follow_body(kind: BlockKind, clause: &Clause) -> Option<ClausePlace>
     ensures { result ≡ frame.follow_body kind clause.now }
 {
     match clause {
-        Clause::Runs { statement: _ } => Some(Place::Body { kind }),
-        Clause::Network => Some(Place::Body { kind }),
-        Clause::Title => Some(Place::Body { kind }),
+        Clause::Runs { statement: _ } => Some(ClausePlace::Body { kind }),
+        Clause::Network => Some(ClausePlace::Body { kind }),
+        Clause::Title => Some(ClausePlace::Body { kind }),
         Clause::Ends {
             line: _,
             kind: ended,
         } => {
             if block_rank(*ended) == block_rank(kind) {
-                Some(Place::Outside)
+                Some(ClausePlace::Outside)
             } else {
                 None
             }
@@ -314,22 +319,22 @@ fn follow_body(kind: BlockKind, clause: &Clause) -> Option<Place>
 
 /// What may stand in the BEGIN part of a data block.
 #[tactic(auto, unfolding(crate::specs::Frame::follow_settings))]
-fn follow_settings(clause: &Clause) -> Option<Place>
+fn follow_settings(clause: &Clause) -> Option<ClausePlace>
     ensures { result ≡ frame.follow_settings clause.now }
 {
     match clause {
-        Clause::Sets { setting: _ } => Some(Place::Settings),
+        Clause::Sets { setting: _ } => Some(ClausePlace::Settings),
         Clause::Ends {
             line: _,
             kind: BlockKind::Db,
-        } => Some(Place::Outside),
+        } => Some(ClausePlace::Outside),
         _ => None,
     }
 }
 
 /// What may stand between blocks.
 #[tactic(auto, unfolding(crate::specs::Frame::follow_outside))]
-fn follow_outside(clause: &Clause) -> Option<Place>
+fn follow_outside(clause: &Clause) -> Option<ClausePlace>
     ensures { result ≡ frame.follow_outside clause.now }
 {
     match clause {
@@ -338,25 +343,25 @@ fn follow_outside(clause: &Clause) -> Option<Place>
             kind,
             name: _,
             result: _,
-        } => Some(Place::Head { kind: *kind }),
+        } => Some(ClausePlace::Head { kind: *kind }),
         _ => None,
     }
 }
 
 /// Where the next clause stands, or None where such a clause may not stand here.
 #[tactic(auto, unfolding(crate::specs::Frame::follow))]
-pub(crate) fn follow(at: Place, clause: &Clause) -> Option<Place>
+pub(crate) fn follow(at: ClausePlace, clause: &Clause) -> Option<ClausePlace>
     requires { level_at at < 4294967295 }
     ensures { result ≡ frame.follow at clause.now }
 {
     match at {
-        Place::Outside => follow_outside(clause),
-        Place::Head { kind } => follow_head(kind, clause),
-        Place::Section { kind, part, level } => follow_section(kind, part, level, clause),
-        Place::Between { kind, last } => follow_between(kind, last, clause),
-        Place::Shape { kind, level } => follow_shape(kind, level, clause),
-        Place::Shaped { kind } => follow_shaped(kind, clause),
-        Place::Body { kind } => follow_body(kind, clause),
-        Place::Settings => follow_settings(clause),
+        ClausePlace::Outside => follow_outside(clause),
+        ClausePlace::Head { kind } => follow_head(kind, clause),
+        ClausePlace::Section { kind, part, level } => follow_section(kind, part, level, clause),
+        ClausePlace::Between { kind, last } => follow_between(kind, last, clause),
+        ClausePlace::Shape { kind, level } => follow_shape(kind, level, clause),
+        ClausePlace::Shaped { kind } => follow_shaped(kind, clause),
+        ClausePlace::Body { kind } => follow_body(kind, clause),
+        ClausePlace::Settings => follow_settings(clause),
     }
 }

@@ -5,7 +5,7 @@ ghost use Rattle.stl_parser.specs.Source.{step_of, is_outside, IsBrokenAt};
 
 use crate::clauses::{Clause, clause_at};
 use crate::frames::follow;
-use crate::places::Place;
+use crate::places::ClausePlace;
 use plc_base::{Refusal, SourceFault};
 use std::alloc::Global;
 use stl_lexer::Token;
@@ -42,9 +42,9 @@ pub(crate) fn next_clause<'a>(
     alloc: Global,
     source: &[u8],
     last: u32,
-    at: Place,
+    at: ClausePlace,
     tokens: &'a [Token],
-) -> Result<(Clause, &'a [Token], Place), SourceFault>
+) -> Result<(Clause, &'a [Token], ClausePlace), SourceFault>
     requires level { level_at at < 4294967295 }
     requires inside { tokens.now ≡ [] → is_outside at ≡ false }
     ensures right { IfOk result (λ r. step_of source.now at tokens.now ≡ Ok (r.0, r.1.now, r.2)) }

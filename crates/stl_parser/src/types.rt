@@ -26,8 +26,8 @@ ghost use Rattle.stl_parser.specs.Types.{
 use crate::addresses::block;
 use crate::keywords::{Key, has_kind, is_key, is_mark};
 use crate::literals::{literal, literal_at};
+use crate::lookups::simple_type_of;
 use crate::numbers::{int, number};
-use crate::tables::simple_type_of;
 use plc_base::BlockKind;
 use std::alloc::{AllocError, Global};
 use stl_ast::{BlockName, Bounds, ElementType, Init, Literal, Sequence};

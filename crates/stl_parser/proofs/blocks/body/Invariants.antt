@@ -1,6 +1,6 @@
 use Rattle.std.proofs.Common.{map, length}
 use Rattle.stl_parser.specs.declared.clauses.Clause.TheVariants as spelled
-use Rattle.stl_parser.specs.declared.places.Place.TheVariants as place
+use Rattle.stl_parser.specs.declared.places.ClausePlace.TheVariants as place
 use Rattle.stl_parser.specs.Source.{ReadsKept}
 use Rattle.stl_parser.proofs.blocks.body.Given as goal
 

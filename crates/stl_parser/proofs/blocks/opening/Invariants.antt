@@ -1,5 +1,5 @@
 use Rattle.std.proofs.Common.{[], length}
-use Rattle.stl_parser.specs.declared.places.Place.TheVariants as place
+use Rattle.stl_parser.specs.declared.places.ClausePlace.TheVariants as place
 use Rattle.stl_parser.specs.Source.{ReadsKept}
 use Rattle.stl_parser.proofs.blocks.opening.Given as goal
 

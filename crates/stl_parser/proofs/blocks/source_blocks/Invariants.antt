@@ -1,6 +1,6 @@
 use Rattle.std.proofs.Common.{length}
 use Rattle.std.specs.List.{flat_map}
-use Rattle.stl_parser.specs.declared.places.Place.TheVariants as place
+use Rattle.stl_parser.specs.declared.places.ClausePlace.TheVariants as place
 use Rattle.stl_parser.specs.Source.{ReadsKept}
 use Rattle.stl_parser.specs.Spelling.{spelled_block}
 use Rattle.stl_parser.proofs.blocks.source_blocks.Given as goal

@@ -1,7 +1,7 @@
 use Rattle.std.proofs.Common.{◌≡◌, ◌-◌, length}
 use Rattle.stl_parser.specs.Statements.{actuals_end, next_actual}
 use Rattle.stl_parser.specs.Parts.{parts_from}
-use Rattle.stl_parser.proofs.statements.further_actuals.Given as goal
+use Rattle.stl_parser.proofs.parameters.further_actuals.Given as goal
 
 abbrev pub invariant-loop-done : goal.invariant-loop-done
 invariant-loop-done l =

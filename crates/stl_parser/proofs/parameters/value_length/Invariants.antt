@@ -1,6 +1,6 @@
 use Rattle.std.proofs.Common.{◌≡◌, ◌+◌, length}
 use Rattle.stl_parser.specs.Statements.{value_length}
-use Rattle.stl_parser.proofs.statements.value_length.Given as goal
+use Rattle.stl_parser.proofs.parameters.value_length.Given as goal
 
 abbrev pub invariant-loop-rest : goal.invariant-loop-rest
 invariant-loop-rest l =
