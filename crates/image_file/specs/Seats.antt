@@ -4,6 +4,8 @@ use Rattle.std.specs.Option.{option_map, option_and_then}
 use Rattle.plc_base.specs.declared.blocks.BlockId.{BlockId}
 use Rattle.flat_code.specs.Codes.{size, code_bytes}
 use Rattle.flat_code.specs.Ops.{OpData}
+use Rattle.flat_code.specs.Blocks.{Signature, Callee, block_with, data_len}
+use Rattle.flat_code.specs.Placed.{Spot, spot_at}
 use Rattle.flat_code.specs.Programs.{CodeBlock}
 use Rattle.image_file.specs.declared.seats.Seat.{Seat}
 use Rattle.image_file.specs.declared.seats.Seating.{Seating}
@@ -25,6 +27,7 @@ entry (Some place) = place
 -- a table of a length has, by offset, the place of the start there
 pub record IsTableOf (starts : List ℕ) (len : ℕ) (table : List ℕ) : Type 0 where
   pub size : length table ≡ len
+  pub few : length starts ≤ nowhere
   pub places : (at : ℕ) → at < len → slice_index_or table at nowhere ≡ entry (place_of at starts)
 
 -- the offsets of ops from an offset on
@@ -38,6 +41,30 @@ seats_of from begins [] lines = []
 seats_of from begins (op ∷ ops) lines =
     record { next = from + size op; line = if begins then slice_get lines 0 else None }
     ∷ seats_of (from + size op) op.last ops (if op.last then drop 1 lines else lines)
+
+-- a table finds, by offset, the statements of a block
+abbrev pub FindsStatements : List Spot → List ℕ → Type 0
+FindsStatements spots table = (at : ℕ) → option_map (λ s. s.codes) (option_and_then (λ place. slice_get spots place) (slice_get table at)) ≡ spot_at spots at
+
+-- a table finds, by number, the lengths of data blocks
+abbrev pub FindsLens : List (ℕ × ℕ) → List ℕ → Type 0
+FindsLens lens table = (number : ℕ) → number < 65536 → option_map (λ d. d.1) (option_and_then (λ place. slice_get lens place) (slice_get table number)) ≡ data_len number lens
+
+-- the number by which a block is found that may be called: twice its own, and one more for a function
+-- block; other blocks have one past those
+abbrev pub call_key : Signature → ℕ
+call_key b = if b.kind == 2 then 2 * b.number else if b.kind == 3 then 2 * b.number + 1 else 131072
+
+abbrev pub callee_of : Signature → Callee
+callee_of b = (b.kind, b.instance_len, b.params)
+
+-- a table finds functions and function blocks by number
+abbrev pub found_callee : List Signature → List ℕ → ℕ → Option Callee
+found_callee blocks table key = option_map callee_of (option_and_then (λ place. slice_get blocks place) (slice_get table key))
+
+pub record FindsCallees (blocks : List Signature) (table : List ℕ) : Type 0 where
+  pub functions : (number : ℕ) → number < 65536 → found_callee blocks table (2 * number) ≡ block_with 2 number blocks
+  pub function_blocks : (number : ℕ) → number < 65536 → found_callee blocks table (2 * number + 1) ≡ block_with 3 number blocks
 
 -- the op at a place of a list of ops, with the offset after it; the line of the statement that begins there
 abbrev pub op_at : ℕ → List OpData → List Seat → Option (OpData × ℕ)

@@ -8,7 +8,7 @@ use crate::judging::is_last;
 use crate::operands::op_size;
 use flat_code::{CodeBlock, Op};
 use plc_base::NoMemory;
-use std::alloc::Global;
+use std::alloc::{AllocError, Global};
 
 /// An op's neighbours: the offset after it, and the source line of the statement that begins with
 /// it, if one does.
@@ -39,11 +39,14 @@ fn put(table: &mut [u32], at: usize, place: u32)
     }
 }
 
-/// By offset below a length, the place of the start there in a list of starts.
+/// By offset below a length, the place of the first start there in a list of starts. No memory
+/// holds a list with more places than a table can name.
 pub(crate) fn table_of(alloc: Global, starts: &[u32], len: usize) -> Result<Vec<u32>, NoMemory>
-    requires { length starts.now ≤ nowhere }
     ensures { IfOk result (λ v. IsTableOf starts.now len v.items) }
 {
+    if starts.len() > NOWHERE as usize {
+        return Err(AllocError);
+    }
     let mut table = vec![in alloc; NOWHERE; len]?;
     for i in (0..starts.len()).rev() {
         put(&mut table, starts[i] as usize, i as u32);
