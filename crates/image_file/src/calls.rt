@@ -5,7 +5,7 @@ ghost use Rattle.flat_code.specs.Blocks.{Callee, is_short, is_bad_instance, is_b
 ghost use Rattle.image_file.specs.Judging.{around_of};
 
 use crate::operands::{is_passed, misfits_parameter};
-use crate::surroundings::{Surroundings, callee, data_len};
+use crate::surroundings::{DataLens, Surroundings, callee};
 use flat_code::{Op, Operand, ParameterRecord, Passed};
 
 /// Whether an instance is absent or shorter than the function block's.
@@ -19,7 +19,7 @@ fn is_short(needed: u16, len: Option<usize>) -> bool
 }
 
 fn is_bad_instance(
-    lens: &[(u16, usize)],
+    lens: &DataLens,
     kind: u8,
     instance_len: u16,
     params: &[ParameterRecord],
@@ -31,7 +31,7 @@ fn is_bad_instance(
         if instance == 0 {
             !params.is_empty()
         } else {
-            is_short(instance_len, data_len(instance, lens))
+            is_short(instance_len, lens.of(instance))
         }
     } else {
         instance != 0
@@ -54,7 +54,7 @@ fn are_passed(params: &[ParameterRecord], before: &[Op]) -> bool
 /// doesn't fit.
 pub(crate) fn is_bad_call(
     around: &Surroundings,
-    lens: &[(u16, usize)],
+    lens: &DataLens,
     kind: u8,
     number: u16,
     instance: u16,

@@ -97,18 +97,6 @@ pub(crate) fn same_codes(codes: &[u8], others: &[u8]) -> bool
     rest.is_empty()
 }
 
-/// The brackets that stand open at the statement of an offset.
-pub(crate) fn statement_at(statements: &[Statement], at: u32) -> Option<&Statement>
-    ensures { option_map (λ s. s.now.codes) result ≡ spot_at statements.now at }
-{
-    for statement in statements {
-        if statement.at == at {
-            return Some(statement);
-        }
-    }
-    None
-}
-
 pub(crate) fn seven_if(faulty: bool) -> Option<u16>
     ensures { result ≡ seven_if faulty }
 {

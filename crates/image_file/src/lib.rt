@@ -21,6 +21,7 @@ mod reader;
 mod records;
 mod refusing;
 mod seats;
+mod statement_table;
 mod stops;
 mod surroundings;
 mod typing;

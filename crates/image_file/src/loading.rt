@@ -15,7 +15,7 @@ use crate::reader::Reader;
 use crate::records::{BlockRead, NameRead, Started};
 use crate::refusing::LoadError;
 use crate::stops::Stop;
-use crate::surroundings::{SignatureRead, Surroundings};
+use crate::surroundings::{DataLens, SignatureRead, Signatures, Surroundings};
 use crate::typing::program;
 use crate::verifying::judge_block;
 use flat_code::DataBlock;
@@ -35,14 +35,15 @@ fn signature(alloc: Global, block: &BlockRead) -> Result<SignatureRead, NoMemory
     })
 }
 
-fn signatures(alloc: Global, blocks: &[Started]) -> Result<Vec<SignatureRead>, NoMemory>
-    ensures { IfOk result (λ v. v.items ≡ map signature_of (blocks_of (map started blocks.now))) }
+fn signatures(alloc: Global, blocks: &[Started]) -> Result<Signatures, NoMemory>
+    ensures { IfOk result (λ s. s ≡ map signature_of (blocks_of (map started blocks.now))) }
 {
     let mut signatures = Vec::new(alloc);
     for started in blocks {
         let signature = signature(alloc, &started.block)?;
         signatures.push(signature)?;
     }
+    let signatures = Signatures::new(alloc, signatures)?;
     Ok(signatures)
 }
 
@@ -53,23 +54,20 @@ fn key_of(block: &DataBlock) -> (u16, usize)
     (block.number, block.bytes.len())
 }
 
-pub(crate) fn lens_of(alloc: Global, blocks: &[DataBlock]) -> Result<Vec<(u16, usize)>, NoMemory>
-    ensures { IfOk result (λ v. v.items ≡ lens_of blocks.now) }
+pub(crate) fn lens_of(alloc: Global, blocks: &[DataBlock]) -> Result<DataLens, NoMemory>
+    ensures { IfOk result (λ d. d ≡ lens_of blocks.now) }
 {
     let mut lens = Vec::new(alloc);
     for block in blocks {
         lens.push(key_of(block))?;
     }
+    let lens = DataLens::new(alloc, lens)?;
     Ok(lens)
 }
 
 /// The numbers and lengths of the data blocks, if all blocks were read.
-fn data_lens(
-    alloc: Global,
-    datas: &Option<Vec<DataBlock>>,
-) -> Result<Option<Vec<(u16, usize)>>, NoMemory>
-    ensures { IfOk result (λ l. option_map (λ v. v.items) l
-        ≡ option_map (λ v. lens_of v.items) datas.now) }
+fn data_lens(alloc: Global, datas: &Option<Vec<DataBlock>>) -> Result<Option<DataLens>, NoMemory>
+    ensures { IfOk result (λ l. l ≡ option_map (λ v. lens_of v.items) datas.now) }
 {
     match datas {
         None => Ok(None),
@@ -80,28 +78,28 @@ fn data_lens(
     }
 }
 
-/// A list as a slice.
-fn slice_of(lens: &Option<Vec<(u16, usize)>>) -> Option<&[(u16, usize)]>
-    ensures { option_map (λ d. d.now) result ≡ option_map (λ d. d.items) lens.now }
+/// What may be there, by reference.
+fn ref_of(lens: &Option<DataLens>) -> Option<&DataLens>
+    ensures { option_map (λ d. d.now) result ≡ lens.now }
 {
     match lens {
         None => None,
-        Some(lens) => Some(lens.as_slice()),
+        Some(lens) => Some(lens),
     }
 }
 
 /// The lesser of the fault so far and those of the ops of blocks.
 fn judge_blocks(
     alloc: Global,
-    signatures: &[SignatureRead],
-    lens: &Option<Vec<(u16, usize)>>,
+    signatures: &Signatures,
+    lens: &Option<DataLens>,
     blocks: &[Started],
     least: Option<LoadFault>,
 ) -> Result<Option<LoadFault>, NoMemory>
     requires { signatures.now ≡ map signature_of (blocks_of (map started blocks.now)) }
     ensures { IfOk result (λ l. l
-        ≡ with_faults least (judged_blocks (option_map
-        (λ d. d.items) lens.now) (blocks_of (map started blocks.now)) (map started blocks.now))) }
+        ≡ with_faults least (judged_blocks lens.now (blocks_of
+        (map started blocks.now)) (map started blocks.now))) }
 {
     let mut least = least;
     for started in blocks {
@@ -113,8 +111,8 @@ fn judge_blocks(
 /// The lesser of the fault so far and those of the ops of a block.
 fn judge_started(
     alloc: Global,
-    signatures: &[SignatureRead],
-    lens: &Option<Vec<(u16, usize)>>,
+    signatures: &Signatures,
+    lens: &Option<DataLens>,
     started: &Started,
     least: Option<LoadFault>,
 ) -> Result<Option<LoadFault>, NoMemory>
@@ -123,7 +121,7 @@ fn judge_started(
       local_len = started.now.block.local_len;
       params = started.now.block.params;
       blocks = signatures.now;
-      data_lens = option_map (λ d. d.items) lens.now;
+      data_lens = lens.now;
     }) started.now.start started.now.block.code)) }
 {
     let block = &started.block;
@@ -132,7 +130,7 @@ fn judge_started(
         local_len: block.local_len,
         params: block.params.as_slice(),
         blocks: signatures,
-        data_lens: slice_of(lens),
+        data_lens: ref_of(lens),
     };
     judge_block(alloc, &around, started.start, block.code.as_slice(), least)
 }
@@ -165,7 +163,7 @@ pub(crate) fn judge(alloc: Global, bytes: &[u8]) -> Result<Judged, NoMemory>
     let lens = data_lens(alloc, &reader.datas)?;
     let least = judge_blocks(
         alloc,
-        signatures.as_slice(),
+        &signatures,
         &lens,
         reader.blocks.as_slice(),
         reader.least,

@@ -18,7 +18,7 @@ use crate::loaded::Loaded;
 use crate::loading::lens_of;
 use crate::operands::{op_size, width_number};
 use crate::refusing::VerifyError;
-use crate::surroundings::{SignatureRead, Surroundings};
+use crate::surroundings::{DataLens, SignatureRead, Signatures, Surroundings};
 use crate::verifying::judge_block;
 use crate::writing::{code_len, kind_number};
 use flat_code::{CodeBlock, DataBlock, Field, Op, Param, ParameterRecord, Program};
@@ -116,14 +116,15 @@ fn signature(alloc: Global, block: &CodeBlock) -> Result<SignatureRead, NoMemory
     })
 }
 
-fn signatures(alloc: Global, blocks: &[CodeBlock]) -> Result<Vec<SignatureRead>, NoMemory>
-    ensures { IfOk result (λ v. v.items ≡ map signature_of (map record_of_block blocks.now)) }
+fn signatures(alloc: Global, blocks: &[CodeBlock]) -> Result<Signatures, NoMemory>
+    ensures { IfOk result (λ s. s ≡ map signature_of (map record_of_block blocks.now)) }
 {
     let mut signatures = Vec::new(alloc);
     for block in blocks {
         let signature = signature(alloc, block)?;
         signatures.push(signature)?;
     }
+    let signatures = Signatures::new(alloc, signatures)?;
     Ok(signatures)
 }
 
@@ -179,8 +180,8 @@ fn judge_code_block(
 /// The fault of a block among others, if it has one.
 fn block_fault(
     alloc: Global,
-    signatures: &[SignatureRead],
-    lens: Option<&[(u16, usize)]>,
+    signatures: &Signatures,
+    lens: Option<&DataLens>,
     block: &CodeBlock,
 ) -> Result<Option<LoadFault>, NoMemory>
     requires { BlockFits block.now }
@@ -217,8 +218,8 @@ fn fault_in(block: &CodeBlock, fault: LoadFault) -> VerifyFault
 /// The fault of the first block that has one.
 fn first_among(
     alloc: Global,
-    signatures: &[SignatureRead],
-    lens: Option<&[(u16, usize)]>,
+    signatures: &Signatures,
+    lens: Option<&DataLens>,
     blocks: &[CodeBlock],
 ) -> Result<Option<VerifyFault>, NoMemory>
     requires fit { All BlockFits blocks.now }
@@ -241,8 +242,8 @@ fn lens_where(
     alloc: Global,
     judged: bool,
     blocks: &[DataBlock],
-) -> Result<Option<Vec<(u16, usize)>>, NoMemory>
-    ensures { IfOk result (λ l. option_map (λ v. v.items) l ≡ lens_where judged blocks.now) }
+) -> Result<Option<DataLens>, NoMemory>
+    ensures { IfOk result (λ l. l ≡ lens_where judged blocks.now) }
 {
     if !judged {
         return Ok(None);
@@ -261,8 +262,8 @@ fn program_fault(alloc: Global, program: &Program) -> Result<Option<VerifyFault>
     let signatures = signatures(alloc, blocks)?;
     let lens = lens_where(alloc, are_whole(blocks), program.data_blocks.as_slice())?;
     match lens {
-        None => first_among(alloc, signatures.as_slice(), None, blocks),
-        Some(lens) => first_among(alloc, signatures.as_slice(), Some(lens.as_slice()), blocks),
+        None => first_among(alloc, &signatures, None, blocks),
+        Some(lens) => first_among(alloc, &signatures, Some(&lens), blocks),
     }
 }
 

@@ -11,14 +11,15 @@ use crate::calls::{is_bad_call, misfits_call};
 use crate::faults::LoadFault;
 use crate::judging::{
     Statement, bracket_fault, few, is_last, lesser_if, mark_fault, open, prepare, same_codes,
-    seven_if, statement_at,
+    seven_if,
 };
 use crate::operands::{
     ending, is_bad_actual, is_bad_place, is_input, is_stray_pass, is_stray_use_db, lacks_own,
     lacks_width, leads, op_size, own_parameter, writes,
 };
 use crate::reader::lesser;
-use crate::surroundings::Surroundings;
+use crate::statement_table::Statements;
+use crate::surroundings::{DataLens, Surroundings};
 use arrayvec::ArrayVec;
 use flat_code::{Op, OpenBracket, Operand};
 use plc_base::NoMemory;
@@ -67,28 +68,18 @@ fn codes_differ(statement: &Statement, here: &Option<ArrayVec<u8, 7>>) -> Option
     differing(here, &statement.codes)
 }
 
-fn target_fault(
-    statements: &[Statement],
-    here: &Option<ArrayVec<u8, 7>>,
-    target: u32,
-) -> Option<u16>
+fn target_fault(statements: &Statements, here: &Option<ArrayVec<u8, 7>>, target: u32) -> Option<u16>
     ensures { result ≡ target_fault (option_map
         (λ v. v.items) here.now) (spot_at statements.now target) }
 {
-    match statement_at(statements, target) {
+    match statements.at(target) {
         None => Some(6),
         Some(statement) => codes_differ(statement, here),
     }
 }
 
 /// The fault of a jump.
-fn jump_fault(
-    statements: &[Statement],
-    op: &Op,
-    place: &Place,
-    kind: u8,
-    target: u32,
-) -> Option<u16>
+fn jump_fault(statements: &Statements, op: &Op, place: &Place, kind: u8, target: u32) -> Option<u16>
     requires { place.now.at + size op.now + length (code_bytes place.now.rest.now) < 2 ^ 32 }
     ensures { result ≡ jump_fault statements.now (placed_of op.now place.now) kind target }
 {
@@ -102,7 +93,7 @@ fn jump_fault(
 /// The fault of an op's operand by itself.
 fn operand_fault(
     around: &Surroundings,
-    statements: &[Statement],
+    statements: &Statements,
     op: &Op,
     place: &Place,
 ) -> Option<u16>
@@ -137,12 +128,7 @@ fn operand_fault(
     }
 }
 
-fn call_fault_among(
-    around: &Surroundings,
-    lens: &[(u16, usize)],
-    op: &Op,
-    place: &Place,
-) -> Option<u16>
+fn call_fault_among(around: &Surroundings, lens: &DataLens, op: &Op, place: &Place) -> Option<u16>
     ensures { result ≡ call_fault_among (around_of around.now) lens.now
         (placed_of op.now place.now) op.now.operand }
 {
@@ -175,7 +161,7 @@ fn call_fault(around: &Surroundings, op: &Op, place: &Place) -> Option<u16>
 #[tactic(auto, unfolding(flat_code::specs::Blocks::op_faults), using(crate::proofs::JudgeLemmas::four))]
 fn judge_op(
     around: &Surroundings,
-    statements: &[Statement],
+    statements: &Statements,
     start: u32,
     op: &Op,
     place: &Place,
@@ -191,42 +177,6 @@ fn judge_op(
     let least = lesser_if(least, at, call_fault(around, op, place));
     let least = lesser_if(least, at, mark_fault(op));
     lesser_if(least, at, bracket_fault(op.code, place.stack))
-}
-
-/// The statements of a block.
-fn statements(alloc: Global, ops: &[Op]) -> Result<Vec<Statement>, NoMemory>
-    requires { length (code_bytes ops.now) < 2 ^ 32 }
-    ensures { IfOk result (λ v. v.items ≡ spots ops.now) }
-{
-    let mut statements = Vec::new(alloc);
-    let mut stack = Vec::new(alloc);
-    let mut at = 0;
-    let mut begin = true;
-    for op in ops {
-        add_statement(&mut statements, begin, at, &stack)?;
-        open(&mut stack, at, op)?;
-        at += op_size(op);
-        begin = is_last(op);
-    }
-    Ok(statements)
-}
-
-/// Adds a statement where one begins.
-fn add_statement(
-    statements: &mut Vec<Statement>,
-    begin: bool,
-    at: u32,
-    stack: &[OpenBracket],
-) -> Result<(), NoMemory>
-    ensures { OnOk result (statements.new.items
-        ≡ (if begin then statements.old.items ++ record { at = at; codes = few stack.now } ∷ [] else statements.old.items)) }
-{
-    if !begin {
-        return Ok(());
-    }
-    let codes = few(stack);
-    statements.push(Statement { at, codes })?;
-    Ok(())
 }
 
 /// The lesser of the fault so far and those of brackets that are open at the end.
@@ -247,6 +197,39 @@ fn judge_open(
     least
 }
 
+/// The lesser of the fault so far and those of the ops of a block with these statements.
+fn judge_ops(
+    alloc: Global,
+    around: &Surroundings,
+    statements: &Statements,
+    start: u32,
+    ops: &[Op],
+    least: Option<LoadFault>,
+) -> Result<Option<LoadFault>, NoMemory>
+    requires room { start + length (code_bytes ops.now) < 2 ^ 32 }
+    requires all { statements.now ≡ spots ops.now }
+    ensures { IfOk result (λ l. l
+        ≡ with_faults least (block_faults (around_of around.now) start ops.now)) }
+{
+    let mut least = least;
+    let mut stack = Vec::new(alloc);
+    let mut before = Vec::new(alloc);
+    let mut at = 0;
+    for (i, op) in ops.iter().enumerate() {
+        let place = Place {
+            at,
+            stack: &stack,
+            before: &before,
+            rest: ops_from(ops, i + 1),
+        };
+        least = judge_op(around, statements, start, op, &place, least);
+        open(&mut stack, at, op)?;
+        prepare(&mut before, op)?;
+        at += op_size(op);
+    }
+    Ok(judge_open(start, &stack, at, least))
+}
+
 /// The lesser of the fault so far and those of the ops of a block whose code begins at an offset.
 pub(crate) fn judge_block(
     alloc: Global,
@@ -259,22 +242,6 @@ pub(crate) fn judge_block(
     ensures { IfOk result (λ l. l
         ≡ with_faults least (block_faults (around_of around.now) start ops.now)) }
 {
-    let statements = statements(alloc, ops)?;
-    let mut least = least;
-    let mut stack = Vec::new(alloc);
-    let mut before = Vec::new(alloc);
-    let mut at = 0;
-    for (i, op) in ops.iter().enumerate() {
-        let place = Place {
-            at,
-            stack: &stack,
-            before: &before,
-            rest: ops_from(ops, i + 1),
-        };
-        least = judge_op(around, &statements, start, op, &place, least);
-        open(&mut stack, at, op)?;
-        prepare(&mut before, op)?;
-        at += op_size(op);
-    }
-    Ok(judge_open(start, &stack, at, least))
+    let statements = Statements::of(alloc, ops)?;
+    judge_ops(alloc, around, &statements, start, ops, least)
 }

@@ -24,7 +24,7 @@ returns-clause-least c =
     let r = c.read_names.new.reader in
     let h = from_start _ r c.args.bytes.now c.new.result.items c.new.ensures.items c.in_ok-names.ensures in
     least_of _ r c.args.bytes.now _ c.in_ok-least.least h (c.in_ok-lens.ensures ∙ map_twice r.datas)
-    (c.in_ok-least.ensures ∙ ap (λ (z : List Started). with_faults r.least (judged_blocks (option_map (λ v. v.items) c.in_ok-lens.lens) (blocks_of (map started z)) (map started z))) c.as_slice-3.ensures.value)
+    (c.in_ok-least.ensures ∙ ap (λ (z : List Started). with_faults r.least (judged_blocks c.in_ok-lens.lens (blocks_of (map started z)) (map started z))) c.as_slice-2.ensures.value)
 
 pub returns-clause-found : goal.returns-clause-found
 returns-clause-found c =

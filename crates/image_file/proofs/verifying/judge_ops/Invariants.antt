@@ -4,11 +4,11 @@ use Rattle.flat_code.specs.Placed.{spots, placed, places, open_behind}
 use Rattle.flat_code.specs.Blocks.{faults_over}
 use Rattle.image_file.specs.Least.{with_faults}
 use Rattle.image_file.specs.Judging.{AllUpTo, around_of}
-use Rattle.image_file.proofs.verifying.judge_block.Given as goal
+use Rattle.image_file.proofs.verifying.judge_ops.Given as goal
 
 abbrev pub invariant-loop-i : goal.invariant-loop-i
 invariant-loop-i l = record {
-  faults : with_faults l.least (faults_over (around_of l.around) l.statements.items l.start (placed l.at l.stack.items l.before.items (drop l.i l.ops))) ≡ with_faults l.fn.least (faults_over (around_of l.around) l.statements.items l.start (places l.ops));
+  faults : with_faults l.least (faults_over (around_of l.around) l.statements l.start (placed l.at l.stack.items l.before.items (drop l.i l.ops))) ≡ with_faults l.fn.least (faults_over (around_of l.around) l.statements l.start (places l.ops));
   open_ones : open_behind l.at l.stack.items (drop l.i l.ops) ≡ open_behind 0 [] l.ops;
   left : l.at + length (code_bytes (drop l.i l.ops)) ≡ length (code_bytes l.ops);
   within : AllUpTo l.at l.stack.items;

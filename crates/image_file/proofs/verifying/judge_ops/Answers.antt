@@ -6,22 +6,22 @@ use Rattle.flat_code.specs.Blocks.{open_faults}
 use Rattle.image_file.specs.Judging.{around_of}
 use Rattle.image_file.specs.Least.{with_faults}
 use Rattle.image_file.proofs.JudgeLemmas.{here_fits, left_next, room_here, same_place, faults_next, open_next, up_to_next, judge_done}
-use Rattle.image_file.proofs.verifying.judge_block.Goals as goal
+use Rattle.image_file.proofs.verifying.judge_ops.Goals as goal
 
 pub judge_op-least-requires-clause-room : goal.judge_op-least-requires-clause-room
 judge_op-least-requires-clause-room c =
-    omega (arith, c.requires, ap (λ (z : List OpData). length (code_bytes z)) c.ops_from.ensures, room_here c.loop-i.at c.loop-i.i _ c.args.ops.now c.index-ops-i.result c.loop-i-test.true c.index-ops-i.is c.loop-i.invariant.left)
+    omega (arith, c.requires.room, ap (λ (z : List OpData). length (code_bytes z)) c.ops_from.ensures, room_here c.loop-i.at c.loop-i.i _ c.args.ops.now c.index-ops-i.result c.loop-i-test.true c.index-ops-i.is c.loop-i.invariant.left)
 
 pub overflow_add-at : goal.overflow_add-at
-overflow_add-at c = omega (arith, c.op_size-at.ensures, c.requires, here_fits c.loop-i.at c.loop-i.i _ c.args.ops.now c.index-ops-i.result c.loop-i-test.true c.index-ops-i.is c.loop-i.invariant.left)
+overflow_add-at c = omega (arith, c.op_size-at.ensures, c.requires.room, here_fits c.loop-i.at c.loop-i.i _ c.args.ops.now c.index-ops-i.result c.loop-i-test.true c.index-ops-i.is c.loop-i.invariant.left)
 
 pub loop-i-preserved : goal.loop-i-preserved
 loop-i-preserved c =
     let op = c.index-ops-i.result in
     let size_is = ap (λ (k : ℕ). c.loop-i.at + k) c.op_size-at.ensures in
     record {
-      faults = faults_next (around_of c.args.around.now) c.in_ok-statements.statements.items c.args.start c.loop-i.at c.loop-i.i c.loop-i.stack.items c.open.new.stack.items c.loop-i.before.items c.prepare.new.before.items c.args.ops.now op c.loop-i.least c.judge_op-least.result (c.loop-i.at + c.op_size-at.result) c.loop-i-test.true c.index-ops-i.is
-          (c.judge_op-least.ensures ∙ same_place (around_of c.args.around.now) _ c.in_ok-statements.statements.items c.args.start c.loop-i.at _ c.loop-i.stack.items _ c.loop-i.before.items op _ (drop (c.loop-i.i + 1) c.args.ops.now) c.loop-i.least c.deref-in-loop-i-2.ensures.value c.deref.ensures.value c.deref-in-loop-i.ensures.value c.ops_from.ensures)
+      faults = faults_next (around_of c.args.around.now) c.args.statements.now c.args.start c.loop-i.at c.loop-i.i c.loop-i.stack.items c.open.new.stack.items c.loop-i.before.items c.prepare.new.before.items c.args.ops.now op c.loop-i.least c.judge_op-least.result (c.loop-i.at + c.op_size-at.result) c.loop-i-test.true c.index-ops-i.is
+          (c.judge_op-least.ensures ∙ same_place (around_of c.args.around.now) _ c.args.statements.now c.args.start c.loop-i.at _ c.loop-i.stack.items _ c.loop-i.before.items op _ (drop (c.loop-i.i + 1) c.args.ops.now) c.loop-i.least refl c.deref.ensures.value c.deref-in-loop-i.ensures.value c.ops_from.ensures)
           size_is c.in_ok-open.ensures c.in_ok-prepare.ensures ∙ c.loop-i.invariant.faults;
       open_ones = open_next c.loop-i.at c.loop-i.i (c.loop-i.at + c.op_size-at.result) c.loop-i.stack.items c.open.new.stack.items c.args.ops.now op c.loop-i-test.true c.index-ops-i.is size_is c.in_ok-open.ensures ∙ c.loop-i.invariant.open_ones;
       left = left_next c.loop-i.at c.loop-i.i _ _ c.args.ops.now op c.loop-i-test.true c.index-ops-i.is size_is c.loop-i.invariant.left;
@@ -29,5 +29,5 @@ loop-i-preserved c =
     }
 
 pub returns : goal.returns
-returns c = judge_done (around_of c.args.around.now) c.in_ok-statements.statements.items c.args.start c.loop-i.at c.loop-i.i c.loop-i.stack.items c.loop-i.before.items c.args.ops.now c.loop-i.least c.args.least c.judge_open.result c.loop-i-test.false c.in_ok-statements.ensures c.loop-i.invariant.faults c.loop-i.invariant.open_ones
+returns c = judge_done (around_of c.args.around.now) c.args.statements.now c.args.start c.loop-i.at c.loop-i.i c.loop-i.stack.items c.loop-i.before.items c.args.ops.now c.loop-i.least c.args.least c.judge_open.result c.loop-i-test.false c.requires.all c.loop-i.invariant.faults c.loop-i.invariant.open_ones
     (c.judge_open.ensures ∙ ap (λ (z : List OpenBracket). with_faults c.loop-i.least (open_faults c.args.start z)) c.deref-2.ensures.value)

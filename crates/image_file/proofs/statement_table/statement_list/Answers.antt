@@ -2,7 +2,7 @@ use Rattle.std.proofs.Common.{arith, ◌∙◌, ap, ◌+◌, ℕ, cond, ◌++◌
 use Rattle.flat_code.specs.declared.image_fields.OpenBracket.{OpenBracket}
 use Rattle.flat_code.specs.Placed.{Spot, few, spots_from}
 use Rattle.image_file.proofs.JudgeLemmas.{here_fits, left_next, spots_next, spots_done}
-use Rattle.image_file.proofs.verifying.statements.Goals as goal
+use Rattle.image_file.proofs.statement_table.statement_list.Goals as goal
 
 pub overflow_add-at : goal.overflow_add-at
 overflow_add-at c = omega (arith, c.op_size-at.ensures, c.requires, here_fits c.loop-op.at c.loop-op.op-index _ c.args.ops.now c.op-item.result c.loop-op-test.true c.op-item.is c.loop-op.invariant.left)

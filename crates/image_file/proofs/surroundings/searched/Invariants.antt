@@ -1,6 +1,6 @@
 use Rattle.std.proofs.Common.{◌≡◌, drop, None}
 use Rattle.flat_code.specs.Blocks.{block_with}
-use Rattle.image_file.proofs.surroundings.block_with.Given as goal
+use Rattle.image_file.proofs.surroundings.searched.Given as goal
 
 abbrev pub invariant-loop-block : goal.invariant-loop-block
 invariant-loop-block l = block_with l.kind l.number (drop l.block-index l.blocks) ≡ block_with l.kind l.number l.blocks

@@ -1,0 +1,113 @@
+//! The statements of a block, each found by its offset without a search.
+ghost use Rattle.std.specs.Prelude.{◌≡◌, ◌++◌, ◌∷◌, [], ◌<◌, ◌^◌, length, map, slice_get, if◌then◌else◌, OnOk, IfOk};
+ghost use Rattle.std.specs.Option.{option_map};
+ghost use Rattle.flat_code.specs.Codes.{code_bytes};
+ghost use Rattle.flat_code.specs.Placed.{few, spots, spot_at};
+
+use crate::judging::{Statement, few, is_last, open};
+use crate::operands::op_size;
+use crate::seats::{place_at, table_of};
+use flat_code::{Op, OpenBracket};
+use plc_base::NoMemory;
+use std::alloc::Global;
+use std::marker::Model;
+
+/// The statements of a block, in the order of their offsets.
+#[derive(Drop)]
+pub(crate) struct Statements {
+    list: Vec<Statement>,
+    table: Vec<u32>,
+}
+
+impl Model for Statements {
+    ghost use Rattle.std.specs.Prelude.{List};
+    ghost use Rattle.flat_code.specs.Placed.{Spot};
+    ghost use Rattle.image_file.specs.Seats.{FindsStatements};
+
+    ghost Value = { List Spot };
+
+    ghost view = { λ s. s.list.items };
+
+    ghost invariant = { λ s. FindsStatements s.list.items s.table.items };
+}
+
+/// The statements of ops, and the offset after the last op.
+fn statement_list(alloc: Global, ops: &[Op]) -> Result<(Vec<Statement>, u32), NoMemory>
+    requires { length (code_bytes ops.now) < 2 ^ 32 }
+    ensures statements { IfOk result (λ r. r.0.items ≡ spots ops.now) }
+    ensures end { IfOk result (λ r. r.1 ≡ length (code_bytes ops.now)) }
+{
+    let mut statements = Vec::new(alloc);
+    let mut stack = Vec::new(alloc);
+    let mut at = 0;
+    let mut begin = true;
+    for op in ops {
+        add_statement(&mut statements, begin, at, &stack)?;
+        open(&mut stack, at, op)?;
+        at += op_size(op);
+        begin = is_last(op);
+    }
+    Ok((statements, at))
+}
+
+/// Adds a statement where one begins.
+fn add_statement(
+    statements: &mut Vec<Statement>,
+    begin: bool,
+    at: u32,
+    stack: &[OpenBracket],
+) -> Result<(), NoMemory>
+    ensures { OnOk result (statements.new.items
+        ≡ (if begin then statements.old.items ++ record { at = at; codes = few stack.now } ∷ [] else statements.old.items)) }
+{
+    if !begin {
+        return Ok(());
+    }
+    let codes = few(stack);
+    statements.push(Statement { at, codes })?;
+    Ok(())
+}
+
+fn offset_of(statement: &Statement) -> u32
+    ensures { result ≡ statement.now.at }
+{
+    statement.at
+}
+
+fn offsets_of(alloc: Global, statements: &[Statement]) -> Result<Vec<u32>, NoMemory>
+    ensures { IfOk result (λ v. v.items ≡ map (λ s. s.at) statements.now) }
+{
+    let mut offsets = Vec::new(alloc);
+    for statement in statements {
+        offsets.push(offset_of(statement))?;
+    }
+    Ok(offsets)
+}
+
+/// The statement at a place of a list.
+fn statement_at(statements: &[Statement], place: usize) -> Option<&Statement>
+    ensures { option_map (λ s. s.now) result ≡ slice_get statements.now place }
+{
+    statements.get(place)
+}
+
+impl Statements {
+    /// The statements of ops.
+    pub(crate) fn of(alloc: Global, ops: &[Op]) -> Result<Self, NoMemory>
+        requires { length (code_bytes ops.now) < 2 ^ 32 }
+        ensures { IfOk result (λ s. s ≡ spots ops.now) }
+    {
+        let (list, end) = statement_list(alloc, ops)?;
+        let offsets = offsets_of(alloc, list.as_slice())?;
+        let table = table_of(alloc, offsets.as_slice(), end as usize)?;
+        Ok(Statements { list, table })
+    }
+
+    /// The statement that begins at an offset.
+    pub(crate) fn at(&self, at: u32) -> Option<&Statement>
+        ensures { option_map (λ s. s.now.codes) result ≡ spot_at self.now at }
+    {
+        let place = place_at(self.table.as_slice(), at)?;
+        statement_at(self.list.as_slice(), place)
+    }
+}
