@@ -128,7 +128,7 @@ fn read_step(words: &[u8]) -> Option<LineEntries>
 }
 
 /// The entry of the words behind `in`: a peripheral input byte and its value.
-#[tactic(auto, unfolding(crate::specs::History::entries_of_in))]
+#[tactic(auto, using(stl_parser::proofs::RangeLemmas::decimal_range), unfolding(crate::specs::History::entries_of_in))]
 fn read_input(words: &[u8]) -> Option<LineEntries>
     ensures { option_map entries_of result ≡ entries_of_in (words_of words.now) }
 {
@@ -146,7 +146,7 @@ fn read_input(words: &[u8]) -> Option<LineEntries>
 }
 
 /// The entry of the words behind `arrive`: the number of the hardware interrupt's block.
-#[tactic(auto, unfolding(crate::specs::History::entries_of_arrive))]
+#[tactic(auto, using(stl_parser::proofs::RangeLemmas::decimal_range), unfolding(crate::specs::History::entries_of_arrive))]
 fn read_arrival(words: &[u8]) -> Option<LineEntries>
     ensures { option_map entries_of result ≡ entries_of_arrive (words_of words.now) }
 {
