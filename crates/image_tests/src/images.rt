@@ -2,7 +2,7 @@ use image_file::{LoadError, LoadFault, load};
 use std::test::Fail;
 
 /// The image of an OB 1 with `JU x;` and `x: T DB10.DBW 2;`, and of a DB 10 of four bytes.
-static EXAMPLE: [u8; 80] = [
+pub static EXAMPLE: [u8; 80] = [
     0x53, 0x37, 0x46, 0x42, 0x00, 0x01, 0x00, 0x00, 0x00, 0x00, 0x00, 0x50, 0x00, 0x01, 0x00, 0x01,
     0x00, 0x00, 0x00, 0x00, 0x01, 0x00, 0x00, 0x01, 0x00, 0x14, 0x00, 0x00, 0x00, 0x03, 0x00, 0x00,
     0x00, 0x00, 0x00, 0x14, 0xEF, 0x08, 0x00, 0x00, 0x00, 0x00, 0x07, 0x02, 0x0A, 0x00, 0x0A, 0xA1,
@@ -11,7 +11,7 @@ static EXAMPLE: [u8; 80] = [
 ];
 
 /// One byte of the example altered, and the fault: offset and code; 0 for none.
-static ALTERED: [(usize, u8, u32, u16); 24] = [
+static ALTERED: [(usize, u8, u32, u16); 25] = [
     (0, 0x53, 0, 0),
     (0, 0x54, 0, 1),
     (5, 0x03, 4, 2),
@@ -32,6 +32,7 @@ static ALTERED: [(usize, u8, u32, u16); 24] = [
     (42, 0x08, 36, 6),
     (42, 0x0B, 36, 6),
     (53, 0x01, 47, 7),
+    (63, 0x02, 60, 9),
     (54, 0x7B, 54, 5),
     (67, 0x00, 64, 9),
     (69, 0x00, 68, 4),
@@ -60,6 +61,18 @@ fn altered_images(rt: HostRuntime) -> Result<(), Fail> {
         };
         assert_eq!(rt; fault_of(&rt, &bytes), wanted, "{place}");
     }
+    Ok(())
+}
+
+/// A byte behind the total length.
+#[test]
+fn longer_image(rt: HostRuntime) -> Result<(), Fail> {
+    let mut bytes = Vec::from_slice(rt.alloc(), &EXAMPLE)?;
+    bytes.push(0)?;
+    assert_eq!(rt;
+        fault_of(&rt, bytes.as_slice()),
+        Some(LoadFault { at: 80, code: 10 })
+    );
     Ok(())
 }
 

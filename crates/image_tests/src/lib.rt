@@ -19,3 +19,5 @@ mod names_found;
 mod op_code_table;
 #[cfg(test)]
 mod ops_both_ways;
+#[cfg(test)]
+mod written_programs;
