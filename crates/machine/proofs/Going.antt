@@ -1,0 +1,86 @@
+-- When nothing that a statement needs is missing.
+use Rattle.std.proofs.Common.{◌≡◌, ℕ, Bool, true, false, is_some, List, Option, Some, None, Result, Ok, Err, refl, sym, if◌then◌else◌}
+use Rattle.plc_base.specs.declared.BlockId.{BlockId}
+use Rattle.frames.specs.declared.Activation.{Activation}
+use Rattle.flat_code.specs.Instr.{Instr, Does, Jumps, JumpsByList, Calls, Returns, Passing}
+use Rattle.flat_code.specs.declared.programs.Param.{Param}
+use Rattle.machine.specs.Code.{Code, Fetched, Head}
+use Rattle.machine.specs.Parts.{Parts, own_of, parts_of}
+use Rattle.machine.specs.Does.{does_with}
+use Rattle.machine.specs.Entering.{Call, Fails, Stops, Enters, call}
+use Rattle.machine.specs.Returning.{Return, GoesOn, Ends, returning}
+use Rattle.machine.specs.SystemCalls.{Given, system_call, system_function}
+use Rattle.machine.specs.Statement.{World, Step, went_on, after_call, after_system_call, after_return, block_called, system_called, called, is_system, is_called, is_ended, returned, callee_of, performed, fetched, Goes}
+use Rattle.machine.specs.There.{is_there, is_complete}
+
+no_truth : false ≡ true → ⊥
+no_truth h = cc
+
+parts_go : (e : Result Parts ℕ) (next : ℕ) (a : Activation) → Goes (went_on e next a)
+parts_go (Ok p) next a = tt
+parts_go (Err code) next a = tt
+
+call_goes : (c : Call) (next : ℕ) (a : Activation) (w : World) → Goes (after_call c next a w)
+call_goes (Fails code) next a w = tt
+call_goes (Stops fault) next a w = tt
+call_goes (Enters to m) next a w = tt
+
+system_goes : (g : Result Given ℕ) (number next : ℕ) (a : Activation) → Goes (after_system_call g number next a)
+system_goes (Ok given) number next a = tt
+system_goes (Err code) number next a = tt
+
+return_goes : (r : Return) (w : World) → Goes (after_return r w)
+return_goes (GoesOn a m) w = tt
+return_goes (Ends regs m) w = tt
+
+block_goes :
+    (h : Option Head) (block : BlockId) (instance : Option ℕ) (passings : List Passing) (next : ℕ) (a : Activation) (w : World)
+    → is_some h ≡ true → Goes (block_called h block instance passings next a w)
+block_goes (Some h) block instance passings next a w there =
+    call_goes (call (callee_of block instance h) passings next a w.memory) next a w
+block_goes None block instance passings next a w there = absurd (no_truth there)
+
+function_goes :
+    (params : Option (List Param)) (number : ℕ) (passings : List Passing) (next : ℕ) (a : Activation) (w : World)
+    → is_some params ≡ true → Goes (system_called params number passings next a w)
+function_goes (Some params) number passings next a w there =
+    system_goes (system_call params passings (own_of a.running) w.memory) number next a
+function_goes None number passings next a w there = absurd (no_truth there)
+
+returned_goes : (h : Option Head) (a : Activation) (w : World) → is_some h ≡ true → Goes (returned h a w)
+returned_goes (Some h) a w there = return_goes (returning h.params a w.memory) w
+returned_goes None a w there = absurd (no_truth there)
+
+either_goes : (b : Bool) (x y : Step) → (b ≡ true → Goes x) → (b ≡ false → Goes y) → Goes (if b then x else y)
+either_goes true x y f g = f refl
+either_goes false x y f g = g refl
+
+called_goes :
+    (c : Code) (block : BlockId) (instance : Option ℕ) (passings : List Passing) (next : ℕ) (a : Activation) (w : World)
+    (system : Bool) → system ≡ is_system block.kind
+    → (if system then is_some (system_function block.number) else is_some (c.head block)) ≡ true
+    → Goes (called c block instance passings next a w)
+called_goes c block instance passings next a w true is there =
+    rw (sym is) (function_goes (system_function block.number) block.number passings next a w there)
+called_goes c block instance passings next a w false is there =
+    rw (sym is) (block_goes (c.head block) block instance passings next a w there)
+
+pub performed_goes :
+    (c : Code) (i : Instr) (next : ℕ) (a : Activation) (w : World)
+    → is_there c i a.running.frame.block ≡ true → Goes (performed c i next a w)
+performed_goes c (Does use_db word operand) next a w there =
+    parts_go (does_with use_db word operand (parts_of a.running w.memory w.timers w.counters)) next a
+performed_goes c (Jumps word target) next a w there = tt
+performed_goes c (JumpsByList targets otherwise) next a w there = tt
+performed_goes c (Calls how block instance passings) next a w there =
+    either_goes (is_called how a.running.regs.status.rlo) _ _
+    (λ h. called_goes c block instance passings next a w (is_system block.kind) refl there) (λ h. tt)
+performed_goes c (Returns how) next a w there =
+    either_goes (is_ended how a.running.regs.status.rlo) _ _
+    (λ h. returned_goes (c.head a.running.frame.block) a w there) (λ h. tt)
+
+pub fetched_goes :
+    (c : Code) (f : Option Fetched) (a : Activation) (w : World)
+    → is_complete c f a.running.frame.block ≡ true → Goes (fetched c f a w)
+fetched_goes c (Some f) a w there = performed_goes c f.instr f.next a w there
+fetched_goes c None a w there = absurd (no_truth there)

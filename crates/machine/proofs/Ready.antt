@@ -1,0 +1,289 @@
+-- An activation that fits is ready: what its statement needs is in a program that verifies.
+use Rattle.std.proofs.Common.{◌≡◌, ◌∙◌, inl, inr, [], ◌∷◌, ℕ, zero, suc, Bool, true, false, ◌==◌, is_some, if◌then◌else◌, List, length, map, Option, Some, None, refl, sym, ap}
+use Rattle.std.proofs.lemmas.Bool.{eqb-true}
+use Rattle.std.specs.Option.{option_map, option_and_then}
+use Rattle.plc_base.specs.declared.BlockId.{BlockId}
+use Rattle.plc_base.specs.declared.blocks.BlockKind.{BlockKind}
+use Rattle.plc_base.specs.declared.blocks.BlockKind.TheVariants as kinds
+use Rattle.plc_mem.specs.Areas.{Areas}
+use Rattle.frames.specs.Locals.{LocalData}
+use Rattle.frames.specs.declared.Activation.{Activation}
+use Rattle.frames.specs.declared.frame.Frame.{Frame}
+use Rattle.flat_code.specs.Blocks.{Callee, callee, system_params}
+use Rattle.flat_code.specs.Image.{param_of, kind_of_number}
+use Rattle.flat_code.specs.Instr.{Does, Passing}
+use Rattle.flat_code.specs.Kinds.{jump_of}
+use Rattle.flat_code.specs.Loading.{Verifies}
+use Rattle.flat_code.specs.Ops.{OpData}
+use Rattle.flat_code.specs.Placed.{op_placed, line_placed, places}
+use Rattle.flat_code.specs.Programs.{CodeBlock, Program}
+use Rattle.flat_code.specs.Words.{word_of}
+use Rattle.flat_code.specs.declared.operands.Operand.{Operand}
+use Rattle.flat_code.specs.declared.operands.Operand.TheVariants as operand
+use Rattle.flat_code.specs.declared.words.CallWord.{CallWord}
+use Rattle.flat_code.specs.declared.words.Word.{Word}
+use Rattle.flat_code.specs.declared.words.Word.TheVariants as word
+use Rattle.image_file.specs.Readers.{block_of}
+use Rattle.image_file.specs.Verified.{place_at, IsOp, IsRead, OpsArePlaced, FitsCall, CallsFit, IsCalled, CalledAreThere, signatures}
+use Rattle.machine.specs.Code.{Code, Head}
+use Rattle.machine.specs.Fitting.{OpenCodes, FrameFits, FramesFit, FitsBlock, Fits}
+use Rattle.machine.specs.Flat.{Run, run_at, run_with, with_op, most_ops, code_of, head_of, kind_called, call_instr, instr_of, fetched_of, use_db_of, passings_of, statement_at}
+use Rattle.machine.specs.Statement.{World, statement, Goes}
+use Rattle.machine.specs.There.{is_callee, is_there, is_complete}
+use Rattle.machine.proofs.Completing.{jump_is_there}
+use Rattle.machine.proofs.Fetching.{some_is, none_some}
+use Rattle.machine.proofs.Going.{fetched_goes}
+
+-- the last op of a statement stands at some offset
+abbrev HasLast : List OpData → Run → Type 0
+HasLast ops r = (from : ℕ) × (op_placed 0 ops from ≡ Some (r.last, r.next))
+
+abbrev LastPlaced : (most : ℕ) → List OpData → Type 0
+LastPlaced most ops = (at : ℕ) (r : Run) → run_at most ops at ≡ Some r → HasLast ops r
+
+inner_last :
+    (most : ℕ) (ops : List OpData) (p : OpData × ℕ) (inner : Option Run) (r : Run) → LastPlaced most ops
+    → run_at most ops p.1 ≡ inner → option_map (with_op p.0) inner ≡ Some r → HasLast ops r
+inner_last most ops p None r along is h = absurd (none_some r (sym h))
+inner_last most ops p (Some q) r along is h =
+    rw (sym (some_is (with_op p.0 q) r h)) (along p.1 q is)
+
+last_by :
+    (most : ℕ) (ops : List OpData) (at : ℕ) (last : Bool) (p : OpData × ℕ) (r : Run) → LastPlaced most ops
+    → op_placed 0 ops at ≡ Some p
+    → (if last then Some (record { before = []; last = p.0; next = p.1 }) else option_map (with_op p.0) (run_at most ops p.1)) ≡ Some r
+    → HasLast ops r
+last_by most ops at true p r along placed h =
+    rw (sym (some_is (record { before = []; last = p.0; next = p.1 }) r h)) (at, placed)
+last_by most ops at false p r along placed h =
+    inner_last most ops p (run_at most ops p.1) r along refl h
+
+last_with :
+    (most : ℕ) (ops : List OpData) (at : ℕ) (o : Option (OpData × ℕ)) (r : Run) → LastPlaced most ops
+    → op_placed 0 ops at ≡ o → run_with o (λ next. run_at most ops next) ≡ Some r → HasLast ops r
+last_with most ops at None r along placed h = absurd (none_some r (sym h))
+last_with most ops at (Some p) r along placed h = last_by most ops at p.0.last p r along placed h
+
+last_placed : (most : ℕ) (ops : List OpData) → LastPlaced most ops
+unfolding run_at
+last_placed zero ops at r h = absurd (none_some r (sym h))
+last_placed (suc most) ops at r h =
+    last_with most ops at (op_placed 0 ops at) r (last_placed most ops) refl h
+
+-- what is called by a kind is there
+some_below :
+    {A B C : Type 0} (x : Option A) (f : A → B) (g : A → C) (y : B) → option_map f x ≡ Some y
+    → is_some (option_map g x) ≡ true
+some_below None f g y h = absurd (none_some y (sym h))
+some_below (Some x) f g y h = refl
+
+abbrev There : Program → (number : ℕ) → BlockKind → Type 0
+There p number kind = is_callee (code_of p) (record { kind = kind; number = number }) ≡ true
+
+head_there :
+    (p : Program) (number : ℕ) (found kind : BlockKind) (b : CodeBlock) → found ≡ kind
+    → block_of (record { kind = found; number = number }) p.code_blocks ≡ Some b
+    → is_some (option_map head_of (block_of (record { kind = kind; number = number }) p.code_blocks)) ≡ true
+head_there p number found kind b e h = rw (sym e) (rw h refl)
+
+fc_there :
+    (p : Program) (kind number : ℕ) (called : Callee) → CalledAreThere → kind ≡ 2
+    → callee (signatures p) kind number ≡ Some called → There p number kinds.Fc
+fc_there p kind number called law e h =
+    let is : IsCalled p kind number called = law p kind number called (inl e) h
+    in let same : kind_of_number kind ≡ kinds.Fc = rw e refl
+    in head_there p number (kind_of_number kind) kinds.Fc is.block same is.there
+
+fb_there :
+    (p : Program) (kind number : ℕ) (called : Callee) → CalledAreThere → kind ≡ 3
+    → callee (signatures p) kind number ≡ Some called → There p number kinds.Fb
+fb_there p kind number called law e h =
+    let is : IsCalled p kind number called = law p kind number called (inr e) h
+    in let same : kind_of_number kind ≡ kinds.Fb = rw e refl
+    in head_there p number (kind_of_number kind) kinds.Fb is.block same is.there
+
+sfc_there :
+    (p : Program) (kind number : ℕ) (called : Callee) → kind ≡ 5
+    → callee (signatures p) kind number ≡ Some called → There p number kinds.Sfc
+unfolding callee
+sfc_there p kind number called e h =
+    some_below (system_params number) (λ params. (5, 0, params)) (map param_of) called (rw e at h)
+
+by_tests :
+    (p : Program) (kind number : ℕ) (called : Callee) (k : BlockKind) (two three five : Bool) → CalledAreThere
+    → callee (signatures p) kind number ≡ Some called
+    → (kind == 2) ≡ two → (kind == 3) ≡ three → (kind == 5) ≡ five
+    → (if two then Some kinds.Fc else if three then Some kinds.Fb else if five then Some kinds.Sfc else None) ≡ Some k
+    → There p number k
+by_tests p kind number called k true three five law h e2 e3 e5 is =
+    rw (sym (some_is kinds.Fc k is)) (fc_there p kind number called law (eqb-true kind 2 e2) h)
+by_tests p kind number called k false true five law h e2 e3 e5 is =
+    rw (sym (some_is kinds.Fb k is)) (fb_there p kind number called law (eqb-true kind 3 e3) h)
+by_tests p kind number called k false false true law h e2 e3 e5 is =
+    rw (sym (some_is kinds.Sfc k is)) (sfc_there p kind number called (eqb-true kind 5 e5) h)
+by_tests p kind number called k false false false law h e2 e3 e5 is = absurd (none_some k (sym is))
+
+abbrev CallsThere : Program → CodeBlock → Operand → Type 0
+CallsThere p b o =
+    (kind number instance : ℕ) (k : BlockKind) → o ≡ operand.Called kind number instance
+    → kind_called kind ≡ Some k → There p number k
+
+last_calls :
+    (p : Program) (own : BlockId) (b : CodeBlock) (from next : ℕ) (op : OpData) → Verifies p → OpsArePlaced → CallsFit
+    → CalledAreThere → block_of own p.code_blocks ≡ Some b → op_placed 0 b.code from ≡ Some (op, next)
+    → CallsThere p b op.operand
+last_calls p own b from next op verifies placed_law calls_law called_law block placed kind number instance k o is =
+    let read : IsRead b.code from op next = placed_law b.code from op next placed
+    in let there : place_at read.here.at (places b.code) ≡ Some read.here = ap (λ z. place_at z (places b.code)) read.offset ∙ read.place
+    in let isop : IsOp p b read.here = record { verifies = verifies; id = own; block = block; place = there }
+    in let fit : FitsCall p read.here kind number instance =
+    calls_law p b read.here kind number instance isop (ap (λ (z : OpData). z.operand) read.op_is ∙ o)
+    in by_tests p kind number fit.called k (kind == 2) (kind == 3) (kind == 5) called_law fit.there refl refl refl is
+
+-- what the instruction of an op needs is there
+call_by :
+    (p : Program) (own : BlockId) (how : CallWord) (k : Option BlockKind) (number instance : ℕ) (passings : List Passing)
+    (use_db : Option ℕ) (w : Word) (o : Operand)
+    → ((kind : BlockKind) → k ≡ Some kind → There p number kind)
+    → is_there (code_of p) (call_instr k how number instance passings (Does use_db w o)) own ≡ true
+call_by p own how None number instance passings use_db w o needs = refl
+call_by p own how (Some kind) number instance passings use_db w o needs = needs kind refl
+
+op_there :
+    (p : Program) (b : CodeBlock) (own : BlockId) (w : Word) (o : Operand) (use_db : Option ℕ) (passings : List Passing)
+    (next : ℕ) (ops : List OpData) → CallsThere p b o → is_some ((code_of p).head own) ≡ true
+    → is_there (code_of p) (instr_of w o use_db passings next ops) own ≡ true
+op_there p b own word.NoWord o use_db passings next ops calls head = refl
+op_there p b own word.Nop o use_db passings next ops calls head = refl
+op_there p b own word.Bld o use_db passings next ops calls head = refl
+op_there p b own word.UseDb o use_db passings next ops calls head = refl
+op_there p b own word.Pass o use_db passings next ops calls head = refl
+op_there p b own (word.Check with) o use_db passings next ops calls head = refl
+op_there p b own word.OrBare o use_db passings next ops calls head = refl
+op_there p b own (word.Nest with) o use_db passings next ops calls head = refl
+op_there p b own word.Unnest o use_db passings next ops calls head = refl
+op_there p b own word.Load o use_db passings next ops calls head = refl
+op_there p b own word.Transfer o use_db passings next ops calls head = refl
+op_there p b own word.Assign o use_db passings next ops calls head = refl
+op_there p b own word.Set o use_db passings next ops calls head = refl
+op_there p b own word.Reset o use_db passings next ops calls head = refl
+op_there p b own (word.Edge rising) o use_db passings next ops calls head = refl
+op_there p b own word.SetRlo o use_db passings next ops calls head = refl
+op_there p b own word.ClearRlo o use_db passings next ops calls head = refl
+op_there p b own word.NegateRlo o use_db passings next ops calls head = refl
+op_there p b own word.SaveRlo o use_db passings next ops calls head = refl
+op_there p b own word.LoadBcd o use_db passings next ops calls head = refl
+op_there p b own word.LoadStatus o use_db passings next ops calls head = refl
+op_there p b own word.TransferStatus o use_db passings next ops calls head = refl
+op_there p b own word.LoadOpenBlock o use_db passings next ops calls head = refl
+op_there p b own (word.Pointer what) o use_db passings next ops calls head = refl
+op_there p b own (word.Number what) o use_db passings next ops calls head = refl
+op_there p b own (word.Add what) o use_db passings next ops calls head = refl
+op_there p b own (word.CompareInt how) o use_db passings next ops calls head = refl
+op_there p b own (word.CompareDint how) o use_db passings next ops calls head = refl
+op_there p b own (word.Logic what) o use_db passings next ops calls head = refl
+op_there p b own (word.Shift what) o use_db passings next ops calls head = refl
+op_there p b own (word.Start how) o use_db passings next ops calls head = refl
+op_there p b own word.Free o use_db passings next ops calls head = refl
+op_there p b own word.CountUp o use_db passings next ops calls head = refl
+op_there p b own word.CountDown o use_db passings next ops calls head = refl
+op_there p b own word.OpenBlock o use_db passings next ops calls head = refl
+op_there p b own word.Exchange o use_db passings next ops calls head = refl
+op_there p b own word.Jump operand.Nothing use_db passings next ops calls head = refl
+op_there p b own word.Jump (operand.Literal value) use_db passings next ops calls head = refl
+op_there p b own word.Jump (operand.Direct area width byte bit) use_db passings next ops calls head = refl
+op_there p b own word.Jump (operand.ByMemory area width from byte) use_db passings next ops calls head = refl
+op_there p b own word.Jump (operand.ByRegister area width register bits) use_db passings next ops calls head = refl
+op_there p b own word.Jump (operand.Parameter index width) use_db passings next ops calls head = refl
+op_there p b own word.Jump (operand.Numbered kind number) use_db passings next ops calls head = refl
+op_there p b own word.Jump (operand.NumberedBy kind from byte) use_db passings next ops calls head = refl
+op_there p b own word.Jump (operand.Jump kind target) use_db passings next ops calls head =
+    jump_is_there (code_of p) own (jump_of kind) target next ops
+op_there p b own word.Jump (operand.OfStatus condition) use_db passings next ops calls head = refl
+op_there p b own word.Jump (operand.UseDb number) use_db passings next ops calls head = refl
+op_there p b own word.Jump (operand.Pass index actual) use_db passings next ops calls head = refl
+op_there p b own word.Jump (operand.Called kind number instance) use_db passings next ops calls head = refl
+op_there p b own word.Jump (operand.OpenBlock register number) use_db passings next ops calls head = refl
+op_there p b own word.Jump (operand.OpenBy register from byte) use_db passings next ops calls head = refl
+op_there p b own (word.Call how) operand.Nothing use_db passings next ops calls head = refl
+op_there p b own (word.Call how) (operand.Literal value) use_db passings next ops calls head = refl
+op_there p b own (word.Call how) (operand.Direct area width byte bit) use_db passings next ops calls head = refl
+op_there p b own (word.Call how) (operand.ByMemory area width from byte) use_db passings next ops calls head = refl
+op_there p b own (word.Call how) (operand.ByRegister area width register bits) use_db passings next ops calls head = refl
+op_there p b own (word.Call how) (operand.Parameter index width) use_db passings next ops calls head = refl
+op_there p b own (word.Call how) (operand.Numbered kind number) use_db passings next ops calls head = refl
+op_there p b own (word.Call how) (operand.NumberedBy kind from byte) use_db passings next ops calls head = refl
+op_there p b own (word.Call how) (operand.Jump kind target) use_db passings next ops calls head = refl
+op_there p b own (word.Call how) (operand.OfStatus condition) use_db passings next ops calls head = refl
+op_there p b own (word.Call how) (operand.UseDb number) use_db passings next ops calls head = refl
+op_there p b own (word.Call how) (operand.Pass index actual) use_db passings next ops calls head = refl
+op_there p b own (word.Call how) (operand.Called kind number instance) use_db passings next ops calls head =
+    call_by p own how (kind_called kind) number instance passings use_db (word.Call how) (operand.Called kind number instance)
+    (λ k is. calls kind number instance k refl is)
+op_there p b own (word.Call how) (operand.OpenBlock register number) use_db passings next ops calls head = refl
+op_there p b own (word.Call how) (operand.OpenBy register from byte) use_db passings next ops calls head = refl
+op_there p b own (word.End how) o use_db passings next ops calls head = head
+
+-- a statement that begins there has what it needs
+with_line :
+    (p : Program) (b : CodeBlock) (own : BlockId) (line : Option ℕ) (found : Option Run)
+    → ((r : Run) → found ≡ Some r → CallsThere p b r.last.operand) → is_some ((code_of p).head own) ≡ true
+    → is_some (option_and_then (λ line. option_map (fetched_of b.code line) found) line) ≡ true
+    → is_complete (code_of p) (option_and_then (λ line. option_map (fetched_of b.code line) found) line) own ≡ true
+with_line p b own None found calls head there = there
+with_line p b own (Some line) None calls head there = there
+with_line p b own (Some line) (Some r) calls head there =
+    op_there p b own (word_of r.last.code) r.last.operand (use_db_of r.before) (passings_of r.before) r.next b.code
+    (calls r refl) head
+
+at_block :
+    (p : Program) (own : BlockId) (at : ℕ) (found : Option CodeBlock) → Verifies p → OpsArePlaced → CallsFit
+    → CalledAreThere → block_of own p.code_blocks ≡ found
+    → is_some (option_map head_of found) ≡ true
+    → is_some (option_and_then (λ b. statement_at b at) found) ≡ true
+    → is_complete (code_of p) (option_and_then (λ b. statement_at b at) found) own ≡ true
+unfolding statement_at
+at_block p own at None verifies placed_law calls_law called_law block head there = there
+at_block p own at (Some b) verifies placed_law calls_law called_law block head there =
+    with_line p b own (line_placed 0 true b.code b.lines at) (run_at most_ops b.code at)
+    (λ r is. let last : HasLast b.code r = last_placed most_ops b.code at r is
+    in last_calls p own b last.0 r.next r.last verifies placed_law calls_law called_law block last.1)
+    (rw block head) there
+
+block_there :
+    (h : Option Head) (f : Frame) (locals : LocalData) (m : Areas) (place : ℕ) → FitsBlock h f locals m place
+    → is_some h ≡ true
+block_there (Some h) f locals m place fits = refl
+block_there None f locals m place fits = absurd fits
+
+frame_goes :
+    (p : Program) (brackets : OpenCodes) (m : Areas) (a : Activation) (w : World) (place : ℕ) → Verifies p
+    → OpsArePlaced → CallsFit → CalledAreThere
+    → FrameFits (code_of p) brackets m a.running.locals place a.running.frame
+    → Goes (statement (code_of p) a w)
+unfolding statement
+frame_goes p brackets m a w place verifies placed_law calls_law called_law fits =
+    let own : BlockId = a.running.frame.block
+    in let at : ℕ = a.running.frame.at
+    in fetched_goes (code_of p) ((code_of p).fetch own at) a w
+    (at_block p own at (block_of own p.code_blocks) verifies placed_law calls_law called_law refl
+    (block_there ((code_of p).head own) a.running.frame a.running.locals m place fits.block) fits.statement)
+
+true_false : true ≡ false → ⊥
+true_false h = cc
+
+innermost_fits :
+    (c : Code) (brackets : OpenCodes) (m : Areas) (a : Activation) (left : Bool) → a.left ≡ left → left ≡ false
+    → FramesFit c brackets m a.running.locals (if left then [] else a.running.frame ∷ a.below)
+    → (place : ℕ) × FrameFits c brackets m a.running.locals place a.running.frame
+innermost_fits c brackets m a true is e fits = absurd (true_false e)
+innermost_fits c brackets m a false is e fits = (length a.below, fits.0)
+
+pub fits_goes :
+    (p : Program) (brackets : OpenCodes) (m : Areas) (a : Activation) (w : World) → Verifies p
+    → OpsArePlaced → CallsFit → CalledAreThere → Fits (code_of p) brackets m a
+    → Goes (statement (code_of p) a w)
+fits_goes p brackets m a w verifies placed_law calls_law called_law fits =
+    let one : (place : ℕ) × FrameFits (code_of p) brackets m a.running.locals place a.running.frame =
+    innermost_fits (code_of p) brackets m a a.left refl fits.stands fits.frames
+    in frame_goes p brackets m a w one.0 verifies placed_law calls_law called_law one.1

@@ -1,0 +1,66 @@
+-- CALL: what each parameter of the called block stands for, fixed when it is called.
+use Rattle.std.specs.Prelude.{ℕ, ◌==◌, List, [], ◌∷◌, length, replicate, slice_get, Option, Some, None, Result, Ok, Err, if◌then◌else◌}
+use Rattle.plc_base.specs.declared.Area.TheVariants as areas
+use Rattle.plc_mem.specs.Areas.{Areas}
+use Rattle.frames.specs.Bound.{set_at}
+use Rattle.frames.specs.declared.bindings.Binding.{Binding}
+use Rattle.frames.specs.declared.bindings.Binding.TheVariants as binding
+use Rattle.flat_code.specs.declared.operands.Passed.{Passed}
+use Rattle.flat_code.specs.declared.operands.Passed.TheVariants as passed
+use Rattle.flat_code.specs.declared.programs.Param.{Param}
+use Rattle.flat_code.specs.Instr.{Passing}
+use Rattle.machine.specs.declared.places.Access.{Access}
+use Rattle.machine.specs.declared.places.Access.TheVariants.{Reading, Writing}
+use Rattle.machine.specs.declared.places.Bound.{Bound}
+use Rattle.machine.specs.Parts.{Own, then_ok}
+use Rattle.machine.specs.Places.{bound_at, placed, number_in, absent, no_operand}
+use Rattle.machine.specs.DataBlocks.{is_loaded}
+
+-- sections of a declaration: 1 IN, 2 OUT, 3 IN_OUT. OUT alone is tested as a place that is written
+abbrev pub access_of : Param → Access
+access_of p = if p.section == 2 then Writing else Reading
+
+-- a place is bound if it exists
+abbrev pub bound_if : Access → Bound → Option ℕ → Result Binding ℕ
+bound_if access at None = Err (absent access at.place.area)
+bound_if access at (Some n) = Ok (binding.Bound at.place at.width at.frame)
+
+unfoldable pub bound_place : Access → Bound → Own → Areas → Result Binding ℕ
+bound_place access at s m = bound_if access at (number_in at s.locals m)
+
+-- a parameter that is passed on stands for what it stands for in the caller
+abbrev pub passed_on : Option Binding → Result Binding ℕ
+passed_on (Some b) = Ok b
+passed_on None = Err no_operand
+
+-- what is passed: constants by value, places as they are at the call. A place in a data block that
+-- is named opens nothing: 3A where the block isn't loaded
+unfoldable pub bound_actual : Access → Passed → Own → Areas → Result Binding ℕ
+bound_actual access (passed.Literal value) s m = Ok (binding.Constant value)
+bound_actual access (passed.Direct area width byte bit) s m =
+    then_ok (placed access area byte bit width s) (λ at. bound_place access at s m)
+bound_actual access (passed.Parameter index width) s m =
+    passed_on (slice_get s.inner.bindings index)
+bound_actual access (passed.InBlock number area width byte bit) s m =
+    if is_loaded number m then bound_place access (bound_at areas.Db number byte bit width 0) s m
+    else Err 0x3A
+
+abbrev pub bound_for : Option Param → Passed → Own → Areas → Result Binding ℕ
+bound_for (Some p) actual s m = bound_actual (access_of p) actual s m
+bound_for None actual s m = Err no_operand
+
+-- one after another, each passing sets what its parameter stands for
+abbrev pub bound_params :
+    List Param → List Passing → List Binding → Own → Areas → Result (List Binding) ℕ
+bound_params params [] bindings s m = Ok bindings
+bound_params params (passing ∷ rest) bindings s m =
+    then_ok (bound_for (slice_get params passing.index) passing.actual s m) (λ b.
+    bound_params params rest (set_at bindings passing.index b) s m)
+
+-- before, none is supplied
+abbrev pub unsupplied : List Param → List Binding
+unsupplied params = replicate (length params) binding.Unsupplied
+
+-- what the parameters of a block stand for
+unfoldable pub bindings_of : List Param → List Passing → Own → Areas → Result (List Binding) ℕ
+bindings_of params passings s m = bound_params params passings (unsupplied params) s m

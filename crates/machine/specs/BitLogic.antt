@@ -1,0 +1,79 @@
+-- Bit logic with an operand: A AN O ON X XN, =, S, R, FP, FN.
+-- Siemens, Statement List (STL): Bit Logic Instructions.
+use Rattle.std.specs.Prelude.{ℕ, ◌==◌, Bool, if◌then◌else◌, List, Result, Ok, ok_or}
+use Rattle.plc_mem.specs.Areas.{Areas}
+use Rattle.status_word.specs.declared.Check.{Check}
+use Rattle.status_word.specs.declared.Check.TheVariants as check
+use Rattle.status_word.specs.declared.Regs.{Regs}
+use Rattle.status_word.specs.Check.{checked}
+use Rattle.status_word.specs.Store.{stored}
+use Rattle.status_word.specs.Edge.{edged}
+use Rattle.timers_counters.specs.Timer.{Timer}
+use Rattle.timers_counters.specs.Counter.{Counter}
+use Rattle.flat_code.specs.declared.words.Joined.{Joined}
+use Rattle.flat_code.specs.declared.words.Joined.TheVariants as joined
+use Rattle.flat_code.specs.declared.operands.Operand.{Operand}
+use Rattle.machine.specs.declared.places.Access.TheVariants.{Writing}
+use Rattle.machine.specs.declared.places.Bound.{Bound}
+use Rattle.machine.specs.Parts.{Own, Scene, then_ok}
+use Rattle.machine.specs.Places.{located, number_in, absent}
+use Rattle.machine.specs.Values.{tested, write}
+
+abbrev pub check_of : Joined → Check
+check_of joined.A = check.A
+check_of joined.An = check.An
+check_of joined.O = check.O
+check_of joined.On = check.On
+check_of joined.X = check.X
+check_of joined.Xn = check.Xn
+
+-- A AN O ON X XN
+unfoldable pub checking : Joined → Operand → Own → Areas → List Timer → List Counter → Result Regs ℕ
+checking with o s m t n =
+    then_ok (tested o s m t n) (λ bit. Ok (checked (check_of with) bit s.regs))
+
+abbrev pub bit_number : Bool → ℕ
+bit_number bit = if bit then 1 else 0
+
+abbrev pub with_regs : Regs → Scene → Scene
+with_regs r c = record c { own = record c.own { regs = r } }
+
+-- a bit written to a place, and other registers
+unfoldable pub put_bit : Bound → Bool → Regs → Own → Areas → Result Scene ℕ
+put_bit at bit r s m = then_ok (write at (bit_number bit) s m) (λ c. Ok (with_regs r c))
+
+-- the bit at a place that is written; its errors are those of writing
+unfoldable pub bit_before : Bound → Own → Areas → Result Bool ℕ
+bit_before at s m =
+    then_ok (ok_or (number_in at s.locals m) (absent Writing at.place.area)) (λ n. Ok (n == 1))
+
+-- =
+abbrev pub assigned_at : Bound → Own → Areas → Result Scene ℕ
+assigned_at at s m = put_bit at s.regs.status.rlo (stored s.regs.status.rlo s.regs) s m
+
+unfoldable pub assigned : Operand → Own → Areas → Result Scene ℕ
+assigned o s m = then_ok (located Writing o s m) (λ at. assigned_at at s m)
+
+-- the bit after S (value 1) and R (value 0): with RLO 0 it stays
+abbrev pub bit_after : (rlo value before : Bool) → Bool
+bit_after rlo value before = if rlo then value else before
+
+-- S and R of a bit
+abbrev pub set_at : (value : Bool) → Bound → (before : Bool) → Own → Areas → Result Scene ℕ
+set_at value at before s m =
+    put_bit at (bit_after s.regs.status.rlo value before)
+    (stored (bit_after s.regs.status.rlo value before) s.regs) s m
+
+unfoldable pub bit_set : (value : Bool) → Operand → Own → Areas → Result Scene ℕ
+bit_set value o s m =
+    then_ok (located Writing o s m) (λ at.
+    then_ok (bit_before at s m) (λ before. set_at value at before s m))
+
+-- FP (rising) and FN: the edge bit gets the RLO as it was before
+abbrev pub edge_at : (rising : Bool) → Bound → (before : Bool) → Own → Areas → Result Scene ℕ
+edge_at rising at before s m = put_bit at s.regs.status.rlo (edged rising before s.regs) s m
+
+unfoldable pub edge : (rising : Bool) → Operand → Own → Areas → Result Scene ℕ
+edge rising o s m =
+    then_ok (located Writing o s m) (λ at.
+    then_ok (bit_before at s m) (λ before. edge_at rising at before s m))

@@ -1,0 +1,66 @@
+-- Data blocks: OPN, CDB, L DBLG, L DBNO, L DILG, L DINO.
+-- Siemens, Statement List (STL): Data Block Instructions.
+use Rattle.std.specs.Prelude.{ℕ, ◌==◌, ◌%◌, ◌^◌, Bool, is_some, length, List, Option, Some, None, unwrap_or, Result, Ok, Err, if◌then◌else◌}
+use Rattle.std.specs.FinMap as map
+use Rattle.plc_base.specs.declared.Width.TheVariants as widths
+use Rattle.plc_mem.specs.Areas.{Areas}
+use Rattle.status_word.specs.declared.Regs.{Regs}
+use Rattle.frames.specs.FrameData.{FrameData}
+use Rattle.flat_code.specs.declared.operands.Operand.{Operand}
+use Rattle.flat_code.specs.declared.operands.Operand.TheVariants as operand
+use Rattle.machine.specs.Parts.{Own, then_ok}
+use Rattle.machine.specs.Places.{pointer, no_operand}
+use Rattle.machine.specs.Loads.{with_loaded}
+
+abbrev pub is_loaded : ℕ → Areas → Bool
+is_loaded number m = is_some (map.get m.data_blocks number)
+
+-- the data block opened in the DB (1) or DI (2) register
+abbrev pub opened : (register number : ℕ) → Own → Own
+opened register number s =
+    if register == 1 then record s { inner = record s.inner { db = Some number } }
+    else record s { inner = record s.inner { di = Some number } }
+
+-- 3A: the data block isn't loaded
+abbrev pub opened_if : Bool → (register number : ℕ) → Own → Result Own ℕ
+opened_if loaded register number s = if loaded then Ok (opened register number s) else Err 0x3A
+
+-- OPN of a number, or of the number in a word of memory
+unfoldable pub opening : Operand → Own → Areas → Result Own ℕ
+opening (operand.OpenBlock register number) s m =
+    opened_if (is_loaded number m) register number s
+opening (operand.OpenBy register from byte) s m =
+    then_ok (pointer from byte widths.Word s m) (λ number.
+    opened_if (is_loaded number m) register number s)
+opening _ s m = Err no_operand
+
+-- CDB: DB and DI register exchanged
+unfoldable pub exchanged : Own → Own
+exchanged s = record s { inner = record s.inner { db = s.inner.di; di = s.inner.db } }
+
+-- the number of an opened data block, and its length in bytes, in the 32 bits of an accumulator; 0
+-- where none is open
+abbrev pub number_opened : Option ℕ → ℕ
+number_opened block = unwrap_or block 0
+
+abbrev pub len_of : Option (List ℕ) → ℕ
+len_of None = 0
+len_of (Some bytes) = length bytes % 2 ^ 32
+
+abbrev pub len_opened : Option ℕ → Areas → ℕ
+len_opened None m = 0
+len_opened (Some number) m = len_of (map.get m.data_blocks number)
+
+-- 0 DBLG, 1 DBNO, 2 DILG, 3 DINO
+unfoldable pub open_block_fact : ℕ → FrameData → Areas → ℕ
+open_block_fact which f m =
+    if which == 0 then len_opened f.db m
+    else if which == 1 then number_opened f.db
+    else if which == 2 then len_opened f.di m
+    else number_opened f.di
+
+-- L DBLG, L DBNO, L DILG, L DINO
+unfoldable pub loading_open_block : Operand → Own → Areas → Result Regs ℕ
+loading_open_block (operand.Literal which) s m =
+    Ok (with_loaded (open_block_fact which s.inner m) s.regs)
+loading_open_block _ s m = Err no_operand

@@ -1,0 +1,122 @@
+-- What an instruction does that touches no position, by its word and its operand.
+use Rattle.std.specs.Prelude.{ℕ, true, false, List, Option, Some, None, if◌then◌else◌, Result, Ok, Err}
+use Rattle.status_word.specs.declared.Regs.{Regs}
+use Rattle.status_word.specs.BareOr.{or_bare}
+use Rattle.status_word.specs.SetClear.{set, clr, negated, saved}
+use Rattle.alu.specs.Comparison.{compared}
+use Rattle.timers_counters.specs.Timer.{Timer}
+use Rattle.timers_counters.specs.Counter.{Counter}
+use Rattle.flat_code.specs.declared.operands.Operand.{Operand}
+use Rattle.flat_code.specs.declared.operands.Operand.TheVariants as operand
+use Rattle.flat_code.specs.declared.words.Word.{Word}
+use Rattle.flat_code.specs.declared.words.Word.TheVariants as word
+use Rattle.machine.specs.Parts.{Own, Scene, Parts}
+use Rattle.machine.specs.Places.{no_operand}
+use Rattle.machine.specs.Values.{is_timer}
+use Rattle.machine.specs.BitLogic.{checking, assigned, bit_set, edge}
+use Rattle.machine.specs.Nesting.{nesting, unnesting}
+use Rattle.machine.specs.Loads.{loading, loading_bcd, transferring, status_loaded, status_transferred}
+use Rattle.machine.specs.Numbers.{counted, with_constant, compare_of, combined, shifted}
+use Rattle.machine.specs.Timing.{string_ended, starting, timer_reset, timer_freed, counting_up, counting_down, counter_set, counter_reset, counter_freed}
+use Rattle.machine.specs.Pointers.{pointed}
+use Rattle.machine.specs.DataBlocks.{is_loaded, opened, opening, exchanged, loading_open_block}
+
+-- an effect on the registers, on all that an activation has of its own, and on memory besides
+abbrev pub on_regs : Parts → Result Regs ℕ → Result Parts ℕ
+on_regs p (Ok r) = Ok (record p { own = record p.own { regs = r } })
+on_regs p (Err e) = Err e
+
+abbrev pub on_own : Parts → Result Own ℕ → Result Parts ℕ
+on_own p (Ok s) = Ok (record p { own = s })
+on_own p (Err e) = Err e
+
+abbrev pub on_scene : Parts → Result Scene ℕ → Result Parts ℕ
+on_scene p (Ok c) = Ok (record p { own = c.own; memory = c.memory })
+on_scene p (Err e) = Err e
+
+-- an effect on timers, on counters: the logic string ends
+abbrev pub on_timers : Parts → Result (List Timer) ℕ → Result Parts ℕ
+on_timers p (Ok all) =
+    Ok (record p { own = record p.own { regs = string_ended p.own.regs }; timers = all })
+on_timers p (Err e) = Err e
+
+abbrev pub on_counters : Parts → Result (List Counter) ℕ → Result Parts ℕ
+on_counters p (Ok all) =
+    Ok (record p { own = record p.own { regs = string_ended p.own.regs }; counters = all })
+on_counters p (Err e) = Err e
+
+-- the kind of an operand that is a timer (1) or counter (2)
+abbrev pub kind_named : Operand → Option ℕ
+kind_named (operand.Numbered kind number) = Some kind
+kind_named (operand.NumberedBy kind from byte) = Some kind
+kind_named _ = None
+
+-- S of a bit or a counter
+abbrev pub set_of : Option ℕ → Operand → Parts → Result Parts ℕ
+set_of None o p = on_scene p (bit_set true o p.own p.memory)
+set_of (Some kind) o p = on_counters p (counter_set o p.own p.memory p.counters)
+
+-- R of a bit, a timer or a counter
+abbrev pub reset_of : Option ℕ → Operand → Parts → Result Parts ℕ
+reset_of None o p = on_scene p (bit_set false o p.own p.memory)
+reset_of (Some kind) o p =
+    if is_timer kind then on_timers p (timer_reset o p.own p.memory p.timers)
+    else on_counters p (counter_reset o p.own p.memory p.counters)
+
+-- FR of a timer or a counter
+abbrev pub free_of : Option ℕ → Operand → Parts → Result Parts ℕ
+free_of None o p = Err no_operand
+free_of (Some kind) o p =
+    if is_timer kind then on_timers p (timer_freed o p.own p.memory p.timers)
+    else on_counters p (counter_freed o p.own p.memory p.counters)
+
+unfoldable pub does : Word → Operand → Parts → Result Parts ℕ
+does word.Nop o p = Ok p
+does word.Bld o p = Ok p
+does (word.Check with) o p = on_regs p (checking with o p.own p.memory p.timers p.counters)
+does word.OrBare o p = on_regs p (Ok (or_bare p.own.regs))
+does (word.Nest with) o p = on_own p (nesting with p.own)
+does word.Unnest o p = on_own p (unnesting p.own)
+does word.Load o p = on_regs p (loading o p.own p.memory p.timers p.counters)
+does word.Transfer o p = on_scene p (transferring o p.own p.memory)
+does word.Assign o p = on_scene p (assigned o p.own p.memory)
+does word.Set o p = set_of (kind_named o) o p
+does word.Reset o p = reset_of (kind_named o) o p
+does (word.Edge rising) o p = on_scene p (edge rising o p.own p.memory)
+does word.SetRlo o p = on_regs p (Ok (set p.own.regs))
+does word.ClearRlo o p = on_regs p (Ok (clr p.own.regs))
+does word.NegateRlo o p = on_regs p (Ok (negated p.own.regs))
+does word.SaveRlo o p = on_regs p (Ok (saved p.own.regs))
+does word.LoadBcd o p = on_regs p (loading_bcd o p.own p.memory p.timers p.counters)
+does word.LoadStatus o p = on_regs p (Ok (status_loaded p.own.regs))
+does word.TransferStatus o p = on_regs p (Ok (status_transferred p.own.regs))
+does word.LoadOpenBlock o p = on_regs p (loading_open_block o p.own p.memory)
+does (word.Pointer what) o p = on_scene p (pointed what o p.own p.memory)
+does (word.Number what) o p = on_regs p (counted what p.own.regs)
+does (word.Add what) o p = on_regs p (Ok (with_constant what o p.own.regs))
+does (word.CompareInt how) o p = on_regs p (Ok (compared 16 (compare_of how) p.own.regs))
+does (word.CompareDint how) o p = on_regs p (Ok (compared 32 (compare_of how) p.own.regs))
+does (word.Logic what) o p = on_regs p (Ok (combined what o p.own.regs))
+does (word.Shift what) o p = on_regs p (Ok (shifted what o p.own.regs))
+does (word.Start how) o p = on_timers p (starting how o p.own p.memory p.timers)
+does word.Free o p = free_of (kind_named o) o p
+does word.CountUp o p = on_counters p (counting_up o p.own p.memory p.counters)
+does word.CountDown o p = on_counters p (counting_down o p.own p.memory p.counters)
+does word.OpenBlock o p = on_own p (opening o p.own p.memory)
+does word.Exchange o p = on_own p (Ok (exchanged p.own))
+-- jumps, calls and ends go by the statement; the others stand before the last op of one
+does word.Jump o p = Err no_operand
+does (word.Call how) o p = Err no_operand
+does (word.End how) o p = Err no_operand
+does word.UseDb o p = Err no_operand
+does word.Pass o p = Err no_operand
+does word.NoWord o p = Err no_operand
+
+-- a statement that opens a data block first: 3A where it isn't loaded; after an error it isn't open
+abbrev pub with_db : ℕ → Parts → Parts
+with_db number p = record p { own = opened 1 number p.own }
+
+unfoldable pub does_with : Option ℕ → Word → Operand → Parts → Result Parts ℕ
+does_with None w o p = does w o p
+does_with (Some number) w o p =
+    if is_loaded number p.memory then does w o (with_db number p) else Err 0x3A

@@ -1,0 +1,95 @@
+-- CALL, UC and CC of a function or function block: bindings, then depth and local data, then the
+-- block is entered, and the parameters of a function block are copied into its instance.
+use Rattle.std.specs.Prelude.{ℕ, ◌≡◌, true, false, List, [], Option, Some, None, Result, Ok, Err}
+use Rattle.plc_base.specs.declared.BlockId.{BlockId}
+use Rattle.plc_mem.specs.Areas.{Areas}
+use Rattle.status_word.specs.declared.Regs.{Regs}
+use Rattle.frames.specs.Activations.{entered, refused}
+use Rattle.frames.specs.declared.Activation.{Activation}
+use Rattle.frames.specs.declared.FrameFault.{FrameFault}
+use Rattle.frames.specs.declared.bindings.Binding.{Binding}
+use Rattle.frames.specs.declared.frame.Frame.{Frame}
+use Rattle.flat_code.specs.declared.programs.Param.{Param}
+use Rattle.flat_code.specs.Instr.{Passing}
+use Rattle.machine.specs.Parts.{Scene, own_of, scene_of, with_own}
+use Rattle.machine.specs.Bindings.{bindings_of}
+use Rattle.machine.specs.Copies.{params_in}
+
+-- OS 0, OR 0, STA 1, /FC 0: at each call and return
+abbrev pub at_block : Regs → Regs
+at_block r =
+    record r { status = record r.status { os = false; or = false; sta = true; fc = false } }
+
+-- a block that is called: its instance, if one is named, its local bytes and its parameters
+pub record Callee : Type 0 where
+  pub block : BlockId
+  pub instance : Option ℕ
+  pub local_len : ℕ
+  pub params : List Param
+
+-- the DI register of the called block: the instance, else the caller's
+abbrev pub di_of : (instance di : Option ℕ) → Option ℕ
+di_of None di = di
+di_of (Some instance) di = Some instance
+
+-- the frame of the called block: it begins with the caller's data blocks and no open bracket
+abbrev pub fresh : Callee → List Binding → Frame → Frame
+fresh called bindings caller = record {
+  block = called.block;
+  at = 0;
+  db = caller.db;
+  di = di_of called.instance caller.di;
+  instance = called.instance;
+  brackets = [];
+  local_len = called.local_len;
+  bindings = bindings;
+}
+
+-- the running block goes on at a position, with other registers
+abbrev pub going_on : (at : ℕ) → Regs → Activation → Activation
+going_on at r a =
+    record a {
+      running = record a.running { regs = r; frame = record a.running.frame { at = at } };
+    }
+
+-- the caller goes on behind the call
+abbrev pub caller_at : (next : ℕ) → Activation → Activation
+caller_at next a = going_on next (at_block a.running.regs) a
+
+-- a call: a synchronous error, a stop, or the called block runs
+pub data Call : Type 0 where
+  Fails : (code : ℕ) → Call
+  Stops : (fault : FrameFault) → Call
+  Enters : (a : Activation) (m : Areas) → Call
+
+abbrev pub with_scene : Activation → Scene → Call
+with_scene a c = Enters (record a { running = with_own a.running c.own }) c.memory
+
+abbrev pub supplied : Option ℕ → List Param → Activation → Areas → Call
+supplied None params a m = Enters a m
+supplied (Some instance) params a m =
+    with_scene a (params_in params 0 a.running.frame.bindings instance (scene_of a.running m))
+
+abbrev pub entered_if :
+    Option FrameFault → Callee → List Binding → (next : ℕ) → Activation → Areas → Call
+entered_if (Some fault) called bindings next a m = Stops fault
+entered_if None called bindings next a m =
+    supplied called.instance called.params
+    (entered (fresh called bindings a.running.frame) (caller_at next a)) m
+
+abbrev pub called_with : Result (List Binding) ℕ → Callee → (next : ℕ) → Activation → Areas → Call
+called_with (Err code) called next a m = Fails code
+called_with (Ok bindings) called next a m =
+    entered_if (refused called.local_len a) called bindings next a m
+
+-- after the call the caller goes on at `next`
+unfoldable pub call : Callee → List Passing → (next : ℕ) → Activation → Areas → Call
+call called passings next a m =
+    called_with (bindings_of called.params passings (own_of a.running) m) called next a m
+
+-- a call whose parameters are bound leaves its arguments as that says; after a stop as they were
+abbrev pub Calls :
+    Call → (old new : Activation) (m m' : Areas) → Result (Unit {0}) FrameFault → Type 0
+Calls (Stops fault) old new m m' (Err why) = (why ≡ fault) × (new ≡ old) × (m' ≡ m)
+Calls (Enters a after) old new m m' (Ok answer) = (new ≡ a) × (m' ≡ after)
+Calls call old new m m' answer = ⊥

@@ -1,0 +1,153 @@
+-- The code of an image: positions are byte offsets in the code of a block, and a statement is a run
+-- of ops, the last of which has the end mark. The ops before it only prepare.
+use Rattle.std.specs.Prelude.{ℕ, zero, suc, ◌==◌, Bool, true, false, List, [], ◌∷◌, Option, Some, None, if◌then◌else◌}
+use Rattle.std.specs.Option.{option_map, option_and_then}
+use Rattle.plc_base.specs.declared.blocks.BlockKind.{BlockKind}
+use Rattle.plc_base.specs.declared.blocks.BlockKind.TheVariants as kinds
+use Rattle.flat_code.specs.Instr.{Instr, Does, Jumps, JumpsByList, Calls, Returns, Passing}
+use Rattle.flat_code.specs.Kinds.{jump_of}
+use Rattle.flat_code.specs.Ops.{OpData}
+use Rattle.flat_code.specs.Placed.{op_placed, line_placed}
+use Rattle.flat_code.specs.Programs.{CodeBlock, DataBlock, Program}
+use Rattle.flat_code.specs.Words.{word_of}
+use Rattle.flat_code.specs.declared.kinds.JumpWord.{JumpWord}
+use Rattle.flat_code.specs.declared.kinds.JumpWord.TheVariants as jump
+use Rattle.flat_code.specs.declared.operands.Operand.{Operand}
+use Rattle.flat_code.specs.declared.operands.Operand.TheVariants as operand
+use Rattle.flat_code.specs.declared.words.CallWord.{CallWord}
+use Rattle.flat_code.specs.declared.words.Word.{Word}
+use Rattle.flat_code.specs.declared.words.Word.TheVariants as word
+use Rattle.image_file.specs.Readers.{block_of}
+use Rattle.machine.specs.Code.{Code, Fetched, Head}
+
+-- the ops of a statement: those that prepare, the last one, and the offset behind it
+pub record Run : Type 0 where
+  pub before : List OpData
+  pub last : OpData
+  pub next : ℕ
+
+abbrev pub with_op : OpData → Run → Run
+with_op op r = record r { before = op ∷ r.before }
+
+-- the run from an op on that has the offset `next` behind it
+abbrev pub run_with : Option (OpData × ℕ) → (ℕ → Option Run) → Option Run
+run_with None more = None
+run_with (Some r) more =
+    if r.0.last then Some (record { before = []; last = r.0; next = r.1 })
+    else option_map (with_op r.0) (more r.1)
+
+-- the run of at most so many ops from an offset on
+unfoldable pub run_at : (most : ℕ) → List OpData → ℕ → Option Run
+run_at zero ops at = None
+run_at (suc most) ops at = run_with (op_placed 0 ops at) (λ next. run_at most ops next)
+
+-- a statement has at most 64 ops
+abbrev pub most_ops : ℕ
+most_ops = 64
+
+-- USEDB: the data block that the statement opens first
+abbrev pub use_db_first : Operand → Option ℕ → Option ℕ
+use_db_first (operand.UseDb number) more = Some number
+use_db_first _ more = more
+
+abbrev pub use_db_of : List OpData → Option ℕ
+use_db_of [] = None
+use_db_of (op ∷ ops) = use_db_first op.operand (use_db_of ops)
+
+-- PASS: what a CALL passes, one parameter each
+abbrev pub with_passing : Operand → List Passing → List Passing
+with_passing (operand.Pass index actual) more = record { index = index; actual = actual } ∷ more
+with_passing _ more = more
+
+abbrev pub passings_of : List OpData → List Passing
+passings_of [] = []
+passings_of (op ∷ ops) = with_passing op.operand (passings_of ops)
+
+-- the list of a JL: the offsets of the ops from an offset on to the target, so many at most
+abbrev pub listed_with :
+    Option (OpData × ℕ) → (at : ℕ) → (ℕ → List ℕ) → List ℕ
+listed_with None at more = []
+listed_with (Some r) at more = at ∷ more r.1
+
+unfoldable pub list_of : (most : ℕ) → List OpData → (target at : ℕ) → List ℕ
+list_of zero ops target at = []
+list_of (suc most) ops target at =
+    if at == target then []
+    else listed_with (op_placed 0 ops at) at (λ next. list_of most ops target next)
+
+-- a JL has at most 255 jumps in its list
+abbrev pub most_listed : ℕ
+most_listed = 255
+
+abbrev pub is_jl : JumpWord → Bool
+is_jl jump.Jl = true
+is_jl _ = false
+
+abbrev pub jump_instr : JumpWord → (target next : ℕ) → List OpData → Instr
+jump_instr word target next ops =
+    if is_jl word then JumpsByList (list_of most_listed ops target next) target
+    else Jumps word target
+
+-- kinds of called blocks: 2 FC, 3 FB, 5 SFC
+abbrev pub kind_called : ℕ → Option BlockKind
+kind_called kind =
+    if kind == 2 then Some kinds.Fc
+    else if kind == 3 then Some kinds.Fb
+    else if kind == 5 then Some kinds.Sfc
+    else None
+
+-- no instance is 0
+abbrev pub instance_named : ℕ → Option ℕ
+instance_named number = if number == 0 then None else Some number
+
+-- a call of a block; no other kind is called in a program
+abbrev pub call_instr :
+    Option BlockKind → CallWord → (number instance : ℕ) → List Passing → (other : Instr) → Instr
+call_instr None how number instance passings other = other
+call_instr (Some kind) how number instance passings other =
+    Calls how (record { kind = kind; number = number }) (instance_named instance) passings
+
+-- the instruction of a statement: that of its last op, with what the ops before it prepare. `next`
+-- is the offset behind it
+abbrev pub instr_of :
+    Word → Operand → (use_db : Option ℕ) → List Passing → (next : ℕ) → List OpData → Instr
+instr_of word.Jump (operand.Jump kind target) use_db passings next ops =
+    jump_instr (jump_of kind) target next ops
+instr_of (word.Call how) (operand.Called kind number instance) use_db passings next ops =
+    call_instr (kind_called kind) how number instance passings
+    (Does use_db (word.Call how) (operand.Called kind number instance))
+instr_of (word.End how) o use_db passings next ops = Returns how
+instr_of w o use_db passings next ops = Does use_db w o
+
+abbrev pub fetched_of : List OpData → (line : ℕ) → Run → Fetched
+fetched_of ops line r = record {
+  instr = instr_of (word_of r.last.code) r.last.operand (use_db_of r.before) (passings_of r.before)
+      r.next ops;
+  next = r.next;
+  line = line;
+}
+
+-- the statement of a block that begins at an offset
+unfoldable pub statement_at : CodeBlock → ℕ → Option Fetched
+statement_at b at =
+    option_and_then (λ line. option_map (fetched_of b.code line) (run_at most_ops b.code at))
+    (line_placed 0 true b.code b.lines at)
+
+abbrev pub head_of : CodeBlock → Head
+head_of b = record {
+  local_len = b.local_len;
+  instance_len = b.instance_len;
+  params = b.params;
+}
+
+abbrev pub numbered_bytes : List DataBlock → List (ℕ × List ℕ)
+numbered_bytes [] = []
+numbered_bytes (d ∷ rest) = (d.number, d.bytes) ∷ numbered_bytes rest
+
+-- the code of a program
+abbrev pub code_of : Program → Code
+code_of p = record {
+  fetch = λ block at. option_and_then (λ b. statement_at b at) (block_of block p.code_blocks);
+  head = λ block. option_map head_of (block_of block p.code_blocks);
+  blocks = numbered_bytes p.data_blocks;
+}

@@ -1,0 +1,71 @@
+-- Jumps: whether one is taken, and what it leaves of the registers, taken or not.
+-- Siemens, Statement List (STL): Logic Control Instructions.
+use Rattle.std.specs.Prelude.{ℕ, ◌%◌, ◌^◌, ◌==◌, Bool, true, false, not, List, slice_get, unwrap_or, if◌then◌else◌}
+use Rattle.plc_base.specs.declared.flags.Flag.TheVariants as flag
+use Rattle.status_word.specs.declared.Regs.{Regs}
+use Rattle.status_word.specs.Flags.{flag_value}
+use Rattle.alu.specs.Accumulators.{increased}
+use Rattle.flat_code.specs.declared.kinds.JumpWord.{JumpWord}
+use Rattle.flat_code.specs.declared.kinds.JumpWord.TheVariants as jump
+
+-- LOOP takes 1 from ACCU 1-L, modulo 65,536
+abbrev pub counted_down : Regs → Regs
+counted_down r = increased 16 65535 r
+
+unfoldable pub is_taken : JumpWord → Regs → Bool
+is_taken jump.Ju r = true
+is_taken jump.Jc r = r.status.rlo
+is_taken jump.Jcn r = not r.status.rlo
+is_taken jump.Jcb r = r.status.rlo
+is_taken jump.Jnb r = not r.status.rlo
+is_taken jump.Jbi r = r.status.br
+is_taken jump.Jnbi r = not r.status.br
+is_taken jump.Jo r = r.status.ov
+is_taken jump.Jos r = r.status.os
+is_taken jump.Jz r = flag_value flag.EqZero r.status
+is_taken jump.Jn r = flag_value flag.NeZero r.status
+is_taken jump.Jp r = flag_value flag.GtZero r.status
+is_taken jump.Jm r = flag_value flag.LtZero r.status
+is_taken jump.Jpz r = flag_value flag.GeZero r.status
+is_taken jump.Jmz r = flag_value flag.LeZero r.status
+is_taken jump.Juo r = flag_value flag.Uo r.status
+is_taken jump.Loop r = not ((counted_down r).a1 % 2 ^ 16 == 0)
+-- the list of a JL goes by `listed`
+is_taken jump.Jl r = false
+
+-- JC JCN JCB JNB: RLO 1, STA 1, OR 0, /FC 0
+abbrev pub rlo_tested : Regs → Regs
+rlo_tested r =
+    record r { status = record r.status { rlo = true; sta = true; or = false; fc = false } }
+
+-- JCB and JNB copy the RLO to BR first
+abbrev pub rlo_saved : Regs → Regs
+rlo_saved r = record r { status = record r.status { br = r.status.rlo } }
+
+-- JBI JNBI: OR 0, STA 1, /FC 0
+abbrev pub br_tested : Regs → Regs
+br_tested r = record r { status = record r.status { or = false; sta = true; fc = false } }
+
+-- JOS resets OS
+abbrev pub os_reset : Regs → Regs
+os_reset r = record r { status = record r.status { os = false } }
+
+unfoldable pub after_jump : JumpWord → Regs → Regs
+after_jump jump.Jc r = rlo_tested r
+after_jump jump.Jcn r = rlo_tested r
+after_jump jump.Jcb r = rlo_tested (rlo_saved r)
+after_jump jump.Jnb r = rlo_tested (rlo_saved r)
+after_jump jump.Jbi r = br_tested r
+after_jump jump.Jnbi r = br_tested r
+after_jump jump.Jos r = os_reset r
+after_jump jump.Loop r = counted_down r
+after_jump _ r = r
+
+-- where a jump goes on
+abbrev pub goes_to : Bool → (target next : ℕ) → ℕ
+goes_to taken target next = if taken then target else next
+
+-- JL goes on at the jump of its list that the lowest byte of accumulator 1 names, from 0, or
+-- behind the list where there is none
+unfoldable pub listed : List ℕ → (otherwise : ℕ) → Regs → ℕ
+listed targets otherwise r = unwrap_or (slice_get targets (r.a1 % 2 ^ 8)) otherwise

@@ -1,0 +1,43 @@
+-- L, T and LC with their operands, L STW and T STW.
+-- Siemens, Statement List (STL): Load and Transfer Instructions.
+use Rattle.std.specs.Prelude.{ℕ, ◌%◌, ◌^◌, List, Result, Ok}
+use Rattle.plc_base.specs.Widths.{bit_count}
+use Rattle.plc_mem.specs.Areas.{Areas}
+use Rattle.status_word.specs.declared.Regs.{Regs}
+use Rattle.status_word.specs.StatusNumber.{number_of, status_of, shown}
+use Rattle.timers_counters.specs.Timer.{Timer}
+use Rattle.timers_counters.specs.Counter.{Counter}
+use Rattle.flat_code.specs.declared.operands.Operand.{Operand}
+use Rattle.machine.specs.declared.places.Access.TheVariants.{Writing}
+use Rattle.machine.specs.Parts.{Own, Scene, then_ok}
+use Rattle.machine.specs.Places.{located}
+use Rattle.machine.specs.Values.{loaded, bcd_loaded, write}
+
+-- accumulator 1 goes to accumulator 2, and the number to accumulator 1
+abbrev pub with_loaded : ℕ → Regs → Regs
+with_loaded n r = record r { a1 = n; a2 = r.a1 }
+
+-- L
+unfoldable pub loading : Operand → Own → Areas → List Timer → List Counter → Result Regs ℕ
+loading o s m t n = then_ok (loaded o s m t n) (λ x. Ok (with_loaded x s.regs))
+
+-- LC
+unfoldable pub loading_bcd : Operand → Own → Areas → List Timer → List Counter → Result Regs ℕ
+loading_bcd o s m t n = then_ok (bcd_loaded o s m t n) (λ x. Ok (with_loaded x s.regs))
+
+-- the lowest bits of a number at the place of an operand
+unfoldable pub transferred : ℕ → Operand → Own → Areas → Result Scene ℕ
+transferred n o s m =
+    then_ok (located Writing o s m) (λ at. write at (n % 2 ^ bit_count at.width) s m)
+
+-- T
+abbrev pub transferring : Operand → Own → Areas → Result Scene ℕ
+transferring o s m = transferred s.regs.a1 o s m
+
+-- L STW: /FC, STA and OR read as 0
+unfoldable pub status_loaded : Regs → Regs
+status_loaded r = with_loaded (number_of (shown r.status)) r
+
+-- T STW: all nine bits
+unfoldable pub status_transferred : Regs → Regs
+status_transferred r = record r { status = status_of r.a1 }

@@ -1,0 +1,150 @@
+-- From an operand to its place. The order of errors is the order of the steps: the pointer's own
+-- place, alignment, area, open data block; that the place exists is asked by reading and writing.
+use Rattle.std.specs.Prelude.{ℕ, ◌+◌, ◌-◌, ◌/◌, ◌%◌, ◌^◌, ◌==◌, Bool, true, false, ◌&&◌, length, slice_get, Option, Some, None, Result, Ok, Err, if◌then◌else◌, ok_or}
+use Rattle.plc_base.specs.declared.Area.{Area}
+use Rattle.plc_base.specs.declared.Area.TheVariants as areas
+use Rattle.plc_base.specs.declared.Width.{Width}
+use Rattle.plc_base.specs.declared.Width.TheVariants as widths
+use Rattle.plc_base.specs.declared.Place.{Place}
+use Rattle.plc_base.specs.Pointer.{place_of}
+use Rattle.plc_mem.specs.Areas.{Areas}
+use Rattle.plc_mem.specs.Number.{number_at}
+use Rattle.frames.specs.Locals.{LocalData, local_number}
+use Rattle.frames.specs.declared.bindings.Binding.{Binding}
+use Rattle.frames.specs.declared.bindings.Binding.TheVariants as binding
+use Rattle.flat_code.specs.declared.operands.Operand.{Operand}
+use Rattle.flat_code.specs.declared.operands.Operand.TheVariants as operand
+use Rattle.machine.specs.declared.places.Access.{Access}
+use Rattle.machine.specs.declared.places.Access.TheVariants.{Reading, Writing}
+use Rattle.machine.specs.declared.places.Bound.{Bound}
+use Rattle.machine.specs.Parts.{Own, then_ok}
+
+-- an error of a place has two codes: that of writing is the one behind that of reading
+abbrev pub error_of : Access → ℕ → ℕ
+error_of Reading code = code
+error_of Writing code = code + 1
+
+abbrev pub bound_at : Area → (number byte bit : ℕ) → Width → (frame : ℕ) → Bound
+bound_at area number byte bit width frame = record {
+  place = record { area = area; number = number; byte = byte; bit = bit };
+  width = width;
+  frame = frame;
+}
+
+-- the innermost frame's place in the list, the outermost frame's being 0
+abbrev pub innermost : Own → ℕ
+innermost s = length s.locals.starts - 1
+
+-- a place in the data block of the DB or DI register; an error where none is open
+abbrev pub in_register : Option ℕ → (error byte bit : ℕ) → Width → Result Bound ℕ
+in_register (Some number) error byte bit width = Ok (bound_at areas.Db number byte bit width 0)
+in_register None error byte bit width = Err error
+
+-- a place of an area: 32 where no DB is open, 33 where no DI is
+unfoldable pub in_area : Area → (byte bit : ℕ) → Width → Own → Result Bound ℕ
+in_area areas.Db byte bit width s = in_register s.inner.db 0x32 byte bit width
+in_area areas.Di byte bit width s = in_register s.inner.di 0x33 byte bit width
+in_area areas.L byte bit width s = Ok (bound_at areas.L 0 byte bit width (innermost s))
+in_area area byte bit width s = Ok (bound_at area 0 byte bit width 0)
+
+-- a place that doesn't exist: 22 reading, 23 writing; in the peripheral area 42 and 43
+abbrev pub absent : Access → Area → ℕ
+absent access areas.P = error_of access 0x42
+absent access _ = error_of access 0x22
+
+abbrev pub is_local : Area → Bool
+is_local areas.L = true
+is_local _ = false
+
+-- the number at a place, if each of its bits exists
+abbrev pub number_in : Bound → LocalData → Areas → Option ℕ
+number_in at locals memory =
+    if is_local at.place.area
+    then local_number locals at.frame at.place.byte at.place.bit at.width
+    else number_at memory at.place at.width
+
+unfoldable pub read : Bound → Own → Areas → Result ℕ ℕ
+read at s m = ok_or (number_in at s.locals m) (absent Reading at.place.area)
+
+-- the number at a place of an area
+unfoldable pub direct : Area → (byte bit : ℕ) → Width → Own → Areas → Result ℕ ℕ
+direct area byte bit width s m = then_ok (in_area area byte bit width s) (λ at. read at s m)
+
+-- what stands at a pointer's own place: a double word, or a word for a timer, counter or data block
+abbrev pub pointer : Area → (byte : ℕ) → Width → Own → Areas → Result ℕ ℕ
+pointer from byte width s m = direct from byte 0 width s m
+
+abbrev pub is_bit : Width → Bool
+is_bit widths.Bit = true
+is_bit _ = false
+
+-- a pointer to a byte, word or double word has bit 0
+abbrev pub is_aligned : Width → ℕ → Bool
+is_aligned widths.Bit n = true
+is_aligned _ n = n % 2 ^ 3 == 0
+
+-- a pointer has the bit in bits 0 to 2 and the byte in bits 3 to 18
+abbrev pub at_pointer : Area → Width → ℕ → Own → Result Bound ℕ
+at_pointer area width n s = in_area area (n / 2 ^ 3 % 2 ^ 16) (n % 2 ^ 3) width s
+
+-- the place of a pointer within an area: 28 and 29 where it isn't aligned
+unfoldable pub by_pointer : Access → Area → Width → ℕ → Own → Result Bound ℕ
+by_pointer access area width n s =
+    if is_aligned width n then at_pointer area width n s else Err (error_of access 0x28)
+
+abbrev pub is_peripheral : Area → Bool
+is_peripheral areas.P = true
+is_peripheral _ = false
+
+-- a place of an area that is named: 24 and 25 for a bit in the peripheral area
+abbrev pub placed : Access → Area → (byte bit : ℕ) → Width → Own → Result Bound ℕ
+placed access area byte bit width s =
+    if is_peripheral area && is_bit width then Err (error_of access 0x24)
+    else in_area area byte bit width s
+
+-- 24 and 25, too, where the pointer names no area
+abbrev pub in_named : Access → Option Place → Width → ℕ → Own → Result Bound ℕ
+in_named access None width n s = Err (error_of access 0x24)
+in_named access (Some named) width n s =
+    placed access named.area (n / 2 ^ 3 % 2 ^ 16) (n % 2 ^ 3) width s
+
+-- the place of a pointer that names the area itself (manual: area-crossing)
+unfoldable pub by_crossing : Access → Width → (address n : ℕ) → Own → Result Bound ℕ
+by_crossing access width address n s =
+    if is_aligned width n then in_named access (place_of address) width n s
+    else Err (error_of access 0x28)
+
+-- what address register 1 or 2 holds
+abbrev pub address : ℕ → Own → ℕ
+address register s = if register == 1 then s.regs.ar1 else s.regs.ar2
+
+-- the offset is added in bits 0 to 18
+abbrev pub moved : (address bits : ℕ) → ℕ
+moved address bits = (address % 2 ^ 19 + bits % 2 ^ 19) % 2 ^ 19
+
+-- register-indirect; with no area it is that of the address register
+abbrev pub by_register : Access → Option Area → Width → (address bits : ℕ) → Own → Result Bound ℕ
+by_register access (Some area) width address bits s =
+    by_pointer access area width (moved address bits) s
+by_register access None width address bits s =
+    by_crossing access width address (moved address bits) s
+
+-- of an operand that the instruction doesn't take: never in a program that is loaded
+abbrev pub no_operand : ℕ
+no_operand = 0
+
+-- a parameter of a function is the place that was bound to it
+abbrev pub of_binding : Option Binding → Result Bound ℕ
+of_binding (Some (binding.Bound place width frame)) =
+    Ok (record { place = place; width = width; frame = frame })
+of_binding _ = Err no_operand
+
+-- the place of an operand that is to be read or written
+unfoldable pub located : Access → Operand → Own → Areas → Result Bound ℕ
+located access (operand.Direct area width byte bit) s m = placed access area byte bit width s
+located access (operand.ByMemory area width from byte) s m =
+    then_ok (pointer from byte widths.Dword s m) (λ n. by_pointer access area width n s)
+located access (operand.ByRegister area width register bits) s m =
+    by_register access area width (address register s) bits s
+located access (operand.Parameter index width) s m = of_binding (slice_get s.inner.bindings index)
+located access _ s m = Err no_operand

@@ -1,0 +1,58 @@
+-- Instructions on the address registers: LAR1, LAR2, TAR1, TAR2, CAR, +AR1, +AR2.
+-- Siemens, Statement List (STL): Load and Transfer Instructions; Accumulator and Address Register
+-- Instructions.
+use Rattle.std.specs.Prelude.{ℕ, ◌+◌, ◌-◌, ◌%◌, ◌^◌, nat_lt, if◌then◌else◌, Result, Ok}
+use Rattle.plc_mem.specs.Areas.{Areas}
+use Rattle.status_word.specs.declared.Regs.{Regs}
+use Rattle.alu.specs.Accumulators.{with_low}
+use Rattle.flat_code.specs.declared.operands.Operand.{Operand}
+use Rattle.flat_code.specs.declared.operands.Operand.TheVariants as operand
+use Rattle.flat_code.specs.declared.words.PointerWord.{PointerWord}
+use Rattle.flat_code.specs.declared.words.PointerWord.TheVariants as word
+use Rattle.machine.specs.Parts.{Own, Scene, then_ok}
+use Rattle.machine.specs.Values.{number}
+use Rattle.machine.specs.Loads.{with_loaded, transferred}
+
+-- what LAR1 and LAR2 load: accumulator 1 without operand, a pointer constant, a double word
+abbrev pub address_loaded : Operand → Own → Areas → Result ℕ ℕ
+address_loaded operand.Nothing s m = Ok s.regs.a1
+address_loaded o s m = number o s m
+
+-- other registers, in a scene that else stays
+abbrev pub regs_set : Regs → Own → Areas → Scene
+regs_set r s m = record { own = record s { regs = r }; memory = m }
+
+-- TAR1 and TAR2 of a register: to accumulator 1, whose contents go to accumulator 2, or to a double
+-- word, and then the accumulators stay
+abbrev pub address_transferred : ℕ → Operand → Own → Areas → Result Scene ℕ
+address_transferred n operand.Nothing s m = Ok (regs_set (with_loaded n s.regs) s m)
+address_transferred n o s m = transferred n o s m
+
+-- an integer of 16 bits in 24 bits: its sign fills the bits above it
+abbrev pub sign_extended : (word : ℕ) → ℕ
+sign_extended word = if nat_lt word (2 ^ 15) then word else word + (2 ^ 24 - 2 ^ 16)
+
+-- what +AR1 and +AR2 add: the integer in ACCU 1-L without operand, or the constant
+abbrev pub offset_added : Operand → Regs → ℕ
+offset_added (operand.Literal value) r = value
+offset_added _ r = sign_extended (r.a1 % 2 ^ 16)
+
+-- they add in bits 0 to 23
+unfoldable pub address_after : (address offset : ℕ) → ℕ
+address_after address offset = with_low 24 address ((address + offset) % 2 ^ 24)
+
+unfoldable pub pointed : PointerWord → Operand → Own → Areas → Result Scene ℕ
+pointed word.Lar1 o s m =
+    then_ok (address_loaded o s m) (λ n. Ok (regs_set (record s.regs { ar1 = n }) s m))
+pointed word.Lar2 o s m =
+    then_ok (address_loaded o s m) (λ n. Ok (regs_set (record s.regs { ar2 = n }) s m))
+pointed word.Tar1 o s m = address_transferred s.regs.ar1 o s m
+pointed word.Tar2 o s m = address_transferred s.regs.ar2 o s m
+pointed word.Lar1Ar2 o s m = Ok (regs_set (record s.regs { ar1 = s.regs.ar2 }) s m)
+pointed word.Tar1Ar2 o s m = Ok (regs_set (record s.regs { ar2 = s.regs.ar1 }) s m)
+pointed word.Car o s m =
+    Ok (regs_set (record s.regs { ar1 = s.regs.ar2; ar2 = s.regs.ar1 }) s m)
+pointed word.AddAr1 o s m =
+    Ok (regs_set (record s.regs { ar1 = address_after s.regs.ar1 (offset_added o s.regs) }) s m)
+pointed word.AddAr2 o s m =
+    Ok (regs_set (record s.regs { ar2 = address_after s.regs.ar2 (offset_added o s.regs) }) s m)

@@ -1,0 +1,23 @@
+-- RET_VAL of a system function: written where it was bound.
+use Rattle.std.specs.Prelude.{◌≡◌, ℕ}
+use Rattle.plc_mem.specs.Areas.{Areas}
+use Rattle.frames.specs.declared.Activation.{Activation}
+use Rattle.frames.specs.declared.bindings.Binding.{Binding}
+use Rattle.frames.specs.declared.bindings.Binding.TheVariants as binding
+use Rattle.machine.specs.Parts.{Scene, scene_of, with_own}
+use Rattle.machine.specs.Copies.{put}
+
+-- the value at the place, in its width; nothing where nothing is bound, or no such place exists
+abbrev pub with_result : Binding → ℕ → Scene → Scene
+with_result (binding.Bound place width frame) value c =
+    put (record { place = place; width = width; frame = frame }) value c
+with_result _ value c = c
+
+-- nothing else changes
+abbrev pub HoldsScene : Scene → (old new : Activation) (m' : Areas) → Type 0
+HoldsScene c old new m' =
+    (new ≡ record old { running = with_own old.running c.own }) × (m' ≡ c.memory)
+
+abbrev pub GivesResult : Binding → ℕ → (old new : Activation) (m m' : Areas) → Type 0
+GivesResult to value old new m m' =
+    HoldsScene (with_result to value (scene_of old.running m)) old new m'

@@ -1,0 +1,76 @@
+-- BE, BEU and BEC: the parameters of a function block are copied out, then the caller goes on, or
+-- the organization block has ended.
+use Rattle.std.specs.Prelude.{ℕ, ◌≡◌, Bool, true, false, List, [], ◌∷◌, Option, Some, None}
+use Rattle.plc_mem.specs.Areas.{Areas}
+use Rattle.status_word.specs.declared.Regs.{Regs}
+use Rattle.frames.specs.Activations.{frames_of}
+use Rattle.frames.specs.Locals.{closed}
+use Rattle.frames.specs.declared.Activation.{Activation}
+use Rattle.frames.specs.declared.frame.Frame.{Frame}
+use Rattle.flat_code.specs.declared.programs.Param.{Param}
+use Rattle.machine.specs.Parts.{Scene, scene_of, with_own}
+use Rattle.machine.specs.Entering.{at_block}
+use Rattle.machine.specs.Copies.{params_out}
+
+-- activation and memory
+pub record Stage : Type 0 where
+  pub activation : Activation
+  pub memory : Areas
+
+abbrev pub on_stage : Activation → Scene → Stage
+on_stage a c = record {
+  activation = record a { running = with_own a.running c.own };
+  memory = c.memory;
+}
+
+-- copied out of the instance that the call named, whatever DI holds now, to the places bound then
+abbrev pub given_back : Option ℕ → List Param → Activation → Areas → Stage
+given_back None params a m = record { activation = a; memory = m }
+given_back (Some instance) params a m =
+    on_stage a (params_out params 0 a.running.frame.bindings instance (scene_of a.running m))
+
+-- the frame below is the innermost one: its own data blocks and brackets are as it left them
+abbrev pub left_to : (caller : Frame) (rest : List Frame) → Activation → Activation
+left_to caller rest a =
+    record a {
+      running = record {
+        regs = at_block a.running.regs;
+        frame = caller;
+        locals = closed a.running.locals;
+      };
+      below = rest;
+    }
+
+-- an activation that has ended: its registers are those of the return, and no frame stands
+pub record HasEnded (old new : Activation) (regs : Regs) : Type 0 where
+  pub frames : frames_of new ≡ []
+  pub regs_are : new.running.regs ≡ regs
+  pub class : new.class ≡ old.class
+  pub ob : new.ob ≡ old.ob
+
+-- a return: the caller goes on, or the outermost block has ended
+pub data Return : Type 0 where
+  GoesOn : (a : Activation) (m : Areas) → Return
+  Ends : (regs : Regs) (m : Areas) → Return
+
+abbrev pub left : List Frame → Stage → Return
+left [] s = Ends (at_block s.activation.running.regs) s.memory
+left (caller ∷ rest) s = GoesOn (left_to caller rest s.activation) s.memory
+
+unfoldable pub returning : List Param → Activation → Areas → Return
+returning params a m = left a.below (given_back a.running.frame.instance params a m)
+
+-- the innermost block is left; the answer says whether the caller goes on
+abbrev pub LeavesTo : List Frame → (old new : Activation) → Bool → Type 0
+LeavesTo [] old new false = HasEnded old new (at_block old.running.regs)
+LeavesTo (caller ∷ rest) old new true = new ≡ left_to caller rest old
+LeavesTo below old new answer = ⊥
+
+abbrev pub Left : (old new : Activation) → Bool → Type 0
+Left old new answer = LeavesTo old.below old new answer
+
+-- the same of a return
+abbrev pub Returns : Return → (old new : Activation) (m' : Areas) → Bool → Type 0
+Returns (GoesOn a m) old new m' true = (new ≡ a) × (m' ≡ m)
+Returns (Ends regs m) old new m' false = HasEnded old new regs × (m' ≡ m)
+Returns r old new m' answer = ⊥

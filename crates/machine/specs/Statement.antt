@@ -1,0 +1,182 @@
+-- One statement of an activation: what comes of it. This is the only place where positions move.
+use Rattle.std.specs.Prelude.{◌≡◌, ℕ, Bool, true, false, List, Option, Some, None, Result, Ok, Err, if◌then◌else◌}
+use Rattle.plc_base.specs.declared.blocks.BlockKind.{BlockKind}
+use Rattle.plc_base.specs.declared.blocks.BlockKind.TheVariants as kinds
+use Rattle.plc_base.specs.declared.BlockId.{BlockId}
+use Rattle.plc_mem.specs.Areas.{Areas}
+use Rattle.status_word.specs.declared.Regs.{Regs}
+use Rattle.timers_counters.specs.Timer.{Timer}
+use Rattle.timers_counters.specs.Counter.{Counter}
+use Rattle.frames.specs.declared.Activation.{Activation}
+use Rattle.frames.specs.declared.FrameFault.{FrameFault}
+use Rattle.frames.specs.declared.FrameFault.TheVariants.{Depth, LocalFull}
+use Rattle.flat_code.specs.Instr.{Instr, Does, Jumps, JumpsByList, Calls, Returns, Passing}
+use Rattle.flat_code.specs.declared.kinds.JumpWord.{JumpWord}
+use Rattle.flat_code.specs.declared.words.CallWord.{CallWord}
+use Rattle.flat_code.specs.declared.words.CallWord.TheVariants as calls
+use Rattle.flat_code.specs.declared.words.EndWord.{EndWord}
+use Rattle.flat_code.specs.declared.words.EndWord.TheVariants as ends
+use Rattle.flat_code.specs.declared.programs.Param.{Param}
+use Rattle.machine.specs.Parts.{Parts, own_of, parts_of, with_own}
+use Rattle.machine.specs.Does.{does_with}
+use Rattle.machine.specs.Jumps.{is_taken, after_jump, goes_to, listed, rlo_tested}
+use Rattle.machine.specs.Entering.{Call, Fails, Stops, Enters, Callee, at_block, call, going_on}
+use Rattle.machine.specs.Returning.{Return, GoesOn, Ends, returning, HasEnded}
+use Rattle.machine.specs.SystemCalls.{Given, system_function, system_call}
+use Rattle.machine.specs.Code.{Code, Fetched, Head}
+use Rattle.machine.specs.declared.outcomes.Outcome.{Outcome}
+use Rattle.machine.specs.declared.outcomes.Outcome.TheVariants as outcome
+
+-- memory, timers and counters
+pub record World : Type 0 where
+  pub memory : Areas
+  pub timers : List Timer
+  pub counters : List Counter
+
+-- what comes of a statement
+pub data Step : Type 0 where
+  -- the activation goes on
+  Went : (a : Activation) (w : World) → Step
+  -- the outermost block has returned: its registers, and memory
+  Ended : (regs : Regs) (w : World) → Step
+  -- a synchronous error: the statement has done nothing but go to the next one
+  SyncError : (code : ℕ) (a : Activation) → Step
+  -- a system function is to do its work, and its result goes where RET_VAL is bound
+  SysCall : (number : ℕ) (given : Given) (a : Activation) → Step
+  -- STOP with its cause
+  Stop : (cause : ℕ) → Step
+  -- a block, position or parameter is missing: never in a program that verifies
+  Stuck : Step
+
+-- causes of STOP: 6 block depth, 7 local data
+abbrev pub cause_of : FrameFault → ℕ
+cause_of Depth = 6
+cause_of LocalFull = 7
+
+-- the running block goes on at a position, its registers as they are
+abbrev pub moved_on : (at : ℕ) → Activation → Activation
+moved_on at a = going_on at a.running.regs a
+
+abbrev pub world : Areas → List Timer → List Counter → World
+world m t n = record { memory = m; timers = t; counters = n }
+
+abbrev pub with_parts : Parts → Activation → Activation
+with_parts p a = record a { running = with_own a.running p.own }
+
+abbrev pub world_of : Parts → World
+world_of p = record { memory = p.memory; timers = p.timers; counters = p.counters }
+
+abbrev pub with_memory : Areas → World → World
+with_memory m w = record w { memory = m }
+
+-- an instruction that touches no position, then the next one
+abbrev pub went_on : Result Parts ℕ → (next : ℕ) → Activation → Step
+went_on (Ok p) next a = Went (moved_on next (with_parts p a)) (world_of p)
+went_on (Err code) next a = SyncError code (moved_on next a)
+
+abbrev pub jumped : JumpWord → (target next : ℕ) → Activation → World → Step
+jumped word target next a w =
+    Went (going_on (goes_to (is_taken word a.running.regs) target next)
+    (after_jump word a.running.regs) a) w
+
+-- a call of a function or function block
+abbrev pub after_call : Call → (next : ℕ) → Activation → World → Step
+after_call (Fails code) next a w = SyncError code (moved_on next a)
+after_call (Stops fault) next a w = Stop (cause_of fault)
+after_call (Enters after m) next a w = Went after (with_memory m w)
+
+abbrev pub callee_of : BlockId → Option ℕ → Head → Callee
+callee_of block instance h = record {
+  block = block;
+  instance = instance;
+  local_len = h.local_len;
+  params = h.params;
+}
+
+abbrev pub block_called :
+    Option Head → BlockId → Option ℕ → List Passing → (next : ℕ) → Activation → World → Step
+block_called None block instance passings next a w = Stuck
+block_called (Some h) block instance passings next a w =
+    after_call (call (callee_of block instance h) passings next a w.memory) next a w
+
+-- a call of a system function; the four bits are set as at each call
+abbrev pub after_system_call : Result Given ℕ → (number next : ℕ) → Activation → Step
+after_system_call (Err code) number next a = SyncError code (moved_on next a)
+after_system_call (Ok given) number next a =
+    SysCall number given (going_on next (at_block a.running.regs) a)
+
+abbrev pub system_called :
+    Option (List Param) → (number : ℕ) → List Passing → (next : ℕ) → Activation → World → Step
+system_called None number passings next a w = Stuck
+system_called (Some params) number passings next a w =
+    after_system_call (system_call params passings (own_of a.running) w.memory) number next a
+
+abbrev pub is_system : BlockKind → Bool
+is_system kinds.Sfc = true
+is_system _ = false
+
+abbrev pub called :
+    Code → BlockId → Option ℕ → List Passing → (next : ℕ) → Activation → World → Step
+called code block instance passings next a w =
+    if is_system block.kind
+    then system_called (system_function block.number) block.number passings next a w
+    else block_called (code.head block) block instance passings next a w
+
+-- CC calls where RLO is 1; else it sets the four bits, and RLO 1
+abbrev pub is_called : CallWord → (rlo : Bool) → Bool
+is_called calls.Cc rlo = rlo
+is_called _ rlo = true
+
+abbrev pub not_called : Regs → Regs
+not_called r = rlo_tested (at_block r)
+
+abbrev pub after_return : Return → World → Step
+after_return (GoesOn a m) w = Went a (with_memory m w)
+after_return (Ends regs m) w = Ended regs (with_memory m w)
+
+abbrev pub returned : Option Head → Activation → World → Step
+returned None a w = Stuck
+returned (Some h) a w = after_return (returning h.params a w.memory) w
+
+-- BEC returns where RLO is 1; else RLO 1, OR 0, STA 1, /FC 0, and the block goes on
+abbrev pub is_ended : EndWord → (rlo : Bool) → Bool
+is_ended ends.Bec rlo = rlo
+is_ended _ rlo = true
+
+abbrev pub performed : Code → Instr → (next : ℕ) → Activation → World → Step
+performed code (Does use_db word operand) next a w =
+    went_on (does_with use_db word operand (parts_of a.running w.memory w.timers w.counters)) next a
+performed code (Jumps word target) next a w = jumped word target next a w
+performed code (JumpsByList targets otherwise) next a w =
+    Went (moved_on (listed targets otherwise a.running.regs) a) w
+performed code (Calls how block instance passings) next a w =
+    if is_called how a.running.regs.status.rlo then called code block instance passings next a w
+    else Went (going_on next (not_called a.running.regs) a) w
+performed code (Returns how) next a w =
+    if is_ended how a.running.regs.status.rlo then returned (code.head a.running.frame.block) a w
+    else Went (going_on next (rlo_tested a.running.regs) a) w
+
+abbrev pub fetched : Code → Option Fetched → Activation → World → Step
+fetched code None a w = Stuck
+fetched code (Some f) a w = performed code f.instr f.next a w
+
+-- the statement at which the innermost frame stands
+unfoldable pub statement : Code → Activation → World → Step
+statement code a w =
+    fetched code (code.fetch a.running.frame.block a.running.frame.at) a w
+
+-- nothing that the statement needs is missing
+abbrev pub Goes : Step → Type 0
+Goes Stuck = ⊥
+Goes _ = Unit {0}
+
+-- what a call of a statement answers, and what it leaves
+abbrev pub Comes : Step → (old new : Activation) (w w' : World) → Outcome → Type 0
+Comes (Went a after) old new w w' outcome.Went = (new ≡ a) × (w' ≡ after)
+Comes (Ended regs after) old new w w' outcome.Ended = HasEnded old new regs × (w' ≡ after)
+Comes (SyncError code a) old new w w' (outcome.SyncError answer) =
+    (answer ≡ code) × (new ≡ a) × (w' ≡ w)
+Comes (SysCall number given a) old new w w' (outcome.SysCall function inputs result) =
+    (function ≡ number) × (inputs ≡ given.inputs) × (result ≡ given.result) × (new ≡ a) × (w' ≡ w)
+Comes (Stop cause) old new w w' (outcome.Stop answer) = (answer ≡ cause) × (new ≡ old) × (w' ≡ w)
+Comes step old new w w' answer = ⊥

@@ -1,0 +1,63 @@
+-- Calls of system functions: what they are given, and where their result goes.
+-- Siemens, System Software: System and Standard Functions.
+use Rattle.std.specs.Prelude.{ℕ, ◌+◌, ◌==◌, List, [], ◌∷◌, map, slice_get, Option, Some, None, Result, Ok, if◌then◌else◌, unwrap_or}
+use Rattle.std.specs.Option.{option_map}
+use Rattle.plc_mem.specs.Areas.{Areas}
+use Rattle.frames.specs.declared.Activation.{Activation}
+use Rattle.frames.specs.declared.bindings.Binding.{Binding}
+use Rattle.frames.specs.declared.bindings.Binding.TheVariants as binding
+use Rattle.flat_code.specs.declared.programs.Param.{Param}
+use Rattle.flat_code.specs.Blocks.{system_params}
+use Rattle.flat_code.specs.Image.{param_of}
+use Rattle.flat_code.specs.Instr.{Passing}
+use Rattle.machine.specs.Parts.{Own, own_of, then_ok}
+use Rattle.machine.specs.Places.{number_in}
+use Rattle.machine.specs.Bindings.{bindings_of}
+
+-- the parameters of a system function: IN by their order, then RET_VAL if it has one
+abbrev pub system_function : ℕ → Option (List Param)
+system_function number = option_map (map param_of) (system_params number)
+
+-- a system call: the numbers of its IN parameters, and what RET_VAL is bound to
+pub record Given : Type 0 where
+  pub inputs : List ℕ
+  pub result : Option Binding
+
+-- the number that is passed; a place was tested when it was bound
+abbrev pub input_of : Option Binding → Own → Areas → ℕ
+input_of (Some (binding.Bound place width frame)) s m =
+    unwrap_or
+    (number_in (record { place = place; width = width; frame = frame }) s.locals m) 0
+input_of (Some (binding.Constant value)) s m = value
+input_of _ s m = 0
+
+-- how many of the parameters are IN
+abbrev pub count_inputs : List Param → ℕ
+count_inputs [] = 0
+count_inputs (p ∷ rest) = (if p.section == 1 then 1 else 0) + count_inputs rest
+
+abbrev pub inputs_from : List Param → (index : ℕ) → List Binding → Own → Areas → List ℕ
+inputs_from [] index bindings s m = []
+inputs_from (p ∷ rest) index bindings s m =
+    if p.section == 1
+    then input_of (slice_get bindings index) s m ∷ inputs_from rest (index + 1) bindings s m
+    else inputs_from rest (index + 1) bindings s m
+
+abbrev pub result_from : List Param → (index : ℕ) → List Binding → Option Binding
+result_from [] index bindings = None
+result_from (p ∷ rest) index bindings =
+    if p.section == 2 then slice_get bindings index else result_from rest (index + 1) bindings
+
+abbrev pub given_by : List Param → List Binding → Own → Areas → Given
+given_by params bindings s m = record {
+  inputs = inputs_from params 0 bindings s m;
+  result = result_from params 0 bindings;
+}
+
+-- the same of an activation
+abbrev pub given_now : List Param → List Binding → Activation → Areas → Given
+given_now params bindings a m = given_by params bindings (own_of a.running) m
+
+unfoldable pub system_call : List Param → List Passing → Own → Areas → Result Given ℕ
+system_call params passings s m =
+    then_ok (bindings_of params passings s m) (λ bindings. Ok (given_by params bindings s m))

@@ -1,0 +1,20 @@
+-- What a statement needs of a program: what it calls, and the head of its own block at a return.
+use Rattle.std.specs.Prelude.{Bool, true, false, is_some, Option, Some, None, if◌then◌else◌}
+use Rattle.plc_base.specs.declared.BlockId.{BlockId}
+use Rattle.flat_code.specs.Instr.{Instr, Calls, Returns}
+use Rattle.machine.specs.Code.{Code, Fetched}
+use Rattle.machine.specs.Statement.{is_system}
+use Rattle.machine.specs.SystemCalls.{system_function}
+
+abbrev pub is_callee : Code → BlockId → Bool
+is_callee c block =
+    if is_system block.kind then is_some (system_function block.number) else is_some (c.head block)
+
+abbrev pub is_there : Code → Instr → (own : BlockId) → Bool
+is_there c (Calls how block instance passings) own = is_callee c block
+is_there c (Returns how) own = is_some (c.head own)
+is_there c _ own = true
+
+abbrev pub is_complete : Code → Option Fetched → (own : BlockId) → Bool
+is_complete c None own = false
+is_complete c (Some f) own = is_there c f.instr own

@@ -1,0 +1,87 @@
+-- Timers and counters: SP SE SD SS SF, CU, CD, S of a counter, R and FR of both.
+-- Siemens, Statement List (STL): Timer Instructions, Counter Instructions.
+use Rattle.std.specs.Prelude.{◌≡◌, ℕ, ◌%◌, ◌^◌, false, List, Result, Ok, Err}
+use Rattle.plc_mem.specs.Areas.{Areas}
+use Rattle.status_word.specs.declared.Regs.{Regs}
+use Rattle.timers_counters.specs.declared.kinds.TimerKind.{TimerKind}
+use Rattle.timers_counters.specs.declared.kinds.TimerKind.TheVariants as kind
+use Rattle.timers_counters.specs.Numbered.{change, change_always}
+use Rattle.timers_counters.specs.Timer.{Timer, started, reset_timer, freed_timer}
+use Rattle.timers_counters.specs.Counter.{Counter, counted_up, counted_down, set_to, reset_counter, freed_counter}
+use Rattle.flat_code.specs.declared.words.StartWord.{StartWord}
+use Rattle.flat_code.specs.declared.words.StartWord.TheVariants as start
+use Rattle.frames.specs.declared.running.Running.{Running}
+use Rattle.flat_code.specs.declared.operands.Operand.{Operand}
+use Rattle.machine.specs.Parts.{Own, then_ok}
+use Rattle.machine.specs.Outcomes.{Answer}
+use Rattle.machine.specs.Values.{faulty, number_named}
+
+abbrev pub kind_of : StartWord → TimerKind
+kind_of start.Sp = kind.Sp
+kind_of start.Se = kind.Se
+kind_of start.Sd = kind.Sd
+kind_of start.Ss = kind.Ss
+kind_of start.Sf = kind.Sf
+
+-- the instructions on timers and counters end the logic string: OR 0, /FC 0
+abbrev pub string_ended : Regs → Regs
+string_ended r = record r { status = record r.status { or = false; fc = false } }
+
+-- the word that a start instruction and S take: the low word of accumulator 1
+abbrev pub word_of : Own → ℕ
+word_of s = s.regs.a1 % 2 ^ 16
+
+-- SP SE SD SS SF: the timers afterwards; 26 where there is none of the number, 21 for a bad digit
+unfoldable pub starting : StartWord → Operand → Own → Areas → List Timer → Result (List Timer) ℕ
+starting how o s m t =
+    then_ok (number_named o s m) (λ number.
+    faulty 0x26 (change (started (kind_of how) s.regs.status.rlo (word_of s)) t number))
+
+-- R of a timer
+unfoldable pub timer_reset : Operand → Own → Areas → List Timer → Result (List Timer) ℕ
+timer_reset o s m t =
+    then_ok (number_named o s m) (λ number.
+    faulty 0x26 (change_always (reset_timer s.regs.status.rlo) t number))
+
+-- FR of a timer
+unfoldable pub timer_freed : Operand → Own → Areas → List Timer → Result (List Timer) ℕ
+timer_freed o s m t =
+    then_ok (number_named o s m) (λ number.
+    faulty 0x26 (change_always (freed_timer s.regs.status.rlo) t number))
+
+-- CU, and CD: the counters afterwards; 27 where there is none of the number
+unfoldable pub counting_up : Operand → Own → Areas → List Counter → Result (List Counter) ℕ
+counting_up o s m n =
+    then_ok (number_named o s m) (λ number.
+    faulty 0x27 (change_always (counted_up s.regs.status.rlo) n number))
+
+unfoldable pub counting_down : Operand → Own → Areas → List Counter → Result (List Counter) ℕ
+counting_down o s m n =
+    then_ok (number_named o s m) (λ number.
+    faulty 0x27 (change_always (counted_down s.regs.status.rlo) n number))
+
+-- S of a counter: 21 for a bad digit
+unfoldable pub counter_set : Operand → Own → Areas → List Counter → Result (List Counter) ℕ
+counter_set o s m n =
+    then_ok (number_named o s m) (λ number.
+    faulty 0x27 (change (set_to s.regs.status.rlo (word_of s)) n number))
+
+-- R of a counter
+unfoldable pub counter_reset : Operand → Own → Areas → List Counter → Result (List Counter) ℕ
+counter_reset o s m n =
+    then_ok (number_named o s m) (λ number.
+    faulty 0x27 (change_always (reset_counter s.regs.status.rlo) n number))
+
+-- FR of a counter
+unfoldable pub counter_freed : Operand → Own → Areas → List Counter → Result (List Counter) ℕ
+counter_freed o s m n =
+    then_ok (number_named o s m) (λ number.
+    faulty 0x27 (change_always (freed_counter s.regs.status.rlo) n number))
+
+-- an effect on timers or counters: the logic string ends; after an error all is as it was
+abbrev pub Times :
+    {A : Type 0} → Result (List A) ℕ → (old new : Running) (all all' : List A) → Answer → Type 0
+Times (Ok next) old new all all' (Ok answer) =
+    (new ≡ record old { regs = string_ended old.regs }) × (all' ≡ next)
+Times (Err e) old new all all' (Err code) = (code ≡ e) × (new ≡ old) × (all' ≡ all)
+Times effect old new all all' answer = ⊥

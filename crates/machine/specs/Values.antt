@@ -1,0 +1,113 @@
+-- What an operand reads as, and what writing to a place makes of local bytes and memory.
+use Rattle.std.specs.Prelude.{ℕ, ◌==◌, Bool, List, slice_get, Option, Some, Result, Ok, Err, if◌then◌else◌, ok_or}
+use Rattle.std.specs.Option.{option_map}
+use Rattle.plc_base.specs.declared.Width.TheVariants as widths
+use Rattle.plc_mem.specs.Areas.{Areas}
+use Rattle.plc_mem.specs.Writing.{written}
+use Rattle.status_word.specs.Flags.{flag_value}
+use Rattle.timers_counters.specs.declared.faults.TimerFault.{TimerFault}
+use Rattle.timers_counters.specs.declared.faults.TimerFault.TheVariants.{NoNumber, BadBcd}
+use Rattle.timers_counters.specs.Numbered.{reading}
+use Rattle.timers_counters.specs.Timer.{Timer, units_left, time_left}
+use Rattle.timers_counters.specs.Counter.{Counter, is_counting, count_bcd}
+use Rattle.frames.specs.Locals.{LocalData, local_written}
+use Rattle.frames.specs.declared.bindings.Binding.{Binding}
+use Rattle.frames.specs.declared.bindings.Binding.TheVariants as binding
+use Rattle.flat_code.specs.Kinds.{flag_of}
+use Rattle.flat_code.specs.declared.operands.Operand.{Operand}
+use Rattle.flat_code.specs.declared.operands.Operand.TheVariants as operand
+use Rattle.machine.specs.declared.places.Access.TheVariants.{Reading, Writing}
+use Rattle.machine.specs.declared.places.Bound.{Bound}
+use Rattle.machine.specs.Parts.{Own, Scene, then_ok}
+use Rattle.machine.specs.Places.{located, read, absent, is_local, pointer, no_operand}
+
+-- what a parameter of a function reads as: the number at its place, or its constant
+abbrev pub number_of_binding : Option Binding → Own → Areas → Result ℕ ℕ
+number_of_binding (Some (binding.Bound place width frame)) s m =
+    read (record { place = place; width = width; frame = frame }) s m
+number_of_binding (Some (binding.Constant value)) s m = Ok value
+number_of_binding _ s m = Err no_operand
+
+-- the number of an operand that is a constant or has a place
+unfoldable pub number : Operand → Own → Areas → Result ℕ ℕ
+number (operand.Literal value) s m = Ok value
+number (operand.Parameter index width) s m =
+    number_of_binding (slice_get s.inner.bindings index) s m
+number o s m = then_ok (located Reading o s m) (λ at. read at s m)
+
+-- the error of a timer or counter: its own where there is none of the number, and 21 for a digit
+-- above 9
+abbrev pub faulty : {A : Type 0} → ℕ → Result A TimerFault → Result A ℕ
+faulty code (Ok x) = Ok x
+faulty code (Err NoNumber) = Err code
+faulty code (Err BadBcd) = Err 0x21
+
+-- timers (kind 1) have the error 26, counters (kind 2) 27
+abbrev pub is_timer : ℕ → Bool
+is_timer kind = kind == 1
+
+-- of a timer its output, of a counter whether its value is above 0
+unfoldable pub bit_of_numbered : (kind number : ℕ) → List Timer → List Counter → Result Bool ℕ
+bit_of_numbered kind number t n =
+    if is_timer kind then faulty 0x26 (reading (λ (timer : Timer). timer.output) t number)
+    else faulty 0x27 (reading is_counting n number)
+
+-- of a timer the time left in units of its base, of a counter its value
+unfoldable pub value_of_numbered : (kind number : ℕ) → List Timer → List Counter → Result ℕ ℕ
+value_of_numbered kind number t n =
+    if is_timer kind then faulty 0x26 (reading units_left t number)
+    else faulty 0x27 (reading (λ (counter : Counter). counter.value) n number)
+
+-- the same in BCD
+unfoldable pub bcd_of_numbered : (kind number : ℕ) → List Timer → List Counter → Result ℕ ℕ
+bcd_of_numbered kind number t n =
+    if is_timer kind then faulty 0x26 (reading time_left t number)
+    else faulty 0x27 (reading count_bcd n number)
+
+-- the number of a timer or counter: its own, or the word at a place
+unfoldable pub number_named : Operand → Own → Areas → Result ℕ ℕ
+number_named (operand.Numbered kind number) s m = Ok number
+number_named (operand.NumberedBy kind from byte) s m = pointer from byte widths.Word s m
+number_named _ s m = Err no_operand
+
+abbrev pub is_one : Result ℕ ℕ → Result Bool ℕ
+is_one (Ok n) = Ok (n == 1)
+is_one (Err e) = Err e
+
+-- the bit that a check reads
+unfoldable pub tested : Operand → Own → Areas → List Timer → List Counter → Result Bool ℕ
+tested (operand.Numbered kind number) s m t n = bit_of_numbered kind number t n
+tested (operand.NumberedBy kind from byte) s m t n =
+    then_ok (pointer from byte widths.Word s m) (λ number. bit_of_numbered kind number t n)
+tested (operand.OfStatus condition) s m t n =
+    Ok (flag_value (flag_of condition) s.regs.status)
+tested o s m t n = is_one (number o s m)
+
+-- the number that L reads
+unfoldable pub loaded : Operand → Own → Areas → List Timer → List Counter → Result ℕ ℕ
+loaded (operand.Numbered kind number) s m t n = value_of_numbered kind number t n
+loaded (operand.NumberedBy kind from byte) s m t n =
+    then_ok (pointer from byte widths.Word s m) (λ number. value_of_numbered kind number t n)
+loaded o s m t n = number o s m
+
+-- the number that LC reads: three BCD digits, of a timer with its base above them
+unfoldable pub bcd_loaded : Operand → Own → Areas → List Timer → List Counter → Result ℕ ℕ
+bcd_loaded (operand.Numbered kind number) s m t n = bcd_of_numbered kind number t n
+bcd_loaded (operand.NumberedBy kind from byte) s m t n =
+    then_ok (pointer from byte widths.Word s m) (λ number. bcd_of_numbered kind number t n)
+bcd_loaded o s m t n = Err no_operand
+
+abbrev pub with_locals : Own → LocalData → Own
+with_locals s l = record s { locals = l }
+
+abbrev pub stored_at : Bound → ℕ → Own → Areas → Option Scene
+stored_at at value s m =
+    if is_local at.place.area
+    then option_map (λ l. record { own = with_locals s l; memory = m })
+    (local_written s.locals at.frame at.place.byte at.place.bit at.width value)
+    else option_map (λ memory. record { own = s; memory = memory })
+    (written m at.place at.width value)
+
+-- a number written to a place
+unfoldable pub write : Bound → ℕ → Own → Areas → Result Scene ℕ
+write at value s m = ok_or (stored_at at value s m) (absent Writing at.place.area)

@@ -1,0 +1,113 @@
+//! CALL: what each parameter of the called block stands for.
+ghost use Rattle.std.specs.Prelude.{◌≡◌, ◌≤◌, ◌<◌, length, slice_get, Ok, Err};
+ghost use Rattle.machine.specs.Parts.{own_of};
+ghost use Rattle.machine.specs.Bindings.{access_of as access_of_param, bound_place as bound_place_of, passed_on as passed_on_of, bound_actual as bound_actual_of, bound_for as bound_for_of, unsupplied as unsupplied_of};
+
+use crate::data_blocks::is_loaded;
+use crate::places::{Access, Bound, number_at, placed};
+use flat_code::{Param, Passed};
+use frames::{Binding, Bindings, Running};
+use plc_base::{Area, Place};
+use plc_mem::Memory;
+
+fn access_of(param: &Param) -> Access
+    ensures { result ≡ access_of_param param.now }
+{
+    if param.section == 2 {
+        Access::Writing
+    } else {
+        Access::Reading
+    }
+}
+
+#[tactic(auto, unfolding(crate::specs::Bindings::bound_place))]
+fn bound_place(access: Access, at: &Bound, s: &Running, m: &Memory) -> Result<Binding, u8>
+    ensures { result ≡ bound_place_of access at.now (own_of s.now) m.now }
+{
+    match number_at(at, &s.locals, m) {
+        Some(_) => Ok(Binding::Bound {
+            place: at.place,
+            width: at.width,
+            frame: at.frame,
+        }),
+        None => Err(access.absent(at.place.area)),
+    }
+}
+
+fn passed_on(binding: Option<Binding>) -> Result<Binding, u8>
+    ensures { result ≡ passed_on_of binding }
+{
+    match binding {
+        Some(binding) => Ok(binding),
+        None => Err(0),
+    }
+}
+
+#[tactic(auto, unfolding(crate::specs::Bindings::bound_actual))]
+fn bound_actual(access: Access, actual: Passed, s: &Running, m: &Memory) -> Result<Binding, u8>
+    ensures { result ≡ bound_actual_of access actual (own_of s.now) m.now }
+{
+    match actual {
+        Passed::Literal { value } => Ok(Binding::Constant { value }),
+        Passed::Direct {
+            area,
+            width,
+            byte,
+            bit,
+        } => {
+            let at = placed(access, area, byte, bit, width, s)?;
+            bound_place(access, &at, s, m)
+        }
+        Passed::Parameter { index, .. } => passed_on(s.frame.bindings.get(index)),
+        Passed::InBlock {
+            number,
+            width,
+            byte,
+            bit,
+            ..
+        } => {
+            if !is_loaded(number, m) {
+                return Err(0x3A);
+            }
+            let at = Bound {
+                place: Place {
+                    area: Area::Db,
+                    number,
+                    byte,
+                    bit,
+                },
+                width,
+                frame: 0,
+            };
+            bound_place(access, &at, s, m)
+        }
+    }
+}
+
+/// What the parameter of an index stands for where this is passed for it.
+pub(crate) fn bound_for(
+    params: &[Param],
+    index: u8,
+    actual: Passed,
+    s: &Running,
+    m: &Memory,
+) -> Result<Binding, u8>
+    ensures { result ≡ bound_for_of (slice_get params.now index) actual (own_of s.now) m.now }
+{
+    match params.get(usize::from(index)) {
+        Some(param) => bound_actual(access_of(param), actual, s, m),
+        None => Err(0),
+    }
+}
+
+/// Bindings of as many parameters, of which none is supplied.
+pub(crate) fn unsupplied(params: &[Param]) -> Bindings
+    requires { length params.now ≤ 60 }
+    ensures { result ≡ unsupplied_of params.now }
+{
+    let mut bindings = Bindings::new();
+    for _ in 0..params.len() {
+        bindings.push(Binding::Unsupplied);
+    }
+    bindings
+}

@@ -1,0 +1,134 @@
+//! Bit logic with an operand: A AN O ON X XN, =, S, R, FP, FN.
+ghost use Rattle.std.specs.Prelude.{◌≡◌, ◌<◌};
+ghost use Rattle.machine.specs.Parts.{own_of};
+ghost use Rattle.machine.specs.Outcomes.{Acts, Checks};
+ghost use Rattle.machine.specs.BitLogic.{check_of as check_of_word, checking, put_bit as put_bit_of, bit_before as bit_before_of, bit_after as bit_after_of, bit_number as number_of_bit, assigned, bit_set as bit_set_of, edge as edge_of};
+
+use crate::places::{Access, Bound, located, number_at};
+use crate::values::{tested, write};
+use flat_code::{Joined, Operand};
+use frames::Running;
+use plc_mem::Memory;
+use status_word::{Check, Regs};
+use timers_counters::{Counters, Timers};
+
+pub(crate) fn check_of(with: Joined) -> Check
+    ensures { result ≡ check_of_word with }
+{
+    match with {
+        Joined::A => Check::A,
+        Joined::An => Check::An,
+        Joined::O => Check::O,
+        Joined::On => Check::On,
+        Joined::X => Check::X,
+        Joined::Xn => Check::Xn,
+    }
+}
+
+/// A, AN, O, ON, X, XN.
+#[tactic(auto, unfolding(crate::specs::BitLogic::checking))]
+#[inline(never)]
+pub(crate) fn check(
+    with: Joined,
+    operand: &Operand,
+    s: &mut Running,
+    m: &Memory,
+    t: &Timers,
+    n: &Counters,
+) -> Result<(), u8>
+    ensures { Checks (checking with operand.now (own_of s.old) m.now t.now n.now)
+        s.old s.new result }
+{
+    let bit = tested(operand, s, m, t, n)?;
+    s.regs.check(check_of(with), bit);
+    Ok(())
+}
+
+fn bit_number(bit: bool) -> u32
+    ensures value { result ≡ number_of_bit bit }
+    ensures fits { result < 2 }
+{
+    if bit { 1 } else { 0 }
+}
+
+// The bit at a place that is to be written.
+#[tactic(auto, unfolding(crate::specs::BitLogic::bit_before))]
+#[inline(always)]
+fn bit_before(at: &Bound, s: &Running, m: &Memory) -> Result<bool, u8>
+    ensures { result ≡ bit_before_of at.now (own_of s.now) m.now }
+{
+    match number_at(at, &s.locals, m) {
+        Some(number) => Ok(number == 1),
+        None => Err(Access::Writing.absent(at.place.area)),
+    }
+}
+
+// Writes a bit to a place, with other registers.
+#[tactic(auto, unfolding(crate::specs::BitLogic::put_bit))]
+#[inline(never)]
+fn put_bit(at: &Bound, bit: bool, regs: Regs, s: &mut Running, m: &mut Memory) -> Result<(), u8>
+    ensures { Acts (put_bit_of at.now bit regs (own_of s.old) m.old)
+        s.old s.new m.old m.new result }
+{
+    write(at, bit_number(bit), s, m)?;
+    s.regs = regs;
+    Ok(())
+}
+
+/// =.
+#[tactic(auto, unfolding(crate::specs::BitLogic::assigned))]
+#[inline(never)]
+pub(crate) fn assign(operand: &Operand, s: &mut Running, m: &mut Memory) -> Result<(), u8>
+    ensures { Acts (assigned operand.now (own_of s.old) m.old) s.old s.new m.old m.new result }
+{
+    let at = located(Access::Writing, operand, s, m)?;
+    let mut regs = s.regs;
+    let value = regs.status.rlo;
+    regs.store(value);
+    put_bit(&at, value, regs, s, m)
+}
+
+fn bit_after(rlo: bool, value: bool, before: bool) -> bool
+    ensures { result ≡ bit_after_of rlo value before }
+{
+    if rlo { value } else { before }
+}
+
+/// S and R of a bit, where `value` is what they write with RLO 1.
+#[tactic(auto, unfolding(crate::specs::BitLogic::bit_set))]
+#[inline(never)]
+pub(crate) fn set_bit(
+    value: bool,
+    operand: &Operand,
+    s: &mut Running,
+    m: &mut Memory,
+) -> Result<(), u8>
+    ensures { Acts (bit_set_of value operand.now (own_of s.old) m.old)
+        s.old s.new m.old m.new result }
+{
+    let at = located(Access::Writing, operand, s, m)?;
+    let before = bit_before(&at, s, m)?;
+    let mut regs = s.regs;
+    let bit = bit_after(regs.status.rlo, value, before);
+    regs.store(bit);
+    put_bit(&at, bit, regs, s, m)
+}
+
+/// FP and FN.
+#[tactic(auto, unfolding(crate::specs::BitLogic::edge))]
+#[inline(never)]
+pub(crate) fn edge(
+    rising: bool,
+    operand: &Operand,
+    s: &mut Running,
+    m: &mut Memory,
+) -> Result<(), u8>
+    ensures { Acts (edge_of rising operand.now (own_of s.old) m.old)
+        s.old s.new m.old m.new result }
+{
+    let at = located(Access::Writing, operand, s, m)?;
+    let before = bit_before(&at, s, m)?;
+    let mut regs = s.regs;
+    let bit = regs.edge(rising, before);
+    put_bit(&at, bit, regs, s, m)
+}

@@ -1,0 +1,171 @@
+//! The parameters of a function block: copied in at the call, and out at the return.
+ghost use Rattle.std.specs.Prelude.{◌≡◌, ◌≤◌, length};
+ghost use Rattle.machine.specs.Parts.{scene_of};
+ghost use Rattle.machine.specs.Outcomes.{Becomes};
+ghost use Rattle.machine.specs.Copies.{comes_in as comes_in_of, goes_out as goes_out_of, in_instance as in_instance_of, put as put_of, copied, passed_to as passed_to_of, given_to as given_to_of, param_in as param_in_of, param_out as param_out_of, params_in as params_in_of, params_out as params_out_of};
+
+use crate::loads::low;
+use crate::places::{Bound, number_at};
+use crate::values::write;
+use flat_code::Param;
+use frames::{Binding, Bindings, Running};
+use plc_base::{Area, Place};
+use plc_mem::Memory;
+
+// IN and IN_OUT.
+fn comes_in(param: &Param) -> bool
+    ensures { result ≡ comes_in_of param.now }
+{
+    param.section == 1 || param.section == 3
+}
+
+// OUT and IN_OUT.
+fn goes_out(param: &Param) -> bool
+    ensures { result ≡ goes_out_of param.now }
+{
+    param.section == 2 || param.section == 3
+}
+
+fn in_instance(param: &Param, instance: u16) -> Bound
+    ensures { result ≡ in_instance_of param.now instance }
+{
+    Bound {
+        place: Place {
+            area: Area::Db,
+            number: instance,
+            byte: param.byte,
+            bit: param.bit,
+        },
+        width: param.width,
+        frame: 0,
+    }
+}
+
+// A number to a place.
+pub(crate) fn put(to: &Bound, number: u32, s: &mut Running, m: &mut Memory)
+    ensures { Becomes (put_of to.now number (scene_of s.old m.old)) s.old s.new m.new }
+{
+    // a place that a parameter was bound to exists
+    match write(to, low(to.width, number), s, m) {
+        Ok(()) => {}
+        Err(_) => {}
+    }
+}
+
+// The number at a place to a place.
+#[tactic(auto, unfolding(crate::specs::Copies::copied))]
+fn copy(from: &Bound, to: &Bound, s: &mut Running, m: &mut Memory)
+    ensures { Becomes (copied from.now to.now (scene_of s.old m.old)) s.old s.new m.new }
+{
+    let number = number_at(from, &s.locals, m).unwrap_or(0);
+    put(to, number, s, m);
+}
+
+#[tactic(auto, unfolding(crate::specs::Copies::passed_to))]
+fn passed_to(binding: Option<Binding>, to: &Bound, s: &mut Running, m: &mut Memory)
+    ensures { Becomes (passed_to_of binding to.now (scene_of s.old m.old)) s.old s.new m.new }
+{
+    match binding {
+        Some(
+            Binding::Bound {
+                place,
+                width,
+                frame,
+            },
+        ) => {
+            let from = Bound {
+                place,
+                width,
+                frame,
+            };
+            copy(&from, to, s, m);
+        }
+        Some(Binding::Constant { value }) => put(to, value, s, m),
+        _ => {}
+    }
+}
+
+#[tactic(auto, unfolding(crate::specs::Copies::given_to))]
+fn given_to(from: &Bound, binding: Option<Binding>, s: &mut Running, m: &mut Memory)
+    ensures { Becomes (given_to_of from.now binding (scene_of s.old m.old)) s.old s.new m.new }
+{
+    match binding {
+        Some(
+            Binding::Bound {
+                place,
+                width,
+                frame,
+            },
+        ) => {
+            let to = Bound {
+                place,
+                width,
+                frame,
+            };
+            copy(from, &to, s, m);
+        }
+        _ => {}
+    }
+}
+
+fn param_in(param: &Param, binding: Option<Binding>, instance: u16, s: &mut Running, m: &mut Memory)
+    ensures { Becomes (param_in_of param.now binding instance (scene_of s.old m.old))
+        s.old s.new m.new }
+{
+    if comes_in(param) {
+        passed_to(binding, &in_instance(param, instance), s, m);
+    }
+}
+
+fn param_out(
+    param: &Param,
+    binding: Option<Binding>,
+    instance: u16,
+    s: &mut Running,
+    m: &mut Memory,
+)
+    ensures { Becomes (param_out_of param.now binding instance (scene_of s.old m.old))
+        s.old s.new m.new }
+{
+    if goes_out(param) {
+        given_to(&in_instance(param, instance), binding, s, m);
+    }
+}
+
+/// Copies the parameters of a function block into its instance.
+pub(crate) fn params_in(
+    params: &[Param],
+    bindings: &Bindings,
+    instance: u16,
+    s: &mut Running,
+    m: &mut Memory,
+)
+    requires { length params.now ≤ 60 }
+    ensures { Becomes (params_in_of params.now 0 bindings.now instance (scene_of s.old m.old))
+        s.old s.new m.new }
+{
+    let mut index = 0u8;
+    for param in params {
+        param_in(param, bindings.get(index), instance, s, m);
+        index += 1;
+    }
+}
+
+/// Copies the parameters of a function block out of its instance.
+pub(crate) fn params_out(
+    params: &[Param],
+    bindings: &Bindings,
+    instance: u16,
+    s: &mut Running,
+    m: &mut Memory,
+)
+    requires { length params.now ≤ 60 }
+    ensures { Becomes (params_out_of params.now 0 bindings.now instance (scene_of s.old m.old))
+        s.old s.new m.new }
+{
+    let mut index = 0u8;
+    for param in params {
+        param_out(param, bindings.get(index), instance, s, m);
+        index += 1;
+    }
+}

@@ -1,0 +1,120 @@
+//! CALL, UC and CC of a function or function block.
+ghost use Rattle.std.specs.Prelude.{◌≡◌, ◌≤◌, length, None, false};
+ghost use Rattle.frames.specs.Activations.{entered, refused, frames_of};
+ghost use Rattle.machine.specs.Entering.{at_block as at_block_of, di_of as di_of_instance, fresh as fresh_of, caller_at, supplied, entered_if, Enters, Calls};
+
+use crate::copies::params_in;
+use flat_code::Param;
+use frames::{Activation, Bindings, Frame, FrameFault};
+use plc_base::BlockId;
+use plc_mem::Memory;
+use status_word::{Brackets, Regs};
+use std::marker::Model;
+
+/// A block that is called: its instance, if one is named, its local bytes and its parameters.
+#[derive(Drop)]
+pub(crate) struct Callee<'a> {
+    pub(crate) block: BlockId,
+    pub(crate) instance: Option<u16>,
+    pub(crate) local_len: u16,
+    pub(crate) params: &'a [Param],
+}
+
+impl<'a> Model for Callee<'a> {
+    ghost use Rattle.machine.specs.Entering.{Callee as CalleeData};
+
+    ghost Value = { CalleeData };
+
+    ghost view = { λ c. record {
+      block = c.block;
+      instance = c.instance;
+      local_len = c.local_len;
+      params = c.params.now;
+    } };
+}
+
+/// OS 0, OR 0, STA 1, /FC 0.
+pub(crate) fn at_block(r: &mut Regs)
+    ensures { r.new ≡ at_block_of r.old }
+{
+    r.status.os = false;
+    r.status.or = false;
+    r.status.sta = true;
+    r.status.fc = false;
+}
+
+// The DI register of the called block.
+fn di_of(instance: Option<u16>, di: Option<u16>) -> Option<u16>
+    ensures { result ≡ di_of_instance instance di }
+{
+    match instance {
+        None => di,
+        Some(instance) => Some(instance),
+    }
+}
+
+fn fresh(called: &Callee<'_>, bindings: Bindings, caller: &Frame) -> Frame
+    ensures { result ≡ fresh_of called.now bindings caller.now }
+{
+    Frame {
+        block: called.block,
+        at: 0,
+        db: caller.db,
+        di: di_of(called.instance, caller.di),
+        instance: called.instance,
+        brackets: Brackets::new(),
+        local_len: called.local_len,
+        bindings,
+    }
+}
+
+// The caller goes on behind the call, and the called block runs; it has room.
+fn enter(called: &Callee<'_>, bindings: Bindings, next: u32, a: &mut Activation)
+    requires depth { length a.old.running.locals.starts ≡ length (frames_of a.old) }
+    requires room { refused called.now.local_len a.old ≡ None }
+    ensures { a.new ≡ entered (fresh_of called.now bindings a.old.running.frame)
+        (caller_at next a.old) }
+{
+    let frame = fresh(called, bindings, &a.running.frame);
+    at_block(&mut a.running.regs);
+    a.running.frame.at = next;
+    match a.enter(frame) {
+        Ok(()) => {}
+        Err(_) => {}
+    }
+}
+
+// The parameters of a function block are copied in.
+fn supply(instance: Option<u16>, params: &[Param], a: &mut Activation, m: &mut Memory)
+    requires { length params.now ≤ 60 }
+    ensures { supplied instance params.now a.old m.old ≡ Enters a.new m.new }
+{
+    match instance {
+        None => {}
+        Some(instance) => {
+            let bindings = a.running.frame.bindings.copied();
+            params_in(params, &bindings, instance, &mut a.running, m);
+        }
+    }
+}
+
+/// The block is entered, if it has room.
+pub(crate) fn enter_if_room(
+    called: &Callee<'_>,
+    bindings: Bindings,
+    next: u32,
+    a: &mut Activation,
+    m: &mut Memory,
+) -> Result<(), FrameFault>
+    requires depth { length a.old.running.locals.starts ≡ length (frames_of a.old) }
+    requires params { length called.now.params ≤ 60 }
+    ensures { Calls (entered_if (refused called.now.local_len a.old) called.now bindings next
+        a.old m.old) a.old a.new m.old m.new result }
+{
+    if let Some(fault) = a.refuses(called.local_len) {
+        return Err(fault);
+    }
+    enter(called, bindings, next, a);
+    supply(called.instance, called.params, a, m);
+    Ok(())
+}

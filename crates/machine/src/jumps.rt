@@ -1,0 +1,98 @@
+//! Jumps: whether one is taken, and what it leaves of the registers.
+ghost use Rattle.std.specs.Prelude.{◌≡◌};
+ghost use Rattle.machine.specs.Jumps.{counted_down, is_taken as is_taken_of, after_jump as after_jump_of, rlo_tested, rlo_saved, br_tested, goes_to as goes_to_of};
+
+use flat_code::JumpWord;
+use plc_base::Flag;
+use status_word::Regs;
+
+fn count_down(r: &mut Regs)
+    ensures { r.new ≡ counted_down r.old }
+{
+    alu::add_const(r, 0xFFFF);
+}
+
+#[tactic(auto, unfolding(crate::specs::Jumps::is_taken))]
+fn still_counts(r: &Regs) -> bool
+    ensures { result ≡ is_taken_of JumpWord.Loop r.now }
+{
+    let mut after = *r;
+    count_down(&mut after);
+    after.a1 % 0x1_0000 != 0
+}
+
+/// Whether a jump is taken, by the registers before it.
+#[tactic(auto, unfolding(crate::specs::Jumps::is_taken))]
+#[inline(never)]
+pub(crate) fn is_taken(word: JumpWord, r: &Regs) -> bool
+    ensures { result ≡ is_taken_of word r.now }
+{
+    match word {
+        JumpWord::Ju => true,
+        JumpWord::Jl => false,
+        JumpWord::Jc | JumpWord::Jcb => r.status.rlo,
+        JumpWord::Jcn | JumpWord::Jnb => !r.status.rlo,
+        JumpWord::Jbi => r.status.br,
+        JumpWord::Jnbi => !r.status.br,
+        JumpWord::Jo => r.status.ov,
+        JumpWord::Jos => r.status.os,
+        JumpWord::Jz => r.flag(Flag::EqZero),
+        JumpWord::Jn => r.flag(Flag::NeZero),
+        JumpWord::Jp => r.flag(Flag::GtZero),
+        JumpWord::Jm => r.flag(Flag::LtZero),
+        JumpWord::Jpz => r.flag(Flag::GeZero),
+        JumpWord::Jmz => r.flag(Flag::LeZero),
+        JumpWord::Juo => r.flag(Flag::Uo),
+        JumpWord::Loop => still_counts(r),
+    }
+}
+
+/// RLO 1, STA 1, OR 0, /FC 0.
+pub(crate) fn test_rlo(r: &mut Regs)
+    ensures { r.new ≡ rlo_tested r.old }
+{
+    r.status.rlo = true;
+    r.status.sta = true;
+    r.status.or = false;
+    r.status.fc = false;
+}
+
+fn save_rlo(r: &mut Regs)
+    ensures { r.new ≡ rlo_saved r.old }
+{
+    r.status.br = r.status.rlo;
+}
+
+fn test_br(r: &mut Regs)
+    ensures { r.new ≡ br_tested r.old }
+{
+    r.status.or = false;
+    r.status.sta = true;
+    r.status.fc = false;
+}
+
+/// What a jump leaves of the registers, taken or not.
+#[tactic(auto, unfolding(crate::specs::Jumps::after_jump))]
+#[inline(never)]
+pub(crate) fn put_jump(word: JumpWord, r: &mut Regs)
+    ensures { r.new ≡ after_jump_of word r.old }
+{
+    match word {
+        JumpWord::Jc | JumpWord::Jcn => test_rlo(r),
+        JumpWord::Jcb | JumpWord::Jnb => {
+            save_rlo(r);
+            test_rlo(r);
+        }
+        JumpWord::Jbi | JumpWord::Jnbi => test_br(r),
+        JumpWord::Jos => r.status.os = false,
+        JumpWord::Loop => count_down(r),
+        _ => {}
+    }
+}
+
+/// Where a jump goes on.
+pub(crate) fn goes_to(taken: bool, target: u32, next: u32) -> u32
+    ensures { result ≡ goes_to_of taken target next }
+{
+    if taken { target } else { next }
+}

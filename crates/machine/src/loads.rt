@@ -1,0 +1,112 @@
+//! L, T and LC, L STW and T STW.
+ghost use Rattle.std.specs.Prelude.{◌≡◌, ◌<◌, ◌^◌, ◌%◌};
+ghost use Rattle.plc_base.specs.Widths.{bit_count};
+ghost use Rattle.machine.specs.Parts.{own_of};
+ghost use Rattle.machine.specs.Outcomes.{Acts, Checks};
+ghost use Rattle.machine.specs.Loads.{loading, loading_bcd, transferred, transferring, with_loaded as with_loaded_of, status_loaded, status_transferred};
+
+use crate::places::{Access, located};
+use crate::values::{bcd_loaded, loaded, write};
+use flat_code::Operand;
+use frames::Running;
+use plc_base::Width;
+use plc_mem::Memory;
+use status_word::{Regs, Status};
+use timers_counters::{Counters, Timers};
+
+/// Accumulator 1 goes to accumulator 2, and a number to accumulator 1.
+pub(crate) fn put_loaded(r: &mut Regs, number: u32)
+    ensures { r.new ≡ with_loaded_of number r.old }
+{
+    r.a2 = r.a1;
+    r.a1 = number;
+}
+
+/// L.
+#[tactic(auto, unfolding(crate::specs::Loads::loading))]
+#[inline(never)]
+pub(crate) fn load(
+    operand: &Operand,
+    s: &mut Running,
+    m: &Memory,
+    t: &Timers,
+    n: &Counters,
+) -> Result<(), u8>
+    ensures { Checks (loading operand.now (own_of s.old) m.now t.now n.now) s.old s.new result }
+{
+    let number = loaded(operand, s, m, t, n)?;
+    put_loaded(&mut s.regs, number);
+    Ok(())
+}
+
+/// LC.
+#[tactic(auto, unfolding(crate::specs::Loads::loading_bcd))]
+#[inline(never)]
+pub(crate) fn load_bcd(
+    operand: &Operand,
+    s: &mut Running,
+    m: &Memory,
+    t: &Timers,
+    n: &Counters,
+) -> Result<(), u8>
+    ensures { Checks (loading_bcd operand.now (own_of s.old) m.now t.now n.now)
+        s.old s.new result }
+{
+    let number = bcd_loaded(operand, s, m, t, n)?;
+    put_loaded(&mut s.regs, number);
+    Ok(())
+}
+
+/// The lowest bits of a number.
+pub(crate) fn low(width: Width, number: u32) -> u32
+    ensures value { result ≡ number % 2 ^ bit_count width }
+    ensures fits { result < 2 ^ bit_count width }
+{
+    match width {
+        Width::Bit => number % 2,
+        Width::Byte => number % 0x100,
+        Width::Word => number % 0x1_0000,
+        Width::Dword => number,
+    }
+}
+
+/// The lowest bits of a number to the place of an operand.
+#[tactic(auto, unfolding(crate::specs::Loads::transferred))]
+#[inline(never)]
+pub(crate) fn put_number(
+    number: u32,
+    operand: &Operand,
+    s: &mut Running,
+    m: &mut Memory,
+) -> Result<(), u8>
+    ensures { Acts (transferred number operand.now (own_of s.old) m.old)
+        s.old s.new m.old m.new result }
+{
+    let at = located(Access::Writing, operand, s, m)?;
+    write(&at, low(at.width, number), s, m)
+}
+
+/// T.
+pub(crate) fn transfer(operand: &Operand, s: &mut Running, m: &mut Memory) -> Result<(), u8>
+    ensures { Acts (transferring operand.now (own_of s.old) m.old)
+        s.old s.new m.old m.new result }
+{
+    put_number(s.regs.a1, operand, s, m)
+}
+
+/// L STW.
+#[tactic(auto, unfolding(crate::specs::Loads::status_loaded))]
+pub(crate) fn load_status(r: &mut Regs)
+    ensures { r.new ≡ status_loaded r.old }
+{
+    let number = r.status.loaded();
+    put_loaded(r, u32::from(number));
+}
+
+/// T STW.
+#[tactic(auto, unfolding(crate::specs::Loads::status_transferred))]
+pub(crate) fn transfer_status(r: &mut Regs)
+    ensures { r.new ≡ status_transferred r.old }
+{
+    r.status = Status::transferred(r.a1);
+}

@@ -1,0 +1,34 @@
+//! A( to XN( and ).
+ghost use Rattle.machine.specs.Parts.{own_of};
+ghost use Rattle.machine.specs.Outcomes.{Turns};
+ghost use Rattle.machine.specs.Nesting.{nesting, unnesting};
+
+use crate::bit_logic::check_of;
+use flat_code::Joined;
+use frames::Running;
+
+/// A(, AN(, O(, ON(, X(, XN(.
+#[tactic(auto, unfolding(crate::specs::Nesting::nesting))]
+#[inline(never)]
+pub(crate) fn nest(with: Joined, s: &mut Running) -> Result<(), u8>
+    ensures { Turns (nesting with (own_of s.old)) s.old s.new result }
+{
+    if s.frame.brackets.begin(&mut s.regs, check_of(with)) {
+        Ok(())
+    } else {
+        Err(0)
+    }
+}
+
+/// ).
+#[tactic(auto, unfolding(crate::specs::Nesting::unnesting))]
+#[inline(never)]
+pub(crate) fn unnest(s: &mut Running) -> Result<(), u8>
+    ensures { Turns (unnesting (own_of s.old)) s.old s.new result }
+{
+    if s.frame.brackets.close(&mut s.regs) {
+        Ok(())
+    } else {
+        Err(0)
+    }
+}

@@ -1,0 +1,340 @@
+//! From an operand to its place.
+ghost use Rattle.std.specs.Prelude.{◌≡◌, ◌<◌, ◌^◌, Some, IfOk, IfSome};
+ghost use Rattle.plc_base.specs.Widths.{bit_count};
+ghost use Rattle.machine.specs.Parts.{own_of};
+ghost use Rattle.machine.specs.Places.{error_of, innermost as innermost_of, in_register as in_register_of, in_area as in_area_of, absent as absent_of, number_in, read as read_of, direct as direct_of, pointer as pointer_of, is_aligned as is_aligned_of, at_pointer as at_pointer_of, by_pointer as by_pointer_of, in_named as in_named_of, placed as placed_of, by_crossing as by_crossing_of, moved as moved_of, address as address_of, by_register as by_register_of, of_binding as of_binding_of, located as located_of};
+
+use flat_code::Operand;
+use frames::{Binding, Locals, Running};
+use plc_base::{Area, Place, Width, place_of_pointer};
+use plc_mem::Memory;
+
+/// Whether a place is to be read or written.
+#[derive(Clone, Copy)]
+pub enum Access {
+    Reading,
+    Writing,
+}
+
+/// A place that an operand means, with its width. For local data `frame` says whose local bytes are
+/// meant, by the place in the list of frames, counted from 0 at the outermost one.
+#[derive(Clone, Copy)]
+pub struct Bound {
+    pub place: Place,
+    pub width: Width,
+    pub frame: u8,
+}
+
+impl Access {
+    /// The code of an error that has two, where `code` is that of reading.
+    pub(crate) fn error(self, code: u8) -> u8
+        requires { code < 255 }
+        ensures { result ≡ error_of self code }
+    {
+        match self {
+            Access::Reading => code,
+            Access::Writing => code + 1,
+        }
+    }
+
+    /// The code of a place that doesn't exist.
+    pub(crate) fn absent(self, area: Area) -> u8
+        ensures { result ≡ absent_of self area }
+    {
+        match area {
+            Area::P => self.error(0x42),
+            _ => self.error(0x22),
+        }
+    }
+}
+
+#[inline(always)]
+fn in_register(
+    register: Option<u16>,
+    error: u8,
+    byte: u16,
+    bit: u8,
+    width: Width,
+) -> Result<Bound, u8>
+    ensures value { result ≡ in_register_of register error byte bit width }
+    ensures wide { IfOk result (λ at. at.width ≡ width) }
+{
+    match register {
+        Some(number) => Ok(Bound {
+            place: Place {
+                area: Area::Db,
+                number,
+                byte,
+                bit,
+            },
+            width,
+            frame: 0,
+        }),
+        None => Err(error),
+    }
+}
+
+#[inline(always)]
+fn innermost(s: &Running) -> u8
+    ensures { result ≡ innermost_of (own_of s.now) }
+{
+    s.locals.depth().saturating_sub(1) as u8
+}
+
+/// The place in an area.
+#[tactic(auto, unfolding(crate::specs::Places::in_area))]
+#[inline(always)]
+pub(crate) fn in_area(
+    area: Area,
+    byte: u16,
+    bit: u8,
+    width: Width,
+    s: &Running,
+) -> Result<Bound, u8>
+    ensures value { result ≡ in_area_of area byte bit width (own_of s.now) }
+    ensures wide { IfOk result (λ at. at.width ≡ width) }
+{
+    match area {
+        Area::Db => in_register(s.frame.db, 0x32, byte, bit, width),
+        Area::Di => in_register(s.frame.di, 0x33, byte, bit, width),
+        Area::L => Ok(Bound {
+            place: Place {
+                area,
+                number: 0,
+                byte,
+                bit,
+            },
+            width,
+            frame: innermost(s),
+        }),
+        _ => Ok(Bound {
+            place: Place {
+                area,
+                number: 0,
+                byte,
+                bit,
+            },
+            width,
+            frame: 0,
+        }),
+    }
+}
+
+/// The place in an area that an operand names. No bit is read or written in the peripheral area.
+#[inline(always)]
+pub(crate) fn placed(
+    access: Access,
+    area: Area,
+    byte: u16,
+    bit: u8,
+    width: Width,
+    s: &Running,
+) -> Result<Bound, u8>
+    ensures { result ≡ placed_of access area byte bit width (own_of s.now) }
+{
+    match (area, width) {
+        (Area::P, Width::Bit) => Err(access.error(0x24)),
+        _ => in_area(area, byte, bit, width, s),
+    }
+}
+
+/// The number at a place, if each of its bits exists.
+#[inline(always)]
+pub(crate) fn number_at(at: &Bound, locals: &Locals, m: &Memory) -> Option<u32>
+    ensures value { result ≡ number_in at.now locals.now m.now }
+    ensures fits { IfSome result (λ n. n < 2 ^ bit_count at.now.width) }
+{
+    match at.place.area {
+        Area::L => locals.number(at.frame, at.place.byte, at.place.bit, at.width),
+        _ => m.read(at.place, at.width).ok(),
+    }
+}
+
+/// The number at a place.
+#[tactic(auto, unfolding(crate::specs::Places::read))]
+#[inline(always)]
+pub(crate) fn read(at: &Bound, s: &Running, m: &Memory) -> Result<u32, u8>
+    ensures value { result ≡ read_of at.now (own_of s.now) m.now }
+    ensures fits { IfOk result (λ n. n < 2 ^ bit_count at.now.width) }
+{
+    match number_at(at, &s.locals, m) {
+        Some(number) => Ok(number),
+        None => Err(Access::Reading.absent(at.place.area)),
+    }
+}
+
+/// The number at a place of an area.
+#[inline(never)]
+#[tactic(auto, unfolding(crate::specs::Places::direct, crate::specs::Places::in_area))]
+pub(crate) fn direct(
+    area: Area,
+    byte: u16,
+    bit: u8,
+    width: Width,
+    s: &Running,
+    m: &Memory,
+) -> Result<u32, u8>
+    ensures value { result ≡ direct_of area byte bit width (own_of s.now) m.now }
+    ensures fits { IfOk result (λ n. n < 2 ^ bit_count width) }
+{
+    let at = in_area(area, byte, bit, width, s)?;
+    let number = read(&at, s, m)?;
+    Ok(number)
+}
+
+/// The double word at a pointer's own place.
+fn pointer(from: Area, byte: u16, s: &Running, m: &Memory) -> Result<u32, u8>
+    ensures { result ≡ pointer_of from byte Width.Dword (own_of s.now) m.now }
+{
+    direct(from, byte, 0, Width::Dword, s, m)
+}
+
+/// The word at the own place of the number of a timer, counter or data block.
+pub(crate) fn number_from(from: Area, byte: u16, s: &Running, m: &Memory) -> Result<u16, u8>
+    ensures { result ≡ pointer_of from byte Width.Word (own_of s.now) m.now }
+{
+    let number = direct(from, byte, 0, Width::Word, s, m)?;
+    Ok(number as u16)
+}
+
+fn is_aligned(width: Width, n: u32) -> bool
+    ensures { result ≡ is_aligned_of width n }
+{
+    match width {
+        Width::Bit => true,
+        _ => n % 8 == 0,
+    }
+}
+
+fn at_pointer(area: Area, width: Width, n: u32, s: &Running) -> Result<Bound, u8>
+    ensures { result ≡ at_pointer_of area width n (own_of s.now) }
+{
+    in_area(area, ((n >> 3) % 0x1_0000) as u16, (n % 8) as u8, width, s)
+}
+
+#[tactic(auto, unfolding(crate::specs::Places::by_pointer))]
+fn by_pointer(access: Access, area: Area, width: Width, n: u32, s: &Running) -> Result<Bound, u8>
+    ensures { result ≡ by_pointer_of access area width n (own_of s.now) }
+{
+    if !is_aligned(width, n) {
+        return Err(access.error(0x28));
+    }
+    at_pointer(area, width, n, s)
+}
+
+fn in_named(access: Access, area: Area, width: Width, n: u32, s: &Running) -> Result<Bound, u8>
+    ensures { (named : Place) → named.area ≡ area →
+        result ≡ in_named_of access (Some named) width n (own_of s.now) }
+{
+    placed(
+        access,
+        area,
+        ((n >> 3) % 0x1_0000) as u16,
+        (n % 8) as u8,
+        width,
+        s,
+    )
+}
+
+#[tactic(auto, unfolding(crate::specs::Places::by_crossing))]
+fn by_crossing(access: Access, width: Width, address: u32, n: u32, s: &Running) -> Result<Bound, u8>
+    ensures { result ≡ by_crossing_of access width address n (own_of s.now) }
+{
+    if !is_aligned(width, n) {
+        return Err(access.error(0x28));
+    }
+    match place_of_pointer(address) {
+        Ok(place) => in_named(access, place.area, width, n, s),
+        Err(_) => Err(access.error(0x24)),
+    }
+}
+
+#[inline(always)]
+fn moved(address: u32, bits: u32) -> u32
+    ensures { result ≡ moved_of address bits }
+{
+    (address % 0x8_0000 + bits % 0x8_0000) % 0x8_0000
+}
+
+fn address(register: u8, s: &Running) -> u32
+    ensures { result ≡ address_of register (own_of s.now) }
+{
+    if register == 1 {
+        s.regs.ar1
+    } else {
+        s.regs.ar2
+    }
+}
+
+fn by_register(
+    access: Access,
+    area: Option<Area>,
+    width: Width,
+    address: u32,
+    bits: u32,
+    s: &Running,
+) -> Result<Bound, u8>
+    ensures { result ≡ by_register_of access area width address bits (own_of s.now) }
+{
+    match area {
+        Some(area) => by_pointer(access, area, width, moved(address, bits), s),
+        None => by_crossing(access, width, address, moved(address, bits), s),
+    }
+}
+
+fn of_binding(binding: Option<Binding>) -> Result<Bound, u8>
+    ensures { result ≡ of_binding_of binding }
+{
+    match binding {
+        Some(
+            Binding::Bound {
+                place,
+                width,
+                frame,
+            },
+        ) => Ok(Bound {
+            place,
+            width,
+            frame,
+        }),
+        _ => Err(0),
+    }
+}
+
+/// The place of an operand that is to be read or written.
+#[tactic(auto, unfolding(crate::specs::Places::located))]
+#[inline(never)]
+pub(crate) fn located(
+    access: Access,
+    operand: &Operand,
+    s: &Running,
+    m: &Memory,
+) -> Result<Bound, u8>
+    ensures { result ≡ located_of access operand.now (own_of s.now) m.now }
+{
+    match *operand {
+        Operand::Direct {
+            area,
+            width,
+            byte,
+            bit,
+        } => placed(access, area, byte, bit, width, s),
+        Operand::ByMemory {
+            area,
+            width,
+            from,
+            byte,
+        } => {
+            let n = pointer(from, byte, s, m)?;
+            by_pointer(access, area, width, n, s)
+        }
+        Operand::ByRegister {
+            area,
+            width,
+            register,
+            bits,
+        } => by_register(access, area, width, address(register, s), bits, s),
+        Operand::Parameter { index, .. } => of_binding(s.frame.bindings.get(index)),
+        _ => Err(0),
+    }
+}

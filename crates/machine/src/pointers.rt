@@ -1,0 +1,115 @@
+//! LAR1, LAR2, TAR1, TAR2, CAR, +AR1, +AR2.
+ghost use Rattle.std.specs.Prelude.{◌≡◌, ◌<◌, ◌^◌};
+ghost use Rattle.machine.specs.Parts.{own_of};
+ghost use Rattle.machine.specs.Outcomes.{Acts};
+ghost use Rattle.machine.specs.Pointers.{address_loaded, address_transferred, offset_added as offset_added_of, address_after as address_after_of, pointed, sign_extended as sign_extended_of};
+
+use crate::loads::{put_loaded, put_number};
+use crate::values::number;
+use flat_code::{Operand, PointerWord};
+use frames::Running;
+use plc_mem::Memory;
+use status_word::Regs;
+
+fn load_address(operand: &Operand, s: &Running, m: &Memory) -> Result<u32, u8>
+    ensures { result ≡ address_loaded operand.now (own_of s.now) m.now }
+{
+    match *operand {
+        Operand::Nothing => Ok(s.regs.a1),
+        _ => number(operand, s, m),
+    }
+}
+
+fn transfer_address(
+    address: u32,
+    operand: &Operand,
+    s: &mut Running,
+    m: &mut Memory,
+) -> Result<(), u8>
+    ensures { Acts (address_transferred address operand.now (own_of s.old) m.old)
+        s.old s.new m.old m.new result }
+{
+    match *operand {
+        Operand::Nothing => {
+            put_loaded(&mut s.regs, address);
+            Ok(())
+        }
+        _ => put_number(address, operand, s, m),
+    }
+}
+
+fn offset_added(operand: &Operand, r: &Regs) -> u32
+    ensures { result ≡ offset_added_of operand.now r.now }
+{
+    match *operand {
+        Operand::Literal { value } => value,
+        _ => sign_extended(r.a1 % 0x1_0000),
+    }
+}
+
+// An integer of 16 bits in 24 bits.
+fn sign_extended(word: u32) -> u32
+    requires { word < 2 ^ 16 }
+    ensures { result ≡ sign_extended_of word }
+{
+    if word < 0x8000 {
+        word
+    } else {
+        word + 0xFF_0000
+    }
+}
+
+#[tactic(auto, unfolding(crate::specs::Pointers::address_after, alu::specs::Accumulators::with_low))]
+fn address_after(address: u32, offset: u32) -> u32
+    ensures { result ≡ address_after_of address offset }
+{
+    let low = address % 0x100_0000;
+    address - low + (low + offset % 0x100_0000) % 0x100_0000
+}
+
+/// An instruction on the address registers.
+#[tactic(auto, unfolding(crate::specs::Pointers::pointed))]
+#[inline(never)]
+pub(crate) fn point(
+    what: PointerWord,
+    operand: &Operand,
+    s: &mut Running,
+    m: &mut Memory,
+) -> Result<(), u8>
+    ensures { Acts (pointed what operand.now (own_of s.old) m.old) s.old s.new m.old m.new result }
+{
+    match what {
+        PointerWord::Lar1 => {
+            s.regs.ar1 = load_address(operand, s, m)?;
+            Ok(())
+        }
+        PointerWord::Lar2 => {
+            s.regs.ar2 = load_address(operand, s, m)?;
+            Ok(())
+        }
+        PointerWord::Tar1 => transfer_address(s.regs.ar1, operand, s, m),
+        PointerWord::Tar2 => transfer_address(s.regs.ar2, operand, s, m),
+        PointerWord::Lar1Ar2 => {
+            s.regs.ar1 = s.regs.ar2;
+            Ok(())
+        }
+        PointerWord::Tar1Ar2 => {
+            s.regs.ar2 = s.regs.ar1;
+            Ok(())
+        }
+        PointerWord::Car => {
+            let first = s.regs.ar1;
+            s.regs.ar1 = s.regs.ar2;
+            s.regs.ar2 = first;
+            Ok(())
+        }
+        PointerWord::AddAr1 => {
+            s.regs.ar1 = address_after(s.regs.ar1, offset_added(operand, &s.regs));
+            Ok(())
+        }
+        PointerWord::AddAr2 => {
+            s.regs.ar2 = address_after(s.regs.ar2, offset_added(operand, &s.regs));
+            Ok(())
+        }
+    }
+}

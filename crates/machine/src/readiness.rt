@@ -1,0 +1,97 @@
+//! Whether nothing that the next statement needs is missing.
+ghost use Rattle.std.specs.Prelude.{◌≡◌, true, false, length, List, ℕ, Option, Some, is_some};
+ghost use Rattle.frames.specs.Activations.{frames_of};
+ghost use Rattle.flat_code.specs.Instr.{Passing};
+ghost use Rattle.flat_code.specs.Ops.{OpData};
+ghost use Rattle.machine.specs.Flat.{code_of, head_of, instr_of, statement_at};
+ghost use Rattle.machine.specs.Statement.{World, statement as statement_of, Goes};
+ghost use Rattle.machine.specs.There.{is_callee as is_callee_of, is_there, is_complete};
+ghost use Rattle.machine.specs.Walking.{NeedsThere};
+ghost use Rattle.flat_code.specs.Placed.{line_placed};
+
+use crate::statements::{is_system, kind_called};
+use crate::system_calls::system_function;
+use crate::walking::{Walk, walk_from};
+use flat_code::{Operand, Word};
+use frames::Activation;
+use image_file::{Loaded, LoadedCode};
+use plc_base::BlockId;
+
+// Whether a block that is called is there.
+fn is_callee(c: &Loaded, block: BlockId) -> bool
+    ensures { result ≡ is_callee_of (code_of c.now.program) block }
+{
+    if is_system(block.kind) {
+        system_function(block.number).is_some()
+    } else {
+        c.code(block).is_some()
+    }
+}
+
+// Whether what an instruction needs is there.
+fn is_op_there(c: &Loaded, own: BlockId, word: Word, operand: &Operand) -> bool
+    ensures { result ≡ true → ((use_db : Option ℕ) (passings : List Passing) (next : ℕ)
+        (ops : List OpData)
+        → is_some ((code_of c.now.program).head own) ≡ true
+        → is_there (code_of c.now.program)
+        (instr_of word operand.now use_db passings next ops) own ≡ true) }
+{
+    match word {
+        Word::Call(_) => match *operand {
+            Operand::Called { kind, number, .. } => match kind_called(kind) {
+                Some(kind) => is_callee(c, BlockId { kind, number }),
+                None => true,
+            },
+            _ => true,
+        },
+        _ => true,
+    }
+}
+
+fn is_walk_there(c: &Loaded, own: BlockId, walk: &Walk<'_>) -> bool
+    ensures { result ≡ true → (is_some ((code_of c.now.program).head own) ≡ true
+        → (ops : List OpData) → NeedsThere (code_of c.now.program) own walk.now ops) }
+{
+    let last = walk.last;
+    is_op_there(c, own, last.word(), &last.operand)
+}
+
+fn has_line(code: &LoadedCode<'_>, at: u32) -> bool
+    ensures { result ≡ is_some (line_placed 0 true code.now.code code.now.lines at) }
+{
+    code.line(at).is_some()
+}
+
+// Whether a statement begins at an offset of a block, with what it needs.
+fn is_complete_at(c: &Loaded, code: &LoadedCode<'_>, own: BlockId, at: u32) -> bool
+    requires { (code_of c.now.program).head own ≡ Some (head_of code.now) }
+    ensures { result ≡ true →
+        (is_complete (code_of c.now.program) (statement_at code.now at) own ≡ true) }
+{
+    if has_line(code, at) {
+        match walk_from(code, at) {
+            Some(walk) => is_walk_there(c, own, &walk),
+            None => false,
+        }
+    } else {
+        false
+    }
+}
+
+/// Whether `statement` may be called: a frame stands, each frame has its local data, a statement
+/// begins where the innermost frame stands, and what it calls is there.
+pub fn is_ready(c: &Loaded, a: &Activation) -> bool
+    ensures stands { result ≡ true → (a.now.left ≡ false) }
+    ensures depth { result ≡ true →
+        (length a.now.running.locals.starts ≡ length (frames_of a.now)) }
+    ensures there { result ≡ true →
+        ((w : World) → Goes (statement_of (code_of c.now.program) a.now w)) }
+{
+    if a.left || a.running.locals.depth() != a.depth() {
+        return false;
+    }
+    match c.code(a.running.frame.block) {
+        Some(code) => is_complete_at(c, &code, a.running.frame.block, a.running.frame.at),
+        None => false,
+    }
+}

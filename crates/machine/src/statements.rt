@@ -1,0 +1,422 @@
+//! One statement of an activation.
+ghost use Rattle.std.specs.Prelude.{◌≡◌, ◌≤◌, length, false, Some, List};
+ghost use Rattle.frames.specs.Activations.{frames_of};
+ghost use Rattle.timers_counters.specs.Timer.{Timer};
+ghost use Rattle.timers_counters.specs.Counter.{Counter};
+ghost use Rattle.flat_code.specs.Instr.{Passing, Calls, Returns};
+ghost use Rattle.machine.specs.Code.{Code};
+ghost use Rattle.machine.specs.Entering.{call};
+ghost use Rattle.machine.specs.Parts.{own_of};
+ghost use Rattle.machine.specs.Flat.{code_of, jump_instr, is_jl as is_jl_of, kind_called as kind_called_of, instance_named as instance_named_of, instr_of, statement_at, head_of};
+ghost use Rattle.machine.specs.Statement.{World, world, returned, after_call, after_system_call, callee_of, statement as statement_of, fetched, performed, called, block_called, system_called, is_called as is_called_of, is_ended as is_ended_of, is_system as is_system_of, Goes, Comes};
+ghost use Rattle.machine.specs.SystemCalls.{system_function as system_function_of, system_call, count_inputs};
+ghost use Rattle.machine.specs.Walking.{Passes};
+
+use crate::entering::Callee;
+use crate::outcomes::Outcome;
+use crate::performing::{
+    call_block, call_system, end_block, fail, jump, pass_over_call, pass_over_end, perform,
+};
+use crate::system_calls::system_function;
+use crate::walking::{bind_all, jump_of, pick, walk_from};
+use flat_code::{CallWord, EndWord, JumpWord, Operand, Param, Word};
+use frames::Activation;
+use image_file::{Loaded, LoadedCode};
+use plc_base::{BlockId, BlockKind};
+use plc_mem::Memory;
+use timers_counters::{Counters, Timers};
+
+// What a loaded program has is never missing.
+fn missing() -> Outcome {
+    Outcome::Stop { cause: 0 }
+}
+
+fn is_jl(word: JumpWord) -> bool
+    ensures { result ≡ is_jl_of word }
+{
+    matches!(word, JumpWord::Jl)
+}
+
+// A jump, JL among them.
+fn jump_or_list(
+    code: &LoadedCode<'_>,
+    word: JumpWord,
+    target: u32,
+    next: u32,
+    a: &mut Activation,
+) -> Outcome
+    ensures { (c : Code) (w : World) →
+        Comes (performed c (jump_instr word target next code.now.code) next a.old w)
+        a.old a.new w w result }
+{
+    if is_jl(word) {
+        let at = pick(code, target, next, &a.running.regs);
+        a.running.frame.at = at;
+        Outcome::Went
+    } else {
+        jump(word, target, next, a)
+    }
+}
+
+fn is_called(how: CallWord, rlo: bool) -> bool
+    ensures { result ≡ is_called_of how rlo }
+{
+    match how {
+        CallWord::Cc => rlo,
+        _ => true,
+    }
+}
+
+fn is_ended(how: EndWord, rlo: bool) -> bool
+    ensures { result ≡ is_ended_of how rlo }
+{
+    match how {
+        EndWord::Bec => rlo,
+        _ => true,
+    }
+}
+
+pub(crate) fn kind_called(kind: u8) -> Option<BlockKind>
+    ensures { result ≡ kind_called_of kind }
+{
+    match kind {
+        2 => Some(BlockKind::Fc),
+        3 => Some(BlockKind::Fb),
+        5 => Some(BlockKind::Sfc),
+        _ => None,
+    }
+}
+
+fn instance_named(number: u16) -> Option<u16>
+    ensures { result ≡ instance_named_of number }
+{
+    if number == 0 { None } else { Some(number) }
+}
+
+// A call of a function or function block with these parameters.
+fn call_with(
+    called: &Callee<'_>,
+    code: &LoadedCode<'_>,
+    at: u32,
+    next: u32,
+    a: &mut Activation,
+    m: &mut Memory,
+) -> Outcome
+    requires depth { length a.old.running.locals.starts ≡ length (frames_of a.old) }
+    requires params { length called.now.params ≤ 60 }
+    ensures { (passings : List Passing) (t : List Timer) (n : List Counter)
+        → Passes code.now.code at passings
+        → Comes (after_call (call called.now passings next a.old m.old) next a.old
+        (world m.old t n)) a.old a.new (world m.old t n) (world m.new t n) result }
+{
+    match bind_all(code, at, called.params, &a.running, m) {
+        Err(error) => fail(error, next, a),
+        Ok(bindings) => call_block(called, bindings, next, a, m),
+    }
+}
+
+// A call of a block that is loaded.
+fn call_loaded(
+    callee: &LoadedCode<'_>,
+    code: &LoadedCode<'_>,
+    at: u32,
+    block: BlockId,
+    instance: Option<u16>,
+    next: u32,
+    a: &mut Activation,
+    m: &mut Memory,
+) -> Outcome
+    requires { length a.old.running.locals.starts ≡ length (frames_of a.old) }
+    ensures { (passings : List Passing) (t : List Timer) (n : List Counter)
+        → Passes code.now.code at passings
+        → Comes (after_call (call (callee_of block instance (head_of callee.now)) passings next
+        a.old m.old) next a.old
+        (world m.old t n)) a.old a.new (world m.old t n) (world m.new t n) result }
+{
+    let head = callee.head();
+    let called = Callee {
+        block,
+        instance,
+        local_len: head.local_len,
+        params: head.params.as_slice(),
+    };
+    call_with(&called, code, at, next, a, m)
+}
+
+// A call of a function or function block.
+fn call_code(
+    c: &Loaded,
+    code: &LoadedCode<'_>,
+    at: u32,
+    block: BlockId,
+    instance: Option<u16>,
+    next: u32,
+    a: &mut Activation,
+    m: &mut Memory,
+) -> Outcome
+    requires { length a.old.running.locals.starts ≡ length (frames_of a.old) }
+    ensures { (passings : List Passing) (t : List Timer) (n : List Counter)
+        → Passes code.now.code at passings
+        → Goes (block_called ((code_of c.now.program).head block) block instance passings next
+        a.old (world m.old t n))
+        → Comes (block_called ((code_of c.now.program).head block) block instance passings next
+        a.old (world m.old t n)) a.old a.new (world m.old t n) (world m.new t n) result }
+{
+    match c.code(block) {
+        Some(callee) => call_loaded(&callee, code, at, block, instance, next, a, m),
+        None => missing(),
+    }
+}
+
+// A call of a system function with these parameters.
+fn call_system_with(
+    number: u16,
+    params: &[Param],
+    code: &LoadedCode<'_>,
+    at: u32,
+    next: u32,
+    a: &mut Activation,
+    m: &Memory,
+) -> Outcome
+    requires few { length params.now ≤ 4 }
+    requires inputs { count_inputs params.now ≤ 3 }
+    ensures { (passings : List Passing) (t : List Timer) (n : List Counter)
+        → Passes code.now.code at passings
+        → Comes (after_system_call (system_call params.now passings (own_of a.old.running) m.now)
+        number next a.old) a.old a.new (world m.now t n) (world m.now t n) result }
+{
+    match bind_all(code, at, params, &a.running, m) {
+        Err(error) => fail(error, next, a),
+        Ok(bindings) => call_system(number, params, &bindings, next, a, m),
+    }
+}
+
+// A call of a system function.
+fn call_function(
+    code: &LoadedCode<'_>,
+    at: u32,
+    number: u16,
+    next: u32,
+    a: &mut Activation,
+    m: &Memory,
+) -> Outcome
+    ensures { (passings : List Passing) (t : List Timer) (n : List Counter)
+        → Passes code.now.code at passings
+        → Goes (system_called (system_function_of number) number passings next a.old
+        (world m.now t n))
+        → Comes (system_called (system_function_of number) number passings next a.old
+        (world m.now t n)) a.old a.new (world m.now t n) (world m.now t n) result }
+{
+    match system_function(number) {
+        Some(params) => call_system_with(number, params, code, at, next, a, m),
+        None => missing(),
+    }
+}
+
+// CALL, UC and CC.
+fn call_op(
+    c: &Loaded,
+    code: &LoadedCode<'_>,
+    at: u32,
+    how: CallWord,
+    block: BlockId,
+    instance: Option<u16>,
+    next: u32,
+    a: &mut Activation,
+    m: &mut Memory,
+) -> Outcome
+    requires { length a.old.running.locals.starts ≡ length (frames_of a.old) }
+    ensures { (passings : List Passing) (t : List Timer) (n : List Counter)
+        → Passes code.now.code at passings
+        → Goes (performed (code_of c.now.program) (Calls how block instance passings) next a.old
+        (world m.old t n))
+        → Comes (performed (code_of c.now.program) (Calls how block instance passings) next a.old
+        (world m.old t n)) a.old a.new (world m.old t n) (world m.new t n) result }
+{
+    if is_called(how, a.running.regs.status.rlo) {
+        call_any(c, code, at, block, instance, next, a, m)
+    } else {
+        pass_over_call(next, a)
+    }
+}
+
+// A call that is made.
+fn call_any(
+    c: &Loaded,
+    code: &LoadedCode<'_>,
+    at: u32,
+    block: BlockId,
+    instance: Option<u16>,
+    next: u32,
+    a: &mut Activation,
+    m: &mut Memory,
+) -> Outcome
+    requires { length a.old.running.locals.starts ≡ length (frames_of a.old) }
+    ensures { (passings : List Passing) (t : List Timer) (n : List Counter)
+        → Passes code.now.code at passings
+        → Goes (called (code_of c.now.program) block instance passings next a.old
+        (world m.old t n))
+        → Comes (called (code_of c.now.program) block instance passings next a.old
+        (world m.old t n)) a.old a.new (world m.old t n) (world m.new t n) result }
+{
+    if is_system(block.kind) {
+        call_function(code, at, block.number, next, a, m)
+    } else {
+        call_code(c, code, at, block, instance, next, a, m)
+    }
+}
+
+pub(crate) fn is_system(kind: BlockKind) -> bool
+    ensures { result ≡ is_system_of kind }
+{
+    matches!(kind, BlockKind::Sfc)
+}
+
+// BE, BEU and BEC.
+fn end_op(
+    code: &LoadedCode<'_>,
+    how: EndWord,
+    next: u32,
+    a: &mut Activation,
+    m: &mut Memory,
+) -> Outcome
+    requires { a.old.left ≡ false }
+    ensures { (c : Code) (t : List Timer) (n : List Counter)
+        → c.head a.old.running.frame.block ≡ Some (head_of code.now)
+        → Comes (performed c (Returns how) next a.old (world m.old t n))
+        a.old a.new (world m.old t n) (world m.new t n) result }
+{
+    if is_ended(how, a.running.regs.status.rlo) {
+        end_loaded(code, a, m)
+    } else {
+        pass_over_end(next, a)
+    }
+}
+
+fn end_loaded(code: &LoadedCode<'_>, a: &mut Activation, m: &mut Memory) -> Outcome
+    requires { a.old.left ≡ false }
+    ensures { (t : List Timer) (n : List Counter) →
+        Comes (returned (Some (head_of code.now)) a.old (world m.old t n))
+        a.old a.new (world m.old t n) (world m.new t n) result }
+{
+    let head = code.head();
+    end_block(head.params.as_slice(), a, m)
+}
+
+// The last op of a statement, which begins at `at`, with the data block that the statement opens.
+fn perform_op(
+    c: &Loaded,
+    code: &LoadedCode<'_>,
+    at: u32,
+    opens: Option<u16>,
+    word: Word,
+    operand: &Operand,
+    next: u32,
+    a: &mut Activation,
+    m: &mut Memory,
+    t: &mut Timers,
+    n: &mut Counters,
+) -> Outcome
+    requires stands { a.old.left ≡ false }
+    requires depth { length a.old.running.locals.starts ≡ length (frames_of a.old) }
+    requires block { (code_of c.now.program).head a.old.running.frame.block
+        ≡ Some (head_of code.now) }
+    ensures { (passings : List Passing) → Passes code.now.code at passings
+        → Goes (performed (code_of c.now.program)
+        (instr_of word operand.now opens passings next code.now.code) next a.old
+        (world m.old t.old n.old))
+        → Comes (performed (code_of c.now.program)
+        (instr_of word operand.now opens passings next code.now.code) next a.old
+        (world m.old t.old n.old))
+        a.old a.new (world m.old t.old n.old) (world m.new t.new n.new) result }
+{
+    match word {
+        Word::Jump => match *operand {
+            Operand::Jump { kind, target } => { jump_or_list(code, jump_of(kind), target, next, a) }
+            _ => perform(opens, word, operand, next, a, m, t, n),
+        },
+        Word::Call(how) => match *operand {
+            Operand::Called {
+                kind,
+                number,
+                instance,
+            } => match kind_called(kind) {
+                Some(kind) => {
+                    let block = BlockId { kind, number };
+                    let instance = instance_named(instance);
+                    call_op(c, code, at, how, block, instance, next, a, m)
+                }
+                None => perform(opens, word, operand, next, a, m, t, n),
+            },
+            _ => perform(opens, word, operand, next, a, m, t, n),
+        },
+        Word::End(how) => end_op(code, how, next, a, m),
+        _ => perform(opens, word, operand, next, a, m, t, n),
+    }
+}
+
+// The statement of a block that begins where the innermost frame stands.
+#[tactic(auto, using(crate::proofs::Fetching::fetched_walk))]
+fn perform_at(
+    c: &Loaded,
+    code: &LoadedCode<'_>,
+    a: &mut Activation,
+    m: &mut Memory,
+    t: &mut Timers,
+    n: &mut Counters,
+) -> Outcome
+    requires stands { a.old.left ≡ false }
+    requires depth { length a.old.running.locals.starts ≡ length (frames_of a.old) }
+    requires block { (code_of c.now.program).head a.old.running.frame.block
+        ≡ Some (head_of code.now) }
+    ensures { Goes (fetched (code_of c.now.program) (statement_at code.now a.old.running.frame.at)
+        a.old (world m.old t.old n.old))
+        → Comes (fetched (code_of c.now.program) (statement_at code.now a.old.running.frame.at)
+        a.old (world m.old t.old n.old))
+        a.old a.new (world m.old t.old n.old) (world m.new t.new n.new) result }
+{
+    let at = a.running.frame.at;
+    match walk_from(code, at) {
+        Some(walk) => {
+            let last = walk.last;
+            perform_op(
+                c,
+                code,
+                at,
+                walk.opens,
+                last.word(),
+                &last.operand,
+                walk.next,
+                a,
+                m,
+                t,
+                n,
+            )
+        }
+        None => missing(),
+    }
+}
+
+/// Executes the statement at which the innermost frame of an activation stands, with memory, timers
+/// and counters, over the code of a loaded program. A frame stands, as many frames have local data
+/// as stand, and nothing that the statement needs is missing, as in an activation that fits.
+#[tactic(auto, unfolding(crate::specs::Statement::statement))]
+pub fn statement(
+    c: &Loaded,
+    m: &mut Memory,
+    t: &mut Timers,
+    n: &mut Counters,
+    a: &mut Activation,
+) -> Outcome
+    requires stands { a.old.left ≡ false }
+    requires depth { length a.old.running.locals.starts ≡ length (frames_of a.old) }
+    requires there { Goes (statement_of (code_of c.now.program) a.old
+        (world m.old t.old n.old)) }
+    ensures { Comes (statement_of (code_of c.now.program) a.old (world m.old t.old n.old))
+        a.old a.new (world m.old t.old n.old) (world m.new t.new n.new) result }
+{
+    match c.code(a.running.frame.block) {
+        Some(code) => perform_at(c, &code, a, m, t, n),
+        None => missing(),
+    }
+}

@@ -1,0 +1,207 @@
+//! Timers and counters: SP SE SD SS SF, CU, CD, S of a counter, R and FR of both.
+ghost use Rattle.std.specs.Prelude.{◌≡◌};
+ghost use Rattle.machine.specs.Parts.{own_of};
+ghost use Rattle.machine.specs.Timing.{kind_of as kind_of_word, word_of as word_of_own, string_ended, starting, timer_reset, timer_freed, counting_up, counting_down, counter_set, counter_reset, counter_freed, Times};
+
+use crate::values::{fault_code, number_named};
+use flat_code::{Operand, StartWord};
+use frames::Running;
+use plc_mem::Memory;
+use status_word::Regs;
+use timers_counters::{Counters, TimerKind, Timers};
+
+fn kind_of(how: StartWord) -> TimerKind
+    ensures { result ≡ kind_of_word how }
+{
+    match how {
+        StartWord::Sp => TimerKind::Sp,
+        StartWord::Se => TimerKind::Se,
+        StartWord::Sd => TimerKind::Sd,
+        StartWord::Ss => TimerKind::Ss,
+        StartWord::Sf => TimerKind::Sf,
+    }
+}
+
+/// OR 0, /FC 0.
+fn end_string(r: &mut Regs)
+    ensures { r.new ≡ string_ended r.old }
+{
+    r.status.or = false;
+    r.status.fc = false;
+}
+
+fn word_of(s: &Running) -> u16
+    ensures { result ≡ word_of_own (own_of s.now) }
+{
+    (s.regs.a1 % 0x1_0000) as u16
+}
+
+/// SP, SE, SD, SS, SF.
+#[tactic(auto, unfolding(crate::specs::Timing::starting))]
+#[inline(never)]
+pub(crate) fn start(
+    how: StartWord,
+    operand: &Operand,
+    s: &mut Running,
+    m: &Memory,
+    t: &mut Timers,
+) -> Result<(), u8>
+    ensures { Times (starting how operand.now (own_of s.old) m.now t.old)
+        s.old s.new t.old t.new result }
+{
+    let number = number_named(operand, s, m)?;
+    match t.start(number, kind_of(how), s.regs.status.rlo, word_of(s)) {
+        Ok(()) => {
+            end_string(&mut s.regs);
+            Ok(())
+        }
+        Err(fault) => Err(fault_code(fault, 0x26)),
+    }
+}
+
+/// R of a timer.
+#[tactic(auto, unfolding(crate::specs::Timing::timer_reset))]
+pub(crate) fn reset_timer(
+    operand: &Operand,
+    s: &mut Running,
+    m: &Memory,
+    t: &mut Timers,
+) -> Result<(), u8>
+    ensures { Times (timer_reset operand.now (own_of s.old) m.now t.old)
+        s.old s.new t.old t.new result }
+{
+    let number = number_named(operand, s, m)?;
+    match t.reset(number, s.regs.status.rlo) {
+        Ok(()) => {
+            end_string(&mut s.regs);
+            Ok(())
+        }
+        Err(fault) => Err(fault_code(fault, 0x26)),
+    }
+}
+
+/// FR of a timer.
+#[tactic(auto, unfolding(crate::specs::Timing::timer_freed))]
+pub(crate) fn free_timer(
+    operand: &Operand,
+    s: &mut Running,
+    m: &Memory,
+    t: &mut Timers,
+) -> Result<(), u8>
+    ensures { Times (timer_freed operand.now (own_of s.old) m.now t.old)
+        s.old s.new t.old t.new result }
+{
+    let number = number_named(operand, s, m)?;
+    match t.free(number, s.regs.status.rlo) {
+        Ok(()) => {
+            end_string(&mut s.regs);
+            Ok(())
+        }
+        Err(fault) => Err(fault_code(fault, 0x26)),
+    }
+}
+
+/// CU.
+#[tactic(auto, unfolding(crate::specs::Timing::counting_up))]
+pub(crate) fn count_up(
+    operand: &Operand,
+    s: &mut Running,
+    m: &Memory,
+    n: &mut Counters,
+) -> Result<(), u8>
+    ensures { Times (counting_up operand.now (own_of s.old) m.now n.old)
+        s.old s.new n.old n.new result }
+{
+    let number = number_named(operand, s, m)?;
+    match n.up(number, s.regs.status.rlo) {
+        Ok(()) => {
+            end_string(&mut s.regs);
+            Ok(())
+        }
+        Err(fault) => Err(fault_code(fault, 0x27)),
+    }
+}
+
+/// CD.
+#[tactic(auto, unfolding(crate::specs::Timing::counting_down))]
+pub(crate) fn count_down(
+    operand: &Operand,
+    s: &mut Running,
+    m: &Memory,
+    n: &mut Counters,
+) -> Result<(), u8>
+    ensures { Times (counting_down operand.now (own_of s.old) m.now n.old)
+        s.old s.new n.old n.new result }
+{
+    let number = number_named(operand, s, m)?;
+    match n.down(number, s.regs.status.rlo) {
+        Ok(()) => {
+            end_string(&mut s.regs);
+            Ok(())
+        }
+        Err(fault) => Err(fault_code(fault, 0x27)),
+    }
+}
+
+/// S of a counter.
+#[tactic(auto, unfolding(crate::specs::Timing::counter_set))]
+pub(crate) fn set_counter(
+    operand: &Operand,
+    s: &mut Running,
+    m: &Memory,
+    n: &mut Counters,
+) -> Result<(), u8>
+    ensures { Times (counter_set operand.now (own_of s.old) m.now n.old)
+        s.old s.new n.old n.new result }
+{
+    let number = number_named(operand, s, m)?;
+    match n.set(number, s.regs.status.rlo, word_of(s)) {
+        Ok(()) => {
+            end_string(&mut s.regs);
+            Ok(())
+        }
+        Err(fault) => Err(fault_code(fault, 0x27)),
+    }
+}
+
+/// R of a counter.
+#[tactic(auto, unfolding(crate::specs::Timing::counter_reset))]
+pub(crate) fn reset_counter(
+    operand: &Operand,
+    s: &mut Running,
+    m: &Memory,
+    n: &mut Counters,
+) -> Result<(), u8>
+    ensures { Times (counter_reset operand.now (own_of s.old) m.now n.old)
+        s.old s.new n.old n.new result }
+{
+    let number = number_named(operand, s, m)?;
+    match n.reset(number, s.regs.status.rlo) {
+        Ok(()) => {
+            end_string(&mut s.regs);
+            Ok(())
+        }
+        Err(fault) => Err(fault_code(fault, 0x27)),
+    }
+}
+
+/// FR of a counter.
+#[tactic(auto, unfolding(crate::specs::Timing::counter_freed))]
+pub(crate) fn free_counter(
+    operand: &Operand,
+    s: &mut Running,
+    m: &Memory,
+    n: &mut Counters,
+) -> Result<(), u8>
+    ensures { Times (counter_freed operand.now (own_of s.old) m.now n.old)
+        s.old s.new n.old n.new result }
+{
+    let number = number_named(operand, s, m)?;
+    match n.free(number, s.regs.status.rlo) {
+        Ok(()) => {
+            end_string(&mut s.regs);
+            Ok(())
+        }
+        Err(fault) => Err(fault_code(fault, 0x27)),
+    }
+}

@@ -1,0 +1,229 @@
+//! What an operand reads as, and writing to a place.
+ghost use Rattle.std.specs.Prelude.{◌≡◌, ◌<◌, ◌^◌, ℕ, Err};
+ghost use Rattle.plc_base.specs.Widths.{bit_count};
+ghost use Rattle.flat_code.specs.Kinds.{flag_of as flag_of_condition};
+ghost use Rattle.machine.specs.Parts.{own_of};
+ghost use Rattle.machine.specs.Outcomes.{Acts};
+ghost use Rattle.machine.specs.Values.{number_of_binding as number_of_binding_of, number as number_of, bit_of_numbered as bit_of_numbered_of, value_of_numbered as value_of_numbered_of, bcd_of_numbered as bcd_of_numbered_of, number_named as number_named_of, bcd_loaded as bcd_loaded_of, faulty, tested as tested_of, loaded as loaded_of, is_one, write as write_of};
+
+use crate::places::{Access, Bound, located, number_from, read};
+use flat_code::{CONDITIONS, Operand};
+use frames::{Binding, Running};
+use plc_base::{Area, Flag};
+use plc_mem::Memory;
+use timers_counters::{Counters, TimerFault, Timers};
+
+fn number_of_binding(binding: Option<Binding>, s: &Running, m: &Memory) -> Result<u32, u8>
+    ensures { result ≡ number_of_binding_of binding (own_of s.now) m.now }
+{
+    match binding {
+        Some(
+            Binding::Bound {
+                place,
+                width,
+                frame,
+            },
+        ) => {
+            let at = Bound {
+                place,
+                width,
+                frame,
+            };
+            read(&at, s, m)
+        }
+        Some(Binding::Constant { value }) => Ok(value),
+        _ => Err(0),
+    }
+}
+
+/// The number of an operand that is a constant or has a place.
+#[tactic(auto, unfolding(crate::specs::Values::number))]
+#[inline(never)]
+pub(crate) fn number(operand: &Operand, s: &Running, m: &Memory) -> Result<u32, u8>
+    ensures { result ≡ number_of operand.now (own_of s.now) m.now }
+{
+    match *operand {
+        Operand::Literal { value } => Ok(value),
+        Operand::Parameter { index, .. } => number_of_binding(s.frame.bindings.get(index), s, m),
+        _ => {
+            let at = located(Access::Reading, operand, s, m)?;
+            read(&at, s, m)
+        }
+    }
+}
+
+/// The code of a fault of a timer or counter, where `code` is that of a number that there isn't.
+pub(crate) fn fault_code(fault: TimerFault, code: u8) -> u8
+    ensures { faulty {A = ℕ} code (Err fault) ≡ Err result }
+{
+    match fault {
+        TimerFault::NoNumber => code,
+        TimerFault::BadBcd => 0x21,
+    }
+}
+
+fn bit_or(found: Result<bool, TimerFault>, code: u8) -> Result<bool, u8>
+    ensures { result ≡ faulty code found }
+{
+    match found {
+        Ok(bit) => Ok(bit),
+        Err(fault) => Err(fault_code(fault, code)),
+    }
+}
+
+fn number_or(found: Result<u16, TimerFault>, code: u8) -> Result<u32, u8>
+    ensures { result ≡ faulty code found }
+{
+    match found {
+        Ok(number) => Ok(u32::from(number)),
+        Err(fault) => Err(fault_code(fault, code)),
+    }
+}
+
+#[tactic(auto, unfolding(crate::specs::Values::bit_of_numbered))]
+fn bit_of_numbered(kind: u8, number: u16, t: &Timers, n: &Counters) -> Result<bool, u8>
+    ensures { result ≡ bit_of_numbered_of kind number t.now n.now }
+{
+    if kind == 1 {
+        bit_or(t.output(number), 0x26)
+    } else {
+        bit_or(n.output(number), 0x27)
+    }
+}
+
+#[tactic(auto, unfolding(crate::specs::Values::value_of_numbered))]
+fn value_of_numbered(kind: u8, number: u16, t: &Timers, n: &Counters) -> Result<u32, u8>
+    ensures { result ≡ value_of_numbered_of kind number t.now n.now }
+{
+    if kind == 1 {
+        number_or(t.value(number), 0x26)
+    } else {
+        number_or(n.value(number), 0x27)
+    }
+}
+
+#[tactic(auto, unfolding(crate::specs::Values::bcd_of_numbered))]
+fn bcd_of_numbered(kind: u8, number: u16, t: &Timers, n: &Counters) -> Result<u32, u8>
+    ensures { result ≡ bcd_of_numbered_of kind number t.now n.now }
+{
+    if kind == 1 {
+        number_or(t.bcd(number), 0x26)
+    } else {
+        number_or(n.bcd(number), 0x27)
+    }
+}
+
+/// The number of a timer or counter: its own, or the word at a place.
+#[tactic(auto, unfolding(crate::specs::Values::number_named))]
+pub(crate) fn number_named(operand: &Operand, s: &Running, m: &Memory) -> Result<u16, u8>
+    ensures { result ≡ number_named_of operand.now (own_of s.now) m.now }
+{
+    match *operand {
+        Operand::Numbered { number, .. } => Ok(number),
+        Operand::NumberedBy { from, byte, .. } => number_from(from, byte, s, m),
+        _ => Err(0),
+    }
+}
+
+// What a condition of the status word asks, by its number.
+#[tactic(auto, unfolding(flat_code::specs::Kinds::flag_of))]
+fn flag_of(condition: u8) -> Flag
+    ensures { result ≡ flag_of_condition condition }
+{
+    let place = usize::from(condition).saturating_sub(1);
+    CONDITIONS.get(place).copied().unwrap_or(Flag::Br)
+}
+
+#[inline(never)]
+fn bit(operand: &Operand, s: &Running, m: &Memory) -> Result<bool, u8>
+    ensures { result ≡ is_one (number_of operand.now (own_of s.now) m.now) }
+{
+    Ok(number(operand, s, m)? == 1)
+}
+
+/// The bit that a check reads.
+#[tactic(auto, unfolding(crate::specs::Values::tested))]
+pub(crate) fn tested(
+    operand: &Operand,
+    s: &Running,
+    m: &Memory,
+    t: &Timers,
+    n: &Counters,
+) -> Result<bool, u8>
+    ensures { result ≡ tested_of operand.now (own_of s.now) m.now t.now n.now }
+{
+    match *operand {
+        Operand::Numbered { kind, number } => bit_of_numbered(kind, number, t, n),
+        Operand::NumberedBy { kind, from, byte } => {
+            let number = number_from(from, byte, s, m)?;
+            bit_of_numbered(kind, number, t, n)
+        }
+        Operand::OfStatus { condition } => Ok(s.regs.flag(flag_of(condition))),
+        _ => bit(operand, s, m),
+    }
+}
+
+/// The number that L reads.
+#[tactic(auto, unfolding(crate::specs::Values::loaded))]
+pub(crate) fn loaded(
+    operand: &Operand,
+    s: &Running,
+    m: &Memory,
+    t: &Timers,
+    n: &Counters,
+) -> Result<u32, u8>
+    ensures { result ≡ loaded_of operand.now (own_of s.now) m.now t.now n.now }
+{
+    match *operand {
+        Operand::Numbered { kind, number } => value_of_numbered(kind, number, t, n),
+        Operand::NumberedBy { kind, from, byte } => {
+            let number = number_from(from, byte, s, m)?;
+            value_of_numbered(kind, number, t, n)
+        }
+        _ => number(operand, s, m),
+    }
+}
+
+/// The number that LC reads.
+#[tactic(auto, unfolding(crate::specs::Values::bcd_loaded))]
+pub(crate) fn bcd_loaded(
+    operand: &Operand,
+    s: &Running,
+    m: &Memory,
+    t: &Timers,
+    n: &Counters,
+) -> Result<u32, u8>
+    ensures { result ≡ bcd_loaded_of operand.now (own_of s.now) m.now t.now n.now }
+{
+    match *operand {
+        Operand::Numbered { kind, number } => bcd_of_numbered(kind, number, t, n),
+        Operand::NumberedBy { kind, from, byte } => {
+            let number = number_from(from, byte, s, m)?;
+            bcd_of_numbered(kind, number, t, n)
+        }
+        _ => Err(0),
+    }
+}
+
+/// Writes a number to a place.
+#[tactic(auto, unfolding(crate::specs::Values::write))]
+#[inline(always)]
+pub(crate) fn write(at: &Bound, value: u32, s: &mut Running, m: &mut Memory) -> Result<(), u8>
+    requires { value < 2 ^ bit_count at.now.width }
+    ensures { Acts (write_of at.now value (own_of s.old) m.old) s.old s.new m.old m.new result }
+{
+    let place = at.place;
+    match place.area {
+        Area::L => match s
+            .locals
+            .put(at.frame, place.byte, place.bit, at.width, value)
+        {
+            Ok(()) => Ok(()),
+            Err(_) => Err(Access::Writing.absent(place.area)),
+        },
+        _ => match m.write(place, at.width, value) {
+            Ok(()) => Ok(()),
+            Err(_) => Err(Access::Writing.absent(place.area)),
+        },
+    }
+}

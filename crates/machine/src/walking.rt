@@ -1,0 +1,182 @@
+//! Along the ops of a statement.
+ghost use Rattle.std.specs.Prelude.{◌≡◌, ◌≤◌, length, MatchResult, Ok, Err};
+ghost use Rattle.std.specs.Option.{option_map};
+ghost use Rattle.flat_code.specs.Kinds.{jump_of as jump_of_kind};
+ghost use Rattle.flat_code.specs.Placed.{op_placed};
+ghost use Rattle.machine.specs.Parts.{own_of};
+ghost use Rattle.machine.specs.Bindings.{unsupplied as unsupplied_of};
+ghost use Rattle.machine.specs.Flat.{run_at, most_ops, list_of, most_listed};
+ghost use Rattle.machine.specs.Jumps.{listed};
+ghost use Rattle.machine.specs.Walking.{walk_with, opens_after as opens_after_op, bound_by, bound_from};
+
+use crate::bindings::{bound_for, unsupplied};
+use flat_code::{JUMPS, JumpWord, Op, Operand, Param};
+use frames::{Bindings, Running};
+use image_file::LoadedCode;
+use plc_mem::Memory;
+use status_word::Regs;
+use std::marker::Model;
+
+/// How many ops a statement has at most.
+const MOST_OPS: usize = 64;
+/// How many jumps the list of a JL has at most.
+const MOST_LISTED: u32 = 255;
+
+/// A statement: the data block that it opens first, its last op, and the offset behind it.
+#[derive(Drop)]
+pub(crate) struct Walk<'a> {
+    pub(crate) opens: Option<u16>,
+    pub(crate) last: &'a Op,
+    pub(crate) next: u32,
+}
+
+impl<'a> Model for Walk<'a> {
+    ghost use Rattle.machine.specs.Walking.{Walk as WalkData};
+
+    ghost Value = { WalkData };
+
+    ghost view = { λ w. record { opens = w.opens; last = w.last.now; next = w.next } };
+}
+
+// What stands open after a further op.
+fn opens_after(opens: Option<u16>, operand: &Operand) -> Option<u16>
+    ensures { result ≡ opens_after_op opens operand.now }
+{
+    match opens {
+        Some(number) => Some(number),
+        None => match *operand {
+            Operand::UseDb { number } => Some(number),
+            _ => None,
+        },
+    }
+}
+
+/// The statement that begins at an offset.
+#[tactic(auto, using(crate::proofs::Walks::walk_nowhere, crate::proofs::Walks::walk_stops, crate::proofs::Walks::walk_ends, crate::proofs::Walks::walk_goes_on))]
+pub(crate) fn walk_from<'a>(code: &LoadedCode<'a>, at: u32) -> Option<Walk<'a>>
+    ensures { result ≡ option_map (walk_with None) (run_at most_ops code.now.code at) }
+{
+    let mut opens = None;
+    let mut at = at;
+    for _ in 0..MOST_OPS {
+        match code.op(at) {
+            None => return None,
+            Some((op, next)) => {
+                if op.last {
+                    return Some(Walk {
+                        opens,
+                        last: op,
+                        next,
+                    });
+                }
+                opens = opens_after(opens, &op.operand);
+                at = next;
+            }
+        }
+    }
+    None
+}
+
+// The offset behind the op at an offset.
+fn behind(code: &LoadedCode<'_>, at: u32) -> Option<u32>
+    ensures { result ≡ option_map (λ r. r.1) (op_placed 0 code.now.code at) }
+{
+    match code.op(at) {
+        Some((_, next)) => Some(next),
+        None => None,
+    }
+}
+
+/// Where a JL goes on: at the jump of its list that accumulator 1 names, or behind the list.
+#[tactic(auto, unfolding(crate::specs::Jumps::listed), using(crate::proofs::Walks::picked_end, crate::proofs::Walks::picked_nowhere, crate::proofs::Walks::picked_zero, crate::proofs::Walks::picked_on, crate::proofs::Walks::picked_here))]
+pub(crate) fn pick(code: &LoadedCode<'_>, target: u32, next: u32, r: &Regs) -> u32
+    ensures { result ≡ listed (list_of most_listed code.now.code target next) target r.now }
+{
+    let number = r.a1 % 0x100;
+    let mut left = number;
+    let mut at = next;
+    while left > 0 {
+        if at == target {
+            return target;
+        }
+        match behind(code, at) {
+            None => return target,
+            Some(next) => at = next,
+        }
+        left -= 1;
+    }
+    if number == MOST_LISTED {
+        return target;
+    }
+    if at == target {
+        return target;
+    }
+    match behind(code, at) {
+        Some(_) => at,
+        None => target,
+    }
+}
+
+/// The jump of a kind.
+#[tactic(auto, unfolding(flat_code::specs::Kinds::jump_of))]
+pub(crate) fn jump_of(kind: u8) -> JumpWord
+    ensures { result ≡ jump_of_kind kind }
+{
+    let place = usize::from(kind);
+    JUMPS.get(place).copied().unwrap_or(JumpWord::Ju)
+}
+
+// An op that passes a parameter sets what it stands for.
+fn bind(
+    operand: &Operand,
+    params: &[Param],
+    bindings: &mut Bindings,
+    s: &Running,
+    m: &Memory,
+) -> Result<(), u8>
+    ensures { MatchResult result
+        (λ _. bound_by operand.now params.now bindings.old (own_of s.now) m.now ≡ Ok bindings.new)
+        (λ code. bound_by operand.now params.now bindings.old (own_of s.now) m.now ≡ Err code) }
+{
+    match *operand {
+        Operand::Pass { index, actual } => {
+            let binding = bound_for(params, index, actual, s, m)?;
+            bindings.set(index, binding);
+            Ok(())
+        }
+        _ => Ok(()),
+    }
+}
+
+#[tactic(auto, using(crate::proofs::Walks::bound_stops, crate::proofs::Walks::bound_nowhere, crate::proofs::Walks::bound_ends, crate::proofs::Walks::bound_goes_on, crate::proofs::Walks::bound_fails))]
+/// What the parameters of a block stand for, by the ops of the statement that begins at an offset.
+pub(crate) fn bind_all(
+    code: &LoadedCode<'_>,
+    at: u32,
+    params: &[Param],
+    s: &Running,
+    m: &Memory,
+) -> Result<Bindings, u8>
+    requires { length params.now ≤ 60 }
+    ensures { MatchResult result
+        (λ all. bound_from most_ops code.now.code at params.now (unsupplied_of params.now)
+        (own_of s.now) m.now ≡ Ok all)
+        (λ code_of_error. bound_from most_ops code.now.code at params.now
+        (unsupplied_of params.now) (own_of s.now) m.now ≡ Err code_of_error) }
+{
+    let mut bindings = unsupplied(params);
+    let mut at = at;
+    for _ in 0..MOST_OPS {
+        match code.op(at) {
+            None => return Ok(bindings),
+            Some((op, next)) => {
+                if op.last {
+                    return Ok(bindings);
+                }
+                bind(&op.operand, params, &mut bindings, s, m)?;
+                at = next;
+            }
+        }
+    }
+    Ok(bindings)
+}

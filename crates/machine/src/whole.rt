@@ -1,0 +1,232 @@
+//! What an instruction does that touches no position.
+ghost use Rattle.std.specs.Prelude.{◌≡◌};
+ghost use Rattle.machine.specs.Parts.{parts_of};
+ghost use Rattle.machine.specs.Outcomes.{Meets};
+ghost use Rattle.machine.specs.Does.{does as does_of, does_with as does_with_of, kind_named as kind_named_of, set_of, reset_of, free_of, with_db};
+
+use crate::bit_logic::{assign, check, edge, set_bit};
+use crate::data_blocks::{exchange, is_loaded, load_open_block, open};
+use crate::loads::{load, load_bcd, load_status, transfer, transfer_status};
+use crate::nesting::{nest, unnest};
+use crate::numbers::{add, combine, compare_of, number, shift};
+use crate::pointers::point;
+use crate::timing::{
+    count_down, count_up, free_counter, free_timer, reset_counter, reset_timer, set_counter, start,
+};
+use flat_code::{Operand, Word};
+use frames::Running;
+use plc_mem::Memory;
+use timers_counters::{Counters, Timers};
+
+// The kind of an operand that is a timer (1) or counter (2).
+fn kind_named(operand: &Operand) -> Option<u8>
+    ensures { result ≡ kind_named_of operand.now }
+{
+    match *operand {
+        Operand::Numbered { kind, .. } => Some(kind),
+        Operand::NumberedBy { kind, .. } => Some(kind),
+        _ => None,
+    }
+}
+
+// S of a bit or a counter.
+#[tactic(auto, using(crate::proofs::Lifts::acts_meet, crate::proofs::Lifts::counts_meet))]
+#[inline(never)]
+fn set(
+    operand: &Operand,
+    s: &mut Running,
+    m: &mut Memory,
+    t: &Timers,
+    n: &mut Counters,
+) -> Result<(), u8>
+    ensures { Meets (set_of (kind_named_of operand.now) operand.now
+        (parts_of s.old m.old t.now n.old))
+        s.old s.new m.old m.new t.now t.now n.old n.new result }
+{
+    match kind_named(operand) {
+        None => set_bit(true, operand, s, m),
+        Some(_) => set_counter(operand, s, m, n),
+    }
+}
+
+// R of a bit, a timer or a counter.
+#[tactic(auto, using(crate::proofs::Lifts::acts_meet, crate::proofs::Lifts::times_meet, crate::proofs::Lifts::counts_meet))]
+#[inline(never)]
+fn reset(
+    operand: &Operand,
+    s: &mut Running,
+    m: &mut Memory,
+    t: &mut Timers,
+    n: &mut Counters,
+) -> Result<(), u8>
+    ensures { Meets (reset_of (kind_named_of operand.now) operand.now
+        (parts_of s.old m.old t.old n.old))
+        s.old s.new m.old m.new t.old t.new n.old n.new result }
+{
+    match kind_named(operand) {
+        None => set_bit(false, operand, s, m),
+        Some(1) => reset_timer(operand, s, m, t),
+        Some(_) => reset_counter(operand, s, m, n),
+    }
+}
+
+// FR of a timer or a counter.
+#[tactic(auto, using(crate::proofs::Lifts::times_meet, crate::proofs::Lifts::counts_meet))]
+#[inline(never)]
+fn free(
+    operand: &Operand,
+    s: &mut Running,
+    m: &Memory,
+    t: &mut Timers,
+    n: &mut Counters,
+) -> Result<(), u8>
+    ensures { Meets (free_of (kind_named_of operand.now) operand.now
+        (parts_of s.old m.now t.old n.old))
+        s.old s.new m.now m.now t.old t.new n.old n.new result }
+{
+    match kind_named(operand) {
+        None => Err(0),
+        Some(1) => free_timer(operand, s, m, t),
+        Some(_) => free_counter(operand, s, m, n),
+    }
+}
+
+/// An instruction that touches no position.
+#[tactic(auto, unfolding(crate::specs::Does::does), using(crate::proofs::Lifts::checks_meet, crate::proofs::Lifts::changes_meet, crate::proofs::Lifts::turns_meet, crate::proofs::Lifts::acts_meet, crate::proofs::Lifts::times_meet, crate::proofs::Lifts::counts_meet))]
+pub(crate) fn does(
+    word: Word,
+    operand: &Operand,
+    s: &mut Running,
+    m: &mut Memory,
+    t: &mut Timers,
+    n: &mut Counters,
+) -> Result<(), u8>
+    ensures { Meets (does_of word operand.now (parts_of s.old m.old t.old n.old))
+        s.old s.new m.old m.new t.old t.new n.old n.new result }
+{
+    match word {
+        Word::Nop | Word::Bld => Ok(()),
+        Word::Check(with) => check(with, operand, s, m, t, n),
+        Word::OrBare => {
+            s.regs.or_bare();
+            Ok(())
+        }
+        Word::Nest(with) => nest(with, s),
+        Word::Unnest => unnest(s),
+        Word::Load => load(operand, s, m, t, n),
+        Word::Transfer => transfer(operand, s, m),
+        Word::Assign => assign(operand, s, m),
+        Word::Set => set(operand, s, m, t, n),
+        Word::Reset => reset(operand, s, m, t, n),
+        Word::Edge { rising } => edge(rising, operand, s, m),
+        Word::SetRlo => {
+            s.regs.set();
+            Ok(())
+        }
+        Word::ClearRlo => {
+            s.regs.clr();
+            Ok(())
+        }
+        Word::NegateRlo => {
+            s.regs.not();
+            Ok(())
+        }
+        Word::SaveRlo => {
+            s.regs.save();
+            Ok(())
+        }
+        Word::LoadBcd => load_bcd(operand, s, m, t, n),
+        Word::LoadStatus => {
+            load_status(&mut s.regs);
+            Ok(())
+        }
+        Word::TransferStatus => {
+            transfer_status(&mut s.regs);
+            Ok(())
+        }
+        Word::LoadOpenBlock => load_open_block(operand, s, m),
+        Word::Pointer(what) => point(what, operand, s, m),
+        Word::Number(what) => number(what, &mut s.regs),
+        Word::Add(what) => {
+            add(what, operand, &mut s.regs);
+            Ok(())
+        }
+        Word::CompareInt(how) => {
+            alu::compare_i(&mut s.regs, compare_of(how));
+            Ok(())
+        }
+        Word::CompareDint(how) => {
+            alu::compare_d(&mut s.regs, compare_of(how));
+            Ok(())
+        }
+        Word::Logic(what) => {
+            combine(what, operand, &mut s.regs);
+            Ok(())
+        }
+        Word::Shift(what) => {
+            shift(what, operand, &mut s.regs);
+            Ok(())
+        }
+        Word::Start(how) => start(how, operand, s, m, t),
+        Word::Free => free(operand, s, m, t, n),
+        Word::CountUp => count_up(operand, s, m, n),
+        Word::CountDown => count_down(operand, s, m, n),
+        Word::OpenBlock => open(operand, s, m),
+        Word::Exchange => {
+            exchange(s);
+            Ok(())
+        }
+        Word::NoWord | Word::UseDb | Word::Pass | Word::Jump | Word::Call(_) | Word::End(_) => {
+            Err(0)
+        }
+    }
+}
+
+// The rest of a statement whose data block was opened; it is closed again after an error.
+fn does_opened(
+    number: u16,
+    word: Word,
+    operand: &Operand,
+    s: &mut Running,
+    m: &mut Memory,
+    t: &mut Timers,
+    n: &mut Counters,
+) -> Result<(), u8>
+    ensures { Meets (does_of word operand.now (with_db number (parts_of s.old m.old t.old n.old)))
+        s.old s.new m.old m.new t.old t.new n.old n.new result }
+{
+    let before = s.frame.db;
+    s.frame.db = Some(number);
+    match does(word, operand, s, m, t, n) {
+        Ok(()) => Ok(()),
+        Err(code) => {
+            s.frame.db = before;
+            Err(code)
+        }
+    }
+}
+
+/// An instruction that touches no position, with the data block that its statement opens.
+#[tactic(auto, unfolding(crate::specs::Does::does_with))]
+pub(crate) fn does_with(
+    opens: Option<u16>,
+    word: Word,
+    operand: &Operand,
+    s: &mut Running,
+    m: &mut Memory,
+    t: &mut Timers,
+    n: &mut Counters,
+) -> Result<(), u8>
+    ensures { Meets (does_with_of opens word operand.now (parts_of s.old m.old t.old n.old))
+        s.old s.new m.old m.new t.old t.new n.old n.new result }
+{
+    match opens {
+        None => does(word, operand, s, m, t, n),
+        Some(number) => {
+            if !is_loaded(number, m) {
+                return Err(0x3A);
+            }
+            does_opened(number, word, operand, s, m, t, n)
+        }
+    }
+}
