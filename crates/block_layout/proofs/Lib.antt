@@ -1,0 +1,5 @@
+pub mod SizeLemmas
+pub mod MemberLemmas
+pub mod ScopeLemmas
+pub mod PlaceLemmas
+pub mod PathLemmas

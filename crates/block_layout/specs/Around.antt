@@ -20,6 +20,11 @@ around level (d ∷ ds) =
     if nat_lt d.level level then record { declaration = d; before = ds } ∷ around d.level ds
     else around level ds
 
+-- those before what follows some declarations
+abbrev pub onto : (before : List Declaration) → List Declaration → List Declaration
+onto before [] = before
+onto before (d ∷ ds) = onto (d ∷ before) ds
+
 -- what the outermost declarations of a list stand in: names that the list has already, and open structures
 pub record Outside : Type 0 where
   pub names : List (List ℕ)

@@ -1,5 +1,5 @@
 -- What a declaration comes to in the layout.
-use Rattle.std.specs.Prelude.{ℕ, ◌*◌, nat_lt, Bool, true, false, ◌&&◌, ◌||◌, not, List, [], ◌∷◌, ◌++◌, map, reverse, get_or, Option, Some, None, if◌then◌else◌}
+use Rattle.std.specs.Prelude.{ℕ, ◌*◌, nat_lt, Bool, true, false, ◌&&◌, ◌||◌, not, List, [], ◌∷◌, ◌++◌, map, get_or, Option, Some, None, if◌then◌else◌}
 use Rattle.std.specs.List.{list_all}
 use Rattle.stl_ast.specs.declared.blocks.Block.{Block}
 use Rattle.stl_ast.specs.declared.blocks.Part.{Part}
@@ -15,7 +15,7 @@ use Rattle.block_layout.specs.declared.cells.Cell.{Cell}
 use Rattle.block_layout.specs.declared.cells.Element.{Element}
 use Rattle.block_layout.specs.declared.cells.Element.TheVariants.{Plain, Structure, DateAndTime, Udt, Unknown}
 use Rattle.block_layout.specs.declared.cells.Preset.{Preset}
-use Rattle.block_layout.specs.Around.{Outside, around, ret_val, of_sections, of_structure}
+use Rattle.block_layout.specs.Around.{onto, Outside, around, ret_val, of_sections, of_structure}
 use Rattle.block_layout.specs.Declarations.{is_unknown_type, has_upside_down, init_fits, times}
 use Rattle.block_layout.specs.Fits.{bits_of}
 use Rattle.block_layout.specs.Rule21.{is_twice}
@@ -94,7 +94,7 @@ abbrev pub section_cells : Types → Outside → (wanted : PartKind → Bool)
 section_cells y o wanted before [] = []
 section_cells y o wanted before (p ∷ ps) =
     (if wanted p.kind then opened (cells_of y o p.kind before p.items) else [])
-    ++ section_cells y o wanted (reverse p.items ++ before) ps
+    ++ section_cells y o wanted (onto before p.items) ps
 
 -- the return value of a function is an output parameter named RET_VAL
 abbrev pub returned_cells : Option Simple → List Cell

@@ -26,7 +26,7 @@ use Rattle.block_layout.specs.Types.{Types}
 -- a block breaks a rule as a whole, at its head: 22, 23, 43, 44 or 50 to 55
 abbrev pub is_broken : Types → List Block → (before : List Block) → Block → Bool
 is_broken y blocks before b =
-    is_block_twice y.symbols before b || has_unknown_head y b || contains_itself y blocks before b
+    is_block_twice y before b || has_unknown_head y b || contains_itself y blocks before b
     || has_wrong_number y.symbols b || has_too_much_local y b || is_too_long y blocks b
     || has_too_many_parameters b || is_one_too_many before b || exceeds_total y blocks before b
     || has_too_many_statements b

@@ -26,7 +26,7 @@ use Rattle.block_layout.specs.Types.{Types}
 unfoldable pub refusals_by : Types → List BlockLayout → List Block → List Refusal
 refusals_by y l blocks =
     rule_21 blocks  -- a name declared twice in one list
-    ++ rule_22 y.symbols blocks  -- a block twice
+    ++ rule_22 y blocks  -- a block twice
     ++ rule_23 y blocks  -- an unknown block or user-defined data type
     ++ rule_41 l blocks  -- an initial value that doesn't fit
     ++ rule_42 y l blocks  -- an array with the upper below the lower bound, or an index outside

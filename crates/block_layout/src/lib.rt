@@ -3,12 +3,18 @@
 
 mod blocks;
 mod cells;
+mod constants;
+
 mod layouts;
 mod members;
+mod sizes;
+mod verdicts;
 mod walks;
 
 pub use blocks::{BlockLayout, Section, Shape};
 pub use cells::{Cell, Element, LARGEST, Preset};
+pub use constants::{bits_of, fits};
 pub use layouts::Layout;
 pub use members::{Member, Scope};
+pub use sizes::plain_bits;
 pub use walks::{Spot, Walk};

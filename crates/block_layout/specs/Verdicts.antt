@@ -1,0 +1,76 @@
+-- What the rules of declarations find of each, gathered on one walk. At each moment the structures around the next
+-- declaration are open, the outermost list first.
+use Rattle.std.specs.Prelude.{◌≡◌, ◌<◌, ◌||◌, ℕ, ◌+◌, min, nat_le, nat_lt, Bool, true, false, ◌&&◌, not, is_some, List, [], ◌∷◌, ◌++◌, take, get_or, length, if◌then◌else◌}
+use Rattle.std.specs.List.{list_all}
+use Rattle.stl_ast.specs.declared.blocks.PartKind.{PartKind}
+use Rattle.stl_ast.specs.declared.declarations.Declaration.{Declaration}
+use Rattle.stl_symbols.specs.Folding.{folded}
+use Rattle.stl_symbols.specs.Names.{place_of}
+use Rattle.block_layout.specs.Around.{Outside, around}
+use Rattle.block_layout.specs.Cells.{breaks_rule, is_sound, laid, preset, uses_oversized}
+use Rattle.block_layout.specs.Declarations.{is_unknown_type, has_upside_down, init_fits}
+use Rattle.block_layout.specs.Measures.{deep}
+use Rattle.block_layout.specs.Rule21.{is_twice, names_before}
+use Rattle.block_layout.specs.Rule56.{own_depth, depth_around, is_too_deep}
+use Rattle.block_layout.specs.Types.{Types}
+use Rattle.block_layout.specs.declared.verdicts.Frame.{Frame}
+use Rattle.block_layout.specs.declared.verdicts.Verdict.{Verdict}
+
+-- a declaration by itself breaks rule 23, 41 or 42
+abbrev pub breaks_alone : Types → Declaration → Bool
+breaks_alone y d = is_unknown_type y d.of.of || not (init_fits d) || has_upside_down d
+
+abbrev pub verdict_of : Types → Outside → List Declaration → Declaration → Verdict
+verdict_of y o before d = record {
+  twice = is_twice o before d;
+  deep = is_too_deep y o before d;
+  sound = is_sound y o before d;
+  reach = deep (depth_around y o d.level before + own_depth y d);
+}
+
+abbrev pub verdicts_of : Types → Outside → (before : List Declaration) → List Declaration → List Verdict
+verdicts_of y o before [] = []
+verdicts_of y o before (d ∷ ds) = verdict_of y o before d ∷ verdicts_of y o (d ∷ before) ds
+
+-- the list that a declaration at a level goes on
+abbrev pub frame_of : Types → Outside → List Declaration → (level : ℕ) → Frame
+frame_of y o before level = record {
+  names = names_before o.names level before;
+  depth = deep (depth_around y o level before);
+  sound = list_all (λ h. not (breaks_rule y o h.before h.declaration)) (around level before);
+}
+
+-- what a declaration of a list is, by that list
+abbrev pub is_deep_in : ℕ → ℕ → Bool
+is_deep_in around_it own = nat_le around_it 8 && nat_lt 8 (around_it + own)
+
+abbrev pub breaks_in : Types → Frame → Declaration → Bool
+breaks_in y f d =
+    is_some (place_of (folded d.name) f.names) || breaks_alone y d || is_deep_in f.depth (deep (own_depth y d))
+
+unfoldable pub verdict_in : Types → Frame → Declaration → Verdict
+verdict_in y f d = record {
+  twice = is_some (place_of (folded d.name) f.names);
+  deep = is_deep_in f.depth (deep (own_depth y d));
+  sound = not (breaks_in y f d) && not (uses_oversized y d.of.of) && f.sound;
+  reach = deep (f.depth + deep (own_depth y d));
+}
+
+abbrev pub with_name : Frame → Declaration → Frame
+with_name f d = record f { names = f.names ++ folded d.name ∷ [] }
+
+-- the list inside a declaration
+abbrev pub inside : Types → Frame → Declaration → Frame
+inside y f d = record {
+  names = [];
+  depth = deep (f.depth + deep (own_depth y d));
+  sound = not (breaks_in y f d) && f.sound;
+}
+
+-- the lists that are open behind a declaration
+unfoldable pub entered_by : Types → List Frame → Frame → Declaration → List Frame
+entered_by y open_ f d = take d.level open_ ++ with_name f d ∷ inside y f d ∷ []
+
+-- these lists are open behind some declarations
+pub record AreOpen (y : Types) (o : Outside) (before : List Declaration) (open_ : List Frame) : Type 0 where
+  pub frames : (level : ℕ) (f : Frame) → level < length open_ → get_or open_ level f ≡ frame_of y o before level
