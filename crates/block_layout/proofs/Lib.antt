@@ -3,3 +3,4 @@ pub mod MemberLemmas
 pub mod ScopeLemmas
 pub mod PlaceLemmas
 pub mod PathLemmas
+pub mod DirectoryLemmas

@@ -7,10 +7,9 @@ use Rattle.plc_base.specs.declared.blocks.BlockKind.TheVariants as kind
 use Rattle.stl_ast.specs.declared.blocks.Block.{Block}
 use Rattle.stl_ast.specs.declared.names.BlockName.{BlockName}
 use Rattle.stl_ast.specs.declared.names.BlockName.TheVariants.{Number, Quoted}
-use Rattle.stl_symbols.specs.declared.symbols.Symbol.{Symbol}
-use Rattle.stl_symbols.specs.declared.symbols.Target.{Target}
-use Rattle.stl_symbols.specs.declared.symbols.Target.TheVariants as target
-use Rattle.stl_symbols.specs.Symbols.{target_of}
+use Rattle.stl_symbols.specs.Symbol.{Symbol, symbol_named}
+use Rattle.stl_symbols.specs.declared.targets.Target.{Target}
+use Rattle.stl_symbols.specs.declared.targets.Target.TheVariants as target
 
 abbrev pub is_code : BlockKind → Bool
 is_code kind.Ob = true
@@ -87,7 +86,7 @@ block_of _ = None
 -- the block that a name means: its number, or that of the symbol
 abbrev pub named_block : List Symbol → BlockName → Option BlockId
 named_block symbols (Number id) = Some id
-named_block symbols (Quoted name) = block_of (target_of name symbols)
+named_block symbols (Quoted name) = block_of (option_map (λ s. s.target) (symbol_named name symbols))
 
 -- where it is of one of these kinds
 abbrev pub of_kind : (BlockKind → Bool) → Option BlockId → Option BlockId

@@ -1,4 +1,5 @@
 pub mod Blocks
+pub mod Numbered
 pub mod Types
 pub mod Fits
 pub mod Around

@@ -5,7 +5,7 @@ use Rattle.std.specs.Prelude.{ℕ, zero, suc, ◌+◌, min, max, List, [], ◌�
 use Rattle.stl_ast.specs.declared.blocks.Block.{Block}
 use Rattle.stl_ast.specs.declared.declarations.Declaration.{Declaration}
 use Rattle.stl_ast.specs.declared.blocks.PartKind.TheVariants as part
-use Rattle.stl_symbols.specs.declared.symbols.Symbol.{Symbol}
+use Rattle.stl_symbols.specs.Symbol.{Symbol}
 use Rattle.block_layout.specs.Around.{Outside, of_structure}
 use Rattle.block_layout.specs.Blocks.{ids_of, is_data_type}
 use Rattle.block_layout.specs.Cells.{cells_of}

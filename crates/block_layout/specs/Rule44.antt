@@ -4,7 +4,7 @@ use Rattle.std.specs.Prelude.{Bool, false, not, List, Option, Some, None}
 use Rattle.plc_base.specs.declared.blocks.BlockId.{BlockId}
 use Rattle.plc_base.specs.declared.refusals.Refusal.{Refusal}
 use Rattle.stl_ast.specs.declared.blocks.Block.{Block}
-use Rattle.stl_symbols.specs.declared.symbols.Symbol.{Symbol}
+use Rattle.stl_symbols.specs.Symbol.{Symbol}
 use Rattle.block_layout.specs.Blocks.{id_of, is_block_number}
 use Rattle.block_layout.specs.Heads.{on_heads}
 

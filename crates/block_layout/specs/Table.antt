@@ -3,7 +3,7 @@ use Rattle.std.specs.Prelude.{List, ◌++◌}
 use Rattle.plc_base.specs.declared.refusals.Refusal.{Refusal}
 use Rattle.stl_ast.specs.declared.blocks.Block.{Block}
 use Rattle.stl_ast.specs.declared.blocks.Tree.{Tree}
-use Rattle.stl_symbols.specs.declared.symbols.Symbol.{Symbol}
+use Rattle.stl_symbols.specs.Symbol.{Symbol}
 use Rattle.block_layout.specs.declared.blocks.BlockLayout.{BlockLayout}
 use Rattle.block_layout.specs.Layouts.{layouts_of}
 use Rattle.block_layout.specs.Measures.{types_of}

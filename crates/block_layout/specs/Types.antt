@@ -2,7 +2,7 @@
 use Rattle.std.specs.Prelude.{ℕ, List, Option}
 use Rattle.plc_base.specs.declared.blocks.BlockId.{BlockId}
 use Rattle.stl_ast.specs.declared.names.BlockName.{BlockName}
-use Rattle.stl_symbols.specs.declared.symbols.Symbol.{Symbol}
+use Rattle.stl_symbols.specs.Symbol.{Symbol}
 use Rattle.block_layout.specs.Blocks.{found_block, is_data_type}
 
 -- the symbols, the blocks by kind and number, and for each block, as a user-defined data type, how deep its types are

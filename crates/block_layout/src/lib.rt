@@ -4,10 +4,14 @@
 mod blocks;
 mod cells;
 mod constants;
+mod declarations;
+mod directory;
 
 mod layouts;
 mod members;
+mod names;
 mod sizes;
+mod types;
 mod verdicts;
 mod walks;
 
