@@ -3,4 +3,5 @@ pub mod MemberLemmas
 pub mod ScopeLemmas
 pub mod PlaceLemmas
 pub mod PathLemmas
+pub mod VerdictLemmas
 pub mod DirectoryLemmas

@@ -1,13 +1,13 @@
 -- Rule 56: types nested deeper than 8. Each open STRUCT and ARRAY counts, that of a data block or of a TYPE block too,
 -- and a user-defined data type as deep as its structure; the line is that of the declaration that opens the ninth.
-use Rattle.std.specs.Prelude.{ℕ, ◌+◌, nat_le, nat_lt, Bool, ◌&&◌, List, length, get_or, sum_by, Option, Some, None}
+use Rattle.std.specs.Prelude.{ℕ, ◌+◌, nat_le, nat_lt, Bool, ◌&&◌, List, [], ◌∷◌, length, get_or, Option, Some, None}
 use Rattle.plc_base.specs.declared.refusals.Refusal.{Refusal}
 use Rattle.stl_ast.specs.declared.blocks.Block.{Block}
 use Rattle.stl_ast.specs.declared.declarations.Declaration.{Declaration}
 use Rattle.stl_ast.specs.declared.declarations.ElementType.{ElementType}
 use Rattle.stl_ast.specs.declared.declarations.ElementType.TheVariants as element
 use Rattle.stl_symbols.specs.Least.{broken_if}
-use Rattle.block_layout.specs.Around.{Outside, around, in_blocks}
+use Rattle.block_layout.specs.Around.{Holder, Outside, around, in_blocks}
 use Rattle.block_layout.specs.Types.{Types, udt_of}
 
 -- how deep a user-defined data type is; one that the source hasn't counts 0
@@ -25,9 +25,12 @@ abbrev pub own_depth : Types → Declaration → ℕ
 own_depth y d = length d.of.arrays + element_depth y d.of.of
 
 -- and those that are open around it
+abbrev pub opened_by : Types → List Holder → ℕ
+opened_by y [] = 0
+opened_by y (h ∷ hs) = own_depth y h.declaration + opened_by y hs
+
 abbrev pub depth_around : Types → Outside → ℕ → List Declaration → ℕ
-depth_around y o level before =
-    o.depth + sum_by (λ h. own_depth y h.declaration) (around level before)
+depth_around y o level before = o.depth + opened_by y (around level before)
 
 abbrev pub is_too_deep : Types → Outside → List Declaration → Declaration → Bool
 is_too_deep y o before d =

@@ -6,7 +6,7 @@ use Rattle.stl_ast.specs.declared.blocks.PartKind.{PartKind}
 use Rattle.stl_ast.specs.declared.declarations.Declaration.{Declaration}
 use Rattle.stl_symbols.specs.Folding.{folded}
 use Rattle.stl_symbols.specs.Names.{place_of}
-use Rattle.block_layout.specs.Around.{Outside, around}
+use Rattle.block_layout.specs.Around.{Outside, around, onto}
 use Rattle.block_layout.specs.Cells.{breaks_rule, is_sound, laid, preset, uses_oversized}
 use Rattle.block_layout.specs.Declarations.{is_unknown_type, has_upside_down, init_fits}
 use Rattle.block_layout.specs.Measures.{deep}
@@ -24,6 +24,7 @@ abbrev pub verdict_of : Types → Outside → List Declaration → Declaration �
 verdict_of y o before d = record {
   twice = is_twice o before d;
   deep = is_too_deep y o before d;
+  breaks = breaks_rule y o before d;
   sound = is_sound y o before d;
   reach = deep (depth_around y o d.level before + own_depth y d);
 }
@@ -52,6 +53,7 @@ unfoldable pub verdict_in : Types → Frame → Declaration → Verdict
 verdict_in y f d = record {
   twice = is_some (place_of (folded d.name) f.names);
   deep = is_deep_in f.depth (deep (own_depth y d));
+  breaks = breaks_in y f d;
   sound = not (breaks_in y f d) && not (uses_oversized y d.of.of) && f.sound;
   reach = deep (f.depth + deep (own_depth y d));
 }
@@ -74,3 +76,9 @@ entered_by y open_ f d = take d.level open_ ++ with_name f d ∷ inside y f d �
 -- these lists are open behind some declarations
 pub record AreOpen (y : Types) (o : Outside) (before : List Declaration) (open_ : List Frame) : Type 0 where
   pub frames : (level : ℕ) (f : Frame) → level < length open_ → get_or open_ level f ≡ frame_of y o before level
+
+-- the verdicts of declarations stand behind those before them, and the lists behind them are open
+pub record JudgedOnto (y : Types) (o : Outside) (before ds : List Declaration) (old new : List Verdict)
+    (open_ : List Frame) : Type 0 where
+  pub verdicts : new ≡ old ++ verdicts_of y o before ds
+  pub lists : AreOpen y o (onto before ds) open_
