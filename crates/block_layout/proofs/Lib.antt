@@ -4,4 +4,5 @@ pub mod ScopeLemmas
 pub mod PlaceLemmas
 pub mod PathLemmas
 pub mod VerdictLemmas
+pub mod CellLemmas
 pub mod DirectoryLemmas

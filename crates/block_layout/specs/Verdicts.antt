@@ -1,6 +1,6 @@
 -- What the rules of declarations find of each, gathered on one walk. At each moment the structures around the next
 -- declaration are open, the outermost list first.
-use Rattle.std.specs.Prelude.{◌≡◌, ◌<◌, ◌||◌, ℕ, ◌+◌, min, nat_le, nat_lt, Bool, true, false, ◌&&◌, not, is_some, List, [], ◌∷◌, ◌++◌, take, get_or, length, if◌then◌else◌}
+use Rattle.std.specs.Prelude.{◌≡◌, ◌<◌, ◌||◌, ℕ, ◌+◌, min, nat_le, nat_lt, Bool, true, false, ◌&&◌, not, is_some, List, [], ◌∷◌, ◌++◌, take, get_or, length, map, if◌then◌else◌}
 use Rattle.std.specs.List.{list_all}
 use Rattle.stl_ast.specs.declared.blocks.PartKind.{PartKind}
 use Rattle.stl_ast.specs.declared.declarations.Declaration.{Declaration}
@@ -13,6 +13,9 @@ use Rattle.block_layout.specs.Measures.{deep}
 use Rattle.block_layout.specs.Rule21.{is_twice, names_before}
 use Rattle.block_layout.specs.Rule56.{own_depth, depth_around, is_too_deep}
 use Rattle.block_layout.specs.Types.{Types}
+use Rattle.plc_base.specs.declared.refusals.Refusal.{Refusal}
+use Rattle.stl_symbols.specs.Least.{broken_if}
+use Rattle.block_layout.specs.declared.cells.Cell.{Cell}
 use Rattle.block_layout.specs.declared.verdicts.Frame.{Frame}
 use Rattle.block_layout.specs.declared.verdicts.Verdict.{Verdict}
 
@@ -82,3 +85,35 @@ pub record JudgedOnto (y : Types) (o : Outside) (before ds : List Declaration) (
     (open_ : List Frame) : Type 0 where
   pub verdicts : new ≡ old ++ verdicts_of y o before ds
   pub lists : AreOpen y o (onto before ds) open_
+
+-- refusals of declarations by their verdicts
+abbrev pub by_verdicts : (Verdict → Declaration → List Refusal) → List Verdict → List Declaration → List Refusal
+by_verdicts broken [] ds = []
+by_verdicts broken (v ∷ vs) [] = []
+by_verdicts broken (v ∷ vs) (d ∷ ds) = broken v d ++ by_verdicts broken vs ds
+
+abbrev pub twice_by : Verdict → Declaration → List Refusal
+twice_by v d = broken_if v.twice d.line 21
+
+abbrev pub deep_by : Verdict → Declaration → List Refusal
+deep_by v d = broken_if v.deep d.line 56
+
+-- the cell of a declaration that is sound or not, and opens its section or not
+unfoldable pub cell_with : Types → PartKind → (sound opens : Bool) → Declaration → Cell
+cell_with y section sound opens d = record {
+  name = folded d.name;
+  section = section;
+  level = d.level;
+  opens = opens;
+  sound = sound;
+  bounds = d.of.arrays;
+  of = laid y d.of.of;
+  presets = map preset d.init;
+}
+
+-- cells by verdicts; `begun` says that a sound one of the section stands before them
+abbrev pub cells_by : Types → PartKind → (begun : Bool) → List Verdict → List Declaration → List Cell
+cells_by y section begun [] ds = []
+cells_by y section begun (v ∷ vs) [] = []
+cells_by y section begun (v ∷ vs) (d ∷ ds) =
+    cell_with y section v.sound (not begun && v.sound) d ∷ cells_by y section (begun || v.sound) vs ds

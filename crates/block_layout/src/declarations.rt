@@ -108,7 +108,7 @@ pub(crate) fn breaks_alone(types: &Types, declaration: &Declaration) -> bool
         || has_upside_down(declaration)
 }
 
-fn number_at(numbers: &[u64], place: usize) -> u64
+pub(crate) fn number_at(numbers: &[u64], place: usize) -> u64
     ensures { result ≡ get_or numbers.now place 0 }
 {
     if place < numbers.len() {

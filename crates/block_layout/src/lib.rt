@@ -8,6 +8,7 @@ mod declarations;
 mod directory;
 
 mod layouts;
+mod making;
 mod members;
 mod names;
 mod sizes;

@@ -4,18 +4,20 @@ ghost use Rattle.std.specs.Prelude.{
 ghost use Rattle.stl_ast.specs.Outline.{IsOutline};
 ghost use Rattle.stl_ast.specs.declared.declarations.Declaration.{Declaration};
 ghost use Rattle.stl_symbols.specs.Folding.{folded};
+ghost use Rattle.stl_symbols.specs.Least.{least};
 ghost use Rattle.block_layout.specs.Around.{Outside, onto};
 ghost use Rattle.block_layout.specs.declared.verdicts.Frame.{Frame};
 ghost use Rattle.block_layout.specs.Verdicts.{
-    AreOpen, JudgedOnto, breaks_in, entered_by, is_deep_in, verdict_in
+    AreOpen, JudgedOnto, breaks_in, by_verdicts, deep_by, entered_by, is_deep_in, twice_by, verdict_in
 };
 
 use crate::declarations::{breaks_alone, deep, own_depth, uses_oversized};
 use crate::names::folded;
 use crate::types::Types;
+use plc_base::Refusal;
 use std::alloc::{AllocError, Global};
 use stl_ast::Declaration;
-use stl_symbols::Names;
+use stl_symbols::{Names, broken_if, lesser};
 
 /// A list of declarations that is open: the names in it so far, how many structures and arrays are
 /// open around it, at most 9, and whether the declarations around it break no rule.
@@ -97,7 +99,7 @@ fn enter(
 }
 
 /// The verdicts of declarations that stand one behind the other, on the lists that are open.
-fn judge_all(
+pub(crate) fn judge_all(
     alloc: Global,
     types: &Types,
     open_: &mut Vec<Frame>,
@@ -117,4 +119,32 @@ fn judge_all(
         verdicts.push(verdict)?;
     }
     Ok(())
+}
+
+/// The least refusal of declarations by names that stand twice.
+#[tactic(auto, using(crate::proofs::CellLemmas::by_verdicts_next, crate::proofs::CellLemmas::by_verdicts_done))]
+pub(crate) fn least_twice(declarations: &[Declaration], verdicts: &[Verdict]) -> Option<Refusal>
+    requires { length verdicts.now ≡ length declarations.now }
+    ensures { result ≡ least (by_verdicts twice_by verdicts.now declarations.now) }
+{
+    let mut found = None;
+    for i in 0..declarations.len() {
+        let one = broken_if(verdicts[i].twice, declarations[i].line, 21);
+        found = lesser(found, one);
+    }
+    found
+}
+
+/// The least refusal of declarations by types that are nested too deep.
+#[tactic(auto, using(crate::proofs::CellLemmas::by_verdicts_next, crate::proofs::CellLemmas::by_verdicts_done))]
+pub(crate) fn least_deep(declarations: &[Declaration], verdicts: &[Verdict]) -> Option<Refusal>
+    requires { length verdicts.now ≡ length declarations.now }
+    ensures { result ≡ least (by_verdicts deep_by verdicts.now declarations.now) }
+{
+    let mut found = None;
+    for i in 0..declarations.len() {
+        let one = broken_if(verdicts[i].deep, declarations[i].line, 56);
+        found = lesser(found, one);
+    }
+    found
 }
