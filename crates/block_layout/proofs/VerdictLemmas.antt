@@ -174,10 +174,10 @@ judged_next y o ds i d open_ opened vs ws whole v end within is_d there is_opene
       )
     )
 
-pub judged_done : (y : Types) (o : Outside) (before ds : List Declaration) (i : ℕ) (open_ : List Frame) (old vs : List Verdict) → length ds ≤ i →
-    (now : List Declaration) × (AreOpen y o now open_ × (onto now (drop i ds) ≡ onto before ds) × (vs ++ verdicts_of y o now (drop i ds) ≡ old ++ verdicts_of y o before ds)) →
-    JudgedOnto y o before ds old vs open_
-judged_done y o before ds i open_ old vs over (now, (are, to_end, so_far)) =
+pub judged_done : (y : Types) (o : Outside) (before ds : List Declaration) (i : ℕ) (open_ : List Frame) (vs : List Verdict) → length ds ≤ i →
+    (now : List Declaration) × (AreOpen y o now open_ × (onto now (drop i ds) ≡ onto before ds) × (vs ++ verdicts_of y o now (drop i ds) ≡ verdicts_of y o before ds)) →
+    JudgedOnto y o before ds vs open_
+judged_done y o before ds i open_ vs over (now, (are, to_end, so_far)) =
     let none : drop i ds ≡ [] = drop_of_length-le ds over in
     record {
       verdicts = sym (append-nil vs) ∙ ap (λ (l : List Declaration). vs ++ verdicts_of y o now l) (sym none) ∙ so_far;

@@ -49,10 +49,15 @@ section_declarations b = flat_map (λ p. p.items) b.parts
 abbrev pub of_structure : Outside
 of_structure = record { names = []; depth = 1 }
 
--- what breaks a rule of declarations, of all that stand in a list
+-- what breaks a rule of declarations, of all that follow some declarations
+abbrev pub in_rest : (List Declaration → Declaration → List Refusal) → (before : List Declaration)
+    → List Declaration → List Refusal
+in_rest broken before ds = gathered (λ d. false) broken (λ before d. d ∷ before) before ds
+
+-- and of all that stand in a list
 abbrev pub in_list : (List Declaration → Declaration → List Refusal) → List Declaration
     → List Refusal
-in_list broken ds = gathered (λ d. false) broken (λ before d. d ∷ before) [] ds
+in_list broken ds = in_rest broken [] ds
 
 -- and of all declarations of a block
 abbrev pub in_block : (Outside → List Declaration → Declaration → List Refusal) → Block

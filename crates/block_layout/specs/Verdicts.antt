@@ -6,16 +6,19 @@ use Rattle.stl_ast.specs.declared.blocks.PartKind.{PartKind}
 use Rattle.stl_ast.specs.declared.declarations.Declaration.{Declaration}
 use Rattle.stl_symbols.specs.Folding.{folded}
 use Rattle.stl_symbols.specs.Names.{place_of}
-use Rattle.block_layout.specs.Around.{Outside, around, onto}
-use Rattle.block_layout.specs.Cells.{breaks_rule, is_sound, laid, preset, uses_oversized}
+use Rattle.block_layout.specs.Around.{Outside, around, onto, in_rest, in_list, in_block, of_sections, of_structure, section_declarations}
+use Rattle.block_layout.specs.Cells.{cells_of, opened, is_temp, section_cells, returned_cells, components_of, temps_of, breaks_rule, is_sound, laid, preset, uses_oversized}
 use Rattle.block_layout.specs.Declarations.{is_unknown_type, has_upside_down, init_fits}
 use Rattle.block_layout.specs.Measures.{deep}
-use Rattle.block_layout.specs.Rule21.{is_twice, names_before}
-use Rattle.block_layout.specs.Rule56.{own_depth, depth_around, is_too_deep}
+use Rattle.block_layout.specs.Rule21.{broken_21, is_twice, names_before}
+use Rattle.block_layout.specs.Rule56.{broken_56, own_depth, depth_around, is_too_deep}
 use Rattle.block_layout.specs.Types.{Types}
 use Rattle.plc_base.specs.declared.refusals.Refusal.{Refusal}
-use Rattle.stl_symbols.specs.Least.{broken_if}
+use Rattle.stl_symbols.specs.Least.{broken_if, least, lesser}
 use Rattle.block_layout.specs.declared.cells.Cell.{Cell}
+use Rattle.block_layout.specs.declared.sections.Declared.{Declared}
+use Rattle.stl_ast.specs.declared.blocks.Block.{Block}
+use Rattle.stl_ast.specs.declared.blocks.Part.{Part}
 use Rattle.block_layout.specs.declared.verdicts.Frame.{Frame}
 use Rattle.block_layout.specs.declared.verdicts.Verdict.{Verdict}
 
@@ -80,10 +83,10 @@ entered_by y open_ f d = take d.level open_ ++ with_name f d ∷ inside y f d �
 pub record AreOpen (y : Types) (o : Outside) (before : List Declaration) (open_ : List Frame) : Type 0 where
   pub frames : (level : ℕ) (f : Frame) → level < length open_ → get_or open_ level f ≡ frame_of y o before level
 
--- the verdicts of declarations stand behind those before them, and the lists behind them are open
-pub record JudgedOnto (y : Types) (o : Outside) (before ds : List Declaration) (old new : List Verdict)
+-- these are the verdicts of declarations, and the lists behind them are open
+pub record JudgedOnto (y : Types) (o : Outside) (before ds : List Declaration) (vs : List Verdict)
     (open_ : List Frame) : Type 0 where
-  pub verdicts : new ≡ old ++ verdicts_of y o before ds
+  pub verdicts : vs ≡ verdicts_of y o before ds
   pub lists : AreOpen y o (onto before ds) open_
 
 -- refusals of declarations by their verdicts
@@ -117,3 +120,29 @@ cells_by y section begun [] ds = []
 cells_by y section begun (v ∷ vs) [] = []
 cells_by y section begun (v ∷ vs) (d ∷ ds) =
     cell_with y section v.sound (not begun && v.sound) d ∷ cells_by y section (begun || v.sound) vs ds
+
+-- a section comes to cells, and to the least refusals by rules 21 and 56, behind those before it
+pub record SectionAdded (y : Types) (o : Outside) (before : List Declaration) (p : Part) (old new : Declared)
+    (open_ : List Frame) : Type 0 where
+  pub lists : AreOpen y o (onto before p.items) open_
+  pub components : new.components.items ≡ old.components.items
+      ++ (if is_temp p.kind then [] else opened (cells_of y o p.kind before p.items))
+  pub temps : new.temps.items ≡ old.temps.items
+      ++ (if is_temp p.kind then opened (cells_of y o p.kind before p.items) else [])
+  pub twice : new.twice ≡ lesser old.twice (least (in_rest (broken_21 o) before p.items))
+  pub deep : new.deep ≡ lesser old.deep (least (in_rest (broken_56 y o) before p.items))
+
+-- what the sections of a block come to
+pub record AreSections (y : Types) (b : Block) (made : Declared) : Type 0 where
+  pub components : made.components.items ≡ returned_cells b.result
+      ++ section_cells y (of_sections b) (λ k. not (is_temp k)) [] b.parts
+  pub temps : made.temps.items ≡ temps_of y b
+  pub twice : made.twice ≡ least (in_list (broken_21 (of_sections b)) (section_declarations b))
+  pub deep : made.deep ≡ least (in_list (broken_56 y (of_sections b)) (section_declarations b))
+
+-- what the declarations of a block come to
+pub record AreDeclared (y : Types) (b : Block) (made : Declared) : Type 0 where
+  pub components : made.components.items ≡ components_of y b
+  pub temps : made.temps.items ≡ temps_of y b
+  pub twice : made.twice ≡ least (in_block broken_21 b)
+  pub deep : made.deep ≡ least (in_block (broken_56 y) b)

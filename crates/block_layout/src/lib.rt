@@ -11,6 +11,7 @@ mod layouts;
 mod making;
 mod members;
 mod names;
+mod sections;
 mod sizes;
 mod types;
 mod verdicts;

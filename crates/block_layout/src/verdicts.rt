@@ -104,21 +104,21 @@ pub(crate) fn judge_all(
     types: &Types,
     open_: &mut Vec<Frame>,
     declarations: &[Declaration],
-    verdicts: &mut Vec<Verdict>,
-) -> Result<(), AllocError>
+) -> Result<Vec<Verdict>, AllocError>
     requires outline { IsOutline 0 declarations.now }
     requires open { 0 < length open_.old.items }
     ensures open { IfOk result (λ _. 0 < length open_.new.items) }
-    ensures verdicts { IfOk result (λ _. (o : Outside) (before : List Declaration)
+    ensures count { IfOk result (λ v. length v.items ≡ length declarations.now) }
+    ensures verdicts { IfOk result (λ v. (o : Outside) (before : List Declaration)
         → AreOpen types.now o before open_.old.items
-        → JudgedOnto types.now o before declarations.now
-            verdicts.old.items verdicts.new.items open_.new.items) }
+        → JudgedOnto types.now o before declarations.now v.items open_.new.items) }
 {
+    let mut verdicts = Vec::with_capacity(alloc, declarations.len())?;
     for declaration in declarations {
         let verdict = enter(alloc, types, open_, declaration)?;
         verdicts.push(verdict)?;
     }
-    Ok(())
+    Ok(verdicts)
 }
 
 /// The least refusal of declarations by names that stand twice.
