@@ -1,5 +1,10 @@
+pub mod Address
+pub mod Fields
 pub mod Folding
 pub mod Gathered
 pub mod Least
+pub mod Line
 pub mod Names
 pub mod Numbers
+pub mod Symbol
+pub mod Symbols

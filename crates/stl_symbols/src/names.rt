@@ -1,4 +1,4 @@
-ghost use Rattle.std.specs.Prelude.{◌≡◌, ℕ, List, [], ◌∷◌, ◌++◌, IfOk};
+ghost use Rattle.std.specs.Prelude.{◌≡◌, ℕ, List, [], ◌∷◌, ◌++◌, OnOk, OnErr};
 ghost use Rattle.stl_symbols.specs.Names.{place_of};
 
 use std::alloc::{AllocError, Global};
@@ -53,7 +53,8 @@ impl Names {
     ///
     /// Want of memory; the names are then as before.
     pub fn add(&mut self, alloc: Global, name: &[u8]) -> Result<(), AllocError>
-        ensures ok { IfOk result (λ _. self.new ≡ self.old ++ name.now ∷ []) }
+        ensures ok { OnOk result (self.new ≡ self.old ++ name.now ∷ []) }
+        ensures err { OnErr result (self.new ≡ self.old) }
     {
         let own = name.to_vec(alloc)?;
         if self.places.contains_key(name) {

@@ -1,4 +1,4 @@
-ghost use Rattle.std.specs.Prelude.{◌≡◌, ℕ, List, [], ◌∷◌, ◌++◌, IfOk};
+ghost use Rattle.std.specs.Prelude.{◌≡◌, ℕ, List, [], ◌∷◌, ◌++◌, OnOk, OnErr};
 ghost use Rattle.stl_symbols.specs.Numbers.{number_place};
 
 use std::alloc::{AllocError, Global};
@@ -51,7 +51,8 @@ impl Numbers {
     ///
     /// Want of memory; the numbers are then as before.
     pub fn add(&mut self, number: u16) -> Result<(), AllocError>
-        ensures ok { IfOk result (λ _. self.new ≡ self.old ++ number ∷ []) }
+        ensures ok { OnOk result (self.new ≡ self.old ++ number ∷ []) }
+        ensures err { OnErr result (self.new ≡ self.old) }
     {
         if self.places.contains_key(&number) {
             self.list.push(number)?;

@@ -1,0 +1,114 @@
+-- The address of a symbol: letters and a number, and where it is a bit's, a point and the number of the
+-- bit behind it.
+use Rattle.std.specs.Prelude.{ℕ, Bool, true, not, ◌==◌, List, [], ◌∷◌, take, drop, find, codes, bytes_eq, Option, None}
+use Rattle.std.specs.Char.{is_ascii_digit}
+use Rattle.std.specs.List.{list_any, prefix_len}
+use Rattle.std.specs.Option.{option_and_then, option_map}
+use Rattle.plc_base.specs.Decimal.{decimal_up_to}
+use Rattle.plc_base.specs.declared.blocks.BlockKind.TheVariants.{Ob, Fc, Fb, Db, Sfc, Udt}
+use Rattle.plc_base.specs.declared.places.Area.{Area}
+use Rattle.plc_base.specs.declared.places.Area.TheVariants as area
+use Rattle.plc_base.specs.declared.places.Width.{Width}
+use Rattle.plc_base.specs.declared.places.Width.TheVariants.{Bit, Byte, Word, Dword}
+use Rattle.stl_symbols.specs.declared.addresses.Letters.{Letters}
+use Rattle.stl_symbols.specs.declared.addresses.Letters.TheVariants as letters
+use Rattle.stl_symbols.specs.declared.addresses.Address.{Address}
+use Rattle.stl_symbols.specs.declared.addresses.Address.TheVariants.{Names, NoSymbol}
+use Rattle.stl_symbols.specs.declared.targets.Target.TheVariants.{Variable, Timer, Counter, Block}
+
+-- the letters of addresses. A variable table, a system function block and a system data block give no
+-- symbol
+unfoldable pub address_letters : List (List ℕ × Letters)
+address_letters =
+    (codes "I", letters.Variable area.I Bit)
+    ∷ (codes "IB", letters.Variable area.I Byte)
+    ∷ (codes "IW", letters.Variable area.I Word)
+    ∷ (codes "ID", letters.Variable area.I Dword)
+    ∷ (codes "Q", letters.Variable area.Q Bit)
+    ∷ (codes "QB", letters.Variable area.Q Byte)
+    ∷ (codes "QW", letters.Variable area.Q Word)
+    ∷ (codes "QD", letters.Variable area.Q Dword)
+    ∷ (codes "M", letters.Variable area.M Bit)
+    ∷ (codes "MB", letters.Variable area.M Byte)
+    ∷ (codes "MW", letters.Variable area.M Word)
+    ∷ (codes "MD", letters.Variable area.M Dword)
+    ∷ (codes "PIB", letters.Variable area.P Byte)
+    ∷ (codes "PIW", letters.Variable area.P Word)
+    ∷ (codes "PID", letters.Variable area.P Dword)
+    ∷ (codes "PQB", letters.Variable area.P Byte)
+    ∷ (codes "PQW", letters.Variable area.P Word)
+    ∷ (codes "PQD", letters.Variable area.P Dword)
+    ∷ (codes "T", letters.Timer)
+    ∷ (codes "C", letters.Counter)
+    ∷ (codes "OB", letters.Block Ob)
+    ∷ (codes "FB", letters.Block Fb)
+    ∷ (codes "FC", letters.Block Fc)
+    ∷ (codes "SFC", letters.Block Sfc)
+    ∷ (codes "DB", letters.Block Db)
+    ∷ (codes "UDT", letters.Block Udt)
+    ∷ (codes "VAT", letters.NoSymbol)
+    ∷ (codes "SFB", letters.NoSymbol)
+    ∷ (codes "SDB", letters.NoSymbol)
+    ∷ []
+
+-- what stands beside the first text of a table that is this word
+unfoldable pub look_up : {X : Type 0} → List (List ℕ × X) → List ℕ → Option X
+look_up table word = option_map (λ e. e.1) (find (λ e. bytes_eq word e.0) table)
+
+-- the number of an address, 0 to 65,535
+abbrev pub number_of : List ℕ → Option ℕ
+number_of text = decimal_up_to 65535 text
+
+-- a variable of an area, not of a data block
+abbrev pub variable : Area → Width → (byte bit : ℕ) → Address
+variable area width byte bit =
+    Names (Variable (record { area = area; number = 0; byte = byte; bit = bit }) width)
+
+-- the number of a bit, 0 to 7, behind a point
+abbrev pub bit_behind : List ℕ → Option ℕ
+bit_behind [] = None
+bit_behind (point ∷ digits) = decimal_up_to 7 digits
+
+-- a bit: the number of its byte, a point, and its own
+unfoldable pub bit_address : Area → List ℕ → Option Address
+bit_address area text =
+    let point = prefix_len (λ b. not (b == 46)) text in
+    option_and_then
+    (λ byte. option_map (λ bit. variable area Bit byte bit) (bit_behind (drop point text)))
+    (number_of (take point text))
+
+-- the address of letters and what stands behind them
+abbrev pub numbered : Letters → List ℕ → Option Address
+numbered (letters.Variable area Bit) text = bit_address area text
+numbered (letters.Variable area width) text = option_map (λ n. variable area width n 0) (number_of text)
+numbered letters.Timer text = option_map (λ n. Names (Timer n)) (number_of text)
+numbered letters.Counter text = option_map (λ n. Names (Counter n)) (number_of text)
+numbered (letters.Block kind) text =
+    option_map (λ n. Names (Block (record { kind = kind; number = n }))) (number_of text)
+numbered letters.NoSymbol text = option_map (λ n. NoSymbol) (number_of text)
+
+-- the address that a text without blanks is
+unfoldable pub address_of : List ℕ → Option Address
+address_of text =
+    let digits = prefix_len (λ b. not (is_ascii_digit b)) text in
+    option_and_then (λ l. numbered l (drop digits text)) (look_up address_letters (take digits text))
+
+-- the types of a variable, by its width
+unfoldable pub types_of : Width → List (List ℕ)
+types_of Bit = codes "BOOL" ∷ []
+types_of Byte = codes "BYTE" ∷ codes "CHAR" ∷ []
+types_of Word = codes "WORD" ∷ codes "INT" ∷ codes "S5TIME" ∷ codes "DATE" ∷ []
+types_of Dword =
+    codes "DWORD" ∷ codes "DINT" ∷ codes "TIME" ∷ codes "REAL" ∷ codes "TIME_OF_DAY" ∷ []
+
+-- whether a text names one of these types
+abbrev pub is_among : List (List ℕ) → List ℕ → Bool
+is_among types kind = list_any (λ t. bytes_eq kind t) types
+
+-- whether an address may have the type of this name; a block's is any text
+unfoldable pub has_type : Address → List ℕ → Bool
+has_type (Names (Variable place width)) kind = is_among (types_of width) kind
+has_type (Names (Timer number)) kind = is_among (codes "TIMER" ∷ []) kind
+has_type (Names (Counter number)) kind = is_among (codes "COUNTER" ∷ []) kind
+has_type (Names (Block id)) kind = true
+has_type NoSymbol kind = true

@@ -1,0 +1,105 @@
+-- A symbols file: each of its lines that isn't empty declares a symbol, or breaks rule 14, 15 or 16.
+use Rattle.std.specs.Prelude.{◌≡◌, ℕ, ◌+◌, ◌-◌, Bool, not, ◌||◌, ◌&&◌, ◌==◌, nat_eq, nat_le, List, [], ◌∷◌, ◌++◌, length, take, filter, Option, Some, None, is_some, Result, Ok, Err, if◌then◌else◌}
+use Rattle.std.specs.List.{suffix_len}
+use Rattle.std.specs.Option.{option_and_then}
+use Rattle.std.specs.Str.Lines.{lines}
+use Rattle.plc_base.specs.declared.refusals.Refusal.{Refusal}
+use Rattle.plc_base.specs.declared.refusals.SourceFault.{SourceFault}
+use Rattle.plc_base.specs.declared.refusals.SourceFault.TheVariants.{Refused, NoMemory}
+use Rattle.stl_symbols.specs.Address.{address_of, has_type}
+use Rattle.stl_symbols.specs.Line.{Columns, columns}
+use Rattle.stl_symbols.specs.Symbol.{Symbol, symbol_named}
+use Rattle.stl_symbols.specs.declared.addresses.Address.{Address}
+use Rattle.stl_symbols.specs.declared.addresses.Address.TheVariants.{Names, NoSymbol}
+
+-- a symbols file has at most so many bytes
+abbrev pub symbols_limit : ℕ
+symbols_limit = 1048576
+
+-- and so many symbols
+abbrev pub most_symbols : ℕ
+most_symbols = 65535
+
+-- blank and tab
+abbrev pub is_blank : ℕ → Bool
+is_blank byte = byte == 32 || byte == 9
+
+-- a field without the blanks at its end
+unfoldable pub without_last_blanks : List ℕ → List ℕ
+without_last_blanks field = take (length field - suffix_len is_blank field) field
+
+-- a field without any blanks
+unfoldable pub without_blanks : List ℕ → List ℕ
+without_blanks field = filter (λ byte. not (is_blank byte)) field
+
+-- a name has one to 24 bytes
+abbrev pub is_name : List ℕ → Bool
+is_name name = nat_le 1 (length name) && nat_le (length name) 24
+
+-- what a line declares: a symbol, or nothing
+abbrev pub declared : List ℕ → Address → Option Symbol
+declared name (Names target) = Some (record { name = name; target = target })
+declared name NoSymbol = None
+
+-- the declaration of three columns, if name, address and type are right
+abbrev pub declaration : (name address kind : List ℕ) → Option (Option Symbol)
+declaration name address kind =
+    if is_name name
+    then option_and_then (λ a. if has_type a kind then Some (declared name a) else None) (address_of address)
+    else None
+
+unfoldable pub declaration_of : Columns → Option (Option Symbol)
+declaration_of line =
+    declaration (without_last_blanks line.name) (without_blanks line.address) (without_last_blanks line.kind)
+
+-- the symbols with one more, or the rule that it breaks: 15 where there are too many, 16 where its name
+-- is there
+unfoldable pub with_symbol : List Symbol → Symbol → Result (List Symbol) ℕ
+with_symbol symbols symbol =
+    if nat_eq (length symbols) most_symbols then Err 15
+    else if is_some (symbol_named symbol.name symbols) then Err 16
+    else Ok (symbols ++ symbol ∷ [])
+
+-- the symbols with what one more line declares, or the rule that it breaks: 15 where the declaration
+-- isn't right
+abbrev pub with_declaration : List Symbol → Option (Option Symbol) → Result (List Symbol) ℕ
+with_declaration symbols None = Err 15
+with_declaration symbols (Some None) = Ok symbols
+with_declaration symbols (Some (Some symbol)) = with_symbol symbols symbol
+
+-- the same, and 14 where the line isn't one record of four fields
+abbrev pub with_columns : List Symbol → Option Columns → Result (List Symbol) ℕ
+with_columns symbols None = Err 14
+with_columns symbols (Some line) = with_declaration symbols (declaration_of line)
+
+-- the same of a line; an empty one declares nothing
+unfoldable pub with_line : List Symbol → List ℕ → Result (List Symbol) ℕ
+with_line symbols [] = Ok symbols
+with_line symbols (byte ∷ line) = with_columns symbols (columns (byte ∷ line))
+
+-- the symbols with those of lines from this number on, or the refusal of the first that breaks a rule
+abbrev pub and_then_lines : (number : ℕ) → (List Symbol → Result (List Symbol) Refusal) → Result (List Symbol) ℕ → Result (List Symbol) Refusal
+and_then_lines number more (Ok symbols) = more symbols
+and_then_lines number more (Err rule) = Err (record { line = number; rule = rule })
+
+unfoldable pub with_lines : (number : ℕ) → List Symbol → List (List ℕ) → Result (List Symbol) Refusal
+with_lines number symbols [] = Ok symbols
+with_lines number symbols (line ∷ more) =
+    and_then_lines number (λ next. with_lines (number + 1) next more) (with_line symbols line)
+
+-- the symbols of a file, or its refusal: the first line that breaks a rule, and the least that it breaks
+unfoldable pub symbols_of : List ℕ → Result (List Symbol) Refusal
+symbols_of bytes = with_lines 1 [] (lines bytes)
+
+-- what a reader answers: the symbols, or the refusal, or that memory is wanting
+abbrev pub Reads : Result (List Symbol) Refusal → Result (List Symbol) SourceFault → Type 0
+Reads found (Ok symbols) = found ≡ Ok symbols
+Reads found (Err (Refused refusal)) = found ≡ Err refusal
+Reads found (Err NoMemory) = Unit
+
+-- what a reader leaves that adds what one line declares: the symbols, or the refusal of this line, or
+-- that memory is wanting
+abbrev pub Adds : (number : ℕ) → Result (List Symbol) ℕ → (left : List Symbol) → Result (Unit {0}) SourceFault → Type 0
+Adds number found left (Ok done) = found ≡ Ok left
+Adds number found left (Err (Refused refusal)) = (found ≡ Err refusal.rule) × (refusal.line ≡ number)
+Adds number found left (Err NoMemory) = Unit

@@ -1,0 +1,394 @@
+ghost use Rattle.std.specs.Prelude.{◌≡◌, ◌≤◌, ◌==◌, length, map, find, not, bytes_eq};
+ghost use Rattle.std.specs.Char.{is_ascii_digit};
+ghost use Rattle.std.specs.List.{list_any, prefix_len};
+ghost use Rattle.std.specs.Option.{option_map};
+ghost use Rattle.stl_symbols.specs.Address.{
+  address_letters,
+  address_of,
+  bit_address,
+  bit_behind,
+  has_type,
+  is_among,
+  look_up,
+  number_of,
+  numbered,
+  types_of,
+  variable,
+};
+
+use crate::targets::Target;
+use plc_base::{Area, BlockId, BlockKind, Place, Width, decimal_up_to};
+
+/// The greatest number of an address.
+const LAST_NUMBER: u32 = 65_535;
+
+/// The greatest number of a bit in its byte.
+const LAST_BIT: u32 = 7;
+
+/// What the letters of an address stand for.
+#[derive(Clone, Copy, Debug, PartialEq, Eq)]
+pub(crate) enum Letters {
+    Variable { area: Area, width: Width },
+    Timer,
+    Counter,
+    Block { kind: BlockKind },
+    NoSymbol,
+}
+
+/// The address of a line: what its symbol names, or that of a variable table, a system function
+/// block or a system data block, which gives no symbol.
+#[derive(Clone, Copy, Debug, PartialEq, Eq)]
+pub(crate) enum Address {
+    Names { target: Target },
+    NoSymbol,
+}
+
+/// The letters of addresses.
+pub static LETTERS: [(&[u8], Letters); 29] = [
+    (
+        b"I",
+        Letters::Variable {
+            area: Area::I,
+            width: Width::Bit,
+        },
+    ),
+    (
+        b"IB",
+        Letters::Variable {
+            area: Area::I,
+            width: Width::Byte,
+        },
+    ),
+    (
+        b"IW",
+        Letters::Variable {
+            area: Area::I,
+            width: Width::Word,
+        },
+    ),
+    (
+        b"ID",
+        Letters::Variable {
+            area: Area::I,
+            width: Width::Dword,
+        },
+    ),
+    (
+        b"Q",
+        Letters::Variable {
+            area: Area::Q,
+            width: Width::Bit,
+        },
+    ),
+    (
+        b"QB",
+        Letters::Variable {
+            area: Area::Q,
+            width: Width::Byte,
+        },
+    ),
+    (
+        b"QW",
+        Letters::Variable {
+            area: Area::Q,
+            width: Width::Word,
+        },
+    ),
+    (
+        b"QD",
+        Letters::Variable {
+            area: Area::Q,
+            width: Width::Dword,
+        },
+    ),
+    (
+        b"M",
+        Letters::Variable {
+            area: Area::M,
+            width: Width::Bit,
+        },
+    ),
+    (
+        b"MB",
+        Letters::Variable {
+            area: Area::M,
+            width: Width::Byte,
+        },
+    ),
+    (
+        b"MW",
+        Letters::Variable {
+            area: Area::M,
+            width: Width::Word,
+        },
+    ),
+    (
+        b"MD",
+        Letters::Variable {
+            area: Area::M,
+            width: Width::Dword,
+        },
+    ),
+    (
+        b"PIB",
+        Letters::Variable {
+            area: Area::P,
+            width: Width::Byte,
+        },
+    ),
+    (
+        b"PIW",
+        Letters::Variable {
+            area: Area::P,
+            width: Width::Word,
+        },
+    ),
+    (
+        b"PID",
+        Letters::Variable {
+            area: Area::P,
+            width: Width::Dword,
+        },
+    ),
+    (
+        b"PQB",
+        Letters::Variable {
+            area: Area::P,
+            width: Width::Byte,
+        },
+    ),
+    (
+        b"PQW",
+        Letters::Variable {
+            area: Area::P,
+            width: Width::Word,
+        },
+    ),
+    (
+        b"PQD",
+        Letters::Variable {
+            area: Area::P,
+            width: Width::Dword,
+        },
+    ),
+    (b"T", Letters::Timer),
+    (b"C", Letters::Counter),
+    (
+        b"OB",
+        Letters::Block {
+            kind: BlockKind::Ob,
+        },
+    ),
+    (
+        b"FB",
+        Letters::Block {
+            kind: BlockKind::Fb,
+        },
+    ),
+    (
+        b"FC",
+        Letters::Block {
+            kind: BlockKind::Fc,
+        },
+    ),
+    (
+        b"SFC",
+        Letters::Block {
+            kind: BlockKind::Sfc,
+        },
+    ),
+    (
+        b"DB",
+        Letters::Block {
+            kind: BlockKind::Db,
+        },
+    ),
+    (
+        b"UDT",
+        Letters::Block {
+            kind: BlockKind::Udt,
+        },
+    ),
+    (b"VAT", Letters::NoSymbol),
+    (b"SFB", Letters::NoSymbol),
+    (b"SDB", Letters::NoSymbol),
+];
+
+/// What stands beside a text in a table.
+fn entry_of(table: &[(&[u8], Letters)], word: &[u8]) -> Option<Letters>
+    ensures { result ≡ option_map (λ e. e.1) (find
+        (λ e. bytes_eq word.now e.0.now) table.now) }
+{
+    table
+        .iter()
+        .find(|entry| word == entry.0)
+        .map(|entry| entry.1)
+}
+
+/// The same, where the table is seen with its texts as bytes.
+fn look_up(table: &[(&[u8], Letters)], word: &[u8]) -> Option<Letters>
+    ensures { result ≡ look_up (map (λ e. (e.0.now, e.1)) table.now) word.now }
+{
+    entry_of(table, word)
+}
+
+/// What the letters of an address stand for.
+#[tactic(auto, unfolding(crate::specs::Address::address_letters))]
+fn letters_of(word: &[u8]) -> Option<Letters>
+    ensures { result ≡ look_up address_letters word.now }
+{
+    look_up(&LETTERS, word)
+}
+
+/// The number of an address.
+#[tactic(auto, using(crate::proofs::AddressLemmas::decimal_within))]
+fn number_of(text: &[u8]) -> Option<u16>
+    ensures { result ≡ number_of text.now }
+{
+    let number = decimal_up_to(text, LAST_NUMBER)?;
+    Some(number as u16)
+}
+
+/// The address of a variable that isn't in a data block.
+fn variable(area: Area, width: Width, byte: u16, bit: u8) -> Address
+    ensures { result ≡ variable area width byte bit }
+{
+    let place = Place {
+        area,
+        number: 0,
+        byte,
+        bit,
+    };
+    Address::Names {
+        target: Target::Variable { place, width },
+    }
+}
+
+/// How many bytes stand before the first point.
+fn point_of(text: &[u8]) -> usize
+    ensures value { result ≡ prefix_len (λ b. not (b == 46)) text.now }
+    ensures within { result ≤ length text.now }
+{
+    text.iter().take_while(|byte| **byte != b'.').count()
+}
+
+/// The number of a bit behind a point.
+#[tactic(auto, using(crate::proofs::AddressLemmas::decimal_within))]
+fn bit_behind(text: &[u8]) -> Option<u8>
+    ensures { result ≡ bit_behind text.now }
+{
+    match text {
+        [] => None,
+        [_point, digits @ ..] => {
+            let bit = decimal_up_to(digits, LAST_BIT)?;
+            Some(bit as u8)
+        }
+    }
+}
+
+/// The address of a bit, by what stands behind the letter of its area.
+#[tactic(auto, unfolding(crate::specs::Address::bit_address))]
+fn bit_address(area: Area, text: &[u8]) -> Option<Address>
+    ensures { result ≡ bit_address area text.now }
+{
+    let (number, behind) = text.split_at(point_of(text));
+    let byte = number_of(number)?;
+    let bit = bit_behind(behind)?;
+    Some(variable(area, Width::Bit, byte, bit))
+}
+
+/// The address of letters and what stands behind them.
+fn numbered(letters: Letters, text: &[u8]) -> Option<Address>
+    ensures { result ≡ numbered letters text.now }
+{
+    let target = match letters {
+        Letters::Variable {
+            area,
+            width: Width::Bit,
+        } => return bit_address(area, text),
+        Letters::Variable { area, width } => return Some(variable(
+            area,
+            width,
+            number_of(text)?,
+            0,
+        )),
+        Letters::Timer => Target::Timer {
+            number: number_of(text)?,
+        },
+        Letters::Counter => Target::Counter {
+            number: number_of(text)?,
+        },
+        Letters::Block { kind } => Target::Block {
+            id: BlockId {
+                kind,
+                number: number_of(text)?,
+            },
+        },
+        Letters::NoSymbol => {
+            number_of(text)?;
+            return Some(Address::NoSymbol);
+        }
+    };
+    Some(Address::Names { target })
+}
+
+/// How many bytes stand before the first digit.
+fn letters_len(text: &[u8]) -> usize
+    ensures value { result ≡ prefix_len (λ b. not (is_ascii_digit b)) text.now }
+    ensures within { result ≤ length text.now }
+{
+    text.iter()
+        .take_while(|byte| !byte.is_ascii_digit())
+        .count()
+}
+
+/// The address that a text without blanks is.
+#[tactic(auto, unfolding(crate::specs::Address::address_of))]
+pub(crate) fn address_of(text: &[u8]) -> Option<Address>
+    ensures { result ≡ address_of text.now }
+{
+    let (letters, number) = text.split_at(letters_len(text));
+    numbered(letters_of(letters)?, number)
+}
+
+/// Whether a text is one of these.
+fn is_among(types: &[&[u8]], kind: &[u8]) -> bool
+    ensures { result ≡ list_any (λ t. bytes_eq kind.now t.now) types.now }
+{
+    types.iter().any(|name| kind == *name)
+}
+
+/// Whether a text names a type of a variable of this width.
+#[tactic(auto, unfolding(crate::specs::Address::types_of))]
+fn is_variable_type(width: Width, kind: &[u8]) -> bool
+    ensures { result ≡ is_among (types_of width) kind.now }
+{
+    match width {
+        Width::Bit => is_among(&[b"BOOL"], kind),
+        Width::Byte => is_among(&[b"BYTE", b"CHAR"], kind),
+        Width::Word => is_among(&[b"WORD", b"INT", b"S5TIME", b"DATE"], kind),
+        Width::Dword => is_among(&[b"DWORD", b"DINT", b"TIME", b"REAL", b"TIME_OF_DAY"], kind),
+    }
+}
+
+/// Whether an address may have the type of this name; a block's is any text.
+#[tactic(auto, unfolding(crate::specs::Address::has_type))]
+pub(crate) fn has_type(address: Address, kind: &[u8]) -> bool
+    ensures { result ≡ has_type address kind.now }
+{
+    match address {
+        Address::Names {
+            target: Target::Variable { width, .. },
+        } => is_variable_type(width, kind),
+        Address::Names {
+            target: Target::Timer { .. },
+        } => is_among(&[b"TIMER"], kind),
+        Address::Names {
+            target: Target::Counter { .. },
+        } => is_among(&[b"COUNTER"], kind),
+        Address::Names {
+            target: Target::Block { .. },
+        } => true,
+        Address::NoSymbol => true,
+    }
+}

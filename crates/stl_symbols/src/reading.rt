@@ -1,0 +1,190 @@
+ghost use Rattle.std.specs.Prelude.{◌≡◌, ◌≤◌, ◌-◌, ℕ, List, length, take, not, filter, IfOk};
+ghost use Rattle.std.specs.List.{suffix_len};
+ghost use Rattle.plc_base.specs.declared.refusals.SourceFault.TheVariants.{Refused};
+ghost use Rattle.stl_symbols.specs.Line.{columns};
+ghost use Rattle.stl_symbols.specs.Symbols.{
+  Adds,
+  Reads,
+  declaration,
+  declaration_of,
+  is_blank,
+  is_name,
+  symbols_limit,
+  symbols_of,
+  with_columns,
+  with_declaration,
+  with_line,
+  with_symbol,
+  without_blanks,
+  without_last_blanks,
+};
+
+use crate::addresses::{Address, address_of, has_type};
+use crate::columns::{Columns, read_columns};
+use crate::lines::first_line;
+use crate::symbols::{LONGEST_NAME, Symbol, Symbols};
+use plc_base::{Refusal, SourceFault};
+use std::alloc::Global;
+
+/// The most bytes of a symbols file.
+pub const SYMBOLS_LIMIT: usize = 1_048_576;
+
+/// The most symbols of a file.
+const MOST_SYMBOLS: usize = 65_535;
+
+/// Why a line isn't read: what breaks it, as the rules for symbols have it.
+const NO_RECORD: u16 = 14;
+
+const NO_DECLARATION: u16 = 15;
+
+const NAME_TWICE: u16 = 16;
+
+fn is_blank(byte: u8) -> bool
+    ensures { result ≡ is_blank byte }
+{
+    byte == b' ' || byte == b'\t'
+}
+
+/// How many blanks a field ends with.
+fn last_blanks(field: &[u8]) -> usize
+    ensures value { result ≡ suffix_len is_blank field.now }
+    ensures within { result ≤ length field.now }
+{
+    field
+        .iter()
+        .rev()
+        .take_while(|byte| is_blank(**byte))
+        .count()
+}
+
+/// A field without the blanks at its end.
+#[tactic(auto, unfolding(crate::specs::Symbols::without_last_blanks))]
+fn without_last_blanks(mut field: Vec<u8>) -> Vec<u8>
+    ensures { result.items ≡ without_last_blanks field.items }
+{
+    let kept = field.len() - last_blanks(field.as_slice());
+    field.truncate(kept);
+    field
+}
+
+/// A field without any blanks.
+#[tactic(auto, unfolding(crate::specs::Symbols::without_blanks))]
+fn without_blanks(mut field: Vec<u8>) -> Vec<u8>
+    ensures { result.items ≡ without_blanks field.items }
+{
+    field.retain(|byte| !is_blank(*byte));
+    field
+}
+
+/// Whether a name has one to 24 bytes.
+fn is_name(name: &[u8]) -> bool
+    ensures { result ≡ is_name name.now }
+{
+    !name.is_empty() && name.len() <= LONGEST_NAME
+}
+
+/// What a line with these columns, cut of their blanks, declares: a symbol, or nothing. `None` where
+/// name, address or type isn't right.
+fn declaration(name: Vec<u8>, address: &[u8], kind: &[u8]) -> Option<Option<Symbol>>
+    ensures { result ≡ declaration name.items address.now kind.now }
+{
+    if !is_name(name.as_slice()) {
+        return None;
+    }
+    let address = address_of(address)?;
+    if !has_type(address, kind) {
+        return None;
+    }
+    match address {
+        Address::Names { target } => Some(Some(Symbol { name, target })),
+        Address::NoSymbol => Some(None),
+    }
+}
+
+/// What a line with these columns declares.
+#[tactic(auto, unfolding(crate::specs::Symbols::declaration_of))]
+fn declaration_of(columns: Columns) -> Option<Option<Symbol>>
+    ensures { result ≡ declaration_of columns }
+{
+    let Columns {
+        name,
+        address,
+        kind,
+    } = columns;
+    let name = without_last_blanks(name);
+    let address = without_blanks(address);
+    let kind = without_last_blanks(kind);
+    declaration(name, address.as_slice(), kind.as_slice())
+}
+
+/// The refusal of a line.
+fn refused(line: u32, rule: u16) -> SourceFault
+    ensures { result ≡ Refused (record { line = line; rule = rule }) }
+{
+    SourceFault::Refused {
+        refusal: Refusal { line, rule },
+    }
+}
+
+/// Adds the symbol of a line.
+#[tactic(auto, unfolding(crate::specs::Symbols::with_symbol))]
+fn add_symbol(
+    symbols: &mut Symbols,
+    alloc: Global,
+    line: u32,
+    symbol: Symbol,
+) -> Result<(), SourceFault>
+    requires { length symbol.name ≤ 24 }
+    ensures { Adds line (with_symbol symbols.old symbol) symbols.new result }
+{
+    if symbols.list().len() == MOST_SYMBOLS {
+        return Err(refused(line, NO_DECLARATION));
+    }
+    if symbols.lookup(symbol.name.as_slice()).is_some() {
+        return Err(refused(line, NAME_TWICE));
+    }
+    symbols.add(alloc, symbol)?;
+    Ok(())
+}
+
+/// Adds what a line declares.
+#[tactic(auto, unfolding(crate::specs::Symbols::with_line), using(crate::proofs::ReadingLemmas::short_name))]
+fn add_line(symbols: &mut Symbols, alloc: Global, line: u32, text: &[u8]) -> Result<(), SourceFault>
+    ensures { Adds line (with_line symbols.old text.now) symbols.new result }
+{
+    if text.is_empty() {
+        return Ok(());
+    }
+    let Some(columns) = read_columns(alloc, text)? else {
+        return Err(refused(line, NO_RECORD));
+    };
+    match declaration_of(columns) {
+        None => Err(refused(line, NO_DECLARATION)),
+        Some(None) => Ok(()),
+        Some(Some(symbol)) => add_symbol(symbols, alloc, line, symbol),
+    }
+}
+
+/// Reads a symbols file of at most `SYMBOLS_LIMIT` bytes: each line by itself as CSV, with the name,
+/// the address and the type of a symbol and a comment.
+///
+/// # Errors
+///
+/// The first line that breaks rule 14, 15 or 16 and the least that it breaks, exactly where there is
+/// such a line; or want of memory.
+#[tactic(auto, unfolding(crate::specs::Symbols::symbols_of), using(crate::proofs::ReadingLemmas::line_added, crate::proofs::ReadingLemmas::line_refused, crate::proofs::ReadingLemmas::no_line))]
+pub fn read_symbols(alloc: Global, bytes: &[u8]) -> Result<Symbols, SourceFault>
+    requires { length bytes.now ≤ symbols_limit }
+    ensures { Reads (symbols_of bytes.now) result }
+{
+    let mut symbols = Symbols::new(alloc);
+    let mut left = bytes;
+    let mut number = 1;
+    while !left.is_empty() {
+        let (line, rest) = first_line(left);
+        add_line(&mut symbols, alloc, number, line)?;
+        number += 1;
+        left = rest;
+    }
+    Ok(symbols)
+}
