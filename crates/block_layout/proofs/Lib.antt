@@ -5,4 +5,5 @@ pub mod PlaceLemmas
 pub mod PathLemmas
 pub mod VerdictLemmas
 pub mod CellLemmas
+pub mod SectionLemmas
 pub mod DirectoryLemmas

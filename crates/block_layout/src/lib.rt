@@ -6,7 +6,6 @@ mod cells;
 mod constants;
 mod declarations;
 mod directory;
-
 mod layouts;
 mod making;
 mod members;
