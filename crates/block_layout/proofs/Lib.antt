@@ -6,4 +6,5 @@ pub mod PathLemmas
 pub mod VerdictLemmas
 pub mod CellLemmas
 pub mod SectionLemmas
+pub mod MeasureLemmas
 pub mod DirectoryLemmas

@@ -1,6 +1,6 @@
 -- What the rules of declarations find of each, gathered on one walk. At each moment the structures around the next
 -- declaration are open, the outermost list first.
-use Rattle.std.specs.Prelude.{◌≡◌, ◌<◌, ◌||◌, ℕ, ◌+◌, min, nat_le, nat_lt, Bool, true, false, ◌&&◌, not, is_some, List, [], ◌∷◌, ◌++◌, take, get_or, length, map, if◌then◌else◌}
+use Rattle.std.specs.Prelude.{◌≡◌, ◌<◌, ◌||◌, ℕ, ◌+◌, min, max, nat_le, nat_lt, Bool, true, false, ◌&&◌, not, is_some, List, [], ◌∷◌, ◌++◌, take, get_or, length, map, if◌then◌else◌}
 use Rattle.std.specs.List.{list_all}
 use Rattle.stl_ast.specs.declared.blocks.PartKind.{PartKind}
 use Rattle.stl_ast.specs.declared.declarations.Declaration.{Declaration}
@@ -146,3 +146,8 @@ pub record AreDeclared (y : Types) (b : Block) (made : Declared) : Type 0 where
   pub temps : made.temps.items ≡ temps_of y b
   pub twice : made.twice ≡ least (in_block broken_21 b)
   pub deep : made.deep ≡ least (in_block (broken_56 y) b)
+
+-- the deepest place of a structure, by the verdicts on its components
+abbrev pub reaches : List Verdict → ℕ
+reaches [] = 1
+reaches (v ∷ vs) = max v.reach (reaches vs)
