@@ -7,4 +7,5 @@ pub mod VerdictLemmas
 pub mod CellLemmas
 pub mod SectionLemmas
 pub mod MeasureLemmas
+pub mod WalkLemmas
 pub mod DirectoryLemmas

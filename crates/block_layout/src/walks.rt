@@ -5,7 +5,7 @@ ghost use Rattle.std.specs.List.{slice_get};
 ghost use Rattle.std.specs.Option.{IfNone, option_copied};
 ghost use Rattle.block_layout.specs.Members.{component};
 ghost use Rattle.block_layout.specs.Paths.{
-    OffsetIsNear, IsSoundAt, cells_at, entered, found_at, goes_on, indexed, indexed_behind, named, named_behind,
+    OffsetIsNear, IsSoundAt, ReachesSound, cells_at, entered, found_at, goes_on, indexed, indexed_behind, named, named_behind,
     named_in, outermost, step_of, walked, walked_from, within
 };
 ghost use Rattle.block_layout.specs.declared.cells.Cell.{Cell};
@@ -242,5 +242,71 @@ fn indexed(layouts: &[BlockLayout], spot: Spot, at: i32) -> Walk
     match layout_at(layouts, spot.block, spot.temporary) {
         None => Walk::Unknown,
         Some(layout) => indexed_in(layout, spot, at),
+    }
+}
+
+/// A step.
+#[tactic(auto, unfolding(crate::specs::Paths::step_of))]
+fn step(layouts: &[BlockLayout], spot: Spot, step: &PathStep) -> Walk
+    requires offset { spot.offset ≤ LARGEST }
+    requires sound { IsSoundAt layouts.now spot }
+    ensures value { result ≡ step_of layouts.now spot step.now }
+    ensures near { OffsetIsNear result }
+{
+    match step {
+        PathStep::Named { name } => named(layouts, spot, name.as_bytes()),
+        PathStep::Index { at } => indexed(layouts, spot, *at),
+    }
+}
+
+/// Where a path leads from a sound component.
+#[tactic(auto, using(crate::proofs::WalkLemmas::step_sound))]
+fn walk_behind(layouts: &[BlockLayout], start: Spot, path: &[PathStep]) -> Walk
+    requires offset { start.offset ≤ LARGEST }
+    requires sound { IsSoundAt layouts.now start }
+    ensures value { result ≡ walked layouts.now start path.now }
+    ensures near { OffsetIsNear result }
+{
+    let mut spot = start;
+    for next in path {
+        match step(layouts, spot, next) {
+            Walk::Reaches { spot: reached } => spot = reached,
+            other => return other,
+        }
+    }
+    Walk::Reaches { spot }
+}
+
+/// Where a path leads from a component that was looked up.
+#[tactic(auto, using(crate::proofs::WalkLemmas::goes_to))]
+fn walk_on(layouts: &[BlockLayout], found: Walk, path: &[PathStep]) -> Walk
+    requires near { OffsetIsNear found }
+    requires sound { ReachesSound layouts.now found }
+    ensures value { result ≡ goes_on found (λ spot. walked layouts.now spot path.now) }
+    ensures near { OffsetIsNear result }
+{
+    match found {
+        Walk::Reaches { spot } => walk_behind(layouts, spot, path),
+        other => other,
+    }
+}
+
+/// Where a path leads in the outermost declarations of a block.
+#[tactic(auto, using(crate::proofs::WalkLemmas::outermost_reaches))]
+pub(crate) fn walk_from(
+    layouts: &[BlockLayout],
+    block: usize,
+    temporary: bool,
+    path: &[PathStep],
+) -> Walk
+    ensures value { result ≡ walked_from layouts.now block temporary path.now }
+    ensures near { OffsetIsNear result }
+{
+    match path {
+        [PathStep::Named { name }, behind @ ..] => {
+            let found = outermost(layouts, block, temporary, 0, name.as_bytes());
+            walk_on(layouts, found, behind)
+        }
+        _ => Walk::Unknown,
     }
 }
