@@ -8,4 +8,5 @@ pub mod CellLemmas
 pub mod SectionLemmas
 pub mod MeasureLemmas
 pub mod WalkLemmas
+pub mod LengthLemmas
 pub mod DirectoryLemmas
