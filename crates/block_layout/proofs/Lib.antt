@@ -9,4 +9,5 @@ pub mod SectionLemmas
 pub mod MeasureLemmas
 pub mod WalkLemmas
 pub mod LengthLemmas
+pub mod CycleLemmas
 pub mod DirectoryLemmas

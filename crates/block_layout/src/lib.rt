@@ -4,6 +4,7 @@
 mod blocks;
 mod cells;
 mod constants;
+mod cycles;
 mod declarations;
 mod directory;
 mod layouts;
