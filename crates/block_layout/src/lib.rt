@@ -1,0 +1,26 @@
+//! Where the declarations of a source lie: sizes, offsets, paths, local data, and the rules on them.
+#![tactic(auto)]
+
+mod blocks;
+mod cells;
+mod constants;
+mod declarations;
+mod directory;
+
+mod layouts;
+mod making;
+mod members;
+mod names;
+mod sections;
+mod sizes;
+mod types;
+mod verdicts;
+mod walks;
+
+pub use blocks::{BlockLayout, Section, Shape};
+pub use cells::{Cell, Element, LARGEST, Preset};
+pub use constants::{bits_of, fits};
+pub use layouts::Layout;
+pub use members::{Member, Scope};
+pub use sizes::plain_bits;
+pub use walks::{Spot, Walk};
