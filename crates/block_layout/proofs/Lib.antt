@@ -6,3 +6,4 @@ pub mod PathLemmas
 pub mod VerdictLemmas
 pub mod CellLemmas
 pub mod DirectoryLemmas
+pub mod HeadLemmas

@@ -6,6 +6,7 @@ mod cells;
 mod constants;
 mod declarations;
 mod directory;
+mod heads;
 
 mod layouts;
 mod making;
