@@ -5,5 +5,6 @@ pub mod PlaceLemmas
 pub mod PathLemmas
 pub mod VerdictLemmas
 pub mod CellLemmas
+pub mod SectionLemmas
 pub mod DirectoryLemmas
 pub mod HeadLemmas

@@ -31,20 +31,20 @@ pub scopes_next : (cells behind : List Cell) (scopes now : List Scope) (i : ℕ)
 scopes_next cells behind scopes now i c one first long is_c within is_behind is_one is_now k d s below sound =
     ⊎_elim
     (λ earlier.
-        let near : k < i = grind (arith, nat_tests) in
-        let inside : k < length scopes = omega arith in
-        let old : get_or now k s ≡ get_or scopes k s = ap (λ (l : List Scope). get_or l k s) is_now ∙ get_or-append scopes (one ∷ []) s k inside in
-        subst (λ (t : Scope). IsScope (get_or cells k d) (drop (k + 1) cells) t) (sym old) (first k d s near sound))
+    let near : k < i = grind (arith, nat_tests) in
+    let inside : k < length scopes = omega arith in
+    let old : get_or now k s ≡ get_or scopes k s = ap (λ (l : List Scope). get_or l k s) is_now ∙ get_or-append scopes (one ∷ []) s k inside in
+    subst (λ (t : Scope). IsScope (get_or cells k d) (drop (k + 1) cells) t) (sym old) (first k d s near sound))
     (λ later.
-        let far : i ≤ k = grind (arith, nat_tests) in
-        let same : i ≡ k = omega arith in
-        let is_cell : c ≡ get_or cells i d = is_c ∙ any_default cells i c d within in
-        let is_scope : one ≡ get_or now i s =
-            sym (ap (λ (l : List Scope). get_or l i s) is_now ∙ ap (λ (n : ℕ). get_or (scopes ++ one ∷ []) n s) (sym long) ∙ get_or-append_seam scopes one [] s) in
-        let sound_here : (get_or cells i d).sound ≡ true = subst (λ (n : ℕ). (get_or cells n d).sound ≡ true) (sym same) sound in
-        let scope : IsScope c behind one = is_one (subst (λ (x : Cell). x.sound ≡ true) (sym is_cell) sound_here) in
-        let at_cell : IsScope (get_or cells i d) behind one = subst (λ (x : Cell). IsScope x behind one) is_cell scope in
-        let at_behind : IsScope (get_or cells i d) (drop (i + 1) cells) one = subst (λ (l : List Cell). IsScope (get_or cells i d) l one) is_behind at_cell in
-        let at_scope : IsScope (get_or cells i d) (drop (i + 1) cells) (get_or now i s) = subst (λ (t : Scope). IsScope (get_or cells i d) (drop (i + 1) cells) t) is_scope at_behind in
-        subst (λ (n : ℕ). IsScope (get_or cells n d) (drop (n + 1) cells) (get_or now n s)) same at_scope)
+    let far : i ≤ k = grind (arith, nat_tests) in
+    let same : i ≡ k = omega arith in
+    let is_cell : c ≡ get_or cells i d = is_c ∙ any_default cells i c d within in
+    let is_scope : one ≡ get_or now i s =
+    sym (ap (λ (l : List Scope). get_or l i s) is_now ∙ ap (λ (n : ℕ). get_or (scopes ++ one ∷ []) n s) (sym long) ∙ get_or-append_seam scopes one [] s) in
+    let sound_here : (get_or cells i d).sound ≡ true = subst (λ (n : ℕ). (get_or cells n d).sound ≡ true) (sym same) sound in
+    let scope : IsScope c behind one = is_one (subst (λ (x : Cell). x.sound ≡ true) (sym is_cell) sound_here) in
+    let at_cell : IsScope (get_or cells i d) behind one = subst (λ (x : Cell). IsScope x behind one) is_cell scope in
+    let at_behind : IsScope (get_or cells i d) (drop (i + 1) cells) one = subst (λ (l : List Cell). IsScope (get_or cells i d) l one) is_behind at_cell in
+    let at_scope : IsScope (get_or cells i d) (drop (i + 1) cells) (get_or now i s) = subst (λ (t : Scope). IsScope (get_or cells i d) (drop (i + 1) cells) t) is_scope at_behind in
+    subst (λ (n : ℕ). IsScope (get_or cells n d) (drop (n + 1) cells) (get_or now n s)) same at_scope)
     (cases_Bool (nat_lt k i))

@@ -74,18 +74,17 @@ two_behind : (open_ : List Frame) (n : ℕ) (here inner : Frame) (level : ℕ) (
 two_behind open_ n here inner level g within below =
     let long : length (take n open_) ≡ n = length-take-le n open_ (omega arith) in
     let longer : length (take n open_ ++ here ∷ []) ≡ n + 1 = length-append (take n open_) (here ∷ []) ∙ ap (λ (k : ℕ). k + 1) long in
-    let whole : length (take n open_ ++ here ∷ inner ∷ []) ≡ n + 2 = length-append (take n open_) (here ∷ inner ∷ []) ∙ ap (λ (k : ℕ). k + 2) long in
-    (
+    let whole : length (take n open_ ++ here ∷ inner ∷ []) ≡ n + 2 = length-append (take n open_) (here ∷ inner ∷ []) ∙ ap (λ (k : ℕ). k + 2) long in (
       (λ low. get_or-append (take n open_) (here ∷ inner ∷ []) g level (let l = long in omega arith) ∙ get_or-take n open_ level g low),
       (
         (λ at. ap (λ (k : ℕ). get_or (take n open_ ++ here ∷ inner ∷ []) k g) (at ∙ sym long) ∙ get_or-append_seam (take n open_) here (inner ∷ []) g),
         (
           (λ at. ap (λ (k : ℕ). get_or (take n open_ ++ here ∷ inner ∷ []) k g) (at ∙ sym longer)
-            ∙ ap (λ (l : List Frame). get_or l (length (take n open_ ++ here ∷ [])) g) (sym (append_assoc (take n open_) (here ∷ []) (inner ∷ [])))
-            ∙ get_or-append_seam (take n open_ ++ here ∷ []) inner [] g),
-          (let w = whole in let b = below in omega arith)
-        )
-      )
+              ∙ ap (λ (l : List Frame). get_or l (length (take n open_ ++ here ∷ [])) g) (sym (append_assoc (take n open_) (here ∷ []) (inner ∷ [])))
+              ∙ get_or-append_seam (take n open_ ++ here ∷ []) inner [] g),
+          (let w = whole in let b = below in omega arith),
+        ),
+      ),
     )
 
 at_level : (y : Types) (o : Outside) (before : List Declaration) (d : Declaration) (open_ : List Frame) → AreOpen y o before open_ → d.level < length open_ → (f : Frame) →
@@ -162,16 +161,15 @@ pub judged_next : (y : Types) (o : Outside) (ds : List Declaration) (i : ℕ) (d
     (now : List Declaration) × (AreOpen y o now opened × (onto now (drop (i + 1) ds) ≡ end) × (ws ++ verdicts_of y o now (drop (i + 1) ds) ≡ whole))
 judged_next y o ds i d open_ opened vs ws whole v end within is_d there is_opened is_v are_ws (now, (are, to_end, so_far)) =
     let split : drop i ds ≡ d ∷ drop (i + 1) ds = drop_more ds i d within ∙ ap (λ (x : Declaration). x ∷ drop (i + 1) ds) (sym is_d) in
-    let is : v ≡ verdict_of y o now d = verdict_here y o now d open_ v are there is_v empty_frame in
-    (
+    let is : v ≡ verdict_of y o now d = verdict_here y o now d open_ v are there is_v empty_frame in (
       d ∷ now,
       (
         open_behind y o now d open_ opened are there is_opened empty_frame,
         sym (ap (λ (l : List Declaration). onto now l) split) ∙ to_end,
         (ap (λ (l : List Verdict). l ++ verdicts_of y o (d ∷ now) (drop (i + 1) ds)) (are_ws ∙ ap (λ (x : Verdict). vs ++ x ∷ []) is)
             ∙ append_assoc vs (verdict_of y o now d ∷ []) (verdicts_of y o (d ∷ now) (drop (i + 1) ds))
-            ∙ ap (λ (l : List Declaration). vs ++ verdicts_of y o now l) (sym split) ∙ so_far)
-      )
+            ∙ ap (λ (l : List Declaration). vs ++ verdicts_of y o now l) (sym split) ∙ so_far),
+      ),
     )
 
 pub judged_done : (y : Types) (o : Outside) (before ds : List Declaration) (i : ℕ) (open_ : List Frame) (vs : List Verdict) → length ds ≤ i →

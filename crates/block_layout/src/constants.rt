@@ -1,8 +1,22 @@
 ghost use Rattle.std.specs.Prelude.{◌≡◌, ◌≤◌, length};
 ghost use Rattle.plc_base.specs.S5Time.{s5time_of};
 ghost use Rattle.block_layout.specs.Fits.{
-    bits_of, fits, fits_binary, fits_characters, fits_decimal, fits_word, is_bool, is_byte, is_dint,
-    is_dword, is_s5time, is_time, is_word, number_from, or_0, twos
+  bits_of,
+  fits,
+  fits_binary,
+  fits_characters,
+  fits_decimal,
+  fits_word,
+  is_bool,
+  is_byte,
+  is_dint,
+  is_dword,
+  is_s5time,
+  is_time,
+  is_word,
+  number_from,
+  or_0,
+  twos,
 };
 
 use plc_base::{s5time_of_ms, unsigned_to_bcd};

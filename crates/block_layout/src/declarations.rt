@@ -3,8 +3,16 @@ ghost use Rattle.std.specs.List.{list_all};
 ghost use Rattle.block_layout.specs.Fits.{fits};
 ghost use Rattle.block_layout.specs.Cells.{is_oversized, uses_oversized};
 ghost use Rattle.block_layout.specs.Declarations.{
-    are_within, fit_or_none, fit_type, has_upside_down, init_fits, is_unknown_type, is_upside_down,
-    room, set_by, times
+  are_within,
+  fit_or_none,
+  fit_type,
+  has_upside_down,
+  init_fits,
+  is_unknown_type,
+  is_upside_down,
+  room,
+  set_by,
+  times,
 };
 ghost use Rattle.block_layout.specs.Measures.{deep};
 ghost use Rattle.block_layout.specs.Rule56.{element_depth, own_depth, udt_depth};
@@ -24,12 +32,7 @@ fn is_upside_down(bounds: &Bounds) -> bool
 fn has_upside_down(declaration: &Declaration) -> bool
     ensures { result ≡ has_upside_down declaration.now }
 {
-    declaration
-        .of
-        .arrays
-        .as_slice()
-        .iter()
-        .any(is_upside_down)
+    declaration.of.arrays.as_slice().iter().any(is_upside_down)
 }
 
 fn is_unknown_type(types: &Types, of: &ElementType) -> bool

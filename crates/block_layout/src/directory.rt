@@ -1,6 +1,11 @@
 ghost use Rattle.std.specs.Prelude.{◌≡◌, List, [], ◌∷◌, ◌++◌, IfOk, map};
 ghost use Rattle.block_layout.specs.Blocks.{
-    block_place, is_block_number, is_ob_number, is_same_kind, known_block, lies_within
+  block_place,
+  is_block_number,
+  is_ob_number,
+  is_same_kind,
+  known_block,
+  lies_within,
 };
 ghost use Rattle.block_layout.specs.Numbered.{number_of, numbered_place, numbers_of};
 

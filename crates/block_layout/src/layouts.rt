@@ -1,5 +1,15 @@
 ghost use Rattle.std.specs.Prelude.{
-    ◌≡◌, ◌≤◌, ◌<◌, ◌^◌, IfOk, IfSome, ◌+◌, length, drop, get_or, true
+  ◌≡◌,
+  ◌≤◌,
+  ◌<◌,
+  ◌^◌,
+  IfOk,
+  IfSome,
+  ◌+◌,
+  length,
+  drop,
+  get_or,
+  true,
 };
 ghost use Rattle.std.specs.List.{slice_get};
 ghost use Rattle.std.specs.Option.{option_copied};

@@ -6,8 +6,8 @@ mod cells;
 mod constants;
 mod declarations;
 mod directory;
-mod heads;
 
+mod heads;
 mod layouts;
 mod making;
 mod members;

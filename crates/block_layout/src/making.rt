@@ -89,7 +89,14 @@ pub(crate) fn add_cells(
     let mut begun = begun;
     for i in 0..declarations.len() {
         let sound = verdicts[i].sound;
-        let one = cell_with(alloc, types, section, sound, !begun && sound, &declarations[i])?;
+        let one = cell_with(
+            alloc,
+            types,
+            section,
+            sound,
+            !begun && sound,
+            &declarations[i],
+        )?;
         cells.push(one)?;
         begun = begun || sound;
     }

@@ -1,5 +1,14 @@
 ghost use Rattle.std.specs.Prelude.{
-    ◌≡◌, IfOk, IfSome, ◌<◌, length, ◌++◌, [], ◌∷◌, nat_eq, if◌then◌else◌
+  ◌≡◌,
+  IfOk,
+  IfSome,
+  ◌<◌,
+  length,
+  ◌++◌,
+  [],
+  ◌∷◌,
+  nat_eq,
+  if◌then◌else◌,
 };
 ghost use Rattle.std.specs.List.{slice_get};
 ghost use Rattle.block_layout.specs.Sizes.{elements_of};

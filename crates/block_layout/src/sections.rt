@@ -1,11 +1,22 @@
 ghost use Rattle.std.specs.Prelude.{◌≡◌, ◌<◌, List, length, [], ◌++◌, IfOk, true, false, if◌then◌else◌};
 ghost use Rattle.stl_ast.specs.declared.declarations.Declaration.{Declaration};
 ghost use Rattle.block_layout.specs.Around.{
-    Outside, of_sections, of_structure, onto, ret_val, returned_names
+  Outside,
+  of_sections,
+  of_structure,
+  onto,
+  ret_val,
+  returned_names,
 };
 ghost use Rattle.block_layout.specs.Cells.{is_temp, returned_cells};
 ghost use Rattle.block_layout.specs.Verdicts.{
-    AreDeclared, AreOpen, AreSections, SectionAdded, cells_by, frame_of
+  AreDeclared,
+  AreOpen,
+  AreSections,
+  SectionAdded,
+  cells_by,
+  frame_of,
+  verdicts_of,
 };
 
 use crate::cells::{Cell, Element};
@@ -44,16 +55,24 @@ fn add_section(
     requires { length verdicts.now ≡ length part.now.items }
     ensures components { IfOk result (λ _. into.new.components.items ≡ into.old.components.items
         ++ (if is_temp part.now.kind then []
-            else cells_by types.now part.now.kind false verdicts.now part.now.items)) }
+        else cells_by types.now part.now.kind false verdicts.now part.now.items)) }
     ensures temps { IfOk result (λ _. into.new.temps.items ≡ into.old.temps.items
         ++ (if is_temp part.now.kind
-            then cells_by types.now part.now.kind false verdicts.now part.now.items else [])) }
+        then cells_by types.now part.now.kind false verdicts.now part.now.items else [])) }
     ensures twice { IfOk result (λ _. into.new.twice ≡ into.old.twice) }
     ensures deep { IfOk result (λ _. into.new.deep ≡ into.old.deep) }
 {
     let declarations = part.items.as_slice();
     if is_temp(part.kind) {
-        add_cells(alloc, types, part.kind, false, declarations, verdicts, &mut into.temps)
+        add_cells(
+            alloc,
+            types,
+            part.kind,
+            false,
+            declarations,
+            verdicts,
+            &mut into.temps,
+        )
     } else {
         add_cells(
             alloc,
@@ -104,4 +123,95 @@ fn first_frame(alloc: Global, returned: Option<Simple>) -> Result<Frame, AllocEr
         depth: 0,
         sound: true,
     })
+}
+
+/// What the sections of a block come to.
+fn sections(alloc: Global, types: &Types, block: &Block) -> Result<Declared, AllocError>
+    ensures { IfOk result (λ made. AreSections types.now block.now made) }
+{
+    let mut open_ = Vec::new(alloc);
+    open_.push(first_frame(alloc, block.result)?)?;
+    let mut made = Declared {
+        components: returned_cells(alloc, block.result)?,
+        temps: Vec::new(alloc),
+        twice: None,
+        deep: None,
+    };
+    for part in block.parts.as_slice() {
+        section(alloc, types, part, &mut open_, &mut made)?;
+    }
+    Ok(made)
+}
+
+/// The cell of a return value.
+fn returned_cells(alloc: Global, returned: Option<Simple>) -> Result<Vec<Cell>, AllocError>
+    ensures { IfOk result (λ cells. cells.items ≡ returned_cells returned) }
+{
+    let mut cells = Vec::new(alloc);
+    if let Some(kind) = returned {
+        cells.push(Cell {
+            name: Name::new(alloc, b"RET_VAL")?,
+            section: PartKind::Output,
+            level: 0,
+            opens: false,
+            sound: true,
+            bounds: Sequence::from_vec(Vec::new(alloc)),
+            of: Element::Plain { kind },
+            presets: Sequence::from_vec(Vec::new(alloc)),
+        })?;
+    }
+    Ok(cells)
+}
+
+/// The list that the structure of a block opens.
+fn structure_frame(alloc: Global) -> Frame
+    ensures names { result.names ≡ [] }
+    ensures depth { result.depth ≡ 1 }
+    ensures sound { result.sound ≡ true }
+{
+    Frame {
+        names: Names::new(alloc),
+        depth: 1,
+        sound: true,
+    }
+}
+
+/// The verdicts on the components of the structure of a block.
+pub(crate) fn structure_verdicts(
+    alloc: Global,
+    types: &Types,
+    block: &Block,
+) -> Result<Vec<Verdict>, AllocError>
+    ensures count { IfOk result (λ v. length v.items ≡ length block.now.components) }
+    ensures verdicts { IfOk result (λ v. v.items
+        ≡ verdicts_of types.now of_structure [] block.now.components) }
+{
+    let mut open_ = Vec::new(alloc);
+    open_.push(structure_frame(alloc))?;
+    judge_all(alloc, types, &mut open_, block.components.as_slice())
+}
+
+/// What the declarations of a block come to.
+pub(crate) fn declarations_of(
+    alloc: Global,
+    types: &Types,
+    block: &Block,
+) -> Result<Declared, AllocError>
+    ensures { IfOk result (λ made. AreDeclared types.now block.now made) }
+{
+    let mut made = sections(alloc, types, block)?;
+    let declarations = block.components.as_slice();
+    let verdicts = structure_verdicts(alloc, types, block)?;
+    add_cells(
+        alloc,
+        types,
+        PartKind::Static,
+        true,
+        declarations,
+        &verdicts,
+        &mut made.components,
+    )?;
+    made.twice = lesser(made.twice, least_twice(declarations, &verdicts));
+    made.deep = lesser(made.deep, least_deep(declarations, &verdicts));
+    Ok(made)
 }

@@ -1,8 +1,18 @@
 ghost use Rattle.std.specs.Prelude.{◌≡◌, ◌≤◌, ◌<◌, ◌^◌, ◌+◌, IfOk, if◌then◌else◌};
 ghost use Rattle.block_layout.specs.Declarations.{count};
 ghost use Rattle.block_layout.specs.Sizes.{
-    alignment, array_bits, capped, element_alignment, element_bits, elements_of, end_of, past,
-    plain_bits, stepped, structure_bits, up
+  alignment,
+  array_bits,
+  capped,
+  element_alignment,
+  element_bits,
+  elements_of,
+  end_of,
+  past,
+  plain_bits,
+  stepped,
+  structure_bits,
+  up,
 };
 
 use crate::cells::{Cell, Element, LARGEST};

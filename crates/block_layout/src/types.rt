@@ -1,7 +1,14 @@
 ghost use Rattle.std.specs.Prelude.{◌≡◌, IfOk};
 ghost use Rattle.block_layout.specs.Blocks.{
-    block_of, found_block, has_structure, id_of, ids_of, is_data_block, is_data_type, named_block,
-    of_kind
+  block_of,
+  found_block,
+  has_structure,
+  id_of,
+  ids_of,
+  is_data_block,
+  is_data_type,
+  named_block,
+  of_kind,
 };
 ghost use Rattle.block_layout.specs.Types.{udt_of};
 
@@ -68,10 +75,10 @@ impl<'a> Model for Types<'a> {
     ghost Value = { Types };
 
     ghost view = { λ y. record {
-        symbols = y.symbols.now;
-        ids = y.directory;
-        depths = y.depths.items;
-        bits = y.bits.items;
+      symbols = y.symbols.now;
+      ids = y.directory;
+      depths = y.depths.items;
+      bits = y.bits.items;
     } };
 }
 

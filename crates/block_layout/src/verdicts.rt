@@ -1,5 +1,15 @@
 ghost use Rattle.std.specs.Prelude.{
-    ◌≡◌, ◌<◌, ◌≤◌, List, length, get_or, [], ◌++◌, IfOk, not, ◌&&◌
+  ◌≡◌,
+  ◌<◌,
+  ◌≤◌,
+  List,
+  length,
+  get_or,
+  [],
+  ◌++◌,
+  IfOk,
+  not,
+  ◌&&◌,
 };
 ghost use Rattle.stl_ast.specs.Outline.{IsOutline};
 ghost use Rattle.stl_ast.specs.declared.declarations.Declaration.{Declaration};
@@ -8,7 +18,15 @@ ghost use Rattle.stl_symbols.specs.Least.{least};
 ghost use Rattle.block_layout.specs.Around.{Outside, onto};
 ghost use Rattle.block_layout.specs.declared.verdicts.Frame.{Frame};
 ghost use Rattle.block_layout.specs.Verdicts.{
-    AreOpen, JudgedOnto, breaks_in, by_verdicts, deep_by, entered_by, is_deep_in, twice_by, verdict_in
+  AreOpen,
+  JudgedOnto,
+  breaks_in,
+  by_verdicts,
+  deep_by,
+  entered_by,
+  is_deep_in,
+  twice_by,
+  verdict_in,
 };
 
 use crate::declarations::{breaks_alone, deep, own_depth, uses_oversized};
@@ -80,7 +98,7 @@ fn enter(
         → v ≡ verdict_in types.now (get_or open_.old.items declaration.now.level f) declaration.now) }
     ensures lists { IfOk result (λ _. (f : Frame) → open_.new.items
         ≡ entered_by types.now open_.old.items
-            (get_or open_.old.items declaration.now.level f) declaration.now) }
+        (get_or open_.old.items declaration.now.level f) declaration.now) }
 {
     let name = folded(alloc, declaration.name.as_bytes())?;
     let level = declaration.level as usize;

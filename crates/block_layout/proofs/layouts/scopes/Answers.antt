@@ -11,10 +11,10 @@ scope_of-requires c = behind_elements c.args.cells.now c.behind.result.now c.arg
 
 pub loop-i-preserved : goal.loop-i-preserved
 loop-i-preserved c = record {
-    count = search rules;
-    first = scopes_next c.args.cells.now c.behind.result.now c.loop-i.scopes.items c.push.new.self.items c.loop-i.i c.index-cells-i.result c.in_ok-one.one c.loop-i.invariant.first c.loop-i.invariant.count
-        c.index-cells-i.is c.loop-i-test.true c.behind.ensures c.in_ok-one.ensures (search rules)
-  }
+  count = search rules;
+  first = scopes_next c.args.cells.now c.behind.result.now c.loop-i.scopes.items c.push.new.self.items c.loop-i.i c.index-cells-i.result c.in_ok-one.one c.loop-i.invariant.first c.loop-i.invariant.count
+      c.index-cells-i.is c.loop-i-test.true c.behind.ensures c.in_ok-one.ensures (search rules);
+}
 
 pub returns-clause-scopes : goal.returns-clause-scopes
 returns-clause-scopes c = λ k d s within sound. let over = c.loop-i-test.false in let below : k < c.loop-i.i = omega arith in c.loop-i.invariant.first k d s below sound

@@ -16,15 +16,15 @@ enter-requires c = fits_open c.args.declarations.now c.loop-declaration.declarat
 pub loop-declaration-preserved : goal.loop-declaration-preserved
 loop-declaration-preserved c = record {
   outline = outline_next c.args.types.now c.args.declarations.now c.loop-declaration.declaration-index c.declaration-item.result c.loop-declaration.open_.items c.enter.new.open_.items
-    c.loop-declaration-test.true c.declaration-item.is c.loop-declaration.invariant.outline c.in_ok-verdict.ensures.lists;
+      c.loop-declaration-test.true c.declaration-item.is c.loop-declaration.invariant.outline c.in_ok-verdict.ensures.lists;
   count = search rules;
   judged = λ o before are. judged_next c.args.types.now o c.args.declarations.now c.loop-declaration.declaration-index c.declaration-item.result c.loop-declaration.open_.items c.enter.new.open_.items
-    c.loop-declaration.verdicts.items c.push.new.self.items _ c.in_ok-verdict.verdict _
-    c.loop-declaration-test.true c.declaration-item.is
-    (fits_open c.args.declarations.now c.loop-declaration.declaration-index c.declaration-item.result c.loop-declaration.open_.items
-    c.loop-declaration-test.true c.declaration-item.is c.loop-declaration.invariant.outline)
-    c.in_ok-verdict.ensures.lists c.in_ok-verdict.ensures.verdict (search rules)
-    (c.loop-declaration.invariant.judged o before are);
+      c.loop-declaration.verdicts.items c.push.new.self.items _ c.in_ok-verdict.verdict _
+      c.loop-declaration-test.true c.declaration-item.is
+      (fits_open c.args.declarations.now c.loop-declaration.declaration-index c.declaration-item.result c.loop-declaration.open_.items
+      c.loop-declaration-test.true c.declaration-item.is c.loop-declaration.invariant.outline)
+      c.in_ok-verdict.ensures.lists c.in_ok-verdict.ensures.verdict (search rules)
+      (c.loop-declaration.invariant.judged o before are);
 }
 
 pub returns-clause-verdicts : goal.returns-clause-verdicts
