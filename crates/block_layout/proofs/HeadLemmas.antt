@@ -1,11 +1,19 @@
 -- Rules that a block breaks as a whole.
-use Rattle.std.proofs.Common.{ℕ, ◌≡◌, List, [], ◌∷◌, ◌++◌, Bool, true, false, refl, sym, ◌∙◌, ap}
-use Rattle.std.specs.List.{flat_map}
+use Rattle.std.proofs.Common.{ℕ, ◌≡◌, ◌<◌, ◌≤◌, ◌+◌, min, List, [], ◌∷◌, ◌++◌, length, drop, get_or, Option, Bool, true, false, refl, sym, ◌∙◌, ap, arith, if◌then◌else◌}
+use Rattle.std.specs.Prelude.{sum_by}
+use Rattle.std.proofs.Math.ListN.{drop_of_length-le}
+use Rattle.std.proofs.lemmas.List.{drop_more}
+use Rattle.std.proofs.lemmas.List.Sums.{sum_by-cons}
+use Rattle.std.specs.List.{count_by, flat_map}
 use Rattle.plc_base.specs.declared.refusals.Refusal.{Refusal}
 use Rattle.stl_ast.specs.declared.blocks.Block.{Block}
+use Rattle.stl_ast.specs.declared.blocks.Part.{Part}
 use Rattle.stl_symbols.specs.Gathered.{gathered}
-use Rattle.stl_symbols.specs.Least.{broken_if, least}
+use Rattle.stl_symbols.specs.Least.{broken_if, least, lesser}
+use Rattle.stl_symbols.proofs.GatheredLemmas.{gathered_done, gathered_next}
+use Rattle.block_layout.specs.Blocks.{is_data_block}
 use Rattle.block_layout.specs.Heads.{on_heads}
+use Rattle.block_layout.specs.Rule53.{data_blocks}
 
 gathered_by_itself : (p : Block → Bool) (rule : ℕ) (before blocks : List Block) →
     gathered (λ b. false) (λ before b. broken_if (p b) b.line rule) (λ before b. b ∷ before) before blocks ≡ flat_map (λ b. broken_if (p b) b.line rule) blocks
@@ -15,3 +23,48 @@ gathered_by_itself p rule before (b ∷ bs) = ap (λ (rs : List Refusal). broken
 -- a rule that asks nothing of the blocks before
 pub by_itself : (p : Block → Bool) (rule : ℕ) (blocks : List Block) → on_heads (λ before b. p b) rule blocks ≡ flat_map (λ b. broken_if (p b) b.line rule) blocks
 by_itself p rule blocks = gathered_by_itself p rule [] blocks
+
+-- a sum that is held at a greatest number
+pub sum_end : (f : Part → ℕ) (ps : List Part) (i sum most : ℕ) → length ps ≤ i → sum ≤ most →
+    min (sum + sum_by f (drop i ps)) most ≡ min (sum_by f ps) most → sum ≡ min (sum_by f ps) most
+sum_end f ps i sum most over held so_far =
+    let none : sum_by f (drop i ps) ≡ 0 = ap (λ (l : List Part). sum_by f l) (drop_of_length-le ps over) in
+    omega (arith, none, held, so_far)
+
+-- a count of what passes a test
+pub count_turn : {X : Type 0} (p : X → Bool) (xs : List X) (i : ℕ) (x : X) (count one whole : ℕ) → i < length xs → x ≡ get_or xs i x → one ≡ (if p x then 1 else 0) →
+    count + count_by p (drop i xs) ≡ whole → (count + one) + count_by p (drop (i + 1) xs) ≡ whole
+count_turn {X = X} p xs i x count one whole within is_x is_one so_far =
+    let split : drop i xs ≡ x ∷ drop (i + 1) xs = drop_more xs i x within ∙ ap (λ (y : X). y ∷ drop (i + 1) xs) (sym is_x) in
+    let all : count_by p (drop i xs) ≡ count_by p (x ∷ drop (i + 1) xs) = ap (λ (l : List X). count_by p l) split in
+    let turn : count_by p (x ∷ drop (i + 1) xs) ≡ (if p x then 1 else 0) + count_by p (drop (i + 1) xs) = sum_by-cons (λ y. if p y then 1 else 0) x (drop (i + 1) xs) in
+    omega (arith, all, turn, is_one, so_far)
+
+pub count_end : {X : Type 0} (p : X → Bool) (xs : List X) (i count whole : ℕ) → length xs ≤ i → count + count_by p (drop i xs) ≡ whole → count ≡ whole
+count_end {X = X} p xs i count whole over so_far =
+    let none : count_by p (drop i xs) ≡ 0 = ap (λ (l : List X). count_by p l) (drop_of_length-le xs over) in
+    omega (arith, none, so_far)
+
+-- how the walk over the blocks goes on
+pub heads_turn : (p : List Block → Block → Bool) (rule : ℕ) (blocks : List Block) (i : ℕ) (b : Block) (found one next whole : Option Refusal) (before : List Block) →
+    i < length blocks → b ≡ get_or blocks i b → one ≡ least (broken_if (p before b) b.line rule) → next ≡ lesser found one →
+    lesser found (least (gathered (λ b. false) (λ before b. broken_if (p before b) b.line rule) (λ before b. b ∷ before) before (drop i blocks))) ≡ whole →
+    lesser next (least (gathered (λ b. false) (λ before b. broken_if (p before b) b.line rule) (λ before b. b ∷ before) (b ∷ before) (drop (i + 1) blocks))) ≡ whole
+heads_turn p rule blocks i b found one next whole before within is_b is_one is_next so_far =
+    gathered_next (λ b. false) (λ before b. broken_if (p before b) b.line rule) (λ before b. b ∷ before) before (b ∷ before) blocks i b found one next whole within is_b refl is_one is_next refl so_far
+
+pub heads_end : (p : List Block → Block → Bool) (rule : ℕ) (blocks : List Block) (i : ℕ) (found whole : Option Refusal) (before : List Block) → length blocks ≤ i →
+    lesser found (least (gathered (λ b. false) (λ before b. broken_if (p before b) b.line rule) (λ before b. b ∷ before) before (drop i blocks))) ≡ whole → found ≡ whole
+heads_end p rule blocks i found whole before over so_far =
+    gathered_done (λ b. false) (λ before b. broken_if (p before b) b.line rule) (λ before b. b ∷ before) before blocks i found whole over so_far
+
+-- one data block more
+pub one_block_more : (b : Block) (before : List Block) (count one : ℕ) → data_blocks before ≡ count → one ≡ (if is_data_block b.kind then 1 else 0) →
+    data_blocks (b ∷ before) ≡ count + one
+one_block_more b before count one is_count is_one =
+    let all : data_blocks (b ∷ before) ≡ (if is_data_block b.kind then 1 else 0) + data_blocks before = sum_by-cons (λ x. if is_data_block x.kind then 1 else 0) b before in
+    omega (arith, all, is_count, is_one)
+
+pub at_most_one : (v : Bool) (one : ℕ) → one ≡ (if v then 1 else 0) → one ≤ 1
+at_most_one true one is = omega (arith, is)
+at_most_one false one is = omega (arith, is)

@@ -8,3 +8,5 @@ pub mod CellLemmas
 pub mod SectionLemmas
 pub mod DirectoryLemmas
 pub mod HeadLemmas
+pub mod AloneLemmas
+pub mod OperandLemmas

@@ -1,4 +1,4 @@
-ghost use Rattle.std.specs.Prelude.{◌≡◌, List, length, ◌^◌, ◌-◌, min, not, sum_by};
+ghost use Rattle.std.specs.Prelude.{◌≡◌, List, length, ◌^◌, ◌-◌, min, not, sum_by, if◌then◌else◌};
 ghost use Rattle.std.specs.List.{count_by};
 ghost use Rattle.stl_ast.specs.Blocks.{is_parameter};
 ghost use Rattle.stl_ast.specs.Statements.{is_empty};
@@ -8,9 +8,13 @@ ghost use Rattle.block_layout.specs.Blocks.{is_data_block};
 ghost use Rattle.block_layout.specs.Rule22.{is_block_twice, is_earlier, rule_22};
 ghost use Rattle.block_layout.specs.Rule44.{has_wrong_number, rule_44};
 ghost use Rattle.block_layout.specs.Rule52.{
-    declared_in, has_too_many_parameters, parameter_count, returned, rule_52
+  declared_in,
+  has_too_many_parameters,
+  parameter_count,
+  returned,
+  rule_52,
 };
-ghost use Rattle.block_layout.specs.Rule53.{rule_53};
+ghost use Rattle.block_layout.specs.Rule53.{data_blocks, is_one_too_many, rule_53};
 ghost use Rattle.block_layout.specs.Rule55.{has_too_many_statements, rule_55};
 
 use crate::directory::is_block_number;
@@ -70,10 +74,10 @@ fn declared_in(part: &Part) -> usize
 }
 
 /// The return value of a function is one parameter.
-fn returned(result: Option<Simple>) -> u64
-    ensures { result ≡ returned result }
+fn returned(of: Option<Simple>) -> u64
+    ensures { result ≡ returned of }
 {
-    match result {
+    match of {
         None => 0,
         Some(_) => 1,
     }
@@ -107,13 +111,28 @@ pub(crate) fn least_too_many_parameters(blocks: &[Block]) -> Option<Refusal>
     })
 }
 
+fn is_empty(code: Mnemonic) -> bool
+    ensures { result ≡ is_empty code }
+{
+    matches!(code, Mnemonic::Empty)
+}
+
+/// An empty statement doesn't count.
+fn counted(statement: &Statement) -> usize
+    ensures { result ≡ (if not (is_empty statement.now.code) then 1 else 0) }
+{
+    if is_empty(statement.code) { 0 } else { 1 }
+}
+
 /// How many statements aren't empty.
 fn statement_count(body: &[Statement]) -> usize
     ensures { result ≡ count_by (λ s. not (is_empty s.code)) body.now }
 {
-    body.iter()
-        .filter(|s| !matches!(s.code, Mnemonic::Empty))
-        .count()
+    let mut count = 0;
+    for statement in body {
+        count += counted(statement);
+    }
+    count
 }
 
 fn has_too_many_statements(block: &Block) -> bool
@@ -171,6 +190,20 @@ fn is_data_block(kind: BlockKind) -> bool
     matches!(kind, BlockKind::Db)
 }
 
+/// Whether a data block is the 257th or a later one, behind so many.
+fn is_one_too_many(data_before: usize, block: &Block) -> bool
+    ensures { (before : List Block) → data_blocks before ≡ data_before
+        → result ≡ is_one_too_many before block.now }
+{
+    is_data_block(block.kind) && data_before >= MOST_DATA_BLOCKS
+}
+
+fn counted_data(block: &Block) -> usize
+    ensures { result ≡ (if is_data_block block.now.kind then 1 else 0) }
+{
+    if is_data_block(block.kind) { 1 } else { 0 }
+}
+
 /// The least refusal by rule 53.
 #[tactic(auto, unfolding(crate::specs::Rule53::rule_53))]
 pub(crate) fn least_data_block_too_many(blocks: &[Block]) -> Option<Refusal>
@@ -179,10 +212,9 @@ pub(crate) fn least_data_block_too_many(blocks: &[Block]) -> Option<Refusal>
     let mut found = None;
     let mut data_blocks = 0;
     for block in blocks {
-        let is_data = is_data_block(block.kind);
-        let is_too_many = is_data && data_blocks >= MOST_DATA_BLOCKS;
+        let is_too_many = is_one_too_many(data_blocks, block);
         found = lesser(found, broken_if(is_too_many, block.line, 53));
-        data_blocks += is_data as usize;
+        data_blocks += counted_data(block);
     }
     found
 }

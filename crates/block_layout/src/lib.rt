@@ -1,12 +1,12 @@
 //! Where the declarations of a source lie: sizes, offsets, paths, local data, and the rules on them.
 #![tactic(auto)]
 
+mod alone;
 mod blocks;
 mod cells;
 mod constants;
 mod declarations;
 mod directory;
-
 mod heads;
 mod layouts;
 mod making;
@@ -15,6 +15,7 @@ mod names;
 mod sections;
 mod sizes;
 mod types;
+mod unknown;
 mod verdicts;
 mod walks;
 

@@ -10,4 +10,4 @@ use Rattle.block_layout.proofs.heads.least_block_twice.Given as goal
 abbrev pub invariant-loop-place : goal.invariant-loop-place
 invariant-loop-place l = (before : List Block) × (length before ≡ l.place)
     × (lesser l.found (least (gathered (λ b. false) (λ before b. broken_if (is_block_twice l.types before b) b.line 22) (λ before b. b ∷ before) before (drop l.place l.blocks)))
-        ≡ least (on_heads (is_block_twice l.types) 22 l.blocks))
+    ≡ least (on_heads (is_block_twice l.types) 22 l.blocks))

@@ -10,4 +10,4 @@ use Rattle.block_layout.proofs.heads.least_data_block_too_many.Given as goal
 abbrev pub invariant-loop-block : goal.invariant-loop-block
 invariant-loop-block l = (before : List Block) × (data_blocks before ≡ l.data_blocks) × (l.data_blocks ≤ l.block-index)
     × (lesser l.found (least (gathered (λ b. false) (λ before b. broken_if (is_one_too_many before b) b.line 53) (λ before b. b ∷ before) before (drop l.block-index l.blocks)))
-        ≡ least (on_heads is_one_too_many 53 l.blocks))
+    ≡ least (on_heads is_one_too_many 53 l.blocks))
