@@ -6,6 +6,8 @@ pub mod PathLemmas
 pub mod VerdictLemmas
 pub mod CellLemmas
 pub mod SectionLemmas
+pub mod MeasureLemmas
+pub mod WalkLemmas
 pub mod DirectoryLemmas
 pub mod HeadLemmas
 pub mod AloneLemmas

@@ -17,7 +17,7 @@ use Rattle.block_layout.specs.declared.walks.Walk.TheVariants as walk
 use Rattle.block_layout.specs.Declarations.{count}
 use Rattle.block_layout.specs.Fits.{bits_of}
 use Rattle.block_layout.specs.Measures.{rounds}
-use Rattle.block_layout.specs.Paths.{cells_at, structure_of, walked_data, elementary_at}
+use Rattle.block_layout.specs.Paths.{folded_path, cells_at, structure_of, walked_data, elementary_at}
 use Rattle.block_layout.specs.Sizes.{plain_bits, up, alignment, array_bits, element_of, stepped, cell_bits}
 
 -- a value of so many bits, so many bits from the start
@@ -83,7 +83,7 @@ setting_write l value _ = []
 
 abbrev pub setting_writes : List BlockLayout → (block : ℕ) → List Setting → List Write
 setting_writes l block settings =
-    flat_map (λ s. setting_write l s.value (walked_data l block s.path)) settings
+    flat_map (λ s. setting_write l s.value (walked_data l block (folded_path s.path))) settings
 
 -- a byte with one bit of another value
 abbrev pub with_bit : (bit value byte : ℕ) → ℕ

@@ -1,5 +1,5 @@
--- Where a path leads.
-use Rattle.std.specs.Prelude.{ℕ, ◌+◌, ◌*◌, ◌-ℤ◌, ◌≤◌, Bool, true, false, ◌||◌, nat_eq, ℤ, int_lt, unsigned_abs, List, [], ◌∷◌, Option, Some, None, is_some, if◌then◌else◌, length, drop}
+-- Where a path leads. Its names are in upper case, as those of cells.
+use Rattle.std.specs.Prelude.{ℕ, ◌+◌, ◌*◌, ◌-ℤ◌, ◌≤◌, ◌≡◌, Bool, true, false, ◌||◌, nat_eq, ℤ, int_lt, unsigned_abs, List, [], ◌∷◌, Option, Some, None, is_some, map, if◌then◌else◌, length, drop}
 use Rattle.std.specs.List.{slice_get}
 use Rattle.std.specs.Option.{option_and_then}
 use Rattle.stl_ast.specs.declared.declarations.Bounds.{Bounds}
@@ -20,6 +20,14 @@ use Rattle.block_layout.specs.declared.walks.Walk.{Walk}
 use Rattle.block_layout.specs.declared.walks.Walk.TheVariants as walk
 use Rattle.block_layout.specs.Members.{component}
 use Rattle.block_layout.specs.Sizes.{capped, array_bits, element_of}
+
+-- the steps of a path of the source, with their names in upper case
+abbrev pub folded_step : PathStep → PathStep
+folded_step (step.Named name) = step.Named (folded name)
+folded_step (step.Index at) = step.Index at
+
+abbrev pub folded_path : List PathStep → List PathStep
+folded_path path = map folded_step path
 
 -- the declarations of a block that a path is in
 abbrev pub cells_in : (temporary : Bool) → Option BlockLayout → List Cell
@@ -55,14 +63,14 @@ unfoldable pub outermost : List BlockLayout → (block : ℕ) → (temporary : B
     → List ℕ → Walk
 outermost l block temporary offset name =
     found_at (cells_at l block temporary) block temporary 0 offset
-    (component 0 0 0 (folded name) (cells_at l block temporary))
+    (component 0 0 0 name (cells_at l block temporary))
 
 -- a name behind a component: of a structure its own components, of a data type those of the block that declares it
 abbrev pub named_in : List BlockLayout → Spot → List ℕ → Cell → Element → Walk
 named_in l spot name c Structure =
     found_at (cells_at l spot.block spot.temporary) spot.block spot.temporary
     (spot.place + 1) spot.offset
-    (component (c.level + 1) 0 0 (folded name)
+    (component (c.level + 1) 0 0 name
     (drop (spot.place + 1) (cells_at l spot.block spot.temporary)))
 named_in l spot name c (Udt block bits) = outermost l block false spot.offset name
 named_in l spot name c _ = walk.Unknown
@@ -151,7 +159,7 @@ walked_data l block path = walked_or_rests l (structure_of l block) path
 -- a name in the sections of a block: of two that are the same the first one is meant, and VAR_TEMP is the last section
 abbrev pub in_sections : List BlockLayout → (block : ℕ) → List ℕ → Walk
 in_sections l block name =
-    if is_some (component 0 0 0 (folded name) (cells_at l block false))
+    if is_some (component 0 0 0 name (cells_at l block false))
     then outermost l block false 0 name
     else outermost l block true 0 name
 
@@ -177,3 +185,12 @@ elementary_at l spot = kind_of spot (slice_get (cells_at l spot.block spot.tempo
 abbrev pub OffsetIsNear : Walk → Type 0
 OffsetIsNear (walk.Reaches spot) = spot.offset ≤ LARGEST
 OffsetIsNear _ = Unit {0}
+
+-- the component at a spot is sound
+abbrev pub IsSoundAt : List BlockLayout → Spot → Type 0
+IsSoundAt l spot = (c : Cell)
+    → slice_get (cells_at l spot.block spot.temporary) spot.place ≡ Some c → c.sound ≡ true
+
+abbrev pub ReachesSound : List BlockLayout → Walk → Type 0
+ReachesSound l (walk.Reaches spot) = IsSoundAt l spot
+ReachesSound l _ = Unit {0}

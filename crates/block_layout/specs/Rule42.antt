@@ -10,12 +10,13 @@ use Rattle.stl_ast.specs.declared.operands.Operand.{Operand}
 use Rattle.stl_ast.specs.declared.operands.Operand.TheVariants as operand
 use Rattle.stl_ast.specs.declared.operands.PathHead.{PathHead}
 use Rattle.stl_ast.specs.declared.operands.PathHead.TheVariants as head
+use Rattle.stl_symbols.specs.Folding.{folded}
 use Rattle.stl_symbols.specs.Least.{broken_if}
 use Rattle.block_layout.specs.Around.{Outside, in_blocks}
 use Rattle.block_layout.specs.Blocks.{found_block, is_data_block}
 use Rattle.block_layout.specs.Declarations.{has_upside_down}
 use Rattle.block_layout.specs.Operands.{Judged, in_body}
-use Rattle.block_layout.specs.Paths.{walked_data, walked_local}
+use Rattle.block_layout.specs.Paths.{folded_path, walked_data, walked_local}
 use Rattle.block_layout.specs.Settings.{on_settings}
 use Rattle.block_layout.specs.Types.{Types}
 use Rattle.block_layout.specs.declared.blocks.BlockLayout.{BlockLayout}
@@ -30,7 +31,7 @@ is_outside walk.Outside = true
 is_outside _ = false
 
 abbrev pub setting_is_outside : List BlockLayout → ℕ → Setting → Bool
-setting_is_outside l block s = is_outside (walked_data l block s.path)
+setting_is_outside l block s = is_outside (walked_data l block (folded_path s.path))
 
 abbrev pub walked_found : List BlockLayout → Option ℕ → List PathStep → Walk
 walked_found l None steps = walk.Rests
@@ -38,9 +39,9 @@ walked_found l (Some block) steps = walked_data l block steps
 
 -- the path of an operand in the body of a block; a symbol leads to no component
 abbrev pub walked_path : Types → List BlockLayout → (block : ℕ) → PathHead → List PathStep → Walk
-walked_path y l block (head.Local name) steps = walked_local l block name steps
+walked_path y l block (head.Local name) steps = walked_local l block (folded name) (folded_path steps)
 walked_path y l block (head.InBlock name) steps =
-    walked_found l (found_block y.symbols y.ids is_data_block name) steps
+    walked_found l (found_block y.symbols y.ids is_data_block name) (folded_path steps)
 walked_path y l block (head.Symbol name) steps = walk.Rests
 
 abbrev pub operand_is_outside : Types → List BlockLayout → ℕ → Operand → Bool

@@ -1,0 +1,114 @@
+ghost use Rattle.std.specs.Prelude.{◌≡◌, ◌≤◌, ◌<◌, ◌^◌, ◌/◌, IfOk, max};
+ghost use Rattle.std.specs.Option.{option_copied};
+ghost use Rattle.stl_ast.specs.Blocks.{is_parameter};
+ghost use Rattle.stl_ast.specs.Statements.{is_empty};
+ghost use Rattle.block_layout.specs.Blocks.{
+    has_structure, is_code, is_data_block, is_data_type, is_function_block, is_organization_block
+};
+ghost use Rattle.block_layout.specs.Cells.{components_of};
+ghost use Rattle.block_layout.specs.Lengths.{
+    actuals_end, farthest, is_local, is_structured, least_local, length_of, local_end, local_len,
+    named_type, referred, shape_at, shape_named, shape_of
+};
+ghost use Rattle.block_layout.specs.Sizes.{structure_bits};
+
+use crate::blocks::Shape;
+use crate::cells::LARGEST;
+use crate::layouts::Layout;
+use crate::types::Types;
+use plc_base::BlockKind;
+use stl_ast::{Actual, Block, BlockName, ElementType, Letters, Operand, Statement};
+
+/// The function block or data type that a data block is of, or none.
+fn referred(block: &Block) -> Option<&BlockName>
+    ensures { option_copied result ≡ referred block.now.instance_of block.now.shape }
+{
+    if let Some(name) = &block.instance_of {
+        return Some(name);
+    }
+    match &block.shape {
+        Some(shape) => match &shape.of {
+            ElementType::Udt { name } => Some(name),
+            _ => None,
+        },
+        None => None,
+    }
+}
+
+/// Where the structure of a block stands.
+pub(crate) fn shape_of(types: &Types, block: &Block) -> Shape
+    ensures { result ≡ shape_of types.now block.now }
+{
+    match referred(block) {
+        None => Shape::Own,
+        Some(name) => match types.structured(name) {
+            Some(block) => Shape::Of { block },
+            None => Shape::Unknown,
+        },
+    }
+}
+
+fn is_local(area: Letters) -> bool
+    ensures { result ≡ is_local area }
+{
+    matches!(area, Letters::L)
+}
+
+/// The end of a direct operand in the local data.
+fn local_end(operand: &Operand) -> u64
+    ensures value { result ≡ local_end operand.now }
+    ensures near { result < 2 ^ 17 }
+{
+    match operand {
+        Operand::Direct {
+            area, width, byte, ..
+        } => {
+            if is_local(*area) {
+                *byte as u64 + width.byte_count() as u64
+            } else {
+                0
+            }
+        }
+        _ => 0,
+    }
+}
+
+fn greater(a: u64, b: u64) -> u64
+    ensures { result ≡ max a b }
+{
+    if a < b { b } else { a }
+}
+
+fn actuals_end(actuals: &[Actual]) -> u64
+    ensures value { result ≡ actuals_end actuals.now }
+    ensures near { result < 2 ^ 17 }
+{
+    let mut end = 0;
+    for actual in actuals {
+        end = greater(end, local_end(&actual.value));
+    }
+    end
+}
+
+/// The farthest end of a direct operand in the local data.
+fn farthest(body: &[Statement]) -> u64
+    ensures value { result ≡ farthest body.now }
+    ensures near { result < 2 ^ 17 }
+{
+    let mut end = 0;
+    for statement in body {
+        let own = local_end(&statement.operand);
+        let actuals = actuals_end(statement.actuals.as_slice());
+        end = greater(end, greater(own, actuals));
+    }
+    end
+}
+
+fn least_local(kind: BlockKind) -> u64
+    ensures { result ≡ least_local kind }
+{
+    match kind {
+        BlockKind::Ob => 20,
+        _ => 0,
+    }
+}
