@@ -10,6 +10,7 @@ use Rattle.stl_ast.specs.declared.blocks.Block.{Block}
 use Rattle.stl_ast.specs.declared.blocks.Part.{Part}
 use Rattle.stl_symbols.specs.Gathered.{gathered}
 use Rattle.stl_symbols.specs.Least.{broken_if, least, lesser}
+use Rattle.stl_symbols.proofs.LeastLemmas.{least-append}
 use Rattle.stl_symbols.proofs.GatheredLemmas.{gathered_done, gathered_next}
 use Rattle.block_layout.specs.Blocks.{is_data_block}
 use Rattle.block_layout.specs.Heads.{on_heads}
@@ -68,3 +69,10 @@ one_block_more b before count one is_count is_one =
 pub at_most_one : (v : Bool) (one : ℕ) → one ≡ (if v then 1 else 0) → one ≤ 1
 at_most_one true one is = omega (arith, is)
 at_most_one false one is = omega (arith, is)
+
+-- the least of three lists one behind the other
+pub three_lists : (xs ys zs : List Refusal) (x y z inner whole : Option Refusal) → x ≡ least xs → y ≡ least ys → z ≡ least zs → inner ≡ lesser x y → whole ≡ lesser inner z →
+    whole ≡ least (xs ++ ys ++ zs)
+three_lists xs ys zs x y z inner whole is_x is_y is_z is_inner is_whole =
+    is_whole ∙ ap (λ (o : Option Refusal). lesser o z) (is_inner ∙ ap (λ (o : Option Refusal). lesser o y) is_x ∙ ap (λ (o : Option Refusal). lesser (least xs) o) is_y ∙ sym (least-append xs ys))
+    ∙ ap (λ (o : Option Refusal). lesser (least (xs ++ ys)) o) is_z ∙ sym (least-append (xs ++ ys) zs)

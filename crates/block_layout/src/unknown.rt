@@ -2,17 +2,24 @@ ghost use Rattle.std.specs.Prelude.{◌≡◌};
 ghost use Rattle.std.specs.List.{flat_map};
 ghost use Rattle.stl_symbols.specs.Least.{least};
 ghost use Rattle.block_layout.specs.Operands.{in_body, operands_of};
+ghost use Rattle.block_layout.specs.Heads.{on_heads};
 ghost use Rattle.block_layout.specs.Rule23.{
+  has_unknown_head,
   is_unknown_called,
   is_unknown_data,
   is_unknown_id,
   is_unknown_instance,
   is_unknown_path,
+  is_unknown_shape,
   names_unknown,
   operand_23,
+  rule_23,
 };
 
-use crate::types::{Types, named_block};
+use crate::alone::{Alone, least_alone};
+use crate::blocks::Shape;
+use crate::lengths::shape_of;
+use crate::types::{Types, id_of, named_block};
 use plc_base::{BlockId, BlockKind, Refusal};
 use stl_ast::{Actual, Block, BlockName, Operand, PathHead, Statement};
 use stl_symbols::{broken_if, least_of, lesser};
@@ -109,11 +116,37 @@ fn least_in_body(types: &Types, body: &[Statement]) -> Option<Refusal>
 }
 
 /// The least refusal of operands that name a block that the source hasn't.
-pub(crate) fn least_unknown_operand(types: &Types, blocks: &[Block]) -> Option<Refusal>
+fn least_unknown_operand(types: &Types, blocks: &[Block]) -> Option<Refusal>
     ensures { result
         ≡ least (flat_map (λ b. in_body (operand_23 types.now) b.body) blocks.now) }
 {
     least_of(blocks, |block: &Block| {
         least_in_body(types, block.body.as_slice())
     })
+}
+
+/// Whether the head of a block names a block that the source hasn't.
+fn has_unknown_head(types: &Types, block: &Block) -> bool
+    ensures { result ≡ has_unknown_head types.now block.now }
+{
+    id_of(types.symbols, block).is_none() || matches!(shape_of(types, block), Shape::Unknown)
+}
+
+fn least_unknown_head(types: &Types, blocks: &[Block]) -> Option<Refusal>
+    ensures { result
+        ≡ least (on_heads (λ before b. has_unknown_head types.now b) 23 blocks.now) }
+{
+    least_of(blocks, |block: &Block| {
+        broken_if(has_unknown_head(types, block), block.line, 23)
+    })
+}
+
+/// The least refusal by rule 23.
+pub(crate) fn least_unknown(types: &Types, blocks: &[Block]) -> Option<Refusal>
+    ensures { result ≡ least (rule_23 types.now blocks.now) }
+{
+    let heads = least_unknown_head(types, blocks);
+    let declared = least_alone(types, Alone::UnknownType, blocks);
+    let used = least_unknown_operand(types, blocks);
+    lesser(lesser(heads, declared), used)
 }
