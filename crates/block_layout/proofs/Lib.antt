@@ -8,6 +8,7 @@ pub mod CellLemmas
 pub mod SectionLemmas
 pub mod MeasureLemmas
 pub mod WalkLemmas
+pub mod LengthLemmas
 pub mod DirectoryLemmas
 pub mod HeadLemmas
 pub mod AloneLemmas

@@ -1,6 +1,8 @@
 -- How long the structure and the local data of a block are, in bytes.
 use Rattle.std.specs.Prelude.{ℕ, ◌+◌, ◌/◌, max, Bool, true, false, ◌||◌, List, [], ◌∷◌, Option, Some, None, if◌then◌else◌}
 use Rattle.std.specs.List.{slice_get}
+use Rattle.std.specs.Option.{option_map}
+use Rattle.block_layout.specs.declared.cells.Cell.{Cell}
 use Rattle.plc_base.specs.Widths.{byte_count}
 use Rattle.plc_base.specs.declared.blocks.BlockKind.{BlockKind}
 use Rattle.stl_ast.specs.declared.blocks.Block.{Block}
@@ -44,9 +46,12 @@ shape_named y (Some name) = shape_at (found_block y.symbols y.ids has_structure 
 abbrev pub shape_of : Types → Block → Shape
 shape_of y b = shape_named y (referred b.instance_of b.shape)
 
+abbrev pub bits_of_cells : Option (List Cell) → ℕ
+bits_of_cells None = 0
+bits_of_cells (Some cells) = structure_bits cells
+
 abbrev pub block_bits : Types → Option Block → ℕ
-block_bits y None = 0
-block_bits y (Some b) = structure_bits (components_of y b)
+block_bits y b = bits_of_cells (option_map (components_of y) b)
 
 -- a data block that refers to another block is as long as the structure of that one
 abbrev pub shape_bits : Types → List Block → Block → Shape → ℕ

@@ -1,30 +1,17 @@
-ghost use Rattle.std.specs.Prelude.{◌≡◌, ◌≤◌, ◌<◌, ◌^◌, ◌/◌, IfOk, max};
+ghost use Rattle.std.specs.Prelude.{◌≡◌, ◌≤◌, ◌<◌, ◌^◌, ◌/◌, IfOk, max, map, Some, List};
+ghost use Rattle.std.specs.List.{slice_get};
+ghost use Rattle.stl_ast.specs.declared.blocks.Block.{Block};
+ghost use Rattle.block_layout.specs.Types.{Types};
 ghost use Rattle.std.specs.Option.{option_copied};
 ghost use Rattle.stl_ast.specs.Blocks.{is_parameter};
 ghost use Rattle.stl_ast.specs.Statements.{is_empty};
 ghost use Rattle.block_layout.specs.Blocks.{
-  has_structure,
-  is_code,
-  is_data_block,
-  is_data_type,
-  is_function_block,
-  is_organization_block,
+    has_structure, is_code, is_data_block, is_data_type, is_function_block, is_organization_block
 };
-ghost use Rattle.block_layout.specs.Cells.{components_of};
+ghost use Rattle.block_layout.specs.Cells.{components_of, temps_of};
 ghost use Rattle.block_layout.specs.Lengths.{
-  actuals_end,
-  farthest,
-  is_local,
-  is_structured,
-  least_local,
-  length_of,
-  local_end,
-  local_len,
-  named_type,
-  referred,
-  shape_at,
-  shape_named,
-  shape_of,
+    actuals_end, farthest, bits_of_cells, is_local, is_structured, least_local, length_of, local_end, local_len,
+    named_type, referred, shape_at, shape_named, shape_of
 };
 ghost use Rattle.block_layout.specs.Sizes.{structure_bits};
 
@@ -77,10 +64,7 @@ fn local_end(operand: &Operand) -> u64
 {
     match operand {
         Operand::Direct {
-            area,
-            width,
-            byte,
-            ..
+            area, width, byte, ..
         } => {
             if is_local(*area) {
                 *byte as u64 + width.byte_count() as u64
@@ -129,5 +113,54 @@ fn least_local(kind: BlockKind) -> u64
     match kind {
         BlockKind::Ob => 20,
         _ => 0,
+    }
+}
+
+/// The length of the local data of a block, with these temporary variables.
+#[tactic(auto, unfolding(crate::specs::Lengths::local_len, crate::specs::Sizes::up))]
+pub(crate) fn local_len(block: &Block, temps: &Layout) -> u64
+    ensures value { (y : Types) → temps.now ≡ temps_of y block.now → result ≡ local_len y block.now }
+    ensures near { result < 2 ^ 32 }
+{
+    match block.kind {
+        BlockKind::Ob | BlockKind::Fc | BlockKind::Fb => {
+            let own = greater(temps.bits() / 8, farthest(block.body.as_slice()));
+            greater(least_local(block.kind), (own + 1) / 2 * 2)
+        }
+        _ => 0,
+    }
+}
+
+fn is_structured(kind: BlockKind) -> bool
+    ensures { result ≡ is_structured kind }
+{
+    matches!(kind, BlockKind::Db | BlockKind::Fb | BlockKind::Udt)
+}
+
+fn bits_at(components: &[Layout], place: usize) -> u64
+    ensures value { result ≡ bits_of_cells (slice_get components.now place) }
+    ensures near { result ≤ LARGEST }
+{
+    match components.get(place) {
+        Some(layout) => layout.bits(),
+        None => 0,
+    }
+}
+
+/// The length of the structure of the block at a place, by the components of all blocks.
+#[tactic(auto, unfolding(crate::specs::Lengths::length_of), using(crate::proofs::LengthLemmas::bits_there))]
+pub(crate) fn length_of(block: &Block, place: usize, shape: Shape, components: &[Layout]) -> u64
+    ensures value { (y : Types) (blocks : List Block)
+        → components.now ≡ map (components_of y) blocks → slice_get blocks place ≡ Some block.now
+        → shape ≡ shape_of y block.now → result ≡ length_of y blocks block.now }
+    ensures near { result < 2 ^ 32 }
+{
+    if !is_structured(block.kind) {
+        return 0;
+    }
+    match shape {
+        Shape::Own => bits_at(components, place) / 8,
+        Shape::Of { block } => bits_at(components, block) / 8,
+        Shape::Unknown => 0,
     }
 }

@@ -14,6 +14,7 @@ mod making;
 mod measures;
 mod members;
 mod names;
+mod outlines;
 mod sections;
 mod sizes;
 mod types;
