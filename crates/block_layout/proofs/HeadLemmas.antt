@@ -1,8 +1,8 @@
 -- Rules that a block breaks as a whole.
-use Rattle.std.proofs.Common.{ℕ, ◌≡◌, ◌<◌, ◌≤◌, ◌+◌, min, List, [], ◌∷◌, ◌++◌, length, drop, get_or, Option, Bool, true, false, refl, sym, ◌∙◌, ap, arith, if◌then◌else◌}
+use Rattle.std.proofs.Common.{ℕ, ◌≡◌, ◌<◌, ◌≤◌, ◌+◌, min, map, List, [], ◌∷◌, ◌++◌, length, drop, get_or, Option, Bool, true, false, refl, sym, ◌∙◌, ap, arith, if◌then◌else◌}
 use Rattle.std.specs.Prelude.{sum_by}
 use Rattle.std.proofs.Math.ListN.{drop_of_length-le}
-use Rattle.std.proofs.lemmas.List.{drop_more}
+use Rattle.std.proofs.lemmas.List.{drop_more, get_or-map}
 use Rattle.std.proofs.lemmas.List.Sums.{sum_by-cons}
 use Rattle.std.specs.List.{count_by, flat_map}
 use Rattle.plc_base.specs.declared.refusals.Refusal.{Refusal}
@@ -76,3 +76,7 @@ pub three_lists : (xs ys zs : List Refusal) (x y z inner whole : Option Refusal)
 three_lists xs ys zs x y z inner whole is_x is_y is_z is_inner is_whole =
     is_whole ∙ ap (λ (o : Option Refusal). lesser o z) (is_inner ∙ ap (λ (o : Option Refusal). lesser o y) is_x ∙ ap (λ (o : Option Refusal). lesser (least xs) o) is_y ∙ sym (least-append xs ys))
     ∙ ap (λ (o : Option Refusal). lesser (least (xs ++ ys)) o) is_z ∙ sym (least-append (xs ++ ys) zs)
+
+-- what a list made of blocks has at the place of one
+pub mapped_at : (f : Block → ℕ) (blocks : List Block) (ns : List ℕ) (i : ℕ) (b : Block) → ns ≡ map f blocks → i < length blocks → b ≡ get_or blocks i b → get_or ns i 0 ≡ f b
+mapped_at f blocks ns i b are within is_b = ap (λ (l : List ℕ). get_or l i 0) are ∙ get_or-map f blocks i b 0 within ∙ ap f (sym is_b)

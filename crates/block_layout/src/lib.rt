@@ -7,6 +7,7 @@ mod cells;
 mod constants;
 mod declarations;
 mod directory;
+mod excess;
 mod heads;
 mod layouts;
 mod lengths;
