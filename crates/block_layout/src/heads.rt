@@ -184,7 +184,7 @@ pub(crate) fn least_block_twice(types: &Types, blocks: &[Block]) -> Option<Refus
     found
 }
 
-fn is_data_block(kind: BlockKind) -> bool
+pub(crate) fn is_data_block(kind: BlockKind) -> bool
     ensures { result ≡ is_data_block kind }
 {
     matches!(kind, BlockKind::Db)

@@ -1,6 +1,5 @@
-use Rattle.std.proofs.Common.{◌≡◌, ℕ, Bool, List, get_or, map, nat_lt, sym, ◌∙◌, ap}
+use Rattle.std.proofs.Common.{◌≡◌, ℕ, List, nat_lt, sym, ◌∙◌, ap}
 use Rattle.plc_base.specs.declared.refusals.Refusal.{Refusal}
-use Rattle.stl_ast.specs.declared.blocks.Block.{Block}
 use Rattle.stl_symbols.specs.Least.{broken_if, least}
 use Rattle.stl_symbols.proofs.LeastLemmas.{least_done, least_next, lesser_first}
 use Rattle.block_layout.proofs.HeadLemmas.{by_itself, mapped_at}

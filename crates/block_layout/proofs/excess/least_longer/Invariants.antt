@@ -1,4 +1,4 @@
-use Rattle.std.proofs.Common.{◌≡◌, ℕ, List, drop, map, nat_lt}
+use Rattle.std.proofs.Common.{◌≡◌, ℕ, drop, map, nat_lt}
 use Rattle.std.specs.List.{flat_map}
 use Rattle.stl_ast.specs.declared.blocks.Block.{Block}
 use Rattle.stl_symbols.specs.Least.{broken_if, least, lesser}
