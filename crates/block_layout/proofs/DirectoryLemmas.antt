@@ -1,5 +1,5 @@
-use Rattle.std.proofs.Common.{ℕ, suc, ◌≡◌, ◌<◌, nat_eq, nat_lt, List, [], ◌∷◌, ◌++◌, Option, Some, None, Bool, true, false, cond, refl, sym, ◌∙◌, ap, subst, arith, length, map, if◌then◌else◌, ⊎_elim, ◌&&◌}
-use Rattle.std.specs.Option.{option_map, option_or, IsSome}
+use Rattle.std.proofs.Common.{ℕ, ◌≡◌, ◌<◌, nat_eq, nat_lt, List, [], ◌∷◌, ◌++◌, Option, Some, None, true, false, cond, refl, sym, ◌∙◌, ap, subst, arith, length, if◌then◌else◌, ⊎_elim}
+use Rattle.std.specs.Option.{option_or, IsSome}
 use Rattle.std.specs.Ordering.{is_eq, nat_cmp}
 use Rattle.std.specs.Cmp.{nat_cmp_is}
 use Rattle.std.specs.declared.cmp.Ordering.{Ordering}
@@ -7,7 +7,7 @@ use Rattle.std.specs.declared.cmp.Ordering.TheVariants.{Less, Equal, Greater}
 use Rattle.std.proofs.lemmas.Bool.{cases_Bool}
 use Rattle.std.proofs.lemmas.Bool.Decides.{nat_tests}
 use Rattle.plc_base.specs.declared.blocks.BlockId.{BlockId}
-use Rattle.block_layout.specs.Blocks.{block_place, is_id, is_same_kind, is_same_block}
+use Rattle.block_layout.specs.Blocks.{block_place, is_id, is_same_kind}
 use Rattle.block_layout.specs.Numbered.{is_number, numbered_place, number_of, numbers_of}
 
 order_apart : (n q : ℕ) → nat_eq q n ≡ false → is_eq (nat_cmp n q) ≡ false

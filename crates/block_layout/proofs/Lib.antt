@@ -11,3 +11,6 @@ pub mod WalkLemmas
 pub mod LengthLemmas
 pub mod CycleLemmas
 pub mod DirectoryLemmas
+pub mod HeadLemmas
+pub mod AloneLemmas
+pub mod OperandLemmas

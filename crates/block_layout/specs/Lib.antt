@@ -2,6 +2,7 @@ pub mod Blocks
 pub mod Numbered
 pub mod Types
 pub mod Fits
+pub mod Alone
 pub mod Around
 pub mod Declarations
 pub mod Cells

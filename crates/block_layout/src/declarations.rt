@@ -29,13 +29,13 @@ fn is_upside_down(bounds: &Bounds) -> bool
     bounds.high < bounds.low
 }
 
-fn has_upside_down(declaration: &Declaration) -> bool
+pub(crate) fn has_upside_down(declaration: &Declaration) -> bool
     ensures { result ≡ has_upside_down declaration.now }
 {
     declaration.of.arrays.as_slice().iter().any(is_upside_down)
 }
 
-fn is_unknown_type(types: &Types, of: &ElementType) -> bool
+pub(crate) fn is_unknown_type(types: &Types, of: &ElementType) -> bool
     ensures { result ≡ is_unknown_type types.now of.now }
 {
     match of {

@@ -1,12 +1,15 @@
 //! Where the declarations of a source lie: sizes, offsets, paths, local data, and the rules on them.
 #![tactic(auto)]
 
+mod alone;
 mod blocks;
 mod cells;
 mod constants;
 mod cycles;
 mod declarations;
 mod directory;
+mod excess;
+mod heads;
 mod layouts;
 mod lengths;
 mod making;
@@ -17,6 +20,7 @@ mod outlines;
 mod sections;
 mod sizes;
 mod types;
+mod unknown;
 mod verdicts;
 mod walks;
 

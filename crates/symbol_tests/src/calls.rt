@@ -1,0 +1,20 @@
+use plc_base::SourceFault;
+use std::alloc::Global;
+use stl_symbols::{SYMBOLS_LIMIT, Symbols, read_symbols};
+
+/// The symbols of a file, or its refusal; a longer file than the limit is told as want of memory.
+pub(crate) fn read(alloc: Global, file: &[u8]) -> Result<Symbols, SourceFault> {
+    if file.len() > SYMBOLS_LIMIT {
+        return Err(SourceFault::NoMemory);
+    }
+    read_symbols(alloc, file)
+}
+
+/// The line and the rule of a refusal; (0, 0) for symbols and (0, 1) for want of memory.
+pub(crate) fn verdict(alloc: Global, file: &[u8]) -> (u32, u16) {
+    match read(alloc, file) {
+        Ok(_) => (0, 0),
+        Err(SourceFault::Refused { refusal }) => (refusal.line, refusal.rule),
+        Err(SourceFault::NoMemory) => (0, 1),
+    }
+}
