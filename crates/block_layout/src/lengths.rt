@@ -20,6 +20,7 @@ use crate::cells::LARGEST;
 use crate::layouts::Layout;
 use crate::types::Types;
 use plc_base::BlockKind;
+use std::alloc::{AllocError, Global};
 use stl_ast::{Actual, Block, BlockName, ElementType, Letters, Operand, Statement};
 
 /// The function block or data type that a data block is of, or none.
@@ -163,4 +164,40 @@ pub(crate) fn length_of(block: &Block, place: usize, shape: Shape, components: &
         Shape::Of { block } => bits_at(components, block) / 8,
         Shape::Unknown => 0,
     }
+}
+
+/// The lengths of the local data of all blocks, by their temporary variables.
+pub(crate) fn local_lens(
+    alloc: Global,
+    types: &Types,
+    blocks: &[Block],
+    temps: &[Layout],
+) -> Result<Vec<u64>, AllocError>
+    requires { temps.now ≡ map (temps_of types.now) blocks.now }
+    ensures { IfOk result (λ v. v.items ≡ map (local_len types.now) blocks.now) }
+{
+    let mut lens = Vec::with_capacity(alloc, blocks.len())?;
+    for i in 0..blocks.len() {
+        lens.push(local_len(&blocks[i], &temps[i]))?;
+    }
+    Ok(lens)
+}
+
+/// The lengths of the structures of all blocks, by their components.
+pub(crate) fn all_lengths(
+    alloc: Global,
+    types: &Types,
+    blocks: &[Block],
+    components: &[Layout],
+) -> Result<Vec<u64>, AllocError>
+    requires { components.now ≡ map (components_of types.now) blocks.now }
+    ensures { IfOk result (λ v. v.items ≡ map (length_of types.now blocks.now) blocks.now) }
+{
+    let mut lens = Vec::with_capacity(alloc, blocks.len())?;
+    for i in 0..blocks.len() {
+        let block = &blocks[i];
+        let shape = shape_of(types, block);
+        lens.push(length_of(block, i, shape, components))?;
+    }
+    Ok(lens)
 }
