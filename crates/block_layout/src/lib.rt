@@ -3,6 +3,7 @@
 
 mod alone;
 mod blocks;
+mod broken;
 mod cells;
 mod constants;
 mod declarations;
