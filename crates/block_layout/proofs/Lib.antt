@@ -9,6 +9,7 @@ pub mod SectionLemmas
 pub mod MeasureLemmas
 pub mod WalkLemmas
 pub mod LengthLemmas
+pub mod CycleLemmas
 pub mod DirectoryLemmas
 pub mod HeadLemmas
 pub mod AloneLemmas

@@ -10,3 +10,9 @@ abbrev pub on_heads : (breaks : List Block → Block → Bool) → (rule : ℕ) 
 on_heads breaks rule blocks =
     gathered (λ b. false) (λ before b. broken_if (breaks before b) b.line rule)
     (λ before b. b ∷ before) [] blocks
+
+-- of each block whether it breaks such a rule
+abbrev pub flagged : (breaks : List Block → Block → Bool) → (before : List Block) → List Block
+    → List Bool
+flagged breaks before [] = []
+flagged breaks before (b ∷ bs) = breaks before b ∷ flagged breaks (b ∷ before) bs

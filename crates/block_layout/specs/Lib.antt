@@ -27,6 +27,7 @@ pub mod Rule23
 pub mod Rule41
 pub mod Rule42
 pub mod Rule43
+pub mod Cycles
 pub mod Rule44
 pub mod Rule50
 pub mod Rule51

@@ -6,6 +6,7 @@ mod blocks;
 mod broken;
 mod cells;
 mod constants;
+mod cycles;
 mod declarations;
 mod directory;
 mod excess;
