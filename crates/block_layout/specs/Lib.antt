@@ -1,4 +1,3 @@
-pub mod Before
 pub mod Blocks
 pub mod Numbered
 pub mod Types

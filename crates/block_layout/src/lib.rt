@@ -3,7 +3,6 @@
 
 mod alone;
 mod blocks;
-mod broken;
 mod cells;
 mod constants;
 mod cycles;

@@ -126,7 +126,7 @@ fn least_unknown_operand(types: &Types, blocks: &[Block]) -> Option<Refusal>
 }
 
 /// Whether the head of a block names a block that the source hasn't.
-pub(crate) fn has_unknown_head(types: &Types, block: &Block) -> bool
+fn has_unknown_head(types: &Types, block: &Block) -> bool
     ensures { result ≡ has_unknown_head types.now block.now }
 {
     id_of(types.symbols, block).is_none() || matches!(shape_of(types, block), Shape::Unknown)
