@@ -24,8 +24,8 @@ const MOST_BYTES: u64 = 16_384;
 /// The most bytes of all data blocks together.
 const MOST_TOGETHER: u64 = 2_097_152;
 
-/// The least refusal of the heads of blocks that are longer than so many bytes; the lengths stand in
-/// the order of the blocks.
+/// The least refusal of the heads of blocks that are longer than so many bytes; the lengths stand
+/// in the order of the blocks.
 fn least_longer(lens: &[u64], most: u64, rule: u16, blocks: &[Block]) -> Option<Refusal>
     ensures { (f : Block → ℕ) → lens.now ≡ map f blocks.now
         → result ≡ least (on_heads (λ before b. nat_lt most (f b)) rule blocks.now) }
