@@ -1,5 +1,5 @@
 -- Rules that a block breaks as a whole.
-use Rattle.std.proofs.Common.{ℕ, ◌≡◌, ◌<◌, ◌≤◌, ◌+◌, min, map, List, [], ◌∷◌, ◌++◌, length, drop, get_or, Option, Bool, true, false, refl, sym, ◌∙◌, ap, arith, if◌then◌else◌}
+use Rattle.std.proofs.Common.{ℕ, ◌≡◌, ◌<◌, ◌≤◌, ◌+◌, min, map, List, [], ◌∷◌, ◌++◌, length, drop, get_or, Option, Bool, true, false, ◌||◌, refl, sym, ◌∙◌, ap, arith, if◌then◌else◌}
 use Rattle.std.specs.Prelude.{sum_by}
 use Rattle.std.proofs.Math.ListN.{drop_of_length-le}
 use Rattle.std.proofs.lemmas.List.{drop_more, get_or-map}
@@ -89,3 +89,8 @@ pub total_more : (y : Types) (blocks : List Block) (b : Block) (before : List Bl
 total_more y blocks b before sum one next most is_sum is_one is_next =
     let all : total y blocks (b ∷ before) ≡ data_length y blocks b + total y blocks before = sum_by-cons (data_length y blocks) b before in
     omega (arith, all, is_sum, is_one, is_next)
+
+-- ten tests in two steps
+pub all_ten : (a b c d e f g h i j a' b' c' d' e' f' g' h' i' j' first whole : Bool) → first ≡ (a || b || c || d || e) → whole ≡ (first || f || g || h || i || j) →
+    a ≡ a' → b ≡ b' → c ≡ c' → d ≡ d' → e ≡ e' → f ≡ f' → g ≡ g' → h ≡ h' → i ≡ i' → j ≡ j' → whole ≡ (a' || b' || c' || d' || e' || f' || g' || h' || i' || j')
+all_ten a b c d e f g h i j a' b' c' d' e' f' g' h' i' j' first whole is_first is_whole ea eb ec ed ee ef eg eh ei ej = cc

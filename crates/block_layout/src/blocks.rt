@@ -21,8 +21,8 @@ pub struct BlockLayout {
     pub shape: Shape,
     pub components: Layout,
     pub temps: Layout,
-    pub local_len: u32,
-    pub length: u32,
+    pub local_len: u64,
+    pub length: u64,
 }
 
 /// Which variables of a block a path names: those of a data block, those of a function block in its

@@ -110,11 +110,7 @@ fn are_same(a: &[bool], b: &[bool]) -> bool
 }
 
 /// Whether uses lead from a block back to it.
-pub(crate) fn leads_back(
-    alloc: Global,
-    uses: &[Vec<usize>],
-    to: usize,
-) -> Result<bool, AllocError>
+pub(crate) fn leads_back(alloc: Global, uses: &[Vec<usize>], to: usize) -> Result<bool, AllocError>
     ensures { IfOk result (λ leads. (y : Types) (blocks : List Block)
         → map (λ u. u.items) uses.now ≡ uses_of_all y blocks
         → leads ≡ leads_to y blocks (length uses.now) to to) }

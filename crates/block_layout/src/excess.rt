@@ -16,16 +16,16 @@ use stl_ast::Block;
 use stl_symbols::{broken_if, lesser};
 
 /// The most bytes of local data.
-const MOST_LOCAL: u64 = 1024;
+pub(crate) const MOST_LOCAL: u64 = 1024;
 
 /// The most bytes of a data block, of a data type or of an instance.
-const MOST_BYTES: u64 = 16_384;
+pub(crate) const MOST_BYTES: u64 = 16_384;
 
 /// The most bytes of all data blocks together.
 const MOST_TOGETHER: u64 = 2_097_152;
 
-/// The least refusal of the heads of blocks that are longer than so many bytes; the lengths stand
-/// in the order of the blocks.
+/// The least refusal of the heads of blocks that are longer than so many bytes; the lengths stand in
+/// the order of the blocks.
 fn least_longer(lens: &[u64], most: u64, rule: u16, blocks: &[Block]) -> Option<Refusal>
     ensures { (f : Block → ℕ) → lens.now ≡ map f blocks.now
         → result ≡ least (on_heads (λ before b. nat_lt most (f b)) rule blocks.now) }
@@ -57,14 +57,14 @@ pub(crate) fn least_too_long(lens: &[u64], blocks: &[Block]) -> Option<Refusal>
 }
 
 /// How much a block adds to the length of all data blocks.
-fn data_len(block: &Block, len: u64) -> u64
+pub(crate) fn data_len(block: &Block, len: u64) -> u64
     ensures { result ≡ (if is_data_block block.now.kind then len else 0) }
 {
     if is_data_block(block.kind) { len } else { 0 }
 }
 
 /// Whether a block is a data block with which all are too long.
-fn exceeds(block: &Block, before: u64, len: u64) -> bool
+pub(crate) fn exceeds(block: &Block, before: u64, len: u64) -> bool
     ensures { (sum : ℕ) → before ≡ min sum (2 ^ 64 - 1)
         → result ≡ (is_data_block block.now.kind && nat_lt 2097152 (sum + len)) }
 {

@@ -33,7 +33,7 @@ const MOST_DATA_BLOCKS: usize = 256;
 const MOST_STATEMENTS: usize = 65_534;
 
 /// Whether the head of a block has a number beyond the limits.
-fn has_wrong_number(symbols: &Symbols, block: &Block) -> bool
+pub(crate) fn has_wrong_number(symbols: &Symbols, block: &Block) -> bool
     ensures { result ≡ has_wrong_number symbols.now block.now }
 {
     match id_of(symbols, block) {
@@ -94,7 +94,7 @@ fn parameters_in(parts: &[Part]) -> u64
     count
 }
 
-fn has_too_many_parameters(block: &Block) -> bool
+pub(crate) fn has_too_many_parameters(block: &Block) -> bool
     ensures { result ≡ has_too_many_parameters block.now }
 {
     let declared = parameters_in(block.parts.as_slice());
@@ -135,7 +135,7 @@ fn statement_count(body: &[Statement]) -> usize
     count
 }
 
-fn has_too_many_statements(block: &Block) -> bool
+pub(crate) fn has_too_many_statements(block: &Block) -> bool
     ensures { result ≡ has_too_many_statements block.now }
 {
     statement_count(block.body.as_slice()) > MOST_STATEMENTS
@@ -161,7 +161,7 @@ fn is_earlier(first: Option<usize>, place: usize) -> bool
 }
 
 /// Whether a block of the same kind and number stands before the block at this place.
-fn is_block_twice(types: &Types, place: usize, block: &Block) -> bool
+pub(crate) fn is_block_twice(types: &Types, place: usize, block: &Block) -> bool
     ensures { (before : List Block) → length before ≡ place
         → result ≡ is_block_twice types.now before block.now }
 {
@@ -191,14 +191,14 @@ pub(crate) fn is_data_block(kind: BlockKind) -> bool
 }
 
 /// Whether a data block is the 257th or a later one, behind so many.
-fn is_one_too_many(data_before: usize, block: &Block) -> bool
+pub(crate) fn is_one_too_many(data_before: usize, block: &Block) -> bool
     ensures { (before : List Block) → data_blocks before ≡ data_before
         → result ≡ is_one_too_many before block.now }
 {
     is_data_block(block.kind) && data_before >= MOST_DATA_BLOCKS
 }
 
-fn counted_data(block: &Block) -> usize
+pub(crate) fn counted_data(block: &Block) -> usize
     ensures { result ≡ (if is_data_block block.now.kind then 1 else 0) }
 {
     if is_data_block(block.kind) { 1 } else { 0 }

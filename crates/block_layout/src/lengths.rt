@@ -6,12 +6,29 @@ ghost use Rattle.std.specs.Option.{option_copied};
 ghost use Rattle.stl_ast.specs.Blocks.{is_parameter};
 ghost use Rattle.stl_ast.specs.Statements.{is_empty};
 ghost use Rattle.block_layout.specs.Blocks.{
-    has_structure, is_code, is_data_block, is_data_type, is_function_block, is_organization_block
+  has_structure,
+  is_code,
+  is_data_block,
+  is_data_type,
+  is_function_block,
+  is_organization_block,
 };
 ghost use Rattle.block_layout.specs.Cells.{components_of, temps_of};
 ghost use Rattle.block_layout.specs.Lengths.{
-    actuals_end, farthest, bits_of_cells, is_local, is_structured, least_local, length_of, local_end, local_len,
-    named_type, referred, shape_at, shape_named, shape_of
+  actuals_end,
+  farthest,
+  bits_of_cells,
+  is_local,
+  is_structured,
+  least_local,
+  length_of,
+  local_end,
+  local_len,
+  named_type,
+  referred,
+  shape_at,
+  shape_named,
+  shape_of,
 };
 ghost use Rattle.block_layout.specs.Sizes.{structure_bits};
 
@@ -65,7 +82,10 @@ fn local_end(operand: &Operand) -> u64
 {
     match operand {
         Operand::Direct {
-            area, width, byte, ..
+            area,
+            width,
+            byte,
+            ..
         } => {
             if is_local(*area) {
                 *byte as u64 + width.byte_count() as u64

@@ -3,6 +3,8 @@
 
 mod alone;
 mod blocks;
+mod broken;
+mod building;
 mod cells;
 mod constants;
 mod cycles;

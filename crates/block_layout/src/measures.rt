@@ -4,8 +4,18 @@ ghost use Rattle.block_layout.specs.Around.{of_structure};
 ghost use Rattle.block_layout.specs.Blocks.{ids_of, is_data_type};
 ghost use Rattle.block_layout.specs.Cells.{cells_of};
 ghost use Rattle.block_layout.specs.Measures.{
-    bits_after, deep, deepest, depths_after, type_bits, type_depth, types_of, unmeasured,
-    with_all_bits, with_all_depths, with_bits, with_depths
+  bits_after,
+  deep,
+  deepest,
+  depths_after,
+  type_bits,
+  type_depth,
+  types_of,
+  unmeasured,
+  with_all_bits,
+  with_all_depths,
+  with_bits,
+  with_depths,
 };
 ghost use Rattle.block_layout.specs.Sizes.{structure_bits};
 ghost use Rattle.block_layout.specs.Verdicts.{reaches};

@@ -82,8 +82,7 @@ fn names_unknown(types: &Types, operand: &Operand) -> bool
 }
 
 fn unknown_in(types: &Types, operand: &Operand, line: u32) -> Option<Refusal>
-    ensures { result
-        ≡ least (operand_23 types.now (record { line = line; operand = operand.now })) }
+    ensures { result ≡ least (operand_23 types.now (record { line = line; operand = operand.now })) }
 {
     broken_if(names_unknown(types, operand), line, 23)
 }
@@ -127,7 +126,7 @@ fn least_unknown_operand(types: &Types, blocks: &[Block]) -> Option<Refusal>
 }
 
 /// Whether the head of a block names a block that the source hasn't.
-fn has_unknown_head(types: &Types, block: &Block) -> bool
+pub(crate) fn has_unknown_head(types: &Types, block: &Block) -> bool
     ensures { result ≡ has_unknown_head types.now block.now }
 {
     id_of(types.symbols, block).is_none() || matches!(shape_of(types, block), Shape::Unknown)

@@ -1,12 +1,40 @@
 ghost use Rattle.std.specs.Prelude.{
-    ◌≡◌, ◌≤◌, ◌<◌, ◌^◌, ◌+◌, IfSome, Some, [], length, get_or, drop, nat_eq, int_lt, true
+  ◌≡◌,
+  ◌≤◌,
+  ◌<◌,
+  ◌^◌,
+  ◌+◌,
+  IfSome,
+  Some,
+  [],
+  length,
+  get_or,
+  drop,
+  nat_eq,
+  int_lt,
+  true,
 };
 ghost use Rattle.std.specs.List.{slice_get};
 ghost use Rattle.std.specs.Option.{IfNone, option_copied};
 ghost use Rattle.block_layout.specs.Members.{component};
 ghost use Rattle.block_layout.specs.Paths.{
-    OffsetIsNear, IsSoundAt, ReachesSound, cells_at, entered, found_at, goes_on, indexed, indexed_behind, named, named_behind,
-    named_in, outermost, step_of, walked, walked_from, within
+  OffsetIsNear,
+  IsSoundAt,
+  ReachesSound,
+  cells_at,
+  entered,
+  found_at,
+  goes_on,
+  indexed,
+  indexed_behind,
+  named,
+  named_behind,
+  named_in,
+  outermost,
+  step_of,
+  walked,
+  walked_from,
+  within,
 };
 ghost use Rattle.block_layout.specs.declared.cells.Cell.{Cell};
 
@@ -132,13 +160,7 @@ fn is_used_up(cell: &Cell, depth: usize) -> bool
 }
 
 /// A name behind a component.
-fn named_in(
-    layouts: &[BlockLayout],
-    layout: &Layout,
-    spot: Spot,
-    name: &[u8],
-    cell: &Cell,
-) -> Walk
+fn named_in(layouts: &[BlockLayout], layout: &Layout, spot: Spot, name: &[u8], cell: &Cell) -> Walk
     requires offset { spot.offset ≤ LARGEST }
     requires layout { layout.now ≡ cells_at layouts.now spot.block spot.temporary }
     requires cell { slice_get layout.now spot.place ≡ Some cell.now }

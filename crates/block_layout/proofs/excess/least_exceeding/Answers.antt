@@ -22,11 +22,10 @@ loop-place-preserved c = λ y are.
     let exceeds : c.exceeds-is_exceeding.result ≡ exceeds_total y blocks held.0 block =
     c.exceeds-is_exceeding.ensures (total y blocks held.0) held.1
     ∙ ap (λ (n : ℕ). is_data_block block.kind && nat_lt 2097152 (total y blocks held.0 + n)) added in
-    let one = c.broken_if.ensures ∙ ap (λ (v : Bool). least (broken_if v block.line 54)) exceeds in
-    (
+    let one = c.broken_if.ensures ∙ ap (λ (v : Bool). least (broken_if v block.line 54)) exceeds in (
       block ∷ held.0,
       total_more y blocks block held.0 _ _ _ _ held.1 added c.saturating_add-before.ensures,
-      heads_turn (exceeds_total y blocks) 54 blocks _ block _ _ _ _ held.0 c.loop-place-test.true c.index-blocks-place.is one c.lesser-found.ensures held.2
+      heads_turn (exceeds_total y blocks) 54 blocks _ block _ _ _ _ held.0 c.loop-place-test.true c.index-blocks-place.is one c.lesser-found.ensures held.2,
     )
 
 pub returns : goal.returns

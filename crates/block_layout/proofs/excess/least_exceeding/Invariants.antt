@@ -12,4 +12,4 @@ abbrev pub invariant-loop-place : goal.invariant-loop-place
 invariant-loop-place l = (y : Types) → l.lens ≡ map (length_of y l.blocks) l.blocks →
     (before : List Block) × (l.before ≡ min (total y l.blocks before) (2 ^ 64 - 1))
     × (lesser l.found (least (gathered (λ b. false) (λ before b. broken_if (exceeds_total y l.blocks before b) b.line 54) (λ before b. b ∷ before) before (drop l.place l.blocks)))
-        ≡ least (on_heads (exceeds_total y l.blocks) 54 l.blocks))
+    ≡ least (on_heads (exceeds_total y l.blocks) 54 l.blocks))

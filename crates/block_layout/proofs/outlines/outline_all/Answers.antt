@@ -14,9 +14,9 @@ loop-block-preserved c = record {
   components = grind (arith, common_steps);
   temps = grind (arith, common_steps);
   twice = least_next (in_block broken_21) c.args.blocks.now c.loop-block.block-index c.block-item.result _ _ _ c.loop-block-test.true c.block-item.is
-    c.in_ok-made.ensures.twice c.lesser-twice.ensures c.loop-block.invariant.twice;
+      c.in_ok-made.ensures.twice c.lesser-twice.ensures c.loop-block.invariant.twice;
   deep = least_next (in_block (broken_56 c.args.types.now)) c.args.blocks.now c.loop-block.block-index c.block-item.result _ _ _ c.loop-block-test.true c.block-item.is
-    c.in_ok-made.ensures.deep c.lesser-deep.ensures c.loop-block.invariant.deep;
+      c.in_ok-made.ensures.deep c.lesser-deep.ensures c.loop-block.invariant.deep;
 }
 
 pub returns-clause-twice : goal.returns-clause-twice
