@@ -1,5 +1,5 @@
--- The address of a symbol: letters and a number, and where it is a bit's, a point and the number of the
--- bit behind it.
+-- The address of a symbol: letters and a number, and where it is a bit's, a point and the number of
+-- the bit behind it.
 use Rattle.std.specs.Prelude.{ℕ, Bool, true, not, ◌==◌, List, [], ◌∷◌, take, drop, find, codes, bytes_eq, Option, None}
 use Rattle.std.specs.Char.{is_ascii_digit}
 use Rattle.std.specs.List.{list_any, prefix_len}
@@ -16,8 +16,8 @@ use Rattle.stl_symbols.specs.declared.addresses.Address.{Address}
 use Rattle.stl_symbols.specs.declared.addresses.Address.TheVariants.{Names, NoSymbol}
 use Rattle.stl_symbols.specs.declared.targets.Target.TheVariants.{Variable, Timer, Counter, Block}
 
--- the letters of addresses. A variable table, a system function block and a system data block give no
--- symbol
+-- the letters of addresses. A variable table, a system function block and a system data block give
+-- no symbol
 unfoldable pub address_letters : List (List ℕ × Letters)
 address_letters =
     (codes "I", letters.Variable area.I Bit)
@@ -80,7 +80,8 @@ bit_address area text =
 -- the address of letters and what stands behind them
 abbrev pub numbered : Letters → List ℕ → Option Address
 numbered (letters.Variable area Bit) text = bit_address area text
-numbered (letters.Variable area width) text = option_map (λ n. variable area width n 0) (number_of text)
+numbered (letters.Variable area width) text =
+    option_map (λ n. variable area width n 0) (number_of text)
 numbered letters.Timer text = option_map (λ n. Names (Timer n)) (number_of text)
 numbered letters.Counter text = option_map (λ n. Names (Counter n)) (number_of text)
 numbered (letters.Block kind) text =
@@ -91,7 +92,8 @@ numbered letters.NoSymbol text = option_map (λ n. NoSymbol) (number_of text)
 unfoldable pub address_of : List ℕ → Option Address
 address_of text =
     let digits = prefix_len (λ b. not (is_ascii_digit b)) text in
-    option_and_then (λ l. numbered l (drop digits text)) (look_up address_letters (take digits text))
+    option_and_then (λ l. numbered l (drop digits text))
+    (look_up address_letters (take digits text))
 
 -- the types of a variable, by its width
 unfoldable pub types_of : Width → List (List ℕ)

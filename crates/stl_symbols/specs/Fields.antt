@@ -1,4 +1,5 @@
--- How the fields of a line are read one behind the other, in the words of the machine that reads CSV.
+-- How the fields of a line are read one behind the other, in the words of the machine that reads
+-- CSV.
 use Rattle.std.specs.Prelude.{ℕ, Bool, ◌||◌, ◌==◌, List, [], ◌∷◌, ◌++◌, Option, Some, None, if◌then◌else◌}
 use Rattle.std.specs.List.{list_all}
 use Rattle.csv.specs.Machine.{next_record, after_end}
@@ -46,7 +47,8 @@ abbrev pub record_before : List (List ℕ) → List ℕ → Option (List (List �
 record_before fields left = if list_all is_line_end left then Some fields else None
 
 -- the same at what a byte ended, if it ended something
-abbrev pub record_at : Option Ending → State → List (List ℕ) → List ℕ → List ℕ → Option (List (List ℕ))
+abbrev pub record_at : Option Ending → State → (fields : List (List ℕ)) → (field rest : List ℕ)
+    → Option (List (List ℕ))
 record_at None s fields field rest = record_from s fields field rest
 record_at (Some ending.Field) s fields field rest =
     record_from state.StartField (fields ++ field ∷ []) [] rest

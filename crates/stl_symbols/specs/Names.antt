@@ -6,4 +6,5 @@ use Rattle.std.specs.Str.{bytes_eq}
 -- the first place of a name, counted from 0
 abbrev pub place_of : List ℕ → List (List ℕ) → Option ℕ
 place_of name [] = None
-place_of name (n ∷ ns) = if bytes_eq name n then Some 0 else option_map (λ k. suc k) (place_of name ns)
+place_of name (n ∷ ns) =
+    if bytes_eq name n then Some 0 else option_map (λ k. suc k) (place_of name ns)

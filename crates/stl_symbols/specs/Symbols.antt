@@ -1,4 +1,5 @@
--- A symbols file: each of its lines that isn't empty declares a symbol, or breaks rule 14, 15 or 16.
+-- A symbols file: each of its lines that isn't empty declares a symbol or nothing, or breaks rule
+-- 14, 15 or 16.
 use Rattle.std.specs.Prelude.{◌≡◌, ℕ, ◌+◌, ◌-◌, Bool, not, ◌||◌, ◌&&◌, ◌==◌, nat_eq, nat_le, List, [], ◌∷◌, ◌++◌, length, take, filter, Option, Some, None, is_some, Result, Ok, Err, if◌then◌else◌}
 use Rattle.std.specs.List.{suffix_len}
 use Rattle.std.specs.Option.{option_and_then}
@@ -45,23 +46,25 @@ declared name NoSymbol = None
 abbrev pub declaration : (name address kind : List ℕ) → Option (Option Symbol)
 declaration name address kind =
     if is_name name
-    then option_and_then (λ a. if has_type a kind then Some (declared name a) else None) (address_of address)
+    then option_and_then (λ a. if has_type a kind then Some (declared name a) else None)
+    (address_of address)
     else None
 
 unfoldable pub declaration_of : Columns → Option (Option Symbol)
 declaration_of line =
-    declaration (without_last_blanks line.name) (without_blanks line.address) (without_last_blanks line.kind)
+    declaration (without_last_blanks line.name) (without_blanks line.address)
+    (without_last_blanks line.kind)
 
--- the symbols with one more, or the rule that it breaks: 15 where there are too many, 16 where its name
--- is there
+-- the symbols with one more, or the rule that it breaks: 15 where there are too many, 16 where its
+-- name is there
 unfoldable pub with_symbol : List Symbol → Symbol → Result (List Symbol) ℕ
 with_symbol symbols symbol =
     if nat_eq (length symbols) most_symbols then Err 15
     else if is_some (symbol_named symbol.name symbols) then Err 16
     else Ok (symbols ++ symbol ∷ [])
 
--- the symbols with what one more line declares, or the rule that it breaks: 15 where the declaration
--- isn't right
+-- the symbols with what one more line declares, or the rule that it breaks: 15 where the
+-- declaration isn't right
 abbrev pub with_declaration : List Symbol → Option (Option Symbol) → Result (List Symbol) ℕ
 with_declaration symbols None = Err 15
 with_declaration symbols (Some None) = Ok symbols
@@ -77,17 +80,21 @@ unfoldable pub with_line : List Symbol → List ℕ → Result (List Symbol) ℕ
 with_line symbols [] = Ok symbols
 with_line symbols (byte ∷ line) = with_columns symbols (columns (byte ∷ line))
 
--- the symbols with those of lines from this number on, or the refusal of the first that breaks a rule
-abbrev pub and_then_lines : (number : ℕ) → (List Symbol → Result (List Symbol) Refusal) → Result (List Symbol) ℕ → Result (List Symbol) Refusal
+-- the symbols with those of lines from this number on, or the refusal of the first that breaks a
+-- rule
+abbrev pub and_then_lines : (number : ℕ) → (more : List Symbol → Result (List Symbol) Refusal)
+    → Result (List Symbol) ℕ → Result (List Symbol) Refusal
 and_then_lines number more (Ok symbols) = more symbols
 and_then_lines number more (Err rule) = Err (record { line = number; rule = rule })
 
-unfoldable pub with_lines : (number : ℕ) → List Symbol → List (List ℕ) → Result (List Symbol) Refusal
+unfoldable pub with_lines : (number : ℕ) → List Symbol → (left : List (List ℕ))
+    → Result (List Symbol) Refusal
 with_lines number symbols [] = Ok symbols
 with_lines number symbols (line ∷ more) =
     and_then_lines number (λ next. with_lines (number + 1) next more) (with_line symbols line)
 
--- the symbols of a file, or its refusal: the first line that breaks a rule, and the least that it breaks
+-- the symbols of a file, or its refusal: the first line that breaks a rule, and the least that it
+-- breaks
 unfoldable pub symbols_of : List ℕ → Result (List Symbol) Refusal
 symbols_of bytes = with_lines 1 [] (lines bytes)
 
@@ -97,9 +104,11 @@ Reads found (Ok symbols) = found ≡ Ok symbols
 Reads found (Err (Refused refusal)) = found ≡ Err refusal
 Reads found (Err NoMemory) = Unit
 
--- what a reader leaves that adds what one line declares: the symbols, or the refusal of this line, or
--- that memory is wanting
-abbrev pub Adds : (number : ℕ) → Result (List Symbol) ℕ → (left : List Symbol) → Result (Unit {0}) SourceFault → Type 0
+-- what a reader leaves that adds what one line declares: the symbols, or the refusal of this line,
+-- or that memory is wanting
+abbrev pub Adds : (number : ℕ) → Result (List Symbol) ℕ → (left : List Symbol)
+    → Result (Unit {0}) SourceFault → Type 0
 Adds number found left (Ok done) = found ≡ Ok left
-Adds number found left (Err (Refused refusal)) = (found ≡ Err refusal.rule) × (refusal.line ≡ number)
+Adds number found left (Err (Refused refusal)) =
+    (found ≡ Err refusal.rule) × (refusal.line ≡ number)
 Adds number found left (Err NoMemory) = Unit

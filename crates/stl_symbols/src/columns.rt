@@ -23,7 +23,11 @@ impl Model for Columns {
 
     ghost Value = { ColumnsData };
 
-    ghost view = { λ c. record { name = c.name.items; address = c.address.items; kind = c.kind.items } };
+    ghost view = { λ c. record {
+      name = c.name.items;
+      address = c.address.items;
+      kind = c.kind.items;
+    } };
 }
 
 /// A line without the byte order mark that it may begin with.

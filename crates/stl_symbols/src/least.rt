@@ -51,7 +51,8 @@ pub fn least_of<T, F: Fn(&T) -> Option<Refusal>>(items: &[T], rules: F) -> Optio
     found
 }
 
-/// The least refusal of all items, by the least that `rules` finds of each, where that takes memory.
+/// The least refusal of all items, by the least that `rules` finds of each, where that takes
+/// memory.
 ///
 /// # Errors
 ///

@@ -5,8 +5,8 @@ use std::alloc::{AllocError, Global};
 use std::collections::BTreeMap;
 use std::marker::Model;
 
-/// Numbers in the order in which they came, each with its first place. Contracts see the list of the
-/// numbers.
+/// Numbers in the order in which they came, each with its first place. Contracts see the list of
+/// the numbers.
 #[derive(Drop)]
 pub struct Numbers {
     list: Vec<u16>,

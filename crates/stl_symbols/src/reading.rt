@@ -83,8 +83,8 @@ fn is_name(name: &[u8]) -> bool
     !name.is_empty() && name.len() <= LONGEST_NAME
 }
 
-/// What a line with these columns, cut of their blanks, declares: a symbol, or nothing. `None` where
-/// name, address or type isn't right.
+/// What a line with these columns, cut of their blanks, declares: a symbol, or nothing. `None`
+/// where name, address or type isn't right.
 fn declaration(name: Vec<u8>, address: &[u8], kind: &[u8]) -> Option<Option<Symbol>>
     ensures { result ≡ declaration name.items address.now kind.now }
 {
@@ -165,13 +165,13 @@ fn add_line(symbols: &mut Symbols, alloc: Global, line: u32, text: &[u8]) -> Res
     }
 }
 
-/// Reads a symbols file of at most `SYMBOLS_LIMIT` bytes: each line by itself as CSV, with the name,
-/// the address and the type of a symbol and a comment.
+/// Reads a symbols file of at most `SYMBOLS_LIMIT` bytes: each line by itself as CSV, with the
+/// name, the address and the type of a symbol and a comment.
 ///
 /// # Errors
 ///
-/// The first line that breaks rule 14, 15 or 16 and the least that it breaks, exactly where there is
-/// such a line; or want of memory.
+/// The first line that breaks rule 14, 15 or 16 and the least that it breaks, exactly where there
+/// is such a line; or want of memory.
 #[tactic(auto, unfolding(crate::specs::Symbols::symbols_of), using(crate::proofs::ReadingLemmas::line_added, crate::proofs::ReadingLemmas::line_refused, crate::proofs::ReadingLemmas::no_line))]
 pub fn read_symbols(alloc: Global, bytes: &[u8]) -> Result<Symbols, SourceFault>
     requires { length bytes.now ≤ symbols_limit }

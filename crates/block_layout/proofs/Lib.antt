@@ -1,0 +1,15 @@
+pub mod SizeLemmas
+pub mod MemberLemmas
+pub mod ScopeLemmas
+pub mod PathLemmas
+pub mod VerdictLemmas
+pub mod CellLemmas
+pub mod SectionLemmas
+pub mod MeasureLemmas
+pub mod WalkLemmas
+pub mod LengthLemmas
+pub mod CycleLemmas
+pub mod DirectoryLemmas
+pub mod HeadLemmas
+pub mod AloneLemmas
+pub mod OperandLemmas

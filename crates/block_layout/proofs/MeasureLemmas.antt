@@ -1,0 +1,43 @@
+use Rattle.std.proofs.Common.{ℕ, zero, suc, ◌≡◌, ◌+◌, List, [], ◌∷◌, refl, sym, ◌∙◌, ap, arith, min, max, map, add-one}
+use Rattle.stl_ast.specs.declared.declarations.Declaration.{Declaration}
+use Rattle.block_layout.specs.Around.{of_structure}
+use Rattle.stl_ast.specs.declared.blocks.Block.{Block}
+use Rattle.block_layout.specs.Measures.{deep, deepest, rounds, with_depths, with_bits, depths_after, bits_after, type_depth, type_bits, with_all_depths, with_all_bits}
+use Rattle.block_layout.specs.Rule56.{own_depth, depth_around}
+use Rattle.block_layout.specs.Types.{Types}
+use Rattle.block_layout.specs.declared.verdicts.Verdict.{Verdict}
+use Rattle.block_layout.specs.Verdicts.{reaches, verdicts_of}
+
+deep_max : (a b : ℕ) → max (deep a) (deep b) ≡ deep (max a b)
+deep_max a b = omega arith
+
+reach_from : (y : Types) (before ds : List Declaration) → reaches (verdicts_of y of_structure before ds) ≡ deep (deepest y of_structure before ds)
+reach_from y before [] = refl
+reach_from y before (d ∷ ds) =
+    ap (λ (n : ℕ). max (deep (depth_around y of_structure d.level before + own_depth y d)) n) (reach_from y (d ∷ before) ds)
+    ∙ deep_max (depth_around y of_structure d.level before + own_depth y d) (deepest y of_structure (d ∷ before) ds)
+
+pub deepest_reach : (y : Types) (ds : List Declaration) → reaches (verdicts_of y of_structure [] ds) ≡ deep (deepest y of_structure [] ds)
+deepest_reach y ds = reach_from y [] ds
+
+pub reaches_floor : (vs : List Verdict) → max 1 (reaches vs) ≡ reaches vs
+reaches_floor [] = refl
+reaches_floor (v ∷ vs) = let later = reaches_floor vs in omega arith
+
+pub depths_step : (y types : Types) (blocks : List Block) (k : ℕ) (next : List ℕ) (new : Types) → types ≡ with_depths y (depths_after k y blocks) → next ≡ map (type_depth types) blocks →
+    new ≡ with_depths types next → new ≡ with_depths y (depths_after (k + 1) y blocks)
+depths_step y types blocks k next new is_types is_next is_new =
+    rw add-one (is_new ∙ ap (λ (t : Types). with_depths t next) is_types ∙ ap (λ (n : List ℕ). with_depths y n) (is_next ∙ ap (λ (t : Types). map (type_depth t) blocks) is_types))
+
+pub depths_done : (y types : Types) (blocks : List Block) (k : ℕ) → types ≡ with_depths y (depths_after k y blocks) → k ≡ rounds → types ≡ with_all_depths y blocks
+unfolding with_all_depths
+depths_done y types blocks k is_types all = is_types ∙ ap (λ (j : ℕ). with_depths y (depths_after j y blocks)) all
+
+pub bits_step : (y types : Types) (blocks : List Block) (k : ℕ) (next : List ℕ) (new : Types) → types ≡ with_bits y (bits_after k y blocks) → next ≡ map (type_bits types) blocks →
+    new ≡ with_bits types next → new ≡ with_bits y (bits_after (k + 1) y blocks)
+bits_step y types blocks k next new is_types is_next is_new =
+    rw add-one (is_new ∙ ap (λ (t : Types). with_bits t next) is_types ∙ ap (λ (n : List ℕ). with_bits y n) (is_next ∙ ap (λ (t : Types). map (type_bits t) blocks) is_types))
+
+pub bits_done : (y types : Types) (blocks : List Block) (k : ℕ) → types ≡ with_bits y (bits_after k y blocks) → k ≡ rounds → types ≡ with_all_bits y blocks
+unfolding with_all_bits
+bits_done y types blocks k is_types all = is_types ∙ ap (λ (j : ℕ). with_bits y (bits_after j y blocks)) all

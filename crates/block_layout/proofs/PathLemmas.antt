@@ -1,0 +1,31 @@
+use Rattle.std.proofs.Common.{ℕ, zero, suc, ◌≡◌, ◌<◌, ◌≤◌, ◌+◌, List, [], ◌∷◌, Option, Some, None, Bool, true, false, refl, sym, ◌∙◌, ap, subst, arith, length, drop, get_or}
+use Rattle.std.specs.List.{slice_get}
+use Rattle.block_layout.specs.declared.cells.Cell.{Cell}
+use Rattle.block_layout.specs.declared.members.Member.{Member}
+use Rattle.block_layout.specs.Members.{component, members_of}
+use Rattle.block_layout.specs.declared.blocks.BlockLayout.{BlockLayout}
+use Rattle.block_layout.specs.declared.cells.Element.TheVariants.{Structure}
+use Rattle.block_layout.specs.declared.walks.Spot.{Spot}
+use Rattle.block_layout.specs.declared.walks.Walk.{Walk}
+use Rattle.block_layout.specs.Paths.{cells_at, found_at, named_in}
+use Rattle.block_layout.specs.Scopes.{IsScope, HasComponents, AreKept}
+use Rattle.block_layout.specs.declared.members.Scope.{Scope}
+
+pub members_from : (x y : Cell) (d behind : List Cell) (s t : Scope) → IsScope y d t → s ≡ t → x ≡ y → behind ≡ d → s.members.items ≡ members_of (x.level + 1) 0 0 behind
+members_from x y d behind s t scope is_s is_x is_behind =
+    ap (λ (z : Scope). z.members.items) is_s ∙ scope.members ∙ ap (λ (c : Cell). members_of (c.level + 1) 0 0 d) (sym is_x) ∙ ap (λ (l : List Cell). members_of (x.level + 1) 0 0 l) (sym is_behind)
+
+pub got : (xs : List Cell) (i : ℕ) (c : Cell) → slice_get xs i ≡ Some c → get_or xs i c ≡ c
+got [] i c e = refl
+got (x ∷ xs) zero c e = cc
+got (x ∷ xs) (suc i) c e = got xs i c e
+
+pub named_structure : (l : List BlockLayout) (spot : Spot) (name : List ℕ) (c : Cell) (cells : List Cell) (found : Option Member) (r : Walk) → cells ≡ cells_at l spot.block spot.temporary →
+    slice_get cells spot.place ≡ Some c → ((d : Cell) → found ≡ component ((get_or cells spot.place d).level + 1) 0 0 name (drop (spot.place + 1) cells)) →
+    r ≡ found_at cells spot.block spot.temporary (spot.place + 1) spot.offset found → c.of ≡ Structure → r ≡ named_in l spot name c c.of
+named_structure l spot name c cells found r are there is_found is_r is_structure =
+    let found_is : found ≡ component (c.level + 1) 0 0 name (drop (spot.place + 1) cells) =
+    is_found c ∙ ap (λ (x : Cell). component (x.level + 1) 0 0 name (drop (spot.place + 1) cells)) (got cells spot.place c there) in
+    rw is_structure
+    (is_r ∙ ap (λ (m : Option Member). found_at cells spot.block spot.temporary (spot.place + 1) spot.offset m) found_is
+    ∙ ap (λ (l : List Cell). found_at l spot.block spot.temporary (spot.place + 1) spot.offset (component (c.level + 1) 0 0 name (drop (spot.place + 1) l))) are)

@@ -1,0 +1,12 @@
+use Rattle.std.proofs.Common.{rules, ◌≡◌, arith}
+use Rattle.block_layout.proofs.MeasureLemmas.{depths_step, depths_done}
+use Rattle.block_layout.proofs.measures.with_all_depths.Goals as goal
+
+pub loop-round-preserved : goal.loop-round-preserved
+loop-round-preserved c = depths_step c.args.types c.loop-round.types c.args.blocks.now c.loop-round.round c.in_ok-depths.depths.items c.with_depths-types-in-loop-round.result
+    c.loop-round.invariant c.in_ok-depths.ensures c.with_depths-types-in-loop-round.ensures
+
+pub returns : goal.returns
+returns c =
+    depths_done c.args.types c.loop-round.types c.args.blocks.now c.loop-round.round c.loop-round.invariant
+    (let over = c.loop-round-test.false in let most = c.loop-round.auto.round-end in omega arith)

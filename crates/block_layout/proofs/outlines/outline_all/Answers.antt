@@ -1,0 +1,28 @@
+use Rattle.std.proofs.Common.{rules, arith, ◌≡◌, sym, ◌∙◌, ap, List}
+use Rattle.std.proofs.lemmas.Grind.{common_steps}
+use Rattle.stl_symbols.proofs.LeastLemmas.{least_next, least_done, lesser_first}
+use Rattle.block_layout.specs.Around.{in_block}
+use Rattle.block_layout.specs.Rule21.{broken_21, rule_21}
+use Rattle.block_layout.specs.Rule56.{broken_56, rule_56}
+use Rattle.block_layout.proofs.outlines.outline_all.Goals as goal
+
+pub loop-block-init : goal.loop-block-init
+loop-block-init c = record { components = grind (arith, common_steps); temps = grind (arith, common_steps); twice = lesser_first _; deep = lesser_first _ }
+
+pub loop-block-preserved : goal.loop-block-preserved
+loop-block-preserved c = record {
+  components = grind (arith, common_steps);
+  temps = grind (arith, common_steps);
+  twice = least_next (in_block broken_21) c.args.blocks.now c.loop-block.block-index c.block-item.result _ _ _ c.loop-block-test.true c.block-item.is
+      c.in_ok-made.ensures.twice c.lesser-twice.ensures c.loop-block.invariant.twice;
+  deep = least_next (in_block (broken_56 c.args.types.now)) c.args.blocks.now c.loop-block.block-index c.block-item.result _ _ _ c.loop-block-test.true c.block-item.is
+      c.in_ok-made.ensures.deep c.lesser-deep.ensures c.loop-block.invariant.deep;
+}
+
+pub returns-clause-twice : goal.returns-clause-twice
+unfolding rule_21
+returns-clause-twice c = least_done (in_block broken_21) c.args.blocks.now _ _ c.loop-block-test.false c.loop-block.invariant.twice
+
+pub returns-clause-deep : goal.returns-clause-deep
+unfolding rule_56
+returns-clause-deep c = least_done (in_block (broken_56 c.args.types.now)) c.args.blocks.now _ _ c.loop-block-test.false c.loop-block.invariant.deep

@@ -1,0 +1,71 @@
+-- Declarations and what they stand in. Those before a declaration are listed with the nearest first.
+use Rattle.std.specs.Prelude.{ℕ, nat_lt, List, [], ◌∷◌, ◌++◌, false, Option, Some, None, codes, if◌then◌else◌}
+use Rattle.std.specs.List.{flat_map}
+use Rattle.plc_base.specs.declared.refusals.Refusal.{Refusal}
+use Rattle.stl_ast.specs.declared.blocks.Block.{Block}
+use Rattle.stl_ast.specs.declared.declarations.Declaration.{Declaration}
+use Rattle.stl_ast.specs.declared.declarations.Simple.{Simple}
+use Rattle.stl_symbols.specs.Gathered.{gathered}
+
+-- a declaration with those before it
+pub record Holder : Type 0 where
+  pub declaration : Declaration
+  pub before : List Declaration
+
+-- the structures around a declaration at this level, the innermost first: of those before it the nearest at a lower
+-- level, and those around that one
+abbrev pub around : ℕ → List Declaration → List Holder
+around level [] = []
+around level (d ∷ ds) =
+    if nat_lt d.level level then record { declaration = d; before = ds } ∷ around d.level ds
+    else around level ds
+
+-- those before what follows some declarations
+abbrev pub onto : (before : List Declaration) → List Declaration → List Declaration
+onto before [] = before
+onto before (d ∷ ds) = onto (d ∷ before) ds
+
+-- what the outermost declarations of a list stand in: names that the list has already, and open structures
+pub record Outside : Type 0 where
+  pub names : List (List ℕ)
+  pub depth : ℕ
+
+-- the return value of a function
+abbrev pub ret_val : List ℕ
+ret_val = codes "RET_VAL"
+
+abbrev pub returned_names : Option Simple → List (List ℕ)
+returned_names None = []
+returned_names (Some kind) = ret_val ∷ []
+
+-- the sections of a block make one list, in which a function has its return value
+abbrev pub of_sections : Block → Outside
+of_sections b = record { names = returned_names b.result; depth = 0 }
+
+abbrev pub section_declarations : Block → List Declaration
+section_declarations b = flat_map (λ p. p.items) b.parts
+
+-- the components of a data block or a data type stand in its structure
+abbrev pub of_structure : Outside
+of_structure = record { names = []; depth = 1 }
+
+-- what breaks a rule of declarations, of all that follow some declarations
+abbrev pub in_rest : (List Declaration → Declaration → List Refusal) → (before : List Declaration)
+    → List Declaration → List Refusal
+in_rest broken before ds = gathered (λ d. false) broken (λ before d. d ∷ before) before ds
+
+-- and of all that stand in a list
+abbrev pub in_list : (List Declaration → Declaration → List Refusal) → List Declaration
+    → List Refusal
+in_list broken ds = in_rest broken [] ds
+
+-- and of all declarations of a block
+abbrev pub in_block : (Outside → List Declaration → Declaration → List Refusal) → Block
+    → List Refusal
+in_block broken b =
+    in_list (broken (of_sections b)) (section_declarations b)
+    ++ in_list (broken of_structure) b.components
+
+abbrev pub in_blocks : (Outside → List Declaration → Declaration → List Refusal) → List Block
+    → List Refusal
+in_blocks broken blocks = flat_map (in_block broken) blocks

@@ -1,0 +1,13 @@
+-- What the rules on heads ask of the blocks before one.
+use Rattle.std.specs.Prelude.{◌≡◌, ◌-◌, ◌^◌, min, List, length}
+use Rattle.stl_ast.specs.declared.blocks.Block.{Block}
+use Rattle.block_layout.specs.Rule53.{data_blocks}
+use Rattle.block_layout.specs.Rule54.{total}
+use Rattle.block_layout.specs.Types.{Types}
+use Rattle.block_layout.specs.declared.broken.Before.{Before}
+
+-- how many there are, how many of them are data blocks, and the bytes of these, or the greatest number
+pub record IsBefore (y : Types) (blocks before : List Block) (b : Before) : Type 0 where
+  pub count : b.blocks ≡ length before
+  pub data_count : b.data_blocks ≡ data_blocks before
+  pub bytes : b.bytes ≡ min (total y blocks before) (2 ^ 64 - 1)

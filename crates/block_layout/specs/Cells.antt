@@ -1,0 +1,121 @@
+-- What a declaration comes to in the layout.
+use Rattle.std.specs.Prelude.{ℕ, ◌*◌, nat_lt, Bool, true, false, ◌&&◌, ◌||◌, not, List, [], ◌∷◌, ◌++◌, map, get_or, Option, Some, None, if◌then◌else◌}
+use Rattle.std.specs.List.{list_all}
+use Rattle.stl_ast.specs.declared.blocks.Block.{Block}
+use Rattle.stl_ast.specs.declared.blocks.Part.{Part}
+use Rattle.stl_ast.specs.declared.blocks.PartKind.{PartKind}
+use Rattle.stl_ast.specs.declared.blocks.PartKind.TheVariants as part
+use Rattle.stl_ast.specs.declared.declarations.Declaration.{Declaration}
+use Rattle.stl_ast.specs.declared.declarations.ElementType.{ElementType}
+use Rattle.stl_ast.specs.declared.declarations.ElementType.TheVariants as element
+use Rattle.stl_ast.specs.declared.declarations.Init.{Init}
+use Rattle.stl_ast.specs.declared.declarations.Simple.{Simple}
+use Rattle.stl_symbols.specs.Folding.{folded}
+use Rattle.block_layout.specs.declared.cells.Cell.{Cell}
+use Rattle.block_layout.specs.declared.cells.Element.{Element}
+use Rattle.block_layout.specs.declared.cells.Element.TheVariants.{Plain, Structure, DateAndTime, Udt, Unknown}
+use Rattle.block_layout.specs.declared.cells.Preset.{Preset}
+use Rattle.block_layout.specs.Around.{onto, Outside, around, ret_val, of_sections, of_structure}
+use Rattle.block_layout.specs.Declarations.{is_unknown_type, has_upside_down, init_fits, times}
+use Rattle.block_layout.specs.Fits.{bits_of}
+use Rattle.block_layout.specs.Rule21.{is_twice}
+use Rattle.block_layout.specs.Rule56.{is_too_deep}
+use Rattle.block_layout.specs.Types.{Types, udt_of}
+
+-- the most bits of a data block, a data type or an instance: 16,384 bytes
+abbrev pub most_bits : ℕ
+most_bits = 8 * 16384
+
+-- a declaration breaks rule 21, 23, 41, 42 or 56
+abbrev pub breaks_rule : Types → Outside → List Declaration → Declaration → Bool
+breaks_rule y o before d =
+    is_twice o before d || is_unknown_type y d.of.of || not (init_fits d) || has_upside_down d
+    || is_too_deep y o before d
+
+-- its data type breaks rule 51. One that contains itself, or leads to one that does, has no end, so its use is too deep
+abbrev pub is_oversized : List ℕ → Option ℕ → Bool
+is_oversized bits None = false
+is_oversized bits (Some block) = nat_lt most_bits (get_or bits block 0)
+
+abbrev pub uses_oversized : Types → ElementType → Bool
+uses_oversized y (element.Udt name) = is_oversized y.bits (udt_of y name)
+uses_oversized y _ = false
+
+-- a sound declaration breaks no rule, stands in none that does, and is of no data type that does
+abbrev pub is_sound : Types → Outside → List Declaration → Declaration → Bool
+is_sound y o before d =
+    not (breaks_rule y o before d) && not (uses_oversized y d.of.of)
+    && list_all (λ h. not (breaks_rule y o h.before h.declaration)) (around d.level before)
+
+abbrev pub udt_element : List ℕ → Option ℕ → Element
+udt_element bits None = Unknown
+udt_element bits (Some block) = Udt block (get_or bits block 0)
+
+abbrev pub laid : Types → ElementType → Element
+laid y (element.Plain kind) = Plain kind
+laid y element.Structure = Structure
+laid y element.DateAndTime = DateAndTime
+laid y (element.Udt name) = udt_element y.bits (udt_of y name)
+
+abbrev pub preset : Init → Preset
+preset i = record { count = times i.count; value = bits_of i.value }
+
+unfoldable pub cell_of : Types → Outside → PartKind → List Declaration → Declaration → Cell
+cell_of y o section before d = record {
+  name = folded d.name;
+  section = section;
+  level = d.level;
+  opens = false;
+  sound = is_sound y o before d;
+  bounds = d.of.arrays;
+  of = laid y d.of.of;
+  presets = map preset d.init;
+}
+
+-- the cells of declarations one behind the other
+abbrev pub cells_of : Types → Outside → PartKind → (before : List Declaration) → List Declaration
+    → List Cell
+cells_of y o section before [] = []
+cells_of y o section before (d ∷ ds) =
+    cell_of y o section before d ∷ cells_of y o section (d ∷ before) ds
+
+-- the first component of a section begins at an even byte
+abbrev pub opened : List Cell → List Cell
+opened [] = []
+opened (c ∷ cs) = if c.sound then record c { opens = true } ∷ cs else c ∷ opened cs
+
+abbrev pub is_temp : PartKind → Bool
+is_temp part.Temp = true
+is_temp _ = false
+
+-- the cells of those sections of a block that are wanted
+abbrev pub section_cells : Types → Outside → (wanted : PartKind → Bool)
+    → (before : List Declaration) → List Part → List Cell
+section_cells y o wanted before [] = []
+section_cells y o wanted before (p ∷ ps) =
+    (if wanted p.kind then opened (cells_of y o p.kind before p.items) else [])
+    ++ section_cells y o wanted (onto before p.items) ps
+
+-- the return value of a function is an output parameter named RET_VAL
+abbrev pub returned_cells : Option Simple → List Cell
+returned_cells None = []
+returned_cells (Some kind) = record {
+  name = ret_val;
+  section = part.Output;
+  level = 0;
+  opens = false;
+  sound = true;
+  bounds = [];
+  of = Plain kind;
+  presets = [];
+} ∷ []
+
+-- the components of a block: its structure, or its sections but VAR_TEMP in their order
+abbrev pub components_of : Types → Block → List Cell
+components_of y b =
+    returned_cells b.result ++ section_cells y (of_sections b) (λ k. not (is_temp k)) [] b.parts
+    ++ cells_of y of_structure part.Static [] b.components
+
+-- and its temporary variables
+abbrev pub temps_of : Types → Block → List Cell
+temps_of y b = section_cells y (of_sections b) is_temp [] b.parts

@@ -1,0 +1,109 @@
+-- Which constants fit which elementary type, and their bits.
+use Rattle.std.specs.Prelude.{ℕ, ◌+◌, ◌-◌, ◌*◌, ◌^◌, ℤ, pos, negsuc, nat_le, nat_lt, nat_eq, Bool, true, false, ◌||◌, List, [], ◌∷◌, length, Option, Some, None, if◌then◌else◌}
+use Rattle.plc_base.specs.Bcd.{bcd_digits}
+use Rattle.plc_base.specs.S5Time.{s5time_of}
+use Rattle.stl_ast.specs.declared.declarations.Simple.{Simple}
+use Rattle.stl_ast.specs.declared.declarations.Simple.TheVariants as simple
+use Rattle.stl_ast.specs.declared.literals.Literal.{Literal}
+use Rattle.stl_ast.specs.declared.literals.Literal.TheVariants as literal
+
+-- a decimal number: INT from -32768 to 32767, WORD up to 65535, BYTE up to 255; a negative number fits INT alone
+abbrev pub fits_decimal : ℤ → Simple → Bool
+fits_decimal (pos n) simple.Int = nat_le n 32767
+fits_decimal (pos n) simple.Word = nat_le n 65535
+fits_decimal (pos n) simple.Byte = nat_le n 255
+fits_decimal (negsuc n) simple.Int = nat_lt n 32768
+fits_decimal _ _ = false
+
+-- 2#: each of BYTE, WORD, DWORD that holds the value
+abbrev pub fits_binary : ℕ → Simple → Bool
+fits_binary n simple.Byte = nat_le n 255
+fits_binary n simple.Word = nat_le n 65535
+fits_binary n simple.Dword = true
+fits_binary _ _ = false
+
+-- W#16#: WORD, and BYTE if the value fits
+abbrev pub fits_word : ℕ → Simple → Bool
+fits_word n simple.Byte = nat_le n 255
+fits_word n simple.Word = true
+fits_word _ _ = false
+
+-- characters: CHAR, WORD, DWORD by their count
+abbrev pub fits_characters : ℕ → Simple → Bool
+fits_characters n simple.Char = nat_eq n 1
+fits_characters n simple.Word = nat_eq n 2
+fits_characters n simple.Dword = nat_eq n 4
+fits_characters _ _ = false
+
+abbrev pub is_bool : Simple → Bool
+is_bool simple.Bool = true
+is_bool _ = false
+
+abbrev pub is_byte : Simple → Bool
+is_byte simple.Byte = true
+is_byte _ = false
+
+abbrev pub is_word : Simple → Bool
+is_word simple.Word = true
+is_word _ = false
+
+abbrev pub is_dint : Simple → Bool
+is_dint simple.Dint = true
+is_dint _ = false
+
+abbrev pub is_dword : Simple → Bool
+is_dword simple.Dword = true
+is_dword _ = false
+
+abbrev pub is_time : Simple → Bool
+is_time simple.Time = true
+is_time _ = false
+
+abbrev pub is_s5time : Simple → Bool
+is_s5time simple.S5time = true
+is_s5time _ = false
+
+-- a constant fits a type. TRUE, FALSE: BOOL. B#16#: BYTE. DW#16#: DWORD, DINT. L#: DINT. T#: TIME. S5T#: S5TIME, WORD.
+-- C#: WORD. B#(..) fits none
+unfoldable pub fits : Literal → Simple → Bool
+fits (literal.Truth value) k = is_bool k
+fits (literal.Number value) k = fits_decimal value k
+fits (literal.Binary value) k = fits_binary value k
+fits (literal.Byte value) k = is_byte k
+fits (literal.Word value) k = fits_word value k
+fits (literal.Dword value) k = is_dword k || is_dint k
+fits (literal.Long value) k = is_dint k
+fits (literal.Count value) k = is_word k
+fits (literal.Time ms) k = is_time k
+fits (literal.S5time ms) k = is_s5time k || is_word k
+fits (literal.Characters bytes) k = fits_characters (length bytes) k
+fits (literal.Bytes bytes) k = false
+
+-- two's complement
+abbrev pub twos : (width : ℕ) → ℤ → ℕ
+twos width (pos n) = n
+twos width (negsuc n) = 2 ^ width - (n + 1)
+
+-- the first byte is the highest
+abbrev pub number_from : ℕ → List ℕ → ℕ
+number_from n [] = n
+number_from n (b ∷ bs) = number_from (256 * n + b) bs
+
+abbrev pub or_0 : Option ℕ → ℕ
+or_0 None = 0
+or_0 (Some n) = n
+
+-- the bits of a constant that fits: a count is three BCD digits, an S5TIME its word
+unfoldable pub bits_of : Literal → ℕ
+bits_of (literal.Truth value) = if value then 1 else 0
+bits_of (literal.Number value) = twos 16 value
+bits_of (literal.Binary value) = value
+bits_of (literal.Byte value) = value
+bits_of (literal.Word value) = value
+bits_of (literal.Dword value) = value
+bits_of (literal.Long value) = twos 32 value
+bits_of (literal.Count value) = bcd_digits 3 value
+bits_of (literal.Time ms) = twos 32 ms
+bits_of (literal.S5time ms) = or_0 (s5time_of ms)
+bits_of (literal.Characters bytes) = number_from 0 bytes
+bits_of (literal.Bytes bytes) = number_from 0 bytes

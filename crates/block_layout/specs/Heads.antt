@@ -1,0 +1,18 @@
+-- Rules that a block breaks as a whole: the line is that of its head. The blocks before it are listed with the nearest
+-- first.
+use Rattle.std.specs.Prelude.{ℕ, Bool, false, List, [], ◌∷◌}
+use Rattle.plc_base.specs.declared.refusals.Refusal.{Refusal}
+use Rattle.stl_ast.specs.declared.blocks.Block.{Block}
+use Rattle.stl_symbols.specs.Gathered.{gathered}
+use Rattle.stl_symbols.specs.Least.{broken_if}
+
+abbrev pub on_heads : (breaks : List Block → Block → Bool) → (rule : ℕ) → List Block → List Refusal
+on_heads breaks rule blocks =
+    gathered (λ b. false) (λ before b. broken_if (breaks before b) b.line rule)
+    (λ before b. b ∷ before) [] blocks
+
+-- of each block whether it breaks such a rule
+abbrev pub flagged : (breaks : List Block → Block → Bool) → (before : List Block) → List Block
+    → List Bool
+flagged breaks before [] = []
+flagged breaks before (b ∷ bs) = breaks before b ∷ flagged breaks (b ∷ before) bs

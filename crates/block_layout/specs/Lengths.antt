@@ -1,0 +1,97 @@
+-- How long the structure and the local data of a block are, in bytes.
+use Rattle.std.specs.Prelude.{ℕ, ◌+◌, ◌/◌, max, Bool, true, false, ◌||◌, List, [], ◌∷◌, Option, Some, None, if◌then◌else◌}
+use Rattle.std.specs.List.{slice_get}
+use Rattle.std.specs.Option.{option_map}
+use Rattle.block_layout.specs.declared.cells.Cell.{Cell}
+use Rattle.plc_base.specs.Widths.{byte_count}
+use Rattle.plc_base.specs.declared.blocks.BlockKind.{BlockKind}
+use Rattle.stl_ast.specs.declared.blocks.Block.{Block}
+use Rattle.stl_ast.specs.declared.declarations.ElementType.{ElementType}
+use Rattle.stl_ast.specs.declared.declarations.ElementType.TheVariants as element
+use Rattle.stl_ast.specs.declared.declarations.TypeTree.{TypeTree}
+use Rattle.stl_ast.specs.declared.names.BlockName.{BlockName}
+use Rattle.stl_ast.specs.declared.operands.Letters.{Letters}
+use Rattle.stl_ast.specs.declared.operands.Letters.TheVariants as letters
+use Rattle.stl_ast.specs.declared.operands.Operand.{Operand}
+use Rattle.stl_ast.specs.declared.operands.Operand.TheVariants as operand
+use Rattle.stl_ast.specs.declared.statements.Actual.{Actual}
+use Rattle.stl_ast.specs.declared.statements.Statement.{Statement}
+use Rattle.block_layout.specs.declared.blocks.Shape.{Shape}
+use Rattle.block_layout.specs.declared.blocks.Shape.TheVariants as shape
+use Rattle.block_layout.specs.Blocks.{found_block, has_structure, is_data_type, is_function_block, is_data_block, is_organization_block, is_code}
+use Rattle.block_layout.specs.Cells.{components_of, temps_of}
+use Rattle.block_layout.specs.Sizes.{structure_bits, up}
+use Rattle.block_layout.specs.Types.{Types}
+
+-- the function block or data type that a data block is of
+abbrev pub named_type : Option TypeTree → Option BlockName
+named_type None = None
+named_type (Some t) = named_element t.of where
+  named_element : ElementType → Option BlockName
+  named_element (element.Udt name) = Some name
+  named_element _ = None
+
+abbrev pub referred : Option BlockName → Option TypeTree → Option BlockName
+referred (Some name) t = Some name
+referred None t = named_type t
+
+abbrev pub shape_at : Option ℕ → Shape
+shape_at None = shape.Unknown
+shape_at (Some block) = shape.Of block
+
+abbrev pub shape_named : Types → Option BlockName → Shape
+shape_named y None = shape.Own
+shape_named y (Some name) = shape_at (found_block y.symbols y.ids has_structure name)
+
+abbrev pub shape_of : Types → Block → Shape
+shape_of y b = shape_named y (referred b.instance_of b.shape)
+
+abbrev pub bits_of_cells : Option (List Cell) → ℕ
+bits_of_cells None = 0
+bits_of_cells (Some cells) = structure_bits cells
+
+abbrev pub block_bits : Types → Option Block → ℕ
+block_bits y b = bits_of_cells (option_map (components_of y) b)
+
+-- a data block that refers to another block is as long as the structure of that one
+abbrev pub shape_bits : Types → List Block → Block → Shape → ℕ
+shape_bits y blocks b shape.Own = block_bits y (Some b)
+shape_bits y blocks b (shape.Of block) = block_bits y (slice_get blocks block)
+shape_bits y blocks b shape.Unknown = 0
+
+abbrev pub is_structured : BlockKind → Bool
+is_structured k = is_data_block k || is_function_block k || is_data_type k
+
+-- the length of a data block, of a data type, and of the instance of a function block
+unfoldable pub length_of : Types → List Block → Block → ℕ
+length_of y blocks b = if is_structured b.kind then shape_bits y blocks b (shape_of y b) / 8 else 0
+
+abbrev pub is_local : Letters → Bool
+is_local letters.L = true
+is_local _ = false
+
+-- the end of a direct operand in the local data
+abbrev pub local_end : Operand → ℕ
+local_end (operand.Direct name area width byte bit) =
+    if is_local area then byte + byte_count width else 0
+local_end _ = 0
+
+abbrev pub actuals_end : List Actual → ℕ
+actuals_end [] = 0
+actuals_end (a ∷ behind) = max (local_end a.value) (actuals_end behind)
+
+-- of the operands of a body the farthest end, actual parameters included
+abbrev pub farthest : List Statement → ℕ
+farthest [] = 0
+farthest (s ∷ ss) = max (max (local_end s.operand) (actuals_end s.actuals)) (farthest ss)
+
+-- the start information of an organization block takes 20 bytes
+abbrev pub least_local : BlockKind → ℕ
+least_local k = if is_organization_block k then 20 else 0
+
+-- the temporary variables or the farthest direct operand, up to an even byte
+unfoldable pub local_len : Types → Block → ℕ
+local_len y b =
+    if is_code b.kind
+    then max (least_local b.kind)
+    (up (max (structure_bits (temps_of y b) / 8) (farthest b.body)) 2) else 0

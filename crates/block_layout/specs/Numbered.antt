@@ -1,0 +1,23 @@
+-- The numbers of the blocks of one kind, at the places of these blocks.
+use Rattle.std.specs.Prelude.{ℕ, suc, nat_eq, Bool, false, List, [], ◌∷◌, map, Option, Some, None, if◌then◌else◌}
+use Rattle.std.specs.Option.{option_map}
+use Rattle.plc_base.specs.declared.blocks.BlockId.{BlockId}
+use Rattle.plc_base.specs.declared.blocks.BlockKind.{BlockKind}
+use Rattle.block_layout.specs.Blocks.{is_same_kind}
+
+abbrev pub is_number : ℕ → Option ℕ → Bool
+is_number n None = false
+is_number n (Some m) = nat_eq n m
+
+-- the first place of a number, counted from 0
+abbrev pub numbered_place : ℕ → List (Option ℕ) → Option ℕ
+numbered_place n [] = None
+numbered_place n (m ∷ ms) = if is_number n m then Some 0 else option_map (λ k. suc k) (numbered_place n ms)
+
+-- the number of a block, if it is of this kind
+abbrev pub number_of : BlockKind → Option BlockId → Option ℕ
+number_of kind None = None
+number_of kind (Some id) = if is_same_kind kind id.kind then Some id.number else None
+
+abbrev pub numbers_of : BlockKind → List (Option BlockId) → List (Option ℕ)
+numbers_of kind ids = map (number_of kind) ids

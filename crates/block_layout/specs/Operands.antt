@@ -1,0 +1,19 @@
+-- The operands of a body that name blocks or declarations, with the line by which they are judged.
+use Rattle.std.specs.Prelude.{ℕ, List, ◌∷◌, map}
+use Rattle.std.specs.List.{flat_map}
+use Rattle.plc_base.specs.declared.refusals.Refusal.{Refusal}
+use Rattle.stl_ast.specs.declared.operands.Operand.{Operand}
+use Rattle.stl_ast.specs.declared.statements.Statement.{Statement}
+
+-- of a statement its operand, and the values of its actual parameters, each in its own line
+pub record Judged : Type 0 where
+  pub line : ℕ
+  pub operand : Operand
+
+abbrev pub operands_of : Statement → List Judged
+operands_of s =
+    record { line = s.line; operand = s.operand } ∷ map
+    (λ a. record { line = a.line; operand = a.value }) s.actuals
+
+abbrev pub in_body : (Judged → List Refusal) → List Statement → List Refusal
+in_body broken body = flat_map (λ s. flat_map broken (operands_of s)) body

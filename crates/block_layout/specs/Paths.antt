@@ -1,0 +1,196 @@
+-- Where a path leads. Its names are in upper case, as those of cells.
+use Rattle.std.specs.Prelude.{ℕ, ◌+◌, ◌*◌, ◌-ℤ◌, ◌≤◌, ◌≡◌, Bool, true, false, ◌||◌, nat_eq, ℤ, int_lt, unsigned_abs, List, [], ◌∷◌, Option, Some, None, is_some, map, if◌then◌else◌, length, drop}
+use Rattle.std.specs.List.{slice_get}
+use Rattle.std.specs.Option.{option_and_then}
+use Rattle.stl_ast.specs.declared.declarations.Bounds.{Bounds}
+use Rattle.stl_ast.specs.declared.declarations.Simple.{Simple}
+use Rattle.stl_ast.specs.declared.blocks.PathStep.{PathStep}
+use Rattle.stl_ast.specs.declared.blocks.PathStep.TheVariants as step
+use Rattle.stl_symbols.specs.Folding.{folded}
+use Rattle.block_layout.specs.declared.blocks.BlockLayout.{BlockLayout}
+use Rattle.block_layout.specs.declared.blocks.Shape.{Shape}
+use Rattle.block_layout.specs.declared.blocks.Shape.TheVariants as shape
+use Rattle.block_layout.specs.declared.cells.Cell.{Cell}
+use Rattle.block_layout.specs.declared.cells.Element.{Element}
+use Rattle.block_layout.specs.declared.cells.Element.TheVariants.{Plain, Structure, Udt}
+use Rattle.block_layout.specs.declared.cells.TheConstants.{LARGEST}
+use Rattle.block_layout.specs.declared.members.Member.{Member}
+use Rattle.block_layout.specs.declared.walks.Spot.{Spot}
+use Rattle.block_layout.specs.declared.walks.Walk.{Walk}
+use Rattle.block_layout.specs.declared.walks.Walk.TheVariants as walk
+use Rattle.block_layout.specs.Members.{component}
+use Rattle.block_layout.specs.Sizes.{capped, array_bits, element_of}
+
+-- the steps of a path of the source, with their names in upper case
+abbrev pub folded_step : PathStep → PathStep
+folded_step (step.Named name) = step.Named (folded name)
+folded_step (step.Index at) = step.Index at
+
+abbrev pub folded_path : List PathStep → List PathStep
+folded_path path = map folded_step path
+
+-- the declarations of a block that a path is in
+abbrev pub cells_in : (temporary : Bool) → Option BlockLayout → List Cell
+cells_in temporary None = []
+cells_in temporary (Some b) = if temporary then b.temps else b.components
+
+abbrev pub cells_at : List BlockLayout → (block : ℕ) → (temporary : Bool) → List Cell
+cells_at l block temporary = cells_in temporary (slice_get l block)
+
+-- a declaration that breaks a rule itself isn't gone through
+abbrev pub entered : (block : ℕ) → (temporary : Bool) → (place offset : ℕ) → Option Cell → Walk
+entered block temporary place offset None = walk.Unknown
+entered block temporary place offset (Some c) =
+    if c.sound
+    then walk.Reaches (record {
+      block = block;
+      temporary = temporary;
+      place = place;
+      depth = 0;
+      offset = offset;
+    }) else walk.Rests
+
+-- a component, whose place counts from `first` on and whose offset from that of the structure
+abbrev pub found_at : List Cell → (block : ℕ) → (temporary : Bool) → (first offset : ℕ)
+    → Option Member → Walk
+found_at cells block temporary first offset None = walk.Unknown
+found_at cells block temporary first offset (Some m) =
+    entered block temporary (first + m.place) (capped (offset + capped m.offset))
+    (slice_get cells (first + m.place))
+
+-- a name in the outermost declarations of a block
+unfoldable pub outermost : List BlockLayout → (block : ℕ) → (temporary : Bool) → (offset : ℕ)
+    → List ℕ → Walk
+outermost l block temporary offset name =
+    found_at (cells_at l block temporary) block temporary 0 offset
+    (component 0 0 0 name (cells_at l block temporary))
+
+-- a name behind a component: of a structure its own components, of a data type those of the block that declares it
+abbrev pub named_in : List BlockLayout → Spot → List ℕ → Cell → Element → Walk
+named_in l spot name c Structure =
+    found_at (cells_at l spot.block spot.temporary) spot.block spot.temporary
+    (spot.place + 1) spot.offset
+    (component (c.level + 1) 0 0 name
+    (drop (spot.place + 1) (cells_at l spot.block spot.temporary)))
+named_in l spot name c (Udt block bits) = outermost l block false spot.offset name
+named_in l spot name c _ = walk.Unknown
+
+-- once all its indices are there
+abbrev pub named_behind : List BlockLayout → Spot → List ℕ → Option Cell → Walk
+named_behind l spot name None = walk.Unknown
+named_behind l spot name (Some c) =
+    if nat_eq spot.depth (length c.bounds) then named_in l spot name c c.of else walk.Unknown
+
+unfoldable pub named : List BlockLayout → Spot → List ℕ → Walk
+named l spot name =
+    named_behind l spot name (slice_get (cells_at l spot.block spot.temporary) spot.place)
+
+-- an index behind a component with these bounds left
+abbrev pub within : Spot → Cell → (behind : List Cell) → ℤ → Option Bounds → Walk
+within spot c behind at None = walk.Unknown
+within spot c behind at (Some b) =
+    if int_lt at b.low || int_lt b.high at then walk.Outside
+    else walk.Reaches (record spot {
+      depth = spot.depth + 1;
+      offset = capped (spot.offset + capped
+          (unsigned_abs (at -ℤ b.low) * array_bits (drop (spot.depth + 1) c.bounds)
+          (element_of c behind)));
+    })
+
+abbrev pub indexed_behind : Spot → (cells : List Cell) → ℤ → Option Cell → Walk
+indexed_behind spot cells at None = walk.Unknown
+indexed_behind spot cells at (Some c) =
+    within spot c (drop (spot.place + 1) cells) at (slice_get c.bounds spot.depth)
+
+unfoldable pub indexed : List BlockLayout → Spot → ℤ → Walk
+indexed l spot at =
+    indexed_behind spot (cells_at l spot.block spot.temporary) at
+    (slice_get (cells_at l spot.block spot.temporary) spot.place)
+
+unfoldable pub step_of : List BlockLayout → Spot → PathStep → Walk
+step_of l spot (step.Named name) = named l spot name
+step_of l spot (step.Index at) = indexed l spot at
+
+abbrev pub goes_on : Walk → (Spot → Walk) → Walk
+goes_on (walk.Reaches spot) next = next spot
+goes_on walk.Unknown next = walk.Unknown
+goes_on walk.Outside next = walk.Outside
+goes_on walk.Rests next = walk.Rests
+
+-- the steps behind a component
+abbrev pub walked : List BlockLayout → Spot → List PathStep → Walk
+walked l spot [] = walk.Reaches spot
+walked l spot (s ∷ ss) = goes_on (step_of l spot s) (λ next. walked l next ss)
+
+-- a whole path in the outermost declarations of a block begins with a name
+abbrev pub walked_from : List BlockLayout → (block : ℕ) → (temporary : Bool) → List PathStep → Walk
+walked_from l block temporary (step.Named name ∷ ss) =
+    goes_on (outermost l block temporary 0 name) (λ spot. walked l spot ss)
+walked_from l block temporary _ = walk.Unknown
+
+-- a block that isn't broken
+abbrev pub whole_block : Option BlockLayout → Option BlockLayout
+whole_block None = None
+whole_block (Some b) = if b.broken then None else Some b
+
+abbrev pub whole_at : List BlockLayout → ℕ → Option BlockLayout
+whole_at l block = whole_block (slice_get l block)
+
+abbrev pub if_whole : List BlockLayout → ℕ → Option ℕ
+if_whole l block = if is_some (whole_at l block) then Some block else None
+
+abbrev pub shape_block : List BlockLayout → ℕ → Shape → Option ℕ
+shape_block l block shape.Own = Some block
+shape_block l block (shape.Of other) = if_whole l other
+shape_block l block shape.Unknown = None
+
+-- the block that declares the components of a data block, where neither of the two is broken
+abbrev pub structure_of : List BlockLayout → ℕ → Option ℕ
+structure_of l block = option_and_then (λ b. shape_block l block b.shape) (whole_at l block)
+
+abbrev pub walked_or_rests : List BlockLayout → Option ℕ → List PathStep → Walk
+walked_or_rests l None path = walk.Rests
+walked_or_rests l (Some block) path = walked_from l block false path
+
+-- a path into a data block: a component of it, or the target of a setting
+unfoldable pub walked_data : List BlockLayout → (block : ℕ) → List PathStep → Walk
+walked_data l block path = walked_or_rests l (structure_of l block) path
+
+-- a name in the sections of a block: of two that are the same the first one is meant, and VAR_TEMP is the last section
+abbrev pub in_sections : List BlockLayout → (block : ℕ) → List ℕ → Walk
+in_sections l block name =
+    if is_some (component 0 0 0 name (cells_at l block false))
+    then outermost l block false 0 name
+    else outermost l block true 0 name
+
+-- a path in the body of a block, into its own variables
+unfoldable pub walked_local : List BlockLayout → (block : ℕ) → List ℕ → List PathStep → Walk
+walked_local l block name path =
+    if is_some (whole_at l block)
+    then goes_on (in_sections l block name) (λ spot. walked l spot path) else walk.Rests
+
+-- the elementary type of a component that a path reaches
+abbrev pub plain_kind : Element → Option Simple
+plain_kind (Plain kind) = Some kind
+plain_kind _ = None
+
+abbrev pub kind_of : Spot → Option Cell → Option Simple
+kind_of spot None = None
+kind_of spot (Some c) = if nat_eq spot.depth (length c.bounds) then plain_kind c.of else None
+
+abbrev pub elementary_at : List BlockLayout → Spot → Option Simple
+elementary_at l spot = kind_of spot (slice_get (cells_at l spot.block spot.temporary) spot.place)
+
+-- an offset isn't above the cap
+abbrev pub OffsetIsNear : Walk → Type 0
+OffsetIsNear (walk.Reaches spot) = spot.offset ≤ LARGEST
+OffsetIsNear _ = Unit {0}
+
+-- the component at a spot is sound
+abbrev pub IsSoundAt : List BlockLayout → Spot → Type 0
+IsSoundAt l spot = (c : Cell)
+    → slice_get (cells_at l spot.block spot.temporary) spot.place ≡ Some c → c.sound ≡ true
+
+abbrev pub ReachesSound : List BlockLayout → Walk → Type 0
+ReachesSound l (walk.Reaches spot) = IsSoundAt l spot
+ReachesSound l _ = Unit {0}

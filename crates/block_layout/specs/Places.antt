@@ -1,0 +1,32 @@
+-- Where components lie, as a relation: the offset of each is the least place at or past the end of its preceding sibling
+-- that meets its alignment.
+use Rattle.std.specs.Prelude.{◌≡◌, ℕ, ◌+◌, ◌%◌, ◌≤◌, nat_lt, nat_eq, ◌&&◌, List, [], ◌∷◌, ◌++◌, if◌then◌else◌}
+use Rattle.block_layout.specs.declared.cells.Cell.{Cell}
+use Rattle.block_layout.specs.Sizes.{alignment, cell_bits}
+
+-- the least place at or past `end` that meets the alignment
+pub record IsLeastPlace (end align place : ℕ) : Type 0 where
+  pub behind : end ≤ place
+  pub meets : place % align ≡ 0
+  pub least : (other : ℕ) → end ≤ other → other % align ≡ 0 → place ≤ other
+
+-- a component with its alignment and its size in bits
+pub record Sibling : Type 0 where
+  pub align : ℕ
+  pub bits : ℕ
+
+-- the sound components at a level, in their order: they stand before the first cell at a lower level
+abbrev pub siblings : ℕ → List Cell → List Sibling
+siblings level [] = []
+siblings level (c ∷ cs) =
+    if nat_lt c.level level then []
+    else (if c.sound && nat_eq c.level level
+    then record { align = alignment c; bits = cell_bits c cs } ∷ [] else [])
+    ++ siblings level cs
+
+-- these places are the offsets of these components, the first of which begins at or past `end`
+abbrev pub AreOffsets : (end : ℕ) → List Sibling → List ℕ → Type 0
+AreOffsets end [] [] = Unit {0}
+AreOffsets end (s ∷ ss) (place ∷ places) = IsLeastPlace end s.align place
+    × AreOffsets (place + s.bits) ss places
+AreOffsets end _ _ = ⊥

@@ -1,0 +1,29 @@
+-- Rule 21: a name declared twice in one list. The sections of a block are one list, each structure is one; the line is
+-- that of the later declaration.
+use Rattle.std.specs.Prelude.{ℕ, nat_lt, nat_eq, Bool, is_some, List, [], ◌∷◌, ◌++◌, if◌then◌else◌}
+use Rattle.plc_base.specs.declared.refusals.Refusal.{Refusal}
+use Rattle.stl_ast.specs.declared.blocks.Block.{Block}
+use Rattle.stl_ast.specs.declared.declarations.Declaration.{Declaration}
+use Rattle.stl_symbols.specs.Folding.{folded}
+use Rattle.stl_symbols.specs.Least.{broken_if}
+use Rattle.stl_symbols.specs.Names.{place_of}
+use Rattle.block_layout.specs.Around.{Outside, in_blocks}
+
+abbrev pub name_here : ℕ → Declaration → List (List ℕ)
+name_here level d = if nat_eq d.level level then folded d.name ∷ [] else []
+
+-- the names of the list that a declaration at this level goes on: of those before it the ones at this level, back to the
+-- structure that holds it
+abbrev pub names_before : (outer : List (List ℕ)) → ℕ → List Declaration → List (List ℕ)
+names_before outer level [] = outer
+names_before outer level (d ∷ ds) =
+    if nat_lt d.level level then [] else names_before outer level ds ++ name_here level d
+
+abbrev pub is_twice : Outside → List Declaration → Declaration → Bool
+is_twice o before d = is_some (place_of (folded d.name) (names_before o.names d.level before))
+
+abbrev pub broken_21 : Outside → List Declaration → Declaration → List Refusal
+broken_21 o before d = broken_if (is_twice o before d) d.line 21
+
+unfoldable pub rule_21 : List Block → List Refusal
+rule_21 blocks = in_blocks broken_21 blocks

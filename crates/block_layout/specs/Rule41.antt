@@ -1,0 +1,36 @@
+-- Rule 41: an initial value that doesn't fit, of a declaration or set in a data block. A structure, an array or a data type
+-- that is set fits no value. The line is that of the declaration or of the setting.
+use Rattle.std.specs.Prelude.{ℕ, Bool, false, not, List, ◌++◌, Option, Some, None}
+use Rattle.plc_base.specs.declared.refusals.Refusal.{Refusal}
+use Rattle.stl_ast.specs.declared.blocks.Block.{Block}
+use Rattle.stl_ast.specs.declared.blocks.Setting.{Setting}
+use Rattle.stl_ast.specs.declared.declarations.Declaration.{Declaration}
+use Rattle.stl_ast.specs.declared.declarations.Simple.{Simple}
+use Rattle.stl_ast.specs.declared.literals.Literal.{Literal}
+use Rattle.stl_symbols.specs.Least.{broken_if}
+use Rattle.block_layout.specs.Around.{Outside, in_blocks}
+use Rattle.block_layout.specs.Declarations.{init_fits}
+use Rattle.block_layout.specs.Fits.{fits}
+use Rattle.block_layout.specs.Paths.{folded_path, walked_data, elementary_at}
+use Rattle.block_layout.specs.Settings.{on_settings}
+use Rattle.block_layout.specs.declared.blocks.BlockLayout.{BlockLayout}
+use Rattle.block_layout.specs.declared.walks.Walk.{Walk}
+use Rattle.block_layout.specs.declared.walks.Walk.TheVariants as walk
+
+abbrev pub broken_41 : Outside → List Declaration → Declaration → List Refusal
+broken_41 o before d = broken_if (not (init_fits d)) d.line 41
+
+abbrev pub fits_kind : Literal → Option Simple → Bool
+fits_kind value None = false
+fits_kind value (Some kind) = fits value kind
+
+-- only a path that leads to a component is judged by its value
+abbrev pub misfits : List BlockLayout → Literal → Walk → Bool
+misfits l value (walk.Reaches spot) = not (fits_kind value (elementary_at l spot))
+misfits l value _ = false
+
+abbrev pub setting_misfits : List BlockLayout → ℕ → Setting → Bool
+setting_misfits l block s = misfits l s.value (walked_data l block (folded_path s.path))
+
+unfoldable pub rule_41 : List BlockLayout → List Block → List Refusal
+rule_41 l blocks = in_blocks broken_41 blocks ++ on_settings (setting_misfits l) 41 0 blocks

@@ -1,0 +1,19 @@
+-- Rule 44: a block number beyond the limits, or an organization block that the profile hasn't. It is judged at the head
+-- alone, and its line is that of the head.
+use Rattle.std.specs.Prelude.{Bool, false, not, List, Option, Some, None}
+use Rattle.plc_base.specs.declared.blocks.BlockId.{BlockId}
+use Rattle.plc_base.specs.declared.refusals.Refusal.{Refusal}
+use Rattle.stl_ast.specs.declared.blocks.Block.{Block}
+use Rattle.stl_symbols.specs.Symbol.{Symbol}
+use Rattle.block_layout.specs.Blocks.{id_of, is_block_number}
+use Rattle.block_layout.specs.Heads.{on_heads}
+
+abbrev pub is_beyond : Option BlockId → Bool
+is_beyond None = false
+is_beyond (Some id) = not (is_block_number id.kind id.number)
+
+abbrev pub has_wrong_number : List Symbol → Block → Bool
+has_wrong_number symbols b = is_beyond (id_of symbols b)
+
+unfoldable pub rule_44 : List Symbol → List Block → List Refusal
+rule_44 symbols blocks = on_heads (λ before b. has_wrong_number symbols b) 44 blocks

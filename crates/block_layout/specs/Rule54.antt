@@ -1,0 +1,22 @@
+-- Rule 54: data blocks above 2,097,152 bytes together. The line is that of the head of the data block with which they are
+-- more, and of each later one.
+use Rattle.std.specs.Prelude.{ℕ, ◌+◌, Bool, nat_lt, ◌&&◌, List, sum_by, if◌then◌else◌}
+use Rattle.plc_base.specs.declared.refusals.Refusal.{Refusal}
+use Rattle.stl_ast.specs.declared.blocks.Block.{Block}
+use Rattle.block_layout.specs.Blocks.{is_data_block}
+use Rattle.block_layout.specs.Heads.{on_heads}
+use Rattle.block_layout.specs.Lengths.{length_of}
+use Rattle.block_layout.specs.Types.{Types}
+
+abbrev pub data_length : Types → List Block → Block → ℕ
+data_length y blocks b = if is_data_block b.kind then length_of y blocks b else 0
+
+abbrev pub total : Types → List Block → List Block → ℕ
+total y blocks some = sum_by (data_length y blocks) some
+
+abbrev pub exceeds_total : Types → List Block → List Block → Block → Bool
+exceeds_total y blocks before b =
+    is_data_block b.kind && nat_lt 2097152 (total y blocks before + data_length y blocks b)
+
+unfoldable pub rule_54 : Types → List Block → List Refusal
+rule_54 y blocks = on_heads (exceeds_total y blocks) 54 blocks

@@ -1,0 +1,44 @@
+-- Rule 56: types nested deeper than 8. Each open STRUCT and ARRAY counts, that of a data block or of a TYPE block too,
+-- and a user-defined data type as deep as its structure; the line is that of the declaration that opens the ninth.
+use Rattle.std.specs.Prelude.{ℕ, ◌+◌, nat_le, nat_lt, Bool, ◌&&◌, List, [], ◌∷◌, length, get_or, Option, Some, None}
+use Rattle.plc_base.specs.declared.refusals.Refusal.{Refusal}
+use Rattle.stl_ast.specs.declared.blocks.Block.{Block}
+use Rattle.stl_ast.specs.declared.declarations.Declaration.{Declaration}
+use Rattle.stl_ast.specs.declared.declarations.ElementType.{ElementType}
+use Rattle.stl_ast.specs.declared.declarations.ElementType.TheVariants as element
+use Rattle.stl_symbols.specs.Least.{broken_if}
+use Rattle.block_layout.specs.Around.{Holder, Outside, around, in_blocks}
+use Rattle.block_layout.specs.Types.{Types, udt_of}
+
+-- how deep a user-defined data type is; one that the source hasn't counts 0
+abbrev pub udt_depth : List ℕ → Option ℕ → ℕ
+udt_depth depths None = 0
+udt_depth depths (Some block) = get_or depths block 0
+
+abbrev pub element_depth : Types → ElementType → ℕ
+element_depth y element.Structure = 1
+element_depth y (element.Udt name) = udt_depth y.depths (udt_of y name)
+element_depth y _ = 0
+
+-- the structures and arrays that a declaration opens
+abbrev pub own_depth : Types → Declaration → ℕ
+own_depth y d = length d.of.arrays + element_depth y d.of.of
+
+-- and those that are open around it
+abbrev pub opened_by : Types → List Holder → ℕ
+opened_by y [] = 0
+opened_by y (h ∷ hs) = own_depth y h.declaration + opened_by y hs
+
+abbrev pub depth_around : Types → Outside → ℕ → List Declaration → ℕ
+depth_around y o level before = o.depth + opened_by y (around level before)
+
+abbrev pub is_too_deep : Types → Outside → List Declaration → Declaration → Bool
+is_too_deep y o before d =
+    nat_le (depth_around y o d.level before) 8
+    && nat_lt 8 (depth_around y o d.level before + own_depth y d)
+
+abbrev pub broken_56 : Types → Outside → List Declaration → Declaration → List Refusal
+broken_56 y o before d = broken_if (is_too_deep y o before d) d.line 56
+
+unfoldable pub rule_56 : Types → List Block → List Refusal
+rule_56 y blocks = in_blocks (broken_56 y) blocks

@@ -1,0 +1,32 @@
+-- What is kept of cells, for look-ups.
+use Rattle.std.specs.Prelude.{ℕ, ◌+◌, ◌<◌, ◌≤◌, ◌≡◌, true, List, length, get_or, drop}
+use Rattle.block_layout.specs.declared.cells.Cell.{Cell}
+use Rattle.block_layout.specs.declared.members.Scope.{Scope}
+use Rattle.block_layout.specs.Members.{members_of, names_of}
+use Rattle.block_layout.specs.declared.cells.TheConstants.{LARGEST}
+use Rattle.block_layout.specs.Sizes.{elements_of, structure_bits}
+
+-- the components at a level, of which these cells are the first
+pub record HasComponents (level : ℕ) (cells : List Cell) (s : Scope) : Type 0 where
+  pub names : s.names ≡ names_of level cells
+  pub members : s.members.items ≡ members_of level 0 0 cells
+
+-- the components of the cell c, of which those behind it are
+abbrev pub IsScope : Cell → List Cell → Scope → Type 0
+IsScope c behind s = HasComponents (c.level + 1) behind s
+
+-- each sound cell has its components
+abbrev pub AreScopes : List Cell → List Scope → Type 0
+AreScopes cells scopes = (k : ℕ) (c : Cell) (s : Scope) → k < length cells
+    → (get_or cells k c).sound ≡ true
+    → IsScope (get_or cells k c) (drop (k + 1) cells) (get_or scopes k s)
+
+-- sizes and components of cells
+pub record AreKept (cells : List Cell) (elements : List ℕ) (outer : Scope) (scopes : List Scope)
+    (bits : ℕ) : Type 0 where
+  pub sized : elements ≡ elements_of cells
+  pub outermost : HasComponents 0 cells outer
+  pub counted : length scopes ≡ length cells
+  pub inner : AreScopes cells scopes
+  pub whole : bits ≡ structure_bits cells
+  pub near : bits ≤ LARGEST

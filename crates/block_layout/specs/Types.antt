@@ -1,0 +1,18 @@
+-- What the declarations of a source are judged by.
+use Rattle.std.specs.Prelude.{ℕ, List, Option}
+use Rattle.plc_base.specs.declared.blocks.BlockId.{BlockId}
+use Rattle.stl_ast.specs.declared.names.BlockName.{BlockName}
+use Rattle.stl_symbols.specs.Symbol.{Symbol}
+use Rattle.block_layout.specs.Blocks.{found_block, is_data_type}
+
+-- the symbols, the blocks by kind and number, and for each block, as a user-defined data type, how deep its types are
+-- nested and how many bits it takes
+pub record Types : Type 0 where
+  pub symbols : List Symbol
+  pub ids : List (Option BlockId)
+  pub depths : List ℕ
+  pub bits : List ℕ
+
+-- the place of the user-defined data type that a name means
+abbrev pub udt_of : Types → BlockName → Option ℕ
+udt_of y name = found_block y.symbols y.ids is_data_type name

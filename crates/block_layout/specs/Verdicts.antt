@@ -1,0 +1,153 @@
+-- What the rules of declarations find of each, gathered on one walk. At each moment the structures around the next
+-- declaration are open, the outermost list first.
+use Rattle.std.specs.Prelude.{◌≡◌, ◌<◌, ◌||◌, ℕ, ◌+◌, max, nat_le, nat_lt, Bool, ◌&&◌, not, is_some, List, [], ◌∷◌, ◌++◌, take, get_or, length, map, if◌then◌else◌}
+use Rattle.std.specs.List.{list_all}
+use Rattle.stl_ast.specs.declared.blocks.PartKind.{PartKind}
+use Rattle.stl_ast.specs.declared.declarations.Declaration.{Declaration}
+use Rattle.stl_symbols.specs.Folding.{folded}
+use Rattle.stl_symbols.specs.Names.{place_of}
+use Rattle.block_layout.specs.Around.{Outside, around, onto, in_rest, in_list, in_block, of_sections, section_declarations}
+use Rattle.block_layout.specs.Cells.{cells_of, opened, is_temp, section_cells, returned_cells, components_of, temps_of, breaks_rule, is_sound, laid, preset, uses_oversized}
+use Rattle.block_layout.specs.Declarations.{is_unknown_type, has_upside_down, init_fits}
+use Rattle.block_layout.specs.Measures.{deep}
+use Rattle.block_layout.specs.Rule21.{broken_21, is_twice, names_before}
+use Rattle.block_layout.specs.Rule56.{broken_56, own_depth, depth_around, is_too_deep}
+use Rattle.block_layout.specs.Types.{Types}
+use Rattle.plc_base.specs.declared.refusals.Refusal.{Refusal}
+use Rattle.stl_symbols.specs.Least.{broken_if, least, lesser}
+use Rattle.block_layout.specs.declared.cells.Cell.{Cell}
+use Rattle.block_layout.specs.declared.sections.Declared.{Declared}
+use Rattle.stl_ast.specs.declared.blocks.Block.{Block}
+use Rattle.stl_ast.specs.declared.blocks.Part.{Part}
+use Rattle.block_layout.specs.declared.verdicts.Frame.{Frame}
+use Rattle.block_layout.specs.declared.verdicts.Verdict.{Verdict}
+
+-- a declaration by itself breaks rule 23, 41 or 42
+abbrev pub breaks_alone : Types → Declaration → Bool
+breaks_alone y d = is_unknown_type y d.of.of || not (init_fits d) || has_upside_down d
+
+abbrev pub verdict_of : Types → Outside → List Declaration → Declaration → Verdict
+verdict_of y o before d = record {
+  twice = is_twice o before d;
+  deep = is_too_deep y o before d;
+  breaks = breaks_rule y o before d;
+  sound = is_sound y o before d;
+  reach = deep (depth_around y o d.level before + own_depth y d);
+}
+
+abbrev pub verdicts_of : Types → Outside → (before : List Declaration) → List Declaration → List Verdict
+verdicts_of y o before [] = []
+verdicts_of y o before (d ∷ ds) = verdict_of y o before d ∷ verdicts_of y o (d ∷ before) ds
+
+-- the list that a declaration at a level goes on
+abbrev pub frame_of : Types → Outside → List Declaration → (level : ℕ) → Frame
+frame_of y o before level = record {
+  names = names_before o.names level before;
+  depth = deep (depth_around y o level before);
+  sound = list_all (λ h. not (breaks_rule y o h.before h.declaration)) (around level before);
+}
+
+-- what a declaration of a list is, by that list
+abbrev pub is_deep_in : ℕ → ℕ → Bool
+is_deep_in around_it own = nat_le around_it 8 && nat_lt 8 (around_it + own)
+
+abbrev pub breaks_in : Types → Frame → Declaration → Bool
+breaks_in y f d =
+    is_some (place_of (folded d.name) f.names) || breaks_alone y d || is_deep_in f.depth (deep (own_depth y d))
+
+unfoldable pub verdict_in : Types → Frame → Declaration → Verdict
+verdict_in y f d = record {
+  twice = is_some (place_of (folded d.name) f.names);
+  deep = is_deep_in f.depth (deep (own_depth y d));
+  breaks = breaks_in y f d;
+  sound = not (breaks_in y f d) && not (uses_oversized y d.of.of) && f.sound;
+  reach = deep (f.depth + deep (own_depth y d));
+}
+
+abbrev pub with_name : Frame → Declaration → Frame
+with_name f d = record f { names = f.names ++ folded d.name ∷ [] }
+
+-- the list inside a declaration
+abbrev pub inside : Types → Frame → Declaration → Frame
+inside y f d = record {
+  names = [];
+  depth = deep (f.depth + deep (own_depth y d));
+  sound = not (breaks_in y f d) && f.sound;
+}
+
+-- the lists that are open behind a declaration
+unfoldable pub entered_by : Types → List Frame → Frame → Declaration → List Frame
+entered_by y open_ f d = take d.level open_ ++ with_name f d ∷ inside y f d ∷ []
+
+-- these lists are open behind some declarations
+pub record AreOpen (y : Types) (o : Outside) (before : List Declaration) (open_ : List Frame) : Type 0 where
+  pub frames : (level : ℕ) (f : Frame) → level < length open_ → get_or open_ level f ≡ frame_of y o before level
+
+-- these are the verdicts of declarations, and the lists behind them are open
+pub record JudgedOnto (y : Types) (o : Outside) (before ds : List Declaration) (vs : List Verdict)
+    (open_ : List Frame) : Type 0 where
+  pub verdicts : vs ≡ verdicts_of y o before ds
+  pub lists : AreOpen y o (onto before ds) open_
+
+-- refusals of declarations by their verdicts
+abbrev pub by_verdicts : (Verdict → Declaration → List Refusal) → List Verdict → List Declaration → List Refusal
+by_verdicts broken [] ds = []
+by_verdicts broken (v ∷ vs) [] = []
+by_verdicts broken (v ∷ vs) (d ∷ ds) = broken v d ++ by_verdicts broken vs ds
+
+abbrev pub twice_by : Verdict → Declaration → List Refusal
+twice_by v d = broken_if v.twice d.line 21
+
+abbrev pub deep_by : Verdict → Declaration → List Refusal
+deep_by v d = broken_if v.deep d.line 56
+
+-- the cell of a declaration that is sound or not, and opens its section or not
+unfoldable pub cell_with : Types → PartKind → (sound opens : Bool) → Declaration → Cell
+cell_with y section sound opens d = record {
+  name = folded d.name;
+  section = section;
+  level = d.level;
+  opens = opens;
+  sound = sound;
+  bounds = d.of.arrays;
+  of = laid y d.of.of;
+  presets = map preset d.init;
+}
+
+-- cells by verdicts; `begun` says that a sound one of the section stands before them
+abbrev pub cells_by : Types → PartKind → (begun : Bool) → List Verdict → List Declaration → List Cell
+cells_by y section begun [] ds = []
+cells_by y section begun (v ∷ vs) [] = []
+cells_by y section begun (v ∷ vs) (d ∷ ds) =
+    cell_with y section v.sound (not begun && v.sound) d ∷ cells_by y section (begun || v.sound) vs ds
+
+-- a section comes to cells, and to the least refusals by rules 21 and 56, behind those before it
+pub record SectionAdded (y : Types) (o : Outside) (before : List Declaration) (p : Part) (old new : Declared)
+    (open_ : List Frame) : Type 0 where
+  pub lists : AreOpen y o (onto before p.items) open_
+  pub components : new.components.items ≡ old.components.items
+      ++ (if is_temp p.kind then [] else opened (cells_of y o p.kind before p.items))
+  pub temps : new.temps.items ≡ old.temps.items
+      ++ (if is_temp p.kind then opened (cells_of y o p.kind before p.items) else [])
+  pub twice : new.twice ≡ lesser old.twice (least (in_rest (broken_21 o) before p.items))
+  pub deep : new.deep ≡ lesser old.deep (least (in_rest (broken_56 y o) before p.items))
+
+-- what the sections of a block come to
+pub record AreSections (y : Types) (b : Block) (made : Declared) : Type 0 where
+  pub components : made.components.items ≡ returned_cells b.result
+      ++ section_cells y (of_sections b) (λ k. not (is_temp k)) [] b.parts
+  pub temps : made.temps.items ≡ temps_of y b
+  pub twice : made.twice ≡ least (in_list (broken_21 (of_sections b)) (section_declarations b))
+  pub deep : made.deep ≡ least (in_list (broken_56 y (of_sections b)) (section_declarations b))
+
+-- what the declarations of a block come to
+pub record AreDeclared (y : Types) (b : Block) (made : Declared) : Type 0 where
+  pub components : made.components.items ≡ components_of y b
+  pub temps : made.temps.items ≡ temps_of y b
+  pub twice : made.twice ≡ least (in_block broken_21 b)
+  pub deep : made.deep ≡ least (in_block (broken_56 y) b)
+
+-- the deepest place of a structure, by the verdicts on its components
+abbrev pub reaches : List Verdict → ℕ
+reaches [] = 1
+reaches (v ∷ vs) = max v.reach (reaches vs)

@@ -1,0 +1,86 @@
+ghost use Rattle.std.specs.Prelude.{◌≡◌};
+ghost use Rattle.std.specs.List.{flat_map};
+ghost use Rattle.stl_symbols.specs.Least.{least};
+ghost use Rattle.block_layout.specs.Alone.{breaks_by, broken_by, rule_by};
+ghost use Rattle.block_layout.specs.Around.{in_block, in_blocks};
+
+use crate::declarations::{has_upside_down, init_fits, is_unknown_type};
+use crate::types::Types;
+use plc_base::Refusal;
+use stl_ast::{Block, Declaration, Part};
+use stl_symbols::{broken_if, least_of, lesser};
+
+/// What a declaration can break by itself: its data type is unknown, its initial value doesn't fit,
+/// or a bound of an array is upside down.
+#[derive(Clone, Copy, Debug, PartialEq, Eq)]
+pub(crate) enum Alone {
+    UnknownType,
+    UnfitValue,
+    UpsideDown,
+}
+
+fn breaks_by(types: &Types, which: Alone, declaration: &Declaration) -> bool
+    ensures { result ≡ breaks_by types.now which declaration.now }
+{
+    match which {
+        Alone::UnknownType => is_unknown_type(types, &declaration.of.of),
+        Alone::UnfitValue => !init_fits(declaration),
+        Alone::UpsideDown => has_upside_down(declaration),
+    }
+}
+
+fn rule_by(which: Alone) -> u16
+    ensures { result ≡ rule_by which }
+{
+    match which {
+        Alone::UnknownType => 23,
+        Alone::UnfitValue => 41,
+        Alone::UpsideDown => 42,
+    }
+}
+
+fn broken_by(types: &Types, which: Alone, declaration: &Declaration) -> Option<Refusal>
+    ensures { result ≡ least (broken_by types.now which declaration.now) }
+{
+    broken_if(
+        breaks_by(types, which, declaration),
+        declaration.line,
+        rule_by(which),
+    )
+}
+
+fn least_in_list(types: &Types, which: Alone, list: &[Declaration]) -> Option<Refusal>
+    ensures { result ≡ least (flat_map (broken_by types.now which) list.now) }
+{
+    least_of(list, |declaration: &Declaration| {
+        broken_by(types, which, declaration)
+    })
+}
+
+fn least_in_parts(types: &Types, which: Alone, parts: &[Part]) -> Option<Refusal>
+    ensures { result
+        ≡ least (flat_map (λ p. flat_map (broken_by types.now which) p.items) parts.now) }
+{
+    least_of(parts, |part: &Part| {
+        least_in_list(types, which, part.items.as_slice())
+    })
+}
+
+#[tactic(auto, using(crate::proofs::AloneLemmas::least_of_block))]
+fn least_in_block(types: &Types, which: Alone, block: &Block) -> Option<Refusal>
+    ensures { result
+        ≡ least (in_block (λ o before d. broken_by types.now which d) block.now) }
+{
+    lesser(
+        least_in_parts(types, which, block.parts.as_slice()),
+        least_in_list(types, which, block.components.as_slice()),
+    )
+}
+
+/// The least refusal of declarations by what they break by themselves.
+pub(crate) fn least_alone(types: &Types, which: Alone, blocks: &[Block]) -> Option<Refusal>
+    ensures { result
+        ≡ least (in_blocks (λ o before d. broken_by types.now which d) blocks.now) }
+{
+    least_of(blocks, |block: &Block| least_in_block(types, which, block))
+}

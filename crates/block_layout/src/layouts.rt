@@ -1,0 +1,183 @@
+ghost use Rattle.std.specs.Prelude.{
+  ◌≡◌,
+  ◌≤◌,
+  ◌<◌,
+  ◌^◌,
+  IfOk,
+  IfSome,
+  ◌+◌,
+  length,
+  drop,
+  get_or,
+  true,
+};
+ghost use Rattle.std.specs.List.{slice_get};
+ghost use Rattle.std.specs.Option.{option_copied};
+ghost use Rattle.block_layout.specs.Members.{component};
+ghost use Rattle.block_layout.specs.Sizes.{element_of, elements_of, structure_bits};
+ghost use Rattle.block_layout.specs.Scopes.{AreScopes, IsScope};
+ghost use Rattle.block_layout.specs.declared.cells.Cell.{Cell};
+
+use crate::cells::{Cell, LARGEST};
+use crate::members::{Member, Scope, find, members};
+use crate::sizes::{elements, structure_bits};
+use std::alloc::{AllocError, Global};
+use std::marker::Model;
+
+/// Cells with their sizes, and with the components of each structure. Contracts see the cells.
+#[derive(Drop)]
+pub struct Layout {
+    cells: Vec<Cell>,
+    elements: Vec<u64>,
+    outer: Scope,
+    scopes: Vec<Scope>,
+    bits: u64,
+}
+
+impl Model for Layout {
+    ghost use Rattle.std.specs.Prelude.{List, ◌≡◌, length};
+    ghost use Rattle.block_layout.specs.declared.cells.Cell.{Cell};
+    ghost use Rattle.block_layout.specs.Sizes.{elements_of, structure_bits};
+    ghost use Rattle.block_layout.specs.Scopes.{AreScopes, AreKept};
+
+    ghost Value = { List Cell };
+
+    ghost view = { λ l. l.cells.items };
+
+    ghost invariant = { λ l. AreKept l.cells.items l.elements.items l.outer l.scopes.items l.bits };
+}
+
+/// The cells from a place on.
+fn behind(cells: &[Cell], from: usize) -> &[Cell]
+    requires { from ≤ length cells.now }
+    ensures { result.now ≡ drop from cells.now }
+{
+    &cells[from..]
+}
+
+fn numbers_behind(numbers: &[u64], from: usize) -> &[u64]
+    requires { from ≤ length numbers.now }
+    ensures { result.now ≡ drop from numbers.now }
+{
+    &numbers[from..]
+}
+
+/// The components of a sound cell.
+fn scope_of(
+    alloc: Global,
+    cell: &Cell,
+    behind: &[Cell],
+    elements: &[u64],
+) -> Result<Scope, AllocError>
+    requires { elements.now ≡ elements_of behind.now }
+    ensures { IfOk result (λ s. cell.now.sound ≡ true → IsScope cell.now behind.now s) }
+{
+    if cell.sound {
+        members(alloc, behind, elements, cell.level as u64 + 1)
+    } else {
+        Ok(Scope::new(alloc))
+    }
+}
+
+/// The components of each sound cell.
+#[tactic(auto, using(crate::proofs::ScopeLemmas::behind_elements, crate::proofs::ScopeLemmas::scopes_next))]
+fn scopes(alloc: Global, cells: &[Cell], elements: &[u64]) -> Result<Vec<Scope>, AllocError>
+    requires { elements.now ≡ elements_of cells.now }
+    ensures count { IfOk result (λ v. length v.items ≡ length cells.now) }
+    ensures scopes { IfOk result (λ v. AreScopes cells.now v.items) }
+{
+    let mut scopes = Vec::new(alloc);
+    for i in 0..cells.len() {
+        let one = scope_of(
+            alloc,
+            &cells[i],
+            behind(cells, i + 1),
+            numbers_behind(elements, i + 1),
+        )?;
+        scopes.push(one)?;
+    }
+    Ok(scopes)
+}
+
+impl Layout {
+    /// These cells, laid out.
+    pub(crate) fn new(alloc: Global, cells: Vec<Cell>) -> Result<Self, AllocError>
+        ensures { IfOk result (λ l. l ≡ cells.items) }
+    {
+        let elements = elements(alloc, cells.as_slice())?;
+        let outer = members(alloc, cells.as_slice(), elements.as_slice(), 0)?;
+        let scopes = scopes(alloc, cells.as_slice(), elements.as_slice())?;
+        let bits = structure_bits(cells.as_slice(), elements.as_slice());
+        Ok(Layout {
+            cells,
+            elements,
+            outer,
+            scopes,
+            bits,
+        })
+    }
+
+    /// The cells.
+    pub fn cells(&self) -> &[Cell]
+        ensures { result.now ≡ self.now }
+    {
+        self.cells.as_slice()
+    }
+
+    /// The bits of a structure of these cells.
+    pub fn bits(&self) -> u64
+        ensures value { result ≡ structure_bits self.now }
+        ensures near { result ≤ LARGEST }
+    {
+        self.bits
+    }
+
+    /// The cell at a place.
+    pub(crate) fn cell_at(&self, place: usize) -> Option<&Cell>
+        ensures value { option_copied result ≡ slice_get self.now place }
+        ensures within { IfSome result (λ _. place + 1 < 2 ^ 64) }
+        ensures length { IfSome result (λ _. place < length self.now) }
+    {
+        if place < self.cells.len() {
+            Some(&self.cells[place])
+        } else {
+            None
+        }
+    }
+
+    /// The outermost component of this name.
+    pub(crate) fn outermost(&self, name: &[u8]) -> Option<Member>
+        ensures value { result ≡ component 0 0 0 name.now self.now }
+        ensures within { IfSome result (λ m. m.place < length self.now) }
+    {
+        find(&self.outer, name, self.cells.as_slice(), 0)
+    }
+
+    /// The component of this name of the sound cell at a place; its place counts from behind that
+    /// cell.
+    pub(crate) fn inner(&self, place: usize, name: &[u8]) -> Option<Member>
+        requires within { place < length self.now }
+        requires sound { (c : Cell) → (get_or self.now place c).sound ≡ true }
+        ensures value { (c : Cell) → result
+            ≡ component ((get_or self.now place c).level + 1) 0 0 name.now (drop (place + 1) self.now) }
+        ensures within { IfSome result (λ m. place + 1 + m.place < 2 ^ 64) }
+    {
+        let behind = behind(self.cells.as_slice(), place + 1);
+        find(
+            &self.scopes[place],
+            name,
+            behind,
+            self.cells[place].level as u64 + 1,
+        )
+    }
+
+    /// The bits of an element of the cell at a place.
+    pub(crate) fn element_at(&self, place: usize) -> u64
+        requires { place < length self.now }
+        ensures value { (c : Cell) → result
+            ≡ element_of (get_or self.now place c) (drop (place + 1) self.now) }
+        ensures near { result ≤ LARGEST }
+    {
+        self.elements[place]
+    }
+}

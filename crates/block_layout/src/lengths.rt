@@ -1,0 +1,223 @@
+ghost use Rattle.std.specs.Prelude.{◌≡◌, ◌≤◌, ◌<◌, ◌^◌, ◌/◌, IfOk, max, map, Some, List};
+ghost use Rattle.std.specs.List.{slice_get};
+ghost use Rattle.stl_ast.specs.declared.blocks.Block.{Block};
+ghost use Rattle.block_layout.specs.Types.{Types};
+ghost use Rattle.std.specs.Option.{option_copied};
+ghost use Rattle.stl_ast.specs.Blocks.{is_parameter};
+ghost use Rattle.stl_ast.specs.Statements.{is_empty};
+ghost use Rattle.block_layout.specs.Blocks.{
+  has_structure,
+  is_code,
+  is_data_block,
+  is_data_type,
+  is_function_block,
+  is_organization_block,
+};
+ghost use Rattle.block_layout.specs.Cells.{components_of, temps_of};
+ghost use Rattle.block_layout.specs.Lengths.{
+  actuals_end,
+  farthest,
+  bits_of_cells,
+  is_local,
+  is_structured,
+  least_local,
+  length_of,
+  local_end,
+  local_len,
+  named_type,
+  referred,
+  shape_at,
+  shape_named,
+  shape_of,
+};
+ghost use Rattle.block_layout.specs.Sizes.{structure_bits};
+
+use crate::blocks::Shape;
+use crate::cells::LARGEST;
+use crate::layouts::Layout;
+use crate::types::Types;
+use plc_base::BlockKind;
+use std::alloc::{AllocError, Global};
+use stl_ast::{Actual, Block, BlockName, ElementType, Letters, Operand, Statement};
+
+/// The function block or data type that a data block is of, or none.
+fn referred(block: &Block) -> Option<&BlockName>
+    ensures { option_copied result ≡ referred block.now.instance_of block.now.shape }
+{
+    if let Some(name) = &block.instance_of {
+        return Some(name);
+    }
+    match &block.shape {
+        Some(shape) => match &shape.of {
+            ElementType::Udt { name } => Some(name),
+            _ => None,
+        },
+        None => None,
+    }
+}
+
+/// Where the structure of a block stands.
+pub(crate) fn shape_of(types: &Types, block: &Block) -> Shape
+    ensures { result ≡ shape_of types.now block.now }
+{
+    match referred(block) {
+        None => Shape::Own,
+        Some(name) => match types.structured(name) {
+            Some(block) => Shape::Of { block },
+            None => Shape::Unknown,
+        },
+    }
+}
+
+fn is_local(area: Letters) -> bool
+    ensures { result ≡ is_local area }
+{
+    matches!(area, Letters::L)
+}
+
+/// The end of a direct operand in the local data.
+fn local_end(operand: &Operand) -> u64
+    ensures value { result ≡ local_end operand.now }
+    ensures near { result < 2 ^ 17 }
+{
+    match operand {
+        Operand::Direct {
+            area,
+            width,
+            byte,
+            ..
+        } => {
+            if is_local(*area) {
+                *byte as u64 + width.byte_count() as u64
+            } else {
+                0
+            }
+        }
+        _ => 0,
+    }
+}
+
+fn greater(a: u64, b: u64) -> u64
+    ensures { result ≡ max a b }
+{
+    if a < b { b } else { a }
+}
+
+fn actuals_end(actuals: &[Actual]) -> u64
+    ensures value { result ≡ actuals_end actuals.now }
+    ensures near { result < 2 ^ 17 }
+{
+    let mut end = 0;
+    for actual in actuals {
+        end = greater(end, local_end(&actual.value));
+    }
+    end
+}
+
+/// The farthest end of a direct operand in the local data.
+fn farthest(body: &[Statement]) -> u64
+    ensures value { result ≡ farthest body.now }
+    ensures near { result < 2 ^ 17 }
+{
+    let mut end = 0;
+    for statement in body {
+        let own = local_end(&statement.operand);
+        let actuals = actuals_end(statement.actuals.as_slice());
+        end = greater(end, greater(own, actuals));
+    }
+    end
+}
+
+fn least_local(kind: BlockKind) -> u64
+    ensures { result ≡ least_local kind }
+{
+    match kind {
+        BlockKind::Ob => 20,
+        _ => 0,
+    }
+}
+
+/// The length of the local data of a block, with these temporary variables.
+#[tactic(auto, unfolding(crate::specs::Lengths::local_len, crate::specs::Sizes::up))]
+pub(crate) fn local_len(block: &Block, temps: &Layout) -> u64
+    ensures value { (y : Types) → temps.now ≡ temps_of y block.now → result ≡ local_len y block.now }
+    ensures near { result < 2 ^ 32 }
+{
+    match block.kind {
+        BlockKind::Ob | BlockKind::Fc | BlockKind::Fb => {
+            let own = greater(temps.bits() / 8, farthest(block.body.as_slice()));
+            greater(least_local(block.kind), (own + 1) / 2 * 2)
+        }
+        _ => 0,
+    }
+}
+
+fn is_structured(kind: BlockKind) -> bool
+    ensures { result ≡ is_structured kind }
+{
+    matches!(kind, BlockKind::Db | BlockKind::Fb | BlockKind::Udt)
+}
+
+fn bits_at(components: &[Layout], place: usize) -> u64
+    ensures value { result ≡ bits_of_cells (slice_get components.now place) }
+    ensures near { result ≤ LARGEST }
+{
+    match components.get(place) {
+        Some(layout) => layout.bits(),
+        None => 0,
+    }
+}
+
+/// The length of the structure of the block at a place, by the components of all blocks.
+#[tactic(auto, unfolding(crate::specs::Lengths::length_of), using(crate::proofs::LengthLemmas::bits_there))]
+pub(crate) fn length_of(block: &Block, place: usize, shape: Shape, components: &[Layout]) -> u64
+    ensures value { (y : Types) (blocks : List Block)
+        → components.now ≡ map (components_of y) blocks → slice_get blocks place ≡ Some block.now
+        → shape ≡ shape_of y block.now → result ≡ length_of y blocks block.now }
+    ensures near { result < 2 ^ 32 }
+{
+    if !is_structured(block.kind) {
+        return 0;
+    }
+    match shape {
+        Shape::Own => bits_at(components, place) / 8,
+        Shape::Of { block } => bits_at(components, block) / 8,
+        Shape::Unknown => 0,
+    }
+}
+
+/// The lengths of the local data of all blocks, by their temporary variables.
+pub(crate) fn local_lens(
+    alloc: Global,
+    types: &Types,
+    blocks: &[Block],
+    temps: &[Layout],
+) -> Result<Vec<u64>, AllocError>
+    requires { temps.now ≡ map (temps_of types.now) blocks.now }
+    ensures { IfOk result (λ v. v.items ≡ map (local_len types.now) blocks.now) }
+{
+    let mut lens = Vec::with_capacity(alloc, blocks.len())?;
+    for i in 0..blocks.len() {
+        lens.push(local_len(&blocks[i], &temps[i]))?;
+    }
+    Ok(lens)
+}
+
+/// The lengths of the structures of all blocks, by their components.
+pub(crate) fn all_lengths(
+    alloc: Global,
+    types: &Types,
+    blocks: &[Block],
+    components: &[Layout],
+) -> Result<Vec<u64>, AllocError>
+    requires { components.now ≡ map (components_of types.now) blocks.now }
+    ensures { IfOk result (λ v. v.items ≡ map (length_of types.now blocks.now) blocks.now) }
+{
+    let mut lens = Vec::with_capacity(alloc, blocks.len())?;
+    for i in 0..blocks.len() {
+        let block = &blocks[i];
+        let shape = shape_of(types, block);
+        lens.push(length_of(block, i, shape, components))?;
+    }
+    Ok(lens)
+}

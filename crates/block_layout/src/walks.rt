@@ -1,0 +1,334 @@
+ghost use Rattle.std.specs.Prelude.{
+  ◌≡◌,
+  ◌≤◌,
+  ◌<◌,
+  ◌^◌,
+  ◌+◌,
+  IfSome,
+  Some,
+  [],
+  length,
+  get_or,
+  drop,
+  nat_eq,
+  int_lt,
+  true,
+};
+ghost use Rattle.std.specs.List.{slice_get};
+ghost use Rattle.std.specs.Option.{IfNone, option_copied};
+ghost use Rattle.block_layout.specs.Members.{component};
+ghost use Rattle.block_layout.specs.Paths.{
+  OffsetIsNear,
+  IsSoundAt,
+  ReachesSound,
+  cells_at,
+  entered,
+  found_at,
+  goes_on,
+  indexed,
+  indexed_behind,
+  named,
+  named_behind,
+  named_in,
+  outermost,
+  step_of,
+  walked,
+  walked_from,
+  within,
+};
+ghost use Rattle.block_layout.specs.declared.cells.Cell.{Cell};
+
+use crate::blocks::BlockLayout;
+use crate::cells::{Cell, Element, LARGEST};
+use crate::layouts::Layout;
+use crate::members::Member;
+use crate::sizes::{array_bits, capped};
+use stl_ast::{Bounds, PathStep};
+
+/// A component, or an element of an array in it: the block that declares it, whether in VAR_TEMP,
+/// its place among the cells there, how many of its bounds the path has used, and its offset in
+/// bits from the start of the whole.
+#[derive(Clone, Copy, Debug, PartialEq, Eq)]
+pub struct Spot {
+    pub block: usize,
+    pub temporary: bool,
+    pub place: usize,
+    pub depth: usize,
+    pub offset: u64,
+}
+
+/// Where a path leads. `Unknown` names a component that isn't there, `Outside` has an index outside
+/// its array, `Rests` goes through a declaration or a block that breaks a rule itself.
+#[derive(Clone, Copy, Debug, PartialEq, Eq)]
+pub enum Walk {
+    Reaches { spot: Spot },
+    Unknown,
+    Outside,
+    Rests,
+}
+
+/// The declarations of a block that a path is in.
+fn layout_at(layouts: &[BlockLayout], block: usize, temporary: bool) -> Option<&Layout>
+    ensures some { IfSome result (λ l. l.now ≡ cells_at layouts.now block temporary) }
+    ensures none { IfNone result (cells_at layouts.now block temporary ≡ []) }
+{
+    let block = layouts.get(block)?;
+    if temporary {
+        Some(&block.temps)
+    } else {
+        Some(&block.components)
+    }
+}
+
+/// The component at a place of a block.
+fn entered(layout: &Layout, block: usize, temporary: bool, place: usize, offset: u64) -> Walk
+    requires { offset ≤ LARGEST }
+    ensures value { result ≡ entered block temporary place offset (slice_get layout.now place) }
+    ensures near { OffsetIsNear result }
+{
+    match layout.cell_at(place) {
+        None => Walk::Unknown,
+        Some(cell) => {
+            if cell.sound {
+                Walk::Reaches {
+                    spot: Spot {
+                        block,
+                        temporary,
+                        place,
+                        depth: 0,
+                        offset,
+                    },
+                }
+            } else {
+                Walk::Rests
+            }
+        }
+    }
+}
+
+fn found_at(
+    layout: &Layout,
+    block: usize,
+    temporary: bool,
+    first: usize,
+    offset: u64,
+    found: Option<Member>,
+) -> Walk
+    requires near { offset ≤ LARGEST }
+    requires within { IfSome found (λ m. first + m.place < 2 ^ 64) }
+    ensures value { result ≡ found_at layout.now block temporary first offset found }
+    ensures near { OffsetIsNear result }
+{
+    match found {
+        None => Walk::Unknown,
+        Some(member) => entered(
+            layout,
+            block,
+            temporary,
+            first + member.place,
+            capped(offset + capped(member.offset)),
+        ),
+    }
+}
+
+/// A name in the outermost declarations of a block.
+#[tactic(auto, unfolding(crate::specs::Paths::outermost, crate::specs::Members::component))]
+fn outermost(
+    layouts: &[BlockLayout],
+    block: usize,
+    temporary: bool,
+    offset: u64,
+    name: &[u8],
+) -> Walk
+    requires { offset ≤ LARGEST }
+    ensures value { result ≡ outermost layouts.now block temporary offset name.now }
+    ensures near { OffsetIsNear result }
+{
+    match layout_at(layouts, block, temporary) {
+        None => Walk::Unknown,
+        Some(layout) => {
+            let found = layout.outermost(name);
+            found_at(layout, block, temporary, 0, offset, found)
+        }
+    }
+}
+
+fn is_used_up(cell: &Cell, depth: usize) -> bool
+    ensures { result ≡ nat_eq depth (length cell.now.bounds) }
+{
+    depth == cell.bounds.len()
+}
+
+/// A name behind a component.
+fn named_in(layouts: &[BlockLayout], layout: &Layout, spot: Spot, name: &[u8], cell: &Cell) -> Walk
+    requires offset { spot.offset ≤ LARGEST }
+    requires layout { layout.now ≡ cells_at layouts.now spot.block spot.temporary }
+    requires cell { slice_get layout.now spot.place ≡ Some cell.now }
+    requires within { spot.place + 1 < 2 ^ 64 }
+    requires sound { cell.now.sound ≡ true }
+    ensures value { result ≡ named_in layouts.now spot name.now cell.now cell.now.of }
+    ensures near { OffsetIsNear result }
+{
+    match cell.of {
+        Element::Structure => {
+            let found = layout.inner(spot.place, name);
+            found_at(
+                layout,
+                spot.block,
+                spot.temporary,
+                spot.place + 1,
+                spot.offset,
+                found,
+            )
+        }
+        Element::Udt { block, .. } => outermost(layouts, block, false, spot.offset, name),
+        _ => Walk::Unknown,
+    }
+}
+
+/// A step by name.
+#[tactic(auto, unfolding(crate::specs::Paths::named))]
+fn named(layouts: &[BlockLayout], spot: Spot, name: &[u8]) -> Walk
+    requires offset { spot.offset ≤ LARGEST }
+    requires sound { IsSoundAt layouts.now spot }
+    ensures value { result ≡ named layouts.now spot name.now }
+    ensures near { OffsetIsNear result }
+{
+    let Some(layout) = layout_at(layouts, spot.block, spot.temporary) else {
+        return Walk::Unknown;
+    };
+    let Some(cell) = layout.cell_at(spot.place) else {
+        return Walk::Unknown;
+    };
+    if !is_used_up(cell, spot.depth) {
+        return Walk::Unknown;
+    }
+    named_in(layouts, layout, spot, name, cell)
+}
+
+fn bounds_at(bounds: &[Bounds], depth: usize) -> Option<Bounds>
+    ensures value { result ≡ slice_get bounds.now depth }
+    ensures within { IfSome result (λ _. depth < length bounds.now) }
+{
+    if depth < bounds.len() {
+        Some(bounds[depth])
+    } else {
+        None
+    }
+}
+
+fn bounds_behind(bounds: &[Bounds], depth: usize) -> &[Bounds]
+    requires { depth < length bounds.now }
+    ensures { result.now ≡ drop (depth + 1) bounds.now }
+{
+    &bounds[depth + 1..]
+}
+
+/// An index behind a component of a block.
+fn indexed_in(layout: &Layout, spot: Spot, at: i32) -> Walk
+    requires { spot.offset ≤ LARGEST }
+    ensures value { result
+        ≡ indexed_behind spot layout.now at (slice_get layout.now spot.place) }
+    ensures near { OffsetIsNear result }
+{
+    let Some(cell) = layout.cell_at(spot.place) else {
+        return Walk::Unknown;
+    };
+    let Some(bounds) = bounds_at(cell.bounds.as_slice(), spot.depth) else {
+        return Walk::Unknown;
+    };
+    if at < bounds.low || bounds.high < at {
+        return Walk::Outside;
+    }
+    let element = layout.element_at(spot.place);
+    let inner = array_bits(bounds_behind(cell.bounds.as_slice(), spot.depth), element);
+    let gone = at.abs_diff(bounds.low) as u64 * inner;
+    Walk::Reaches {
+        spot: Spot {
+            block: spot.block,
+            temporary: spot.temporary,
+            place: spot.place,
+            depth: spot.depth + 1,
+            offset: capped(spot.offset + capped(gone)),
+        },
+    }
+}
+
+/// A step by index.
+#[tactic(auto, unfolding(crate::specs::Paths::indexed))]
+fn indexed(layouts: &[BlockLayout], spot: Spot, at: i32) -> Walk
+    requires { spot.offset ≤ LARGEST }
+    ensures value { result ≡ indexed layouts.now spot at }
+    ensures near { OffsetIsNear result }
+{
+    match layout_at(layouts, spot.block, spot.temporary) {
+        None => Walk::Unknown,
+        Some(layout) => indexed_in(layout, spot, at),
+    }
+}
+
+/// A step.
+#[tactic(auto, unfolding(crate::specs::Paths::step_of))]
+fn step(layouts: &[BlockLayout], spot: Spot, step: &PathStep) -> Walk
+    requires offset { spot.offset ≤ LARGEST }
+    requires sound { IsSoundAt layouts.now spot }
+    ensures value { result ≡ step_of layouts.now spot step.now }
+    ensures near { OffsetIsNear result }
+{
+    match step {
+        PathStep::Named { name } => named(layouts, spot, name.as_bytes()),
+        PathStep::Index { at } => indexed(layouts, spot, *at),
+    }
+}
+
+/// Where a path leads from a sound component.
+#[tactic(auto, using(crate::proofs::WalkLemmas::step_sound))]
+fn walk_behind(layouts: &[BlockLayout], start: Spot, path: &[PathStep]) -> Walk
+    requires offset { start.offset ≤ LARGEST }
+    requires sound { IsSoundAt layouts.now start }
+    ensures value { result ≡ walked layouts.now start path.now }
+    ensures near { OffsetIsNear result }
+{
+    let mut spot = start;
+    for next in path {
+        match step(layouts, spot, next) {
+            Walk::Reaches { spot: reached } => spot = reached,
+            other => return other,
+        }
+    }
+    Walk::Reaches { spot }
+}
+
+/// Where a path leads from a component that was looked up.
+#[tactic(auto, using(crate::proofs::WalkLemmas::goes_to))]
+fn walk_on(layouts: &[BlockLayout], found: Walk, path: &[PathStep]) -> Walk
+    requires near { OffsetIsNear found }
+    requires sound { ReachesSound layouts.now found }
+    ensures value { result ≡ goes_on found (λ spot. walked layouts.now spot path.now) }
+    ensures near { OffsetIsNear result }
+{
+    match found {
+        Walk::Reaches { spot } => walk_behind(layouts, spot, path),
+        other => other,
+    }
+}
+
+/// Where a path leads in the outermost declarations of a block.
+#[tactic(auto, using(crate::proofs::WalkLemmas::outermost_reaches))]
+pub(crate) fn walk_from(
+    layouts: &[BlockLayout],
+    block: usize,
+    temporary: bool,
+    path: &[PathStep],
+) -> Walk
+    ensures value { result ≡ walked_from layouts.now block temporary path.now }
+    ensures near { OffsetIsNear result }
+{
+    match path {
+        [PathStep::Named { name }, behind @ ..] => {
+            let found = outermost(layouts, block, temporary, 0, name.as_bytes());
+            walk_on(layouts, found, behind)
+        }
+        _ => Walk::Unknown,
+    }
+}
