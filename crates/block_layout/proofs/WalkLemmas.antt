@@ -16,7 +16,7 @@ use Rattle.block_layout.specs.declared.walks.Spot.{Spot}
 use Rattle.block_layout.specs.declared.walks.Walk.{Walk}
 use Rattle.block_layout.specs.declared.walks.Walk.TheVariants as walk
 use Rattle.block_layout.specs.Members.{component}
-use Rattle.block_layout.specs.Paths.{IsSoundAt, ReachesSound, OffsetIsNear, cells_at, entered, found_at, goes_on, indexed, indexed_behind, named, named_behind, named_in, outermost, step_of, walked, within}
+use Rattle.block_layout.specs.Paths.{IsSoundAt, ReachesSound, OffsetIsNear, cells_at, entered, found_at, goes_on, indexed, indexed_behind, is_beyond, named, named_behind, named_in, outermost, step_of, walked, within}
 
 if_entered : (l : List BlockLayout) (block : ℕ) (temporary : Bool) (place offset : ℕ) (c : Cell) (sound : Bool) → c.sound ≡ sound → slice_get (cells_at l block temporary) place ≡ Some c →
     ReachesSound l (if sound then walk.Reaches (record { block = block; temporary = temporary; place = place; depth = 0; offset = offset }) else walk.Rests)
@@ -55,7 +55,7 @@ behind_sound l spot name (Some c) = if_sound l (nat_eq spot.depth (length c.boun
 
 within_sound : (l : List BlockLayout) (spot : Spot) (c : Cell) (behind : List Cell) (at : ℤ) (o : Option Bounds) → IsSoundAt l spot → ReachesSound l (within spot c behind at o)
 within_sound l spot c behind at None sound = tt
-within_sound l spot c behind at (Some b) sound = if_sound l (int_lt at b.low || int_lt b.high at) walk.Outside _ tt sound
+within_sound l spot c behind at (Some b) sound = if_sound l (is_beyond b at) _ _ sound sound
 
 index_sound : (l : List BlockLayout) (spot : Spot) (cells : List Cell) (at : ℤ) (o : Option Cell) → IsSoundAt l spot → ReachesSound l (indexed_behind spot cells at o)
 index_sound l spot cells at None sound = tt
@@ -79,7 +79,6 @@ walk_next l spot next path i s w whole inside is_s is_w reaches so_far =
 not_on : (w : Walk) (next : Spot → Walk) → ((to : Spot) → w ≡ walk.Reaches to → ⊥) → goes_on w next ≡ w
 not_on (walk.Reaches to) next never = absurd (never to refl)
 not_on walk.Unknown next never = refl
-not_on walk.Outside next never = refl
 not_on walk.Rests next never = refl
 
 pub walk_ends : (l : List BlockLayout) (spot : Spot) (path : List PathStep) (i : ℕ) (s : PathStep) (w whole : Walk) → i < length path → s ≡ get_or path i s → w ≡ step_of l spot s → ((to : Spot) → w ≡ walk.Reaches to → ⊥) →

@@ -1,5 +1,5 @@
 -- The place and the width of an elementary component.
-use Rattle.std.specs.Prelude.{ℕ, ◌/◌, ◌%◌, nat_le, true, false, List, map, Option, Some, None, if◌then◌else◌}
+use Rattle.std.specs.Prelude.{ℕ, ◌/◌, ◌%◌, nat_le, true, false, List, map, Option, Some, None, if◌then◌else◌, ◌&&◌, not}
 use Rattle.std.specs.Option.{option_and_then}
 use Rattle.plc_base.specs.declared.blocks.BlockId.{BlockId}
 use Rattle.plc_base.specs.declared.places.Area.{Area}
@@ -16,7 +16,7 @@ use Rattle.block_layout.specs.declared.blocks.Section.TheVariants as section
 use Rattle.block_layout.specs.declared.walks.Walk.{Walk}
 use Rattle.block_layout.specs.declared.walks.Walk.TheVariants as walk
 use Rattle.block_layout.specs.Blocks.{known_block, is_code, is_data_block, is_function_block}
-use Rattle.block_layout.specs.Paths.{walked_data, walked_from, elementary_at, if_whole}
+use Rattle.block_layout.specs.Paths.{walked_data, walked_from, leaves_from, leaves_judged, structure_of, elementary_at, if_whole}
 
 abbrev pub width_of : Simple → Width
 width_of simple.Bool = width.Bit
@@ -47,11 +47,14 @@ reached l a number _ = None
 abbrev pub offset_in : List BlockLayout → BlockId → Section → List PathStep → ℕ
     → Option (Place × Width)
 offset_in l id section.Global path block =
-    if is_data_block id.kind then reached l area.Db id.number (walked_data l block path) else None
+    if is_data_block id.kind && not (leaves_judged l (structure_of l block) path)
+    then reached l area.Db id.number (walked_data l block path) else None
 offset_in l id section.Instance path block =
-    if is_function_block id.kind then reached l area.Di 0 (walked_from l block false path) else None
+    if is_function_block id.kind && not (leaves_from l block false path)
+    then reached l area.Di 0 (walked_from l block false path) else None
 offset_in l id section.Temp path block =
-    if is_code id.kind then reached l area.L 0 (walked_from l block true path) else None
+    if is_code id.kind && not (leaves_from l block true path)
+    then reached l area.L 0 (walked_from l block true path) else None
 
 -- none where the block isn't there or is broken, or the path leads to no elementary component
 unfoldable pub offset_of : List BlockLayout → BlockId → Section → List PathStep

@@ -1,5 +1,5 @@
 -- Where a path leads. Its names are in upper case, as those of cells.
-use Rattle.std.specs.Prelude.{ℕ, ◌+◌, ◌*◌, ◌-ℤ◌, ◌≤◌, ◌≡◌, Bool, true, false, ◌||◌, nat_eq, ℤ, int_lt, unsigned_abs, List, [], ◌∷◌, Option, Some, None, is_some, map, if◌then◌else◌, length, drop}
+use Rattle.std.specs.Prelude.{◌&&◌, ℕ, ◌+◌, ◌*◌, ◌-ℤ◌, ◌≤◌, ◌≡◌, Bool, true, false, ◌||◌, nat_eq, ℤ, int_lt, unsigned_abs, List, [], ◌∷◌, Option, Some, None, is_some, map, if◌then◌else◌, length, drop}
 use Rattle.std.specs.List.{slice_get}
 use Rattle.std.specs.Option.{option_and_then}
 use Rattle.stl_ast.specs.declared.declarations.Bounds.{Bounds}
@@ -85,11 +85,16 @@ unfoldable pub named : List BlockLayout → Spot → List ℕ → Walk
 named l spot name =
     named_behind l spot name (slice_get (cells_at l spot.block spot.temporary) spot.place)
 
--- an index behind a component with these bounds left
+-- an index outside these bounds
+abbrev pub is_beyond : Bounds → ℤ → Bool
+is_beyond b at = int_lt at b.low || int_lt b.high at
+
+-- an index behind a component with these bounds left. One outside them leads on as the first element does, so that a
+-- declaration further on that breaks a rule is seen
 abbrev pub within : Spot → Cell → (behind : List Cell) → ℤ → Option Bounds → Walk
 within spot c behind at None = walk.Unknown
 within spot c behind at (Some b) =
-    if int_lt at b.low || int_lt b.high at then walk.Outside
+    if is_beyond b at then walk.Reaches (record spot { depth = spot.depth + 1 })
     else walk.Reaches (record spot {
       depth = spot.depth + 1;
       offset = capped (spot.offset + capped
@@ -114,7 +119,6 @@ step_of l spot (step.Index at) = indexed l spot at
 abbrev pub goes_on : Walk → (Spot → Walk) → Walk
 goes_on (walk.Reaches spot) next = next spot
 goes_on walk.Unknown next = walk.Unknown
-goes_on walk.Outside next = walk.Outside
 goes_on walk.Rests next = walk.Rests
 
 -- the steps behind a component
@@ -127,6 +131,39 @@ abbrev pub walked_from : List BlockLayout → (block : ℕ) → (temporary : Boo
 walked_from l block temporary (step.Named name ∷ ss) =
     goes_on (outermost l block temporary 0 name) (λ spot. walked l spot ss)
 walked_from l block temporary _ = walk.Unknown
+
+-- whether an index of these steps is outside its array
+abbrev pub is_beyond_left : Option Bounds → ℤ → Bool
+is_beyond_left None at = false
+is_beyond_left (Some b) at = is_beyond b at
+
+abbrev pub is_beyond_in : (depth : ℕ) → Option Cell → ℤ → Bool
+is_beyond_in depth None at = false
+is_beyond_in depth (Some c) at = is_beyond_left (slice_get c.bounds depth) at
+
+abbrev pub step_is_beyond : List BlockLayout → Spot → PathStep → Bool
+step_is_beyond l spot (step.Named name) = false
+step_is_beyond l spot (step.Index at) =
+    is_beyond_in spot.depth (slice_get (cells_at l spot.block spot.temporary) spot.place) at
+
+abbrev pub further : Walk → (Spot → Bool) → Bool
+further (walk.Reaches spot) next = next spot
+further _ next = false
+
+abbrev pub leaves : List BlockLayout → Spot → List PathStep → Bool
+leaves l spot [] = false
+leaves l spot (s ∷ ss) =
+    step_is_beyond l spot s || further (step_of l spot s) (λ next. leaves l next ss)
+
+abbrev pub leaves_from : List BlockLayout → (block : ℕ) → (temporary : Bool) → List PathStep → Bool
+leaves_from l block temporary (step.Named name ∷ ss) =
+    further (outermost l block temporary 0 name) (λ spot. leaves l spot ss)
+leaves_from l block temporary _ = false
+
+-- a path that goes through what breaks a rule itself isn't judged
+abbrev pub is_judged : Walk → Bool
+is_judged walk.Rests = false
+is_judged _ = true
 
 -- a block that isn't broken
 abbrev pub whole_block : Option BlockLayout → Option BlockLayout
@@ -152,7 +189,22 @@ abbrev pub walked_or_rests : List BlockLayout → Option ℕ → List PathStep �
 walked_or_rests l None path = walk.Rests
 walked_or_rests l (Some block) path = walked_from l block false path
 
--- a path into a data block: a component of it, or the target of a setting
+-- the same of a block that may itself be broken, as its settings are judged
+abbrev pub setting_structure : List BlockLayout → ℕ → Option ℕ
+setting_structure l block =
+    option_and_then (λ b. shape_block l block b.shape) (slice_get l block)
+
+-- the target of a setting
+unfoldable pub walked_setting : List BlockLayout → (block : ℕ) → List PathStep → Walk
+walked_setting l block path = walked_or_rests l (setting_structure l block) path
+
+-- whether a path leaves an array, where it is judged
+abbrev pub leaves_judged : List BlockLayout → Option ℕ → List PathStep → Bool
+leaves_judged l None path = false
+leaves_judged l (Some block) path =
+    is_judged (walked_from l block false path) && leaves_from l block false path
+
+-- a path into a data block
 unfoldable pub walked_data : List BlockLayout → (block : ℕ) → List PathStep → Walk
 walked_data l block path = walked_or_rests l (structure_of l block) path
 
@@ -168,6 +220,15 @@ unfoldable pub walked_local : List BlockLayout → (block : ℕ) → List ℕ �
 walked_local l block name path =
     if is_some (whole_at l block)
     then goes_on (in_sections l block name) (λ spot. walked l spot path) else walk.Rests
+
+-- whether it leaves an array: in the sections in which the name is
+abbrev pub leaves_sections : List BlockLayout → (block : ℕ) → List ℕ → List PathStep → Bool
+leaves_sections l block name path =
+    further (in_sections l block name) (λ spot. leaves l spot path)
+
+abbrev pub leaves_local : List BlockLayout → (block : ℕ) → List ℕ → List PathStep → Bool
+leaves_local l block name path =
+    is_judged (walked_local l block name path) && leaves_sections l block name path
 
 -- the elementary type of a component that a path reaches
 abbrev pub plain_kind : Element → Option Simple

@@ -11,7 +11,7 @@ use Rattle.stl_symbols.specs.Least.{broken_if}
 use Rattle.block_layout.specs.Around.{Outside, in_blocks}
 use Rattle.block_layout.specs.Declarations.{init_fits}
 use Rattle.block_layout.specs.Fits.{fits}
-use Rattle.block_layout.specs.Paths.{folded_path, walked_data, elementary_at}
+use Rattle.block_layout.specs.Paths.{folded_path, walked_setting, elementary_at}
 use Rattle.block_layout.specs.Settings.{on_settings}
 use Rattle.block_layout.specs.declared.blocks.BlockLayout.{BlockLayout}
 use Rattle.block_layout.specs.declared.walks.Walk.{Walk}
@@ -30,7 +30,7 @@ misfits l value (walk.Reaches spot) = not (fits_kind value (elementary_at l spot
 misfits l value _ = false
 
 abbrev pub setting_misfits : List BlockLayout → ℕ → Setting → Bool
-setting_misfits l block s = misfits l s.value (walked_data l block (folded_path s.path))
+setting_misfits l block s = misfits l s.value (walked_setting l block (folded_path s.path))
 
 unfoldable pub rule_41 : List BlockLayout → List Block → List Refusal
 rule_41 l blocks = in_blocks broken_41 blocks ++ on_settings (setting_misfits l) 41 0 blocks

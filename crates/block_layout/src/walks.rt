@@ -57,13 +57,13 @@ pub struct Spot {
     pub offset: u64,
 }
 
-/// Where a path leads. `Unknown` names a component that isn't there, `Outside` has an index outside
-/// its array, `Rests` goes through a declaration or a block that breaks a rule itself.
+/// Where a path leads. `Unknown` names a component that isn't there, `Rests` goes through a
+/// declaration or a block that breaks a rule itself. An index outside its array leads on as the first
+/// element does.
 #[derive(Clone, Copy, Debug, PartialEq, Eq)]
 pub enum Walk {
     Reaches { spot: Spot },
     Unknown,
-    Outside,
     Rests,
 }
 
@@ -238,7 +238,12 @@ fn indexed_in(layout: &Layout, spot: Spot, at: i32) -> Walk
         return Walk::Unknown;
     };
     if at < bounds.low || bounds.high < at {
-        return Walk::Outside;
+        return Walk::Reaches {
+            spot: Spot {
+                depth: spot.depth + 1,
+                ..spot
+            },
+        };
     }
     let element = layout.element_at(spot.place);
     let inner = array_bits(bounds_behind(cell.bounds.as_slice(), spot.depth), element);
