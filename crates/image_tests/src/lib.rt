@@ -20,4 +20,6 @@ mod op_code_table;
 #[cfg(test)]
 mod ops_both_ways;
 #[cfg(test)]
+mod readers;
+#[cfg(test)]
 mod written_programs;

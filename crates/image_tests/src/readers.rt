@@ -1,0 +1,92 @@
+//! What the readers of a loaded program give.
+
+use crate::images::EXAMPLE;
+use flat_code::{Op, Operand};
+use image_file::{Loaded, load};
+use plc_base::{BlockId, BlockKind};
+use std::test::Fail;
+
+/// Offsets in the code of OB 1: the op code there, whether it ends its statement, the offset after it,
+/// and the line of the statement that begins there (0 for none). The op code 0 says that no op begins.
+static OPS: [(u32, u8, bool, u32, u32); 8] = [
+    (0, 0x6F, true, 7, 3),
+    (1, 0, false, 0, 0),
+    (6, 0, false, 0, 0),
+    (7, 0x02, false, 11, 4),
+    (11, 0x21, true, 18, 0),
+    (18, 0x7B, true, 20, 5),
+    (19, 0, false, 0, 0),
+    (20, 0, false, 0, 0),
+];
+
+fn id(kind: BlockKind, number: u16) -> BlockId {
+    BlockId { kind, number }
+}
+
+/// What stands at an offset, in the form of the table above.
+fn shown(loaded: &Loaded, block: BlockId, at: u32) -> (u8, bool, u32, u32) {
+    let line = match loaded.line(block, at) {
+        None => 0,
+        Some(line) => line,
+    };
+    match loaded.op(block, at) {
+        None => (0, false, 0, line),
+        Some((op, next)) => (op.code, op.last, next, line),
+    }
+}
+
+fn is_jump_to_7(found: Option<(Op, u32)>) -> bool {
+    match found {
+        Some((op, _)) => matches!(op.operand, Operand::Jump { kind: 0, target: 7 }),
+        None => false,
+    }
+}
+
+#[test]
+fn ops_and_lines(rt: HostRuntime) -> Result<(), Fail> {
+    let Ok(loaded) = load(rt.alloc(), &EXAMPLE) else {
+        assert!(rt; false, "the example");
+        return Ok(());
+    };
+    let ob = id(BlockKind::Ob, 1);
+    for (at, code, last, next, line) in OPS {
+        assert_eq!(rt; shown(&loaded, ob, at), (code, last, next, line), "{at}");
+    }
+    assert!(rt; is_jump_to_7(loaded.op(ob, 0)));
+    for other in [id(BlockKind::Fc, 1), id(BlockKind::Ob, 2049)] {
+        assert_eq!(rt; shown(&loaded, other, 0), (0, false, 0, 0));
+    }
+    Ok(())
+}
+
+fn sizes(loaded: &Loaded) -> Option<(u16, u16, u16, u32, usize)> {
+    let head = loaded.head(id(BlockKind::Ob, 1))?;
+    Some((
+        head.local_len,
+        head.instance_len,
+        head.statements,
+        head.code_len,
+        head.params.len(),
+    ))
+}
+
+fn data_len(loaded: &Loaded, number: u16) -> Option<usize> {
+    Some(loaded.data_block(number)?.len())
+}
+
+#[test]
+fn heads_and_data_blocks(rt: HostRuntime) -> Result<(), Fail> {
+    let Ok(loaded) = load(rt.alloc(), &EXAMPLE) else {
+        assert!(rt; false, "the example");
+        return Ok(());
+    };
+    assert_eq!(rt; sizes(&loaded), Some((20, 0, 3, 20, 0)));
+    assert_eq!(rt; data_len(&loaded, 10), Some(4));
+    assert_eq!(rt; data_len(&loaded, 1), None);
+    assert_eq!(rt;
+        loaded.blocks(),
+        [id(BlockKind::Ob, 1), id(BlockKind::Db, 10)].as_slice()
+    );
+    assert_eq!(rt; loaded.names().as_slice().len(), 0);
+    Ok(())
+}
