@@ -15,8 +15,8 @@ pub struct Actual {
 #[derive(Drop)]
 pub struct Statement {
     pub line: u32,
-    pub label: Option<Name>,
     pub code: Mnemonic,
+    pub label: Option<Name>,
     pub operand: Operand,
     pub actuals: Sequence<Actual>,
 }

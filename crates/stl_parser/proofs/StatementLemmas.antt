@@ -22,7 +22,7 @@ use Rattle.stl_ast.specs.Operands.{IsNameOf, IsAnyName, IsDataBlockName, IsInsta
 use Rattle.stl_ast.specs.Sizes.{op_size, code_size, statement_size}
 use Rattle.stl_ast.specs.Statements.{is_jump, is_call, has_actuals, is_empty, is_nothing, is_label, is_called, has_instance, IsTarget, IsLabelOf, IsActual, AreActuals, IsStatement}
 use Rattle.stl_lexer.specs.declared.marks.Mark.TheVariants as mark
-use Rattle.stl_parser.specs.declared.statements.Instruction.{Instruction}
+use Rattle.stl_parser.specs.declared.statements.BareStatement.{BareStatement}
 use Rattle.stl_parser.specs.declared.tables.Form.{Form}
 use Rattle.stl_parser.specs.declared.tables.Form.TheVariants as form
 use Rattle.stl_parser.specs.Terminals.{has_kind, is_mark}
@@ -38,7 +38,7 @@ use Rattle.stl_parser.proofs.OperandLemmas.{IsRead, operand_holds, nothing_holds
 use Rattle.stl_parser.proofs.LengthLemmas.{block_rest}
 
 -- what an instruction with `more` tokens behind its word keeps
-pub record IsInstruction (more : ℕ) (i : Instruction) : Type 0 where
+pub record IsInstruction (more : ℕ) (i : BareStatement) : Type 0 where
   pub value : IsOperand i.operand
   pub called : is_called i.operand ≡ is_call i.code
   pub instance : has_actuals i.code ≡ false → has_instance i.operand ≡ false
@@ -344,7 +344,7 @@ paren_holds source (t ∷ rest) =
     passed (is_mark source t mark.OpenParen) _ (λ r. length r < length (t ∷ rest)) (λ test. omega arith)
 
 -- more tokens leave more room
-roomier : (low high : ℕ) (i : Instruction) → low ≤ high → IsInstruction low i → IsInstruction high i
+roomier : (low high : ℕ) (i : BareStatement) → low ≤ high → IsInstruction low i → IsInstruction high i
 roomier low high i more h =
     record {
       value = h.value;
@@ -378,7 +378,7 @@ closed_holds source t rest =
     (is_false (is_empty m.0) (and_right (goes_with m.0 m.1) _ h)))
 
 -- an instruction, with the tokens behind its word
-abbrev IsInstructionOf : List Token → Instruction → Type 0
+abbrev IsInstructionOf : List Token → BareStatement → Type 0
 IsInstructionOf [] i = ⊥
 IsInstructionOf (t ∷ rest) i = IsInstruction (length rest) i
 
@@ -396,7 +396,7 @@ most_size _ o n = omega arith
 abbrev pub IsReadStatement : ℕ → Statement × Bool → Type 0
 IsReadStatement n r = (r.1 ≡ false → IsStatement r.0) × (statement_size r.0 ≤ 4 + 4 * n)
 
-of_instruction : (line more : ℕ) (label : Option (List ℕ)) (i : Instruction) → IsInstruction more i → i.long ≡ false → IsLabelOf label →
+of_instruction : (line more : ℕ) (label : Option (List ℕ)) (i : BareStatement) → IsInstruction more i → i.long ≡ false → IsLabelOf label →
     IsStatement (spec.statement line label i)
 of_instruction line more label i h short named =
     record {

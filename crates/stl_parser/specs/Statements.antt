@@ -15,7 +15,7 @@ use Rattle.stl_ast.specs.declared.operands.Operand.TheVariants as operand
 use Rattle.stl_ast.specs.declared.statements.Actual.{Actual}
 use Rattle.stl_ast.specs.declared.statements.Statement.{Statement}
 use Rattle.stl_lexer.specs.declared.marks.Mark.TheVariants as mark
-use Rattle.stl_parser.specs.declared.statements.Instruction.{Instruction}
+use Rattle.stl_parser.specs.declared.statements.BareStatement.{BareStatement}
 use Rattle.stl_parser.specs.declared.tables.Form.{Form}
 use Rattle.stl_parser.specs.declared.tables.Form.TheVariants as form
 use Rattle.stl_parser.specs.Terminals.{has_kind, is_mark}
@@ -97,21 +97,21 @@ instance_at source name (t ∷ rest) =
     else Some (None, t ∷ rest)
 
 -- an instruction without actual parameters and without a label that is too long
-abbrev pub plain : Mnemonic → Operand → Instruction
+abbrev pub plain : Mnemonic → Operand → BareStatement
 plain code o = record { code = code; operand = o; actuals = []; long = false }
 
 -- CALL, behind the word
-unfoldable pub call_of : List ℕ → Mnemonic → List Token → Option Instruction
+unfoldable pub call_of : List ℕ → Mnemonic → List Token → Option BareStatement
 call_of source code tokens =
     option_and_then (λ b. option_and_then (λ i. option_map (λ actuals. record { code = code; operand = operand.Called b.0 i.0; actuals = actuals; long = false })
     (actuals_of source i.1)) (instance_at source b.0 b.1)) (block_at source tokens)
 
 -- UC and CC, behind the word: one block
-unfoldable pub block_call_of : List ℕ → Mnemonic → List Token → Option Instruction
+unfoldable pub block_call_of : List ℕ → Mnemonic → List Token → Option BareStatement
 block_call_of source code tokens = option_map (λ name. plain code (operand.Called name None)) (whole (block_at source tokens))
 
 -- an instruction with an operand of any form, behind the word
-unfoldable pub with_operand : List ℕ → Mnemonic → List Token → Option Instruction
+unfoldable pub with_operand : List ℕ → Mnemonic → List Token → Option BareStatement
 with_operand source code tokens = option_map (plain code) (operand_of source tokens)
 
 -- a label has at most four characters
@@ -119,7 +119,7 @@ unfoldable pub is_long : List ℕ → Token → Bool
 is_long source t = nat_lt 4 (length (text_of source t))
 
 -- a jump, behind the word: a word that stands alone is its label
-unfoldable pub jump_of : List ℕ → Mnemonic → List Token → Option Instruction
+unfoldable pub jump_of : List ℕ → Mnemonic → List Token → Option BareStatement
 jump_of source code (t ∷ []) =
     if has_kind t kind.Word
     then Some (record { code = code; operand = operand.Label (text_of source t); actuals = []; long = is_long source t })
@@ -127,7 +127,7 @@ jump_of source code (t ∷ []) =
 jump_of source code tokens = with_operand source code tokens
 
 -- OPN, behind the word: a quoted name that stands alone is a data block for the DB register
-unfoldable pub open_of : List ℕ → Mnemonic → List Token → Option Instruction
+unfoldable pub open_of : List ℕ → Mnemonic → List Token → Option BareStatement
 open_of source code (t ∷ []) =
     if has_kind t kind.Quoted
     then Some (plain code (operand.OpenBlock false (block.Quoted (unquoted (text_of source t)))))
@@ -135,7 +135,7 @@ open_of source code (t ∷ []) =
 open_of source code tokens = with_operand source code tokens
 
 -- what may stand behind an instruction word of this form
-unfoldable pub behind_word : List ℕ → Form → Mnemonic → List Token → Option Instruction
+unfoldable pub behind_word : List ℕ → Form → Mnemonic → List Token → Option BareStatement
 behind_word source form.Operand code tokens = with_operand source code tokens
 behind_word source form.Jump code tokens = jump_of source code tokens
 behind_word source form.Open code tokens = open_of source code tokens
@@ -148,22 +148,22 @@ after_paren source [] = None
 after_paren source (t ∷ rest) = if is_mark source t mark.OpenParen then Some rest else None
 
 -- an instruction word that opens a bracket: the word and a `(`
-unfoldable pub opening_of : List ℕ → Token → List Token → Option Instruction
+unfoldable pub opening_of : List ℕ → Token → List Token → Option BareStatement
 opening_of source t rest =
     option_and_then (λ code. option_and_then (λ behind. with_operand source code behind) (after_paren source rest))
     (look_up opening_mnemonics (text_of source t))
 
 -- an instruction that opens no bracket
-unfoldable pub closed_of : List ℕ → Token → List Token → Option Instruction
+unfoldable pub closed_of : List ℕ → Token → List Token → Option BareStatement
 closed_of source t rest = option_and_then (λ m. behind_word source m.1 m.0 rest) (look_up mnemonics (text_of source t))
 
 -- an instruction that is all of the tokens
-unfoldable pub instruction_of : List ℕ → List Token → Option Instruction
+unfoldable pub instruction_of : List ℕ → List Token → Option BareStatement
 instruction_of source [] = None
 instruction_of source (t ∷ rest) = option_or (opening_of source t rest) (closed_of source t rest)
 
 -- a statement, and whether a label in it is too long
-abbrev pub statement : ℕ → Option (List ℕ) → Instruction → Statement
+abbrev pub statement : ℕ → Option (List ℕ) → BareStatement → Statement
 statement line label i = record { line = line; label = label; code = i.code; operand = i.operand; actuals = i.actuals }
 
 -- a statement with a label, behind the `:`

@@ -41,7 +41,7 @@ pub const LABEL_LENGTH: usize = 4;
 
 /// An instruction with its operand; `long` says that a label in it is too long.
 #[derive(Drop)]
-pub struct Instruction {
+pub struct BareStatement {
     pub code: Mnemonic,
     pub operand: Operand,
     pub actuals: Sequence<Actual>,
@@ -115,10 +115,10 @@ fn instance<'a>(
 }
 
 /// An instruction without actual parameters and without a label that is too long.
-fn plain(alloc: Global, code: Mnemonic, operand: Operand) -> Instruction
+fn plain(alloc: Global, code: Mnemonic, operand: Operand) -> BareStatement
     ensures { result ≡ plain code operand }
 {
-    Instruction {
+    BareStatement {
         code,
         operand,
         actuals: Sequence::from_vec(Vec::new(alloc)),
@@ -133,7 +133,7 @@ fn call(
     source: &[u8],
     code: Mnemonic,
     tokens: &[Token],
-) -> Result<Option<Instruction>, AllocError>
+) -> Result<Option<BareStatement>, AllocError>
     ensures { IfOk result (λ found. found ≡ call_of source.now code tokens.now) }
 {
     let Some((name, rest)) = block(alloc, source, tokens)? else {
@@ -146,7 +146,7 @@ fn call(
         return Ok(None);
     };
     let operand = Operand::Called { name, instance };
-    Ok(Some(Instruction {
+    Ok(Some(BareStatement {
         code,
         operand,
         actuals,
@@ -161,7 +161,7 @@ fn block_call(
     source: &[u8],
     code: Mnemonic,
     tokens: &[Token],
-) -> Result<Option<Instruction>, AllocError>
+) -> Result<Option<BareStatement>, AllocError>
     ensures { IfOk result (λ found. found ≡ block_call_of source.now code tokens.now) }
 {
     match block(alloc, source, tokens)? {
@@ -183,7 +183,7 @@ fn with_operand(
     source: &[u8],
     code: Mnemonic,
     tokens: &[Token],
-) -> Result<Option<Instruction>, AllocError>
+) -> Result<Option<BareStatement>, AllocError>
     ensures { IfOk result (λ found. found ≡ with_operand source.now code tokens.now) }
 {
     let Some(operand) = operand(alloc, source, tokens)? else {
@@ -207,13 +207,13 @@ fn jump(
     source: &[u8],
     code: Mnemonic,
     tokens: &[Token],
-) -> Result<Option<Instruction>, AllocError>
+) -> Result<Option<BareStatement>, AllocError>
     ensures { IfOk result (λ found. found ≡ jump_of source.now code tokens.now) }
 {
     match tokens {
         [token] if has_kind(token, TokenKind::Word) => {
             let name = Name::new(alloc, token.text(source))?;
-            Ok(Some(Instruction {
+            Ok(Some(BareStatement {
                 code,
                 operand: Operand::Label { name },
                 actuals: Sequence::from_vec(Vec::new(alloc)),
@@ -231,7 +231,7 @@ fn open(
     source: &[u8],
     code: Mnemonic,
     tokens: &[Token],
-) -> Result<Option<Instruction>, AllocError>
+) -> Result<Option<BareStatement>, AllocError>
     ensures { IfOk result (λ found. found ≡ open_of source.now code tokens.now) }
 {
     match tokens {
@@ -255,7 +255,7 @@ fn behind_word(
     form: Form,
     code: Mnemonic,
     tokens: &[Token],
-) -> Result<Option<Instruction>, AllocError>
+) -> Result<Option<BareStatement>, AllocError>
     ensures { IfOk result (λ found. found ≡ behind_word source.now form code tokens.now) }
 {
     match form {
@@ -289,7 +289,7 @@ fn opening(
     source: &[u8],
     token: &Token,
     rest: &[Token],
-) -> Result<Option<Instruction>, AllocError>
+) -> Result<Option<BareStatement>, AllocError>
     ensures { IfOk result (λ found. found ≡ opening_of source.now token.now rest.now) }
 {
     let Some(code) = opening_mnemonic_of(token.text(source)) else {
@@ -308,7 +308,7 @@ fn closed(
     source: &[u8],
     token: &Token,
     rest: &[Token],
-) -> Result<Option<Instruction>, AllocError>
+) -> Result<Option<BareStatement>, AllocError>
     ensures { IfOk result (λ found. found ≡ closed_of source.now token.now rest.now) }
 {
     let Some((code, form)) = mnemonic_of(token.text(source)) else {
@@ -323,7 +323,7 @@ fn whole_instruction(
     alloc: Global,
     source: &[u8],
     tokens: &[Token],
-) -> Result<Option<Instruction>, AllocError>
+) -> Result<Option<BareStatement>, AllocError>
     ensures { IfOk result (λ found. found ≡ instruction_of source.now tokens.now) }
 {
     let [token, rest @ ..] = tokens else {
@@ -336,10 +336,10 @@ fn whole_instruction(
 }
 
 /// The statement of an instruction.
-fn statement_with(line: u32, label: Option<Name>, instruction: Instruction) -> Statement
+fn statement_with(line: u32, label: Option<Name>, instruction: BareStatement) -> Statement
     ensures { result ≡ statement line label instruction }
 {
-    let Instruction {
+    let BareStatement {
         code,
         operand,
         actuals,
