@@ -4,6 +4,8 @@
 #[cfg(test)]
 mod clause_tests;
 #[cfg(test)]
+mod depth_tests;
+#[cfg(test)]
 mod describe;
 #[cfg(test)]
 mod reading_tests;

@@ -1,16 +1,13 @@
 -- The nested view of declarations.
 use Rattle.std.proofs.Common.{arith, ℕ, ◌+◌, ◌<◌, ◌≤◌, ◌≡◌, Bool, true, false, List, [], ◌∷◌, ◌++◌, if◌then◌else◌, refl, sym, ◌∙◌, ap, subst}
 use Rattle.std.proofs.lemmas.Bool.Decides.{nat_tests}
+use Rattle.std.proofs.lemmas.List.{append_assoc}
 use Rattle.std.specs.Prelude.{nat_lt}
 use Rattle.stl_ast.specs.declared.declarations.Declaration.{Declaration}
 use Rattle.stl_ast.specs.declared.declarations.ElementType.{ElementType}
 use Rattle.stl_ast.specs.declared.declarations.ElementType.TheVariants.{Plain, Structure, Udt, DateAndTime}
 use Rattle.stl_ast.specs.Outline.{level_behind, IsOutline}
 use Rattle.stl_ast.specs.Nested.{Components, none, more, inner, outer, nested, flat, MayHold, AreAt, IsSpelledByNested, AreLevelsOfNesting}
-
-append_parts : (xs ys zs : List Declaration) → (xs ++ ys) ++ zs ≡ xs ++ (ys ++ zs)
-append_parts [] ys zs = refl
-append_parts (x ∷ xs) ys zs = ap (λ rest. x ∷ rest) (append_parts xs ys zs)
 
 -- the inner ones and then the outer ones are all
 parted_one : (level : ℕ) (d : Declaration) (components behind : Components) (deeper : Bool) →
@@ -19,7 +16,7 @@ parted_one : (level : ℕ) (d : Declaration) (components behind : Components) (d
     ++ flat (if deeper then outer level behind else more d components behind) ≡ d ∷ (flat components ++ flat behind)
 parted_one level d components behind true rest =
     ap (λ ds. d ∷ ds)
-    (append_parts (flat components) (flat (inner level behind)) (flat (outer level behind)) ∙ ap (λ ds. flat components ++ ds) rest)
+    (append_assoc (flat components) (flat (inner level behind)) (flat (outer level behind)) ∙ ap (λ ds. flat components ++ ds) rest)
 parted_one level d components behind false rest = refl
 
 parted : (level : ℕ) (cs : Components) → flat (inner level cs) ++ flat (outer level cs) ≡ flat cs

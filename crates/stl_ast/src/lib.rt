@@ -20,6 +20,3 @@ pub use names::{BlockName, Name};
 pub use operands::{Letters, Numbered, Operand, PathHead};
 pub use sequences::Sequence;
 pub use statements::{Actual, Statement};
-
-#[cfg(test)]
-mod tests;

@@ -2,9 +2,10 @@
 use Rattle.std.proofs.Common.{arith, ℕ, zero, suc, ◌+◌, ◌≤◌, ◌<◌, ◌≡◌, ◌⊎◌, inl, inr, Bool, true, false, List, [], ◌∷◌, ◌++◌, map, filter, length, Option, Some, None, Result, Ok, Err, if◌then◌else◌, refl, sym, ◌∙◌, ap, subst}
 use Rattle.std.specs.Prelude.{nat_eq, nat_lt, ◌&&◌}
 use Rattle.std.specs.List.{flat_map}
-use Rattle.std.proofs.lemmas.List.{map-append}
+use Rattle.std.proofs.lemmas.List.{append_assoc, append-nil, map-append}
 use Rattle.plc_base.specs.declared.blocks.BlockKind.{BlockKind}
 use Rattle.plc_base.specs.declared.blocks.BlockKind.TheVariants as kinds
+use Rattle.stl_lexer.specs.Limits.{source_limit}
 use Rattle.stl_lexer.specs.declared.kinds.Token.{Token}
 use Rattle.stl_ast.specs.declared.blocks.Block.{Block}
 use Rattle.stl_ast.specs.declared.blocks.Part.{Part}
@@ -17,12 +18,13 @@ use Rattle.stl_ast.specs.declared.names.BlockName.{BlockName}
 use Rattle.stl_ast.specs.declared.declarations.ElementType.TheVariants as element
 use Rattle.stl_ast.specs.declared.statements.Statement.{Statement}
 use Rattle.stl_ast.specs.Outline.{IsOutline, deepest_behind, level_behind}
+use Rattle.stl_ast.proofs.Outlines.{IsOutline-push, deepest_behind-push}
 use Rattle.stl_ast.specs.Blocks.{may_have, may_declare, has_body, has_shape, is_date_and_time, part_rank}
 use Rattle.stl_parser.specs.declared.clauses.Clause.{Clause}
 use Rattle.stl_parser.specs.declared.clauses.Clause.TheVariants as clause
 use Rattle.stl_parser.specs.declared.places.ClausePlace.{ClausePlace}
 use Rattle.stl_parser.specs.declared.places.ClausePlace.TheVariants as place
-use Rattle.stl_parser.specs.BlockReading.{is_inside, behind_inside, declared_by, set_by, stated_by, is_begin, Opens, OpensNoSection, OpensShape, ReadsShape}
+use Rattle.stl_parser.specs.BlockReading.{is_inside, behind_inside, declared_by, set_by, stated_by, is_begin, opens_shape, opens_content, opens_part, opened_place, ReadsShape}
 use Rattle.stl_parser.specs.Clauses.{level_at, block_rank}
 use Rattle.stl_parser.specs.Frame.{follow, follow_outside, follow_head, follow_section, follow_between, follow_shape, follow_shaped, follow_body, follow_settings}
 use Rattle.stl_parser.specs.Source.{Step, step_of, is_outside, Reads, ReadsKept}
@@ -30,9 +32,9 @@ use Rattle.stl_parser.specs.Spelling.{is_kept, spelled_part, spelled_shape, spel
 use Rattle.stl_parser.proofs.FrameLemmas.{right_clause, level_of, same_kind}
 use Rattle.stl_parser.proofs.LawLemmas.{end_is_stuck}
 use Rattle.stl_parser.proofs.LevelLemmas.{IsAt}
-use Rattle.stl_parser.proofs.SourceLemmas.{kept_none, kept_then, kept_more}
+use Rattle.stl_parser.proofs.SourceLemmas.{kept_then, kept_more}
 use Rattle.stl_parser.proofs.TotalLemmas.{fewer_left}
-use Rattle.stl_parser.proofs.TreeLemmas.{append_none, append_parts, flat_map_last, outline_push, deepest_push}
+use Rattle.stl_parser.proofs.TreeLemmas.{flat_map_last}
 
 if_some : {A : Type 0} (b : Bool) (x q : A) → (if b then Some x else None) ≡ Some q → (b ≡ true) × (q ≡ x)
 if_some true x q h = (refl, cc)
@@ -112,10 +114,10 @@ inside_is_open _ h = refl
 pub outline_more : (level next : ℕ) (c : Clause) (ds : List Declaration) → IsAt level c → IsOutline 0 ds → level ≤ deepest_behind 0 ds →
     next ≤ level_after level c → IsOutline 0 (ds ++ declared_by c) × (next ≤ deepest_behind 0 (ds ++ declared_by c))
 outline_more level next (clause.Declares d) ds at outline deepest within = (
-  outline_push ds d outline (omega (arith, at, deepest)),
-  omega (arith, deepest_push ds d, within, ap (λ l. level_behind l d.of.of) at),
+  IsOutline-push 0 ds d outline (omega (arith, at, deepest)),
+  omega (arith, deepest_behind-push 0 ds d, within, ap (λ l. level_behind l d.of.of) at),
 )
-outline_more level next _ ds at outline deepest within = rw (append_none ds) (outline, omega (arith, deepest, within))
+outline_more level next _ ds at outline deepest within = rw (append-nil ds) (outline, omega (arith, deepest, within))
 
 level_rises : (level : ℕ) (c : Clause) → level_after level c ≤ level + 1
 level_rises level (clause.Declares d) = by_type level d.of.of
@@ -135,19 +137,7 @@ pub record DeclarationsRead (source : List ℕ) (from : ClausePlace) (tokens : L
   pub end : behind_inside at ≡ behind_inside from
   pub outline : IsOutline 0 items
   pub deepest : level_at at ≤ deepest_behind 0 items
-  pub few : level_at at + length rest ≤ 1048576
-
-pub declarations_none : (source : List ℕ) (from : ClausePlace) (tokens : List Token) → is_inside from ≡ true → level_at from ≡ 0 →
-    length tokens ≤ 1048576 → DeclarationsRead source from tokens [] from tokens
-declarations_none source from tokens inside level few =
-    record {
-      reads = kept_none source from tokens;
-      inside = inside;
-      end = refl;
-      outline = tt;
-      deepest = omega (arith, level);
-      few = omega (arith, level, few);
-    }
+  pub few : level_at at + length rest ≤ source_limit
 
 inside_step : (source : List ℕ) (p : ClausePlace) (rest : List Token) (c : Clause) (behind : List Token) (q : ClausePlace) (b : Bool) →
     is_inside p ≡ true → step_of source p rest ≡ Ok (c, behind, q) → is_inside q ≡ b → InsideStep p c q b
@@ -181,7 +171,7 @@ pub declarations_end : (source : List ℕ) (from : ClausePlace) (tokens : List T
 declarations_end source from tokens items at rest c behind next so_far found inside =
     let ends = inside_step source at rest c behind next false so_far.inside found inside in
     let spelled : map clause.Declares items ++ filter is_kept (c ∷ []) ≡ map clause.Declares items =
-    ap (λ ks. map clause.Declares items ++ ks) ends.1 ∙ append_none (map clause.Declares items) in
+    ap (λ ks. map clause.Declares items ++ ks) ends.1 ∙ append-nil (map clause.Declares items) in
     subst (λ q. ReadsKept source from tokens (map clause.Declares items) q behind) (ends.0 ∙ so_far.end)
     (subst (λ ks. ReadsKept source from tokens ks next behind) spelled
     (kept_more source from tokens (map clause.Declares items) at rest c behind next so_far.reads found))
@@ -248,53 +238,63 @@ tail_level k place.Settings is = refl
 tail_level k _ is = absurd is
 
 -- behind the head of a block
-abbrev pub HeadStep : BlockKind → Clause → ClausePlace → Type 0
-HeadStep k clause.Note q = q ≡ place.Head k
-HeadStep k clause.Title q = q ≡ place.Head k
-HeadStep k c q = Opens k c q
-
-head_follows : (k : BlockKind) (c : Clause) (q : ClausePlace) → follow_head k c ≡ Some q → HeadStep k c q
+head_follows : (k : BlockKind) (c : Clause) (q : ClausePlace) → follow_head k c ≡ Some q → opened_place k c ≡ q
 unfolding follow_head
-head_follows k clause.Note q h = same_some q _ (sym h)
-head_follows k clause.Title q h = same_some q _ (sym h)
-head_follows k (clause.Section line p) q h = (if_some (may_have k p) (place.Section k p 0) q h).1
-head_follows k clause.Begins q h = (if_some (has_body k) (place.Body k) q h).1
-head_follows k clause.Structure q h = (if_some (has_shape k) (place.Shape k 0) q h).1
-head_follows k (clause.Based name) q h = (if_some (nat_eq (block_rank k) 3) (place.Shaped k) q h).1
+head_follows k clause.Note q h = same_some _ q h
+head_follows k clause.Title q h = same_some _ q h
+head_follows k (clause.Section line p) q h = sym (if_some (may_have k p) (place.Section k p 0) q h).1
+head_follows k clause.Begins q h = sym (if_some (has_body k) (place.Body k) q h).1
+head_follows k clause.Structure q h = sym (if_some (has_shape k) (place.Shape k 0) q h).1
+head_follows k (clause.Based name) q h = sym (if_some (nat_eq (block_rank k) 3) (place.Shaped k) q h).1
 head_follows k _ q h = cc
 
-pub head_step : (source : List ℕ) (k : BlockKind) (rest : List Token) (c : Clause) (behind : List Token) (q : ClausePlace) →
-    step_of source (place.Head k) rest ≡ Ok (c, behind, q) → HeadStep k c q
-unfolding follow
-head_step source k rest c behind q found = head_follows k c q (right_clause source (place.Head k) rest c behind q found).1
+head_opens : (k : BlockKind) (c : Clause) (q : ClausePlace) → follow_head k c ≡ Some q → (c ≡ clause.Note → ⊥) → (c ≡ clause.Title → ⊥) →
+    opens_part c ≡ true
+unfolding follow_head
+head_opens k clause.Note q h no_note no_title = absurd (no_note refl)
+head_opens k clause.Title q h no_note no_title = absurd (no_title refl)
+head_opens k (clause.Section line p) q h no_note no_title = refl
+head_opens k clause.Begins q h no_note no_title = refl
+head_opens k clause.Structure q h no_note no_title = refl
+head_opens k (clause.Based name) q h no_note no_title = refl
+head_opens k _ q h no_note no_title = cc
 
--- a note more behind the head
-pub note_more : (source : List ℕ) (k : BlockKind) (tokens rest : List Token) (c : Clause) (behind : List Token) (q : ClausePlace) →
+-- a clause more behind the head, where nothing was kept before
+pub opening_read : (source : List ℕ) (k : BlockKind) (tokens rest : List Token) (c : Clause) (behind : List Token) (q : ClausePlace) →
     ReadsKept source (place.Head k) tokens [] (place.Head k) rest → step_of source (place.Head k) rest ≡ Ok (c, behind, q) →
+    ReadsKept source (place.Head k) tokens (filter is_kept (c ∷ [])) (opened_place k c) behind
+unfolding follow
+opening_read source k tokens rest c behind q so_far found =
+    subst (λ p. ReadsKept source (place.Head k) tokens (filter is_kept (c ∷ [])) p behind)
+    (sym (head_follows k c q (right_clause source (place.Head k) rest c behind q found).1))
+    (kept_more source (place.Head k) tokens [] (place.Head k) rest c behind q so_far found)
+
+-- it is a note
+pub note_more : (source : List ℕ) (k : BlockKind) (tokens : List Token) (c : Clause) (behind : List Token) →
+    ReadsKept source (place.Head k) tokens (filter is_kept (c ∷ [])) (opened_place k c) behind →
     (c ≡ clause.Note) ⊎ (c ≡ clause.Title) → ReadsKept source (place.Head k) tokens [] (place.Head k) behind
-note_more source k tokens rest clause.Note behind q so_far found is =
-    subst (λ p. ReadsKept source (place.Head k) tokens [] p behind) (head_step source k rest clause.Note behind q found)
-    (kept_more source (place.Head k) tokens [] (place.Head k) rest clause.Note behind q so_far found)
-note_more source k tokens rest clause.Title behind q so_far found is =
-    subst (λ p. ReadsKept source (place.Head k) tokens [] p behind) (head_step source k rest clause.Title behind q found)
-    (kept_more source (place.Head k) tokens [] (place.Head k) rest clause.Title behind q so_far found)
-note_more source k tokens rest c behind q so_far found (inl is) = cc
-note_more source k tokens rest c behind q so_far found (inr is) = cc
+note_more source k tokens clause.Note behind read is = read
+note_more source k tokens clause.Title behind read is = read
+note_more source k tokens c behind read (inl is) = cc
+note_more source k tokens c behind read (inr is) = cc
 
-pub no_note_opens : (k : BlockKind) (c : Clause) (q : ClausePlace) → (c ≡ clause.Note → ⊥) → (c ≡ clause.Title → ⊥) → HeadStep k c q → Opens k c q
-no_note_opens k clause.Note q no_note no_title step = absurd (no_note refl)
-no_note_opens k clause.Title q no_note no_title step = absurd (no_title refl)
-no_note_opens k _ q no_note no_title step = step
+-- or it opens a part
+pub no_note_opens : (source : List ℕ) (k : BlockKind) (rest : List Token) (c : Clause) (behind : List Token) (q : ClausePlace) →
+    step_of source (place.Head k) rest ≡ Ok (c, behind, q) → (c ≡ clause.Note → ⊥) → (c ≡ clause.Title → ⊥) → opens_part c ≡ true
+unfolding follow
+no_note_opens source k rest c behind q found no_note no_title =
+    head_opens k c q (right_clause source (place.Head k) rest c behind q found).1 no_note no_title
 
-between_follows : (k : BlockKind) (last : PartKind) (c : Clause) (q : ClausePlace) → follow_between k last c ≡ Some q → Opens k c q
+between_follows : (k : BlockKind) (last : PartKind) (c : Clause) (q : ClausePlace) → follow_between k last c ≡ Some q →
+    (opened_place k c ≡ q) × (opens_part c ≡ true)
 unfolding follow_between
 between_follows k last (clause.Section line p) q h =
-    (if_some (may_have k p && nat_lt (part_rank last) (part_rank p)) (place.Section k p 0) q h).1
-between_follows k last clause.Begins q h = same_some q _ (sym h)
+    (sym (if_some (may_have k p && nat_lt (part_rank last) (part_rank p)) (place.Section k p 0) q h).1, refl)
+between_follows k last clause.Begins q h = (same_some _ q h, refl)
 between_follows k last _ q h = cc
 
 pub between_step : (source : List ℕ) (k : BlockKind) (last : PartKind) (rest : List Token) (c : Clause) (behind : List Token) (q : ClausePlace) →
-    step_of source (place.Between k last) rest ≡ Ok (c, behind, q) → Opens k c q
+    step_of source (place.Between k last) rest ≡ Ok (c, behind, q) → (opened_place k c ≡ q) × (opens_part c ≡ true)
 unfolding follow
 between_step source k last rest c behind q found =
     between_follows k last c q (right_clause source (place.Between k last) rest c behind q found).1
@@ -368,9 +368,6 @@ pub record SettingsRead (source : List ℕ) (k : BlockKind) (tokens : List Token
   pub reads : ReadsKept source (place.Shaped k) tokens (map clause.Sets ss) at rest
   pub tail : IsTail k at
 
-pub settings_none : (source : List ℕ) (k : BlockKind) (tokens : List Token) → SettingsRead source k tokens [] (place.Shaped k) tokens
-settings_none source k tokens = record { reads = kept_none source (place.Shaped k) tokens; tail = refl }
-
 stays_in_tail : (k : BlockKind) (c : Clause) (q : ClausePlace) → not_end c ≡ true → TailStep k c q →
     IsTail k q × (filter is_kept (c ∷ []) ≡ map clause.Sets (set_by c))
 stays_in_tail k (clause.Ends line e) q no_end h = cc
@@ -400,89 +397,80 @@ settings_end source k tokens ss at rest line e behind q so_far found =
     (kept_more source (place.Shaped k) tokens (map clause.Sets ss) at rest (clause.Ends line e) behind q so_far.reads found))
 
 -- sections: one more
-pub record SectionsRead (source : List ℕ) (k : BlockKind) (tokens : List Token) (parts : List Part) (c : Clause) (at : ClausePlace)
-    (rest : List Token) : Type 0 where
-  pub reads : ReadsKept source (place.Head k) tokens (flat_map spelled_part parts ++ filter is_kept (c ∷ [])) at rest
-  pub opens : Opens k c at
-  pub few : length rest ≤ 1048576
+pub record SectionsRead (source : List ℕ) (k : BlockKind) (tokens : List Token) (parts : List Part) (c : Clause) (rest : List Token) : Type 0 where
+  pub reads : ReadsKept source (place.Head k) tokens (flat_map spelled_part parts ++ filter is_kept (c ∷ [])) (opened_place k c) rest
+  pub opens : opens_part c ≡ true
+  pub few : length rest ≤ source_limit
 
-pub sections_none : (source : List ℕ) (k : BlockKind) (tokens : List Token) (c : Clause) (at : ClausePlace) (rest : List Token) →
-    ReadsKept source (place.Head k) tokens (filter is_kept (c ∷ [])) at rest → Opens k c at → length tokens ≤ 1048576 →
-    SectionsRead source k tokens [] c at rest
-sections_none source k tokens c at rest reads opens few =
+pub sections_none : (source : List ℕ) (k : BlockKind) (tokens : List Token) (c : Clause) (rest : List Token) →
+    ReadsKept source (place.Head k) tokens (filter is_kept (c ∷ [])) (opened_place k c) rest → opens_part c ≡ true → length tokens ≤ source_limit →
+    SectionsRead source k tokens [] c rest
+sections_none source k tokens c rest reads opens few =
     record {
       reads = reads;
       opens = opens;
-      few = omega (arith, few, kept_fewer source (place.Head k) tokens (filter is_kept (c ∷ [])) at rest reads);
+      few = omega (arith, few, kept_fewer source (place.Head k) tokens (filter is_kept (c ∷ [])) (opened_place k c) rest reads);
     }
 
 -- a section whose declarations are read
-pub section_read : (source : List ℕ) (k : BlockKind) (tokens : List Token) (parts : List Part) (line : ℕ) (p : PartKind) (at : ClausePlace)
+pub section_read : (source : List ℕ) (k : BlockKind) (tokens : List Token) (parts : List Part) (line : ℕ) (p : PartKind)
     (rest : List Token) (items : List Declaration) (behind : List Token) →
-    SectionsRead source k tokens parts (clause.Section line p) at rest →
-    ReadsKept source at rest (map clause.Declares items) (behind_inside at) behind →
+    SectionsRead source k tokens parts (clause.Section line p) rest →
+    ReadsKept source (place.Section k p 0) rest (map clause.Declares items) (place.Between k p) behind →
     ReadsKept source (place.Head k) tokens (flat_map spelled_part (parts ++ record { line = line; kind = p; items = items } ∷ []))
     (place.Between k p) behind
-section_read source k tokens parts line p at rest items behind so_far read =
-    let both = kept_then source (place.Head k) tokens (flat_map spelled_part parts ++ clause.Section line p ∷ []) at rest
-    (map clause.Declares items) (behind_inside at) behind so_far.reads read in
+section_read source k tokens parts line p rest items behind so_far read =
+    let both = kept_then source (place.Head k) tokens (flat_map spelled_part parts ++ clause.Section line p ∷ []) (place.Section k p 0) rest
+    (map clause.Declares items) (place.Between k p) behind so_far.reads read in
     let spelled : (flat_map spelled_part parts ++ clause.Section line p ∷ []) ++ map clause.Declares items
     ≡ flat_map spelled_part (parts ++ record { line = line; kind = p; items = items } ∷ []) =
-    append_parts (flat_map spelled_part parts) (clause.Section line p ∷ []) (map clause.Declares items)
+    append_assoc (flat_map spelled_part parts) (clause.Section line p ∷ []) (map clause.Declares items)
     ∙ sym (flat_map_last spelled_part parts (record { line = line; kind = p; items = items })) in
-    subst (λ q. ReadsKept source (place.Head k) tokens (flat_map spelled_part (parts ++ record { line = line; kind = p; items = items } ∷ [])) q behind)
-    (ap behind_inside so_far.opens)
-    (subst (λ ks. ReadsKept source (place.Head k) tokens ks (behind_inside at) behind) spelled both)
+    subst (λ ks. ReadsKept source (place.Head k) tokens ks (place.Between k p) behind) spelled both
 
 pub sections_more : (source : List ℕ) (k : BlockKind) (tokens : List Token) (parts : List Part) (last : PartKind)
-    (rest : List Token) (c : Clause) (behind : List Token) (q : ClausePlace) → length tokens ≤ 1048576 →
+    (rest : List Token) (c : Clause) (behind : List Token) (q : ClausePlace) → length tokens ≤ source_limit →
     ReadsKept source (place.Head k) tokens (flat_map spelled_part parts) (place.Between k last) rest →
-    step_of source (place.Between k last) rest ≡ Ok (c, behind, q) → SectionsRead source k tokens parts c q behind
+    step_of source (place.Between k last) rest ≡ Ok (c, behind, q) → SectionsRead source k tokens parts c behind
 sections_more source k tokens parts last rest c behind q few so_far found =
+    let step = between_step source k last rest c behind q found in
     let reads = kept_more source (place.Head k) tokens (flat_map spelled_part parts) (place.Between k last) rest c behind q so_far found in
     record {
-      reads = reads;
-      opens = between_step source k last rest c behind q found;
+      reads = subst (λ p. ReadsKept source (place.Head k) tokens (flat_map spelled_part parts ++ filter is_kept (c ∷ [])) p behind) (sym step.0) reads;
+      opens = step.1;
       few = omega (arith, few, kept_fewer source (place.Head k) tokens (flat_map spelled_part parts ++ filter is_kept (c ∷ [])) q behind reads);
     }
 
--- a clause opens no section
-abbrev pub not_section : Clause → Bool
-not_section (clause.Section line p) = false
-not_section _ = true
-
-pub opens_no_section : (k : BlockKind) (c : Clause) (at : ClausePlace) → not_section c ≡ true → Opens k c at → OpensNoSection k c at
-opens_no_section k (clause.Section line p) at no_section opens = cc
-opens_no_section k _ at no_section opens = opens
-
 -- the body is opened
-pub begins_body : (source : List ℕ) (k : BlockKind) (tokens : List Token) (xs : List Clause) (c : Clause) (at : ClausePlace) (rest : List Token) →
-    ReadsKept source (place.Head k) tokens (xs ++ filter is_kept (c ∷ [])) at rest → OpensNoSection k c at → is_begin c ≡ true →
+pub begins_body : (source : List ℕ) (k : BlockKind) (tokens : List Token) (xs : List Clause) (c : Clause) (rest : List Token) →
+    ReadsKept source (place.Head k) tokens (xs ++ filter is_kept (c ∷ [])) (opened_place k c) rest → is_begin c ≡ true →
     ReadsKept source (place.Head k) tokens xs (place.Body k) rest
-begins_body source k tokens xs clause.Begins at rest reads opens begins =
-    subst (λ q. ReadsKept source (place.Head k) tokens xs q rest) opens
-    (subst (λ ks. ReadsKept source (place.Head k) tokens ks at rest) (append_none xs) reads)
-begins_body source k tokens xs _ at rest reads opens begins = cc
+begins_body source k tokens xs clause.Begins rest reads begins =
+    subst (λ ks. ReadsKept source (place.Head k) tokens ks (place.Body k) rest) (append-nil xs) reads
+begins_body source k tokens xs _ rest reads begins = cc
 
-pub opens_shape : (k : BlockKind) (c : Clause) (at : ClausePlace) → OpensNoSection k c at → is_begin c ≡ false → OpensShape k c at
-opens_shape k clause.Begins at opens begins = cc
-opens_shape k _ at opens begins = opens
+-- or the shape
+pub no_begin_opens : (c : Clause) → is_begin c ≡ false → opens_content c ≡ true → opens_shape c ≡ true
+no_begin_opens clause.Begins begins opens = cc
+no_begin_opens _ begins opens = opens
 
-opens_kept : (k : BlockKind) (c : Clause) (at : ClausePlace) → OpensShape k c at → filter is_kept (c ∷ []) ≡ c ∷ []
-opens_kept k clause.Structure at opens = refl
-opens_kept k (clause.Based name) at opens = refl
-opens_kept k _ at opens = absurd opens
+opens_kept : (c : Clause) → opens_shape c ≡ true → filter is_kept (c ∷ []) ≡ c ∷ []
+opens_kept clause.Structure opens = refl
+opens_kept (clause.Based name) opens = refl
+opens_kept _ opens = cc
 
 -- the shape is read
-pub shape_read : (source : List ℕ) (k : BlockKind) (tokens : List Token) (xs : List Clause) (c : Clause) (at : ClausePlace) (rest : List Token)
-    (spelled : List Clause) (behind : List Token) → ReadsKept source (place.Head k) tokens (xs ++ filter is_kept (c ∷ [])) at rest →
-    OpensShape k c at → ReadsShape source k c at rest spelled behind →
+pub shape_read : (source : List ℕ) (k : BlockKind) (tokens : List Token) (xs : List Clause) (c : Clause) (rest : List Token)
+    (spelled : List Clause) (behind : List Token) →
+    ReadsKept source (place.Head k) tokens (xs ++ filter is_kept (c ∷ [])) (opened_place k c) rest →
+    opens_shape c ≡ true → ReadsShape source k c rest spelled behind →
     ReadsKept source (place.Head k) tokens (xs ++ spelled) (place.Shaped k) behind
-shape_read source k tokens xs c at rest spelled behind reads opens shape =
-    let both = kept_then source (place.Head k) tokens (xs ++ filter is_kept (c ∷ [])) at rest shape.kept (place.Shaped k) behind reads shape.reads in
+shape_read source k tokens xs c rest spelled behind reads opens shape =
+    let both = kept_then source (place.Head k) tokens (xs ++ filter is_kept (c ∷ [])) (opened_place k c) rest shape.kept (place.Shaped k) behind
+    reads shape.reads in
     let same : (xs ++ filter is_kept (c ∷ [])) ++ shape.kept ≡ xs ++ spelled =
-    append_parts xs (filter is_kept (c ∷ [])) shape.kept
-    ∙ ap (λ ks. xs ++ (ks ++ shape.kept)) (opens_kept k c at opens) ∙ ap (λ ks. xs ++ ks) (sym shape.whole) in
+    append_assoc xs (filter is_kept (c ∷ [])) shape.kept
+    ∙ ap (λ ks. xs ++ (ks ++ shape.kept)) (opens_kept c opens) ∙ ap (λ ks. xs ++ ks) (sym shape.whole) in
     subst (λ ks. ReadsKept source (place.Head k) tokens ks (place.Shaped k) behind) same both
 
 -- the parts of a block with a body, and of one with a shape
@@ -500,7 +488,7 @@ pub data_block : (source : List ℕ) (k : BlockKind) (tokens : List Token) (xs s
     ReadsKept source (place.Head k) tokens (xs ++ (shape ++ (sets ++ (map clause.Runs runs ++ clause.Ends line k ∷ [])))) place.Outside behind
 data_block source k tokens xs shape rest sets line runs behind head inside none =
     rw none (subst (λ ks. ReadsKept source (place.Head k) tokens ks place.Outside behind)
-    (append_parts xs shape (sets ++ clause.Ends line k ∷ []))
+    (append_assoc xs shape (sets ++ clause.Ends line k ∷ []))
     (kept_then source (place.Head k) tokens (xs ++ shape) (place.Shaped k) rest (sets ++ clause.Ends line k ∷ []) place.Outside behind head inside))
 
 -- only a head stands between blocks
@@ -534,6 +522,6 @@ blocks_more source tokens bs rest line k name returns behind q b left so_far fou
     let both = kept_then source place.Outside tokens (flat_map spelled_block bs ++ clause.Head line k name returns ∷ []) (place.Head k) behind
     (spelled_behind_head b) place.Outside left first read in
     let spelled : (flat_map spelled_block bs ++ clause.Head line k name returns ∷ []) ++ spelled_behind_head b ≡ flat_map spelled_block (bs ++ b ∷ []) =
-    append_parts (flat_map spelled_block bs) (clause.Head line k name returns ∷ []) (spelled_behind_head b)
+    append_assoc (flat_map spelled_block bs) (clause.Head line k name returns ∷ []) (spelled_behind_head b)
     ∙ ap (λ ks. flat_map spelled_block bs ++ ks) (sym head) ∙ sym (flat_map_last spelled_block bs b) in
     subst (λ ks. ReadsKept source place.Outside tokens ks place.Outside left) spelled both

@@ -33,7 +33,8 @@ use Rattle.stl_parser.proofs.OptionLemmas.{some_holds, and_left, and_right}
 use Rattle.stl_parser.proofs.ClauseLemmas.{IsBaseName, IsRight, Fits, IsReadAt, clause_holds}
 use Rattle.stl_parser.specs.Spelling.{is_kept, is_udt, is_udt_kind, nowhere, spelled_part, spelled_shape, spelled_block}
 use Rattle.stl_parser.specs.Source.{Step, step_of, judged, placed, Reads, ClausesHaveTree}
-use Rattle.stl_parser.proofs.TreeLemmas.{append_parts, block_is_spelled}
+use Rattle.std.proofs.lemmas.List.{append_assoc}
+use Rattle.stl_parser.proofs.TreeLemmas.{block_is_spelled}
 
 -- the END clause of a block, and the blocks behind it
 abbrev spelled_end : BlockKind → ℕ → List Block → List Clause
@@ -177,7 +178,7 @@ section_spells : (line : ℕ) (p : PartKind) (ds : List Declaration) (ps : List 
     cs ≡ map clause.Declares ds ++ (flat_map spelled_part ps ++ rest) →
     clause.Section line p ∷ cs ≡ flat_map spelled_part (record { line = line; kind = p; items = ds } ∷ ps) ++ rest
 section_spells line p ds ps cs rest e =
-    ap (λ xs. clause.Section line p ∷ xs) (e ∙ sym (append_parts (map clause.Declares ds) (flat_map spelled_part ps) rest))
+    ap (λ xs. clause.Section line p ∷ xs) (e ∙ sym (append_assoc (map clause.Declares ds) (flat_map spelled_part ps) rest))
 
 udt_name : (name : BlockName) → IsBaseName name → is_udt name ≡ true → IsNameOf (λ k. k ≡ kinds.Udt) name
 udt_name (block.Number id) h test = (udt_kind id.kind test, h.1)

@@ -18,10 +18,6 @@ reads_then source p tokens [] q rest ds next behind first second =
 reads_then source p tokens (c ∷ cs) q rest ds next behind first second =
     (first.0, first.1, first.2, reads_then source first.1 first.0 cs q rest ds next behind first.3 second)
 
--- nothing is read yet
-pub kept_none : (source : List ℕ) (p : ClausePlace) (tokens : List Token) → ReadsKept source p tokens [] p tokens
-kept_none source p tokens = record { clauses = []; reads = (refl, refl); those = refl }
-
 -- more is read behind what was read
 pub kept_then : (source : List ℕ) (p : ClausePlace) (tokens : List Token) (kept : List Clause) (q : ClausePlace) (rest : List Token)
     (more : List Clause) (next : ClausePlace) (behind : List Token) → ReadsKept source p tokens kept q rest →

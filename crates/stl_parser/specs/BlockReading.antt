@@ -11,26 +11,29 @@ use Rattle.stl_parser.specs.declared.places.ClausePlace.{ClausePlace}
 use Rattle.stl_parser.specs.declared.places.ClausePlace.TheVariants as place
 use Rattle.stl_parser.specs.Source.{ReadsKept}
 
--- a place inside a section or a structure, and where the clauses behind its end stand
+-- a place inside a section, or inside the structure of a block
 abbrev pub is_inside : ClausePlace → Bool
 is_inside (place.Section k p level) = true
 is_inside (place.Shape k level) = true
 is_inside _ = false
 
+-- where the clauses behind the end of that section or structure stand
 abbrev pub behind_inside : ClausePlace → ClausePlace
 behind_inside (place.Section k p level) = place.Between k p
 behind_inside (place.Shape k level) = place.Shaped k
 behind_inside p = p
 
--- what a clause adds to the declarations, the settings or the statements of a block
+-- what a clause adds to the declarations of a block
 abbrev pub declared_by : Clause → List Declaration
 declared_by (clause.Declares d) = d ∷ []
 declared_by _ = []
 
+-- to its settings
 abbrev pub set_by : Clause → List Setting
 set_by (clause.Sets s) = s ∷ []
 set_by _ = []
 
+-- to its statements
 abbrev pub stated_by : Clause → List Statement
 stated_by (clause.Runs s) = s ∷ []
 stated_by _ = []
@@ -40,25 +43,34 @@ abbrev pub is_begin : Clause → Bool
 is_begin clause.Begins = true
 is_begin _ = false
 
--- a clause that opens the structure of a block, or names what the block is based on, and where the next one stands
-abbrev pub OpensShape : BlockKind → Clause → ClausePlace → Type 0
-OpensShape k clause.Structure at = at ≡ place.Shape k 0
-OpensShape k (clause.Based name) at = at ≡ place.Shaped k
-OpensShape k _ at = ⊥
+-- a clause opens the structure of a block, or names what the block is based on
+abbrev pub opens_shape : Clause → Bool
+opens_shape clause.Structure = true
+opens_shape (clause.Based name) = true
+opens_shape _ = false
 
--- one that opens the body, too
-abbrev pub OpensNoSection : BlockKind → Clause → ClausePlace → Type 0
-OpensNoSection k clause.Begins at = at ≡ place.Body k
-OpensNoSection k c at = OpensShape k c at
+-- the same, or it opens the body
+abbrev pub opens_content : Clause → Bool
+opens_content clause.Begins = true
+opens_content c = opens_shape c
 
--- one that opens a section, too
-abbrev pub Opens : BlockKind → Clause → ClausePlace → Type 0
-Opens k (clause.Section line p) at = at ≡ place.Section k p 0
-Opens k c at = OpensNoSection k c at
+-- the same, or it opens a section
+abbrev pub opens_part : Clause → Bool
+opens_part (clause.Section line p) = true
+opens_part c = opens_content c
+
+-- where the clauses stand behind one that opens a part of a block; behind any other they stand in
+-- the head
+abbrev pub opened_place : BlockKind → Clause → ClausePlace
+opened_place k (clause.Section line p) = place.Section k p 0
+opened_place k clause.Begins = place.Body k
+opened_place k clause.Structure = place.Shape k 0
+opened_place k (clause.Based name) = place.Shaped k
+opened_place k _ = place.Head k
 
 -- a shape is spelled by the clause that opens it and the clauses that are read behind that
-pub record ReadsShape (source : List ℕ) (k : BlockKind) (opening : Clause) (at : ClausePlace) (tokens : List Token)
+pub record ReadsShape (source : List ℕ) (k : BlockKind) (opening : Clause) (tokens : List Token)
     (spelled : List Clause) (rest : List Token) : Type 0 where
   pub kept : List Clause
-  pub reads : ReadsKept source at tokens kept (place.Shaped k) rest
+  pub reads : ReadsKept source (opened_place k opening) tokens kept (place.Shaped k) rest
   pub whole : spelled ≡ opening ∷ kept

@@ -32,7 +32,8 @@ follow_head k _ = None
 
 -- what may stand in a section
 unfoldable pub follow_section : BlockKind → PartKind → ℕ → Clause → Option ClausePlace
-follow_section k p level clause.EndSection = if nat_eq level 0 then Some (place.Between k p) else None
+follow_section k p level clause.EndSection =
+    if nat_eq level 0 then Some (place.Between k p) else None
 follow_section k p level (clause.Declares d) =
     if may_declare k p level d then Some (place.Section k p (level_behind level d.of.of)) else None
 follow_section k p level clause.EndStructure = section_behind k p level
@@ -41,7 +42,8 @@ follow_section k p level _ = None
 -- what may stand behind a section: a later section, or the body
 unfoldable pub follow_between : BlockKind → PartKind → Clause → Option ClausePlace
 follow_between k last (clause.Section line p) =
-    if may_have k p && nat_lt (part_rank last) (part_rank p) then Some (place.Section k p 0) else None
+    if may_have k p && nat_lt (part_rank last) (part_rank p) then Some (place.Section k p 0)
+    else None
 follow_between k last clause.Begins = Some (place.Body k)
 follow_between k last _ = None
 
@@ -63,7 +65,8 @@ unfoldable pub follow_body : BlockKind → Clause → Option ClausePlace
 follow_body k (clause.Runs s) = Some (place.Body k)
 follow_body k clause.Network = Some (place.Body k)
 follow_body k clause.Title = Some (place.Body k)
-follow_body k (clause.Ends line e) = if nat_eq (block_rank e) (block_rank k) then Some place.Outside else None
+follow_body k (clause.Ends line e) =
+    if nat_eq (block_rank e) (block_rank k) then Some place.Outside else None
 follow_body k _ = None
 
 -- what may stand in the BEGIN part of a data block

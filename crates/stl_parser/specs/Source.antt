@@ -17,7 +17,8 @@ use Rattle.stl_parser.specs.Frame.{follow}
 abbrev pub Step : Type 0
 Step = Clause × List Token × ClausePlace
 
--- a clause in the grammar: it breaks rule 11 where its kind may not stand here, else rule 12 where a label is too long
+-- a clause in the grammar: it breaks rule 11 where its kind may not stand here, else rule 12 where a
+-- label is too long
 abbrev pub placed : Clause → List Token → Bool → Option ClausePlace → Result Step ℕ
 placed c rest long None = Err 11
 placed c rest true (Some next) = Err 12
@@ -32,12 +33,14 @@ judged p (Some r) = placed r.0 r.1 r.2 (follow p r.0)
 unfoldable pub step_of : List ℕ → ClausePlace → List Token → Result Step ℕ
 step_of source p tokens = judged p (clause_at source p tokens)
 
--- these clauses, all right, follow one another from the front of the tokens, and behind them stand the tokens `rest` at
--- the place `q`
-abbrev pub Reads : List ℕ → ClausePlace → List Token → List Clause → ClausePlace → List Token → Type 0
+-- these clauses, all right, follow one another from the front of the tokens, and behind them stand
+-- the tokens `rest` at the place `q`
+abbrev pub Reads :
+    List ℕ → ClausePlace → List Token → List Clause → ClausePlace → List Token → Type 0
 Reads source p tokens [] q rest = (p ≡ q) × (tokens ≡ rest)
 Reads source p tokens (c ∷ cs) q rest =
-    (behind : List Token) × (next : ClausePlace) × (step_of source p tokens ≡ Ok (c, behind, next)) × Reads source next behind cs q rest
+    (behind : List Token) × (next : ClausePlace) × (step_of source p tokens ≡ Ok (c, behind, next))
+    × Reads source next behind cs q rest
 
 -- the line of the last token
 abbrev pub last_line : ℕ → List Token → ℕ
@@ -49,39 +52,48 @@ abbrev pub is_outside : ClausePlace → Bool
 is_outside place.Outside = true
 is_outside _ = false
 
--- at this place the clause at the front breaks the rule; where no token is left, the source ends inside a block
+-- at this place the clause at the front breaks the rule; where no token is left, the source ends
+-- inside a block
 abbrev pub Breaks : List ℕ → ClausePlace → List Token → ℕ → ℕ → ℕ → Type 0
 Breaks source p [] last line rule = (is_outside p ≡ false) × (line ≡ last) × (rule ≡ 13)
 Breaks source p (t ∷ ts) last line rule = (line ≡ t.line) × (step_of source p (t ∷ ts) ≡ Err rule)
 
 -- the same of what a refusal says; nothing is said of want of memory
 abbrev pub IsBrokenAt : List ℕ → ClausePlace → List Token → ℕ → SourceFault → Type 0
-IsBrokenAt source p tokens last (fault.Refused refusal) = Breaks source p tokens last refusal.line refusal.rule
+IsBrokenAt source p tokens last (fault.Refused refusal) =
+    Breaks source p tokens last refusal.line refusal.rule
 IsBrokenAt source p tokens last fault.NoMemory = Unit {0}
 
--- from the front of the tokens, at the place `p`, on: the first clause that breaks a rule; all the clauses before it are right
-pub record BreaksBehind (source : List ℕ) (p : ClausePlace) (tokens : List Token) (last line rule : ℕ) : Type 0 where
+-- from the front of the tokens, at the place `p`, on: the first clause that breaks a rule; all the
+-- clauses before it are right
+pub record BreaksBehind (source : List ℕ) (p : ClausePlace) (tokens : List Token)
+    (last line rule : ℕ) : Type 0 where
   pub before : List Clause
   pub at : ClausePlace
   pub rest : List Token
   pub reads : Reads source p tokens before at rest
   pub breaks : Breaks source at rest last line rule
 
+-- the same of what a refusal says; nothing is said of want of memory
 abbrev pub IsBrokenBehind : List ℕ → ClausePlace → List Token → ℕ → SourceFault → Type 0
-IsBrokenBehind source p tokens last (fault.Refused refusal) = BreaksBehind source p tokens last refusal.line refusal.rule
+IsBrokenBehind source p tokens last (fault.Refused refusal) =
+    BreaksBehind source p tokens last refusal.line refusal.rule
 IsBrokenBehind source p tokens last fault.NoMemory = Unit {0}
 
 -- the first violation of a source by its clauses
 abbrev pub IsViolation : List ℕ → List Token → ℕ → ℕ → Type 0
-IsViolation source tokens line rule = BreaksBehind source place.Outside tokens (last_line 0 tokens) line rule
+IsViolation source tokens line rule =
+    BreaksBehind source place.Outside tokens (last_line 0 tokens) line rule
 
--- the clauses of a source without violation: they are all right, no token is left behind them, and no block is open
+-- the clauses of a source without violation: they are all right, no token is left behind them, and
+-- no block is open
 abbrev pub AreClauses : List ℕ → List Token → List Clause → Type 0
 AreClauses source tokens clauses = Reads source place.Outside tokens clauses place.Outside []
 
--- right clauses lead from the front of the tokens, at the place `p`, to the tokens `rest` at the place `q`, and `kept` are
--- those of them that a tree keeps
-pub record ReadsKept (source : List ℕ) (p : ClausePlace) (tokens : List Token) (kept : List Clause) (q : ClausePlace) (rest : List Token) : Type 0 where
+-- right clauses lead from the front of the tokens, at the place `p`, to the tokens `rest` at the
+-- place `q`, and `kept` are those of them that a tree keeps
+pub record ReadsKept (source : List ℕ) (p : ClausePlace) (tokens : List Token)
+    (kept : List Clause) (q : ClausePlace) (rest : List Token) : Type 0 where
   pub clauses : List Clause
   pub reads : Reads source p tokens clauses q rest
   pub those : kept ≡ filter is_kept clauses
@@ -96,22 +108,25 @@ IsTree source tokens tree = AreKept source tokens (flat_map spelled_block tree.b
 
 -- the source is refused by its first violation
 abbrev pub IsRefusedBy : List ℕ → List Token → SourceFault → Type 0
-IsRefusedBy source tokens refused = IsBrokenBehind source place.Outside tokens (last_line 0 tokens) refused
+IsRefusedBy source tokens refused =
+    IsBrokenBehind source place.Outside tokens (last_line 0 tokens) refused
 
 -- there is at most one list of clauses, none where there is a violation, and one first violation
 abbrev pub AreClausesUnique : Type 0
 AreClausesUnique =
-    (source : List ℕ) (tokens : List Token) (cs ds : List Clause) → AreClauses source tokens cs → AreClauses source tokens ds → cs ≡ ds
+    (source : List ℕ) (tokens : List Token) (cs ds : List Clause) → AreClauses source tokens cs →
+    AreClauses source tokens ds → cs ≡ ds
 
 abbrev pub ExcludesViolation : Type 0
 ExcludesViolation =
-    (source : List ℕ) (tokens : List Token) (cs : List Clause) (line rule : ℕ) → AreClauses source tokens cs →
-    IsViolation source tokens line rule → ⊥
+    (source : List ℕ) (tokens : List Token) (cs : List Clause) (line rule : ℕ) →
+    AreClauses source tokens cs → IsViolation source tokens line rule → ⊥
 
 abbrev pub IsViolationUnique : Type 0
 IsViolationUnique =
-    (source : List ℕ) (tokens : List Token) (line rule line' rule' : ℕ) → IsViolation source tokens line rule →
-    IsViolation source tokens line' rule' → (line ≡ line') × (rule ≡ rule')
+    (source : List ℕ) (tokens : List Token) (line rule line' rule' : ℕ) →
+    IsViolation source tokens line rule → IsViolation source tokens line' rule' →
+    (line ≡ line') × (rule ≡ rule')
 
 -- there is a tree where all clauses are right, and it is well-formed
 abbrev pub ClausesHaveTree : Type 0
@@ -122,16 +137,20 @@ ClausesHaveTree =
 -- the tokens have a tree, which is well-formed, or a violation; and so has each source
 abbrev pub HasTreeOrViolation : List ℕ → List Token → Type 0
 HasTreeOrViolation source tokens =
-    ((t : Tree) × IsTree source tokens t × IsWellFormed t) ⊎ ((line : ℕ) × (rule : ℕ) × IsViolation source tokens line rule)
+    ((t : Tree) × IsTree source tokens t × IsWellFormed t)
+    ⊎ ((line : ℕ) × (rule : ℕ) × IsViolation source tokens line rule)
 
 abbrev pub IsTotal : Type 0
 IsTotal = (source : List ℕ) (tokens : List Token) → HasTreeOrViolation source tokens
 
 -- there is at most one tree
 abbrev pub IsTreeUnique : Type 0
-IsTreeUnique = (source : List ℕ) (tokens : List Token) (t u : Tree) → IsTree source tokens t → IsTree source tokens u → t ≡ u
+IsTreeUnique =
+    (source : List ℕ) (tokens : List Token) (t u : Tree) → IsTree source tokens t →
+    IsTree source tokens u → t ≡ u
 
 -- and none where there is a violation of the clauses
 abbrev pub TreeExcludesViolation : Type 0
 TreeExcludesViolation =
-    (source : List ℕ) (tokens : List Token) (t : Tree) (line rule : ℕ) → IsTree source tokens t → IsViolation source tokens line rule → ⊥
+    (source : List ℕ) (tokens : List Token) (t : Tree) (line rule : ℕ) → IsTree source tokens t →
+    IsViolation source tokens line rule → ⊥

@@ -15,8 +15,8 @@ use Rattle.stl_ast.specs.declared.names.BlockName.TheVariants as block
 use Rattle.stl_parser.specs.declared.clauses.Clause.{Clause}
 use Rattle.stl_parser.specs.declared.clauses.Clause.TheVariants as clause
 
--- the clauses that a tree keeps; the others only say where a section, a structure or a network ends or begins, or are
--- read and ignored
+-- the clauses that a tree keeps; the others only say where a section, a structure or a network ends
+-- or begins, or are read and ignored
 abbrev pub is_kept : Clause → Bool
 is_kept (clause.Head line k name result) = true
 is_kept (clause.Ends line k) = true
@@ -50,25 +50,28 @@ is_udt (block.Quoted name) = false
 abbrev pub nowhere : List Clause
 nowhere = clause.EndSection ∷ []
 
--- the type of a data block or of a TYPE block: a structure with its components, or a user-defined data type
+-- the type of a data block or of a TYPE block: a structure with its components, or a user-defined
+-- data type
 abbrev pub spelled_type : List Bounds → ElementType → List Declaration → List Clause
 spelled_type [] element.Structure components = clause.Structure ∷ map clause.Declares components
 spelled_type [] (element.Udt name) [] = if is_udt name then clause.Based name ∷ [] else nowhere
 spelled_type _ _ _ = nowhere
 
--- the shape of a data block or of a TYPE block with its components, or the function block of an instance; a quoted name
--- is taken for that of a function block
+-- the shape of a data block or of a TYPE block with its components, or the function block of an
+-- instance; a quoted name is taken for that of a function block
 abbrev pub spelled_shape : Option TypeTree → Option BlockName → List Declaration → List Clause
 spelled_shape None None [] = []
 spelled_shape None (Some name) [] = if is_udt name then nowhere else clause.Based name ∷ []
 spelled_shape (Some of_) None components = spelled_type of_.arrays of_.of components
 spelled_shape _ _ _ = nowhere
 
--- a block behind its first clause: its sections, its shape, its settings, its statements, its END clause
+-- a block behind its first clause: its sections, its shape, its settings, its statements, its END
+-- clause
 abbrev pub spelled_behind_head : Block → List Clause
 spelled_behind_head b =
     flat_map spelled_part b.parts ++ (spelled_shape b.shape b.instance_of b.components
-    ++ (map clause.Sets b.settings ++ (map clause.Runs b.body ++ clause.Ends b.end_line b.kind ∷ [])))
+    ++ (map clause.Sets b.settings
+    ++ (map clause.Runs b.body ++ clause.Ends b.end_line b.kind ∷ [])))
 
 abbrev pub spelled_block : Block → List Clause
 spelled_block b = clause.Head b.line b.kind b.name b.result ∷ spelled_behind_head b

@@ -1,17 +1,19 @@
 ghost use Rattle.std.specs.Prelude.{◌≡◌, ◌≤◌, ◌∷◌, [], ◌++◌, map, filter, length, false, true, IfOk, IfErr};
 ghost use Rattle.std.specs.List.{flat_map};
+ghost use Rattle.stl_lexer.specs.Limits.{source_limit};
 ghost use Rattle.stl_parser.specs.declared.clauses.Clause.TheVariants as spelled;
 ghost use Rattle.stl_parser.specs.declared.places.ClausePlace.TheVariants as place;
 ghost use Rattle.stl_parser.specs.Clauses.{level_at};
 ghost use Rattle.stl_parser.specs.BlockReading.{
-  Opens,
-  OpensNoSection,
-  OpensShape,
   ReadsShape,
   behind_inside,
   declared_by,
   is_begin,
   is_inside,
+  opened_place,
+  opens_content,
+  opens_part,
+  opens_shape,
   set_by,
   stated_by,
 };
@@ -100,7 +102,7 @@ fn declarations<'a>(
 ) -> Result<(Declarations, &'a [Token]), SourceFault>
     requires inside { is_inside from ≡ true }
     requires outer { level_at from ≡ 0 }
-    requires few { length tokens.now ≤ 1048576 }
+    requires few { length tokens.now ≤ source_limit }
     ensures read { IfOk result (λ r. ReadsKept source.now from tokens.now
         (map spelled.Declares r.0) (behind_inside from) r.1.now) }
     ensures broken { IfErr result (IsBrokenBehind source.now from tokens.now last) }
@@ -183,23 +185,23 @@ fn settings<'a>(
     }
 }
 
-/// The first clause behind the head of a block that opens a section, a structure or the body, what
-/// follows it, and where that stands.
+/// The first clause behind the head of a block that opens a section, a structure or the body, and
+/// what follows it.
 fn opening<'a>(
     alloc: Global,
     source: &[u8],
     last: u32,
     kind: BlockKind,
     tokens: &'a [Token],
-) -> Result<(Clause, &'a [Token], ClausePlace), SourceFault>
+) -> Result<(Clause, &'a [Token]), SourceFault>
     ensures read { IfOk result (λ r. ReadsKept source.now (place.Head kind) tokens.now
-        (filter is_kept (r.0 ∷ [])) r.2 r.1.now) }
-    ensures opens { IfOk result (λ r. Opens kind r.0 r.2) }
+        (filter is_kept (r.0 ∷ [])) (opened_place kind r.0) r.1.now) }
+    ensures opens { IfOk result (λ r. opens_part r.0 ≡ true) }
     ensures broken { IfErr result (IsBrokenBehind source.now (place.Head kind) tokens.now last) }
 {
     let mut rest = tokens;
     loop {
-        let (clause, behind, next) = next_clause(
+        let (clause, behind, _) = next_clause(
             alloc,
             source,
             last,
@@ -208,33 +210,38 @@ fn opening<'a>(
         )?;
         match clause {
             Clause::Note | Clause::Title => rest = behind,
-            other => return Ok((other, behind, next)),
+            other => return Ok((other, behind)),
         }
     }
 }
 
-/// The sections behind the head of a block, the clause that opens its structure or its body, what
-/// follows that, and where it stands.
+/// The sections behind the head of a block, the clause that opens its structure or its body, and
+/// what follows that.
 fn sections<'a>(
     alloc: Global,
     source: &[u8],
     last: u32,
     kind: BlockKind,
     tokens: &'a [Token],
-) -> Result<(Sequence<Part>, Clause, &'a [Token], ClausePlace), SourceFault>
-    requires few { length tokens.now ≤ 1048576 }
+) -> Result<(Sequence<Part>, Clause, &'a [Token]), SourceFault>
+    requires few { length tokens.now ≤ source_limit }
     ensures read { IfOk result (λ r. ReadsKept source.now (place.Head kind) tokens.now
-        (flat_map spelled_part r.0 ++ filter is_kept (r.1 ∷ [])) r.3 r.2.now) }
-    ensures opens { IfOk result (λ r. OpensNoSection kind r.1 r.3) }
-    ensures few { IfOk result (λ r. length r.2.now ≤ 1048576) }
+        (flat_map spelled_part r.0 ++ filter is_kept (r.1 ∷ [])) (opened_place kind r.1) r.2.now) }
+    ensures opens { IfOk result (λ r. opens_content r.1 ≡ true) }
+    ensures few { IfOk result (λ r. length r.2.now ≤ source_limit) }
     ensures broken { IfErr result (IsBrokenBehind source.now (place.Head kind) tokens.now last) }
 {
     let mut parts: Vec<Part> = Vec::new(alloc);
-    let (mut clause, mut rest, mut at) = opening(alloc, source, last, kind, tokens)?;
+    let (mut clause, mut rest) = opening(alloc, source, last, kind, tokens)?;
     loop {
         match clause {
             Clause::Section { line, kind: part } => {
-                let (items, behind) = declarations(alloc, source, last, at, rest)?;
+                let first = ClausePlace::Section {
+                    kind,
+                    part,
+                    level: 0,
+                };
+                let (items, behind) = declarations(alloc, source, last, first, rest)?;
                 parts.push(Part {
                     line,
                     kind: part,
@@ -244,9 +251,8 @@ fn sections<'a>(
                 let found = next_clause(alloc, source, last, between, behind)?;
                 clause = found.0;
                 rest = found.1;
-                at = found.2;
             }
-            other => return Ok((Sequence::from_vec(parts), other, rest, at)),
+            other => return Ok((Sequence::from_vec(parts), other, rest)),
         }
     }
 }
@@ -328,18 +334,19 @@ fn opened_shape<'a>(
     last: u32,
     kind: BlockKind,
     clause: Clause,
-    at: ClausePlace,
     tokens: &'a [Token],
 ) -> Result<(Shape, &'a [Token]), SourceFault>
-    requires opens { OpensShape kind clause at }
-    requires few { length tokens.now ≤ 1048576 }
-    ensures read { IfOk result (λ r. ReadsShape source.now kind clause at tokens.now
+    requires opens { opens_shape clause ≡ true }
+    requires few { length tokens.now ≤ source_limit }
+    ensures read { IfOk result (λ r. ReadsShape source.now kind clause tokens.now
         (spelled_shape r.0.shape r.0.instance_of r.0.components) r.1.now) }
-    ensures broken { IfErr result (IsBrokenBehind source.now at tokens.now last) }
+    ensures broken { IfErr result
+        (IsBrokenBehind source.now (opened_place kind clause) tokens.now last) }
 {
     match clause {
         Clause::Structure => {
-            let (components, behind) = declarations(alloc, source, last, at, tokens)?;
+            let first = ClausePlace::Shape { kind, level: 0 };
+            let (components, behind) = declarations(alloc, source, last, first, tokens)?;
             Ok((structured(alloc, components), behind))
         }
         Clause::Based { name } => Ok((based(alloc, name), tokens)),
@@ -354,25 +361,38 @@ fn is_begin(clause: &Clause) -> bool
     matches!(clause, Clause::Begins)
 }
 
-/// The block whose first clause was read, and what follows it.
+/// The head of a block: what its first clause says.
+#[derive(Drop)]
+struct Head {
+    line: u32,
+    kind: BlockKind,
+    name: BlockName,
+    result: Option<Simple>,
+}
+
+/// The block with this head, and what follows it.
 fn block<'a>(
     alloc: Global,
     source: &[u8],
     last: u32,
-    line: u32,
-    kind: BlockKind,
-    name: BlockName,
-    returns: Option<Simple>,
+    head: Head,
     tokens: &'a [Token],
 ) -> Result<(Block, &'a [Token]), SourceFault>
-    requires few { length tokens.now ≤ 1048576 }
+    requires few { length tokens.now ≤ source_limit }
     ensures head { IfOk result (λ r. spelled_block r.0
-        ≡ spelled.Head line kind name returns ∷ spelled_behind_head r.0) }
-    ensures read { IfOk result (λ r. ReadsKept source.now (place.Head kind) tokens.now
+        ≡ spelled.Head head.line head.kind head.name head.result ∷ spelled_behind_head r.0) }
+    ensures read { IfOk result (λ r. ReadsKept source.now (place.Head head.kind) tokens.now
         (spelled_behind_head r.0) place.Outside r.1.now) }
-    ensures broken { IfErr result (IsBrokenBehind source.now (place.Head kind) tokens.now last) }
+    ensures broken { IfErr result
+        (IsBrokenBehind source.now (place.Head head.kind) tokens.now last) }
 {
-    let (parts, clause, rest, at) = sections(alloc, source, last, kind, tokens)?;
+    let Head {
+        line,
+        kind,
+        name,
+        result,
+    } = head;
+    let (parts, clause, rest) = sections(alloc, source, last, kind, tokens)?;
     if is_begin(&clause) {
         let (body, end_line, rest) = body(alloc, source, last, kind, rest)?;
         let block = Block {
@@ -380,7 +400,7 @@ fn block<'a>(
             end_line,
             kind,
             name,
-            result: returns,
+            result,
             parts,
             shape: None,
             components: no_components(alloc),
@@ -390,7 +410,7 @@ fn block<'a>(
         };
         return Ok((block, rest));
     }
-    let (shape, rest) = opened_shape(alloc, source, last, kind, clause, at, rest)?;
+    let (shape, rest) = opened_shape(alloc, source, last, kind, clause, rest)?;
     let (settings, end_line, rest) = settings(alloc, source, last, kind, rest)?;
     let Shape {
         shape,
@@ -402,7 +422,7 @@ fn block<'a>(
         end_line,
         kind,
         name,
-        result: returns,
+        result,
         parts,
         shape,
         components,
@@ -420,7 +440,7 @@ pub(crate) fn source_blocks(
     last: u32,
     tokens: &[Token],
 ) -> Result<Vec<Block>, SourceFault>
-    requires few { length tokens.now ≤ 1048576 }
+    requires few { length tokens.now ≤ source_limit }
     ensures read { IfOk result (λ blocks. ReadsKept source.now place.Outside tokens.now
         (flat_map spelled_block blocks.items) place.Outside []) }
     ensures broken { IfErr result (IsBrokenBehind source.now place.Outside tokens.now last) }
@@ -438,7 +458,13 @@ pub(crate) fn source_blocks(
         else {
             unreachable!();
         };
-        let (block, behind) = block(alloc, source, last, line, kind, name, result, behind)?;
+        let head = Head {
+            line,
+            kind,
+            name,
+            result,
+        };
+        let (block, behind) = block(alloc, source, last, head, behind)?;
         blocks.push(block)?;
         rest = behind;
     }

@@ -1,5 +1,5 @@
-use crate::{Bounds, Declaration, Declarations, ElementType, Name, Sequence, TypeTree};
 use std::alloc::{AllocError, Global};
+use stl_ast::{Bounds, Declaration, Declarations, ElementType, Name, Sequence, TypeTree};
 
 /// A chain of structures, each inside the one before.
 fn chain(alloc: Global, depth: u32) -> Result<Declarations, AllocError> {

@@ -1,6 +1,6 @@
 use Rattle.std.proofs.Common.{arith}
 use Rattle.stl_ast.proofs.Outlines.{IsOutline-push, deepest_behind-push}
-use Rattle.stl_ast.proofs.tests.chain.Goals as goal
+use Rattle.front_tests.proofs.depth_tests.chain.Goals as goal
 
 pub loop-level-preserved : goal.loop-level-preserved
 loop-level-preserved c =
