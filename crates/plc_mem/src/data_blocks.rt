@@ -70,6 +70,7 @@ impl DataBlocks {
     }
 
     /// The number in an operand of a data block, if the operand lies within it.
+    #[inline(never)]
     pub(crate) fn number(&self, number: u16, at: usize, bit: u8, width: Width) -> Option<u32>
         requires { at < 2 ^ 16 }
         ensures { result ≡ number_over (block_byte self.now number) at bit width }

@@ -87,6 +87,7 @@ impl Memory {
 
     /// The number at a place, right-justified with zeros above. Reading area P reads peripheral
     /// inputs.
+    #[inline(always)]
     pub fn read(&self, place: Place, width: Width) -> Result<u32, Missing>
         ensures cases { MatchResult result
             (λ n. number_at self.now place width ≡ Some n)
@@ -99,6 +100,7 @@ impl Memory {
 
     /// Writes a number at a place. Writing area P writes peripheral outputs, and the same bytes of
     /// the process image of the outputs where these exist.
+    #[inline(always)]
     pub fn write(&mut self, place: Place, width: Width, value: u32) -> Result<(), Missing>
         requires { value < 2 ^ bit_count width }
         ensures cases { ChangesOrStays (written self.old place width value)
@@ -178,6 +180,7 @@ impl Memory {
 
     // The number at a place, if each bit of the operand exists.
     #[tactic(auto, using(crate::proofs::Numbers::number_at_bytes))]
+    #[inline(always)]
     fn number(&self, place: Place, width: Width) -> Option<u32>
         ensures { result ≡ number_at self.now place width }
     {
@@ -194,6 +197,7 @@ impl Memory {
 
     // Writes a number at a place, as `write`.
     #[tactic(auto, unfolding(crate::specs::Writing::written))]
+    #[inline(always)]
     fn store(&mut self, place: Place, width: Width, value: u32) -> Result<(), Missing>
         requires { value < 2 ^ bit_count width }
         ensures sizes { region_written place ≡ Some PeripheralOutputs → HasImage self.old }
@@ -212,6 +216,7 @@ impl Memory {
     }
 
     // Writes an operand of the process image of the inputs.
+    #[inline(always)]
     fn put_inputs(&mut self, at: usize, bit: u8, width: Width, value: u32) -> Result<(), Missing>
         requires near { at < 2 ^ 16 }
         requires fits { value < 2 ^ bit_count width }
@@ -222,6 +227,7 @@ impl Memory {
     }
 
     // Writes an operand of the process image of the outputs.
+    #[inline(always)]
     fn put_outputs(&mut self, at: usize, bit: u8, width: Width, value: u32) -> Result<(), Missing>
         requires near { at < 2 ^ 16 }
         requires fits { value < 2 ^ bit_count width }
@@ -232,6 +238,7 @@ impl Memory {
     }
 
     // Writes an operand of bit memory.
+    #[inline(always)]
     fn put_bit_memory(
         &mut self,
         at: usize,
@@ -248,6 +255,7 @@ impl Memory {
     }
 
     // Writes an operand of a data block.
+    #[inline(never)]
     fn put_block(
         &mut self,
         number: u16,
@@ -265,6 +273,7 @@ impl Memory {
     }
 
     // Writes an operand of the peripheral outputs, and the same bytes of the process image.
+    #[inline(never)]
     fn put_peripheral_outputs(
         &mut self,
         at: usize,

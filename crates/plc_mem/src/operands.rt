@@ -13,6 +13,7 @@ const BYTE_BITS: u8 = 8;
 
 /// The number in the operand from byte `at` on, the highest byte first; of a bit operand its bit.
 /// `None` exactly where not each bit of the operand exists.
+#[inline(always)]
 pub fn number(bytes: &[u8], at: usize, bit: u8, width: Width) -> Option<u32>
     requires { at < 2 ^ 16 }
     ensures value { result ≡ number_over (slice_get bytes.now) at bit width }
@@ -31,6 +32,7 @@ pub fn number(bytes: &[u8], at: usize, bit: u8, width: Width) -> Option<u32>
 ///
 /// `Missing`, with nothing changed, exactly where not each bit of the operand exists.
 #[tactic(auto, unfolding(crate::specs::Writing::put))]
+#[inline(always)]
 pub fn put(bytes: &mut [u8], at: usize, bit: u8, width: Width, value: u32) -> Result<(), Missing>
     requires near { at < 2 ^ 16 }
     requires fits { value < 2 ^ bit_count width }
@@ -44,6 +46,7 @@ pub fn put(bytes: &mut [u8], at: usize, bit: u8, width: Width, value: u32) -> Re
 }
 
 // Whether each byte of the operand exists, and the bit of a bit operand.
+#[inline(always)]
 fn is_within(bytes: &[u8], at: usize, bit: u8, width: Width) -> bool
     requires { at < 2 ^ 16 }
     ensures { result ≡ is_within_spec bytes.now at bit width }
@@ -55,6 +58,7 @@ fn is_within(bytes: &[u8], at: usize, bit: u8, width: Width) -> bool
 }
 
 // The number in an operand, the highest byte first.
+#[inline(always)]
 fn load(bytes: &[u8], at: usize, bit: u8, width: Width) -> u32
     requires near { at < 2 ^ 16 }
     requires within { IsTrue (is_within_spec bytes.now at bit width) }
@@ -69,6 +73,7 @@ fn load(bytes: &[u8], at: usize, bit: u8, width: Width) -> u32
 }
 
 // The number in two bytes, the highest first.
+#[inline(always)]
 fn load_word(bytes: &[u8], at: usize) -> u32
     requires near { at < 2 ^ 17 }
     requires within { at + 2 ≤ length bytes.now }
@@ -79,6 +84,7 @@ fn load_word(bytes: &[u8], at: usize) -> u32
 }
 
 // Writes a number to an operand, the highest byte first.
+#[inline(always)]
 fn store(bytes: &mut [u8], at: usize, bit: u8, width: Width, value: u32)
     requires near { at < 2 ^ 16 }
     requires within { IsTrue (is_within_spec bytes.old at bit width) }
@@ -103,6 +109,7 @@ fn store(bytes: &mut [u8], at: usize, bit: u8, width: Width, value: u32)
 
 // The byte with another value of one bit.
 #[tactic(auto, using(crate::proofs::OneBit::bit_set, crate::proofs::OneBit::bit_clear))]
+#[inline(always)]
 fn with_bit(byte: u8, bit: u8, one: bool) -> u8
     requires { bit < 8 }
     ensures { result ≡ with_bit_spec byte bit (if one then 1 else 0) }

@@ -91,6 +91,7 @@ impl PeripheralArea {
     }
 
     /// The number in an operand, if each bit of it exists.
+    #[inline(never)]
     pub(crate) fn number(&self, at: usize, bit: u8, width: Width) -> Option<u32>
         requires { at < 2 ^ 16 }
         ensures { result ≡ number_over (peripheral_byte self.now) at bit width }
