@@ -12,7 +12,6 @@ use Rattle.controller.specs.Replay.{ContinuesReplay, Happened, happened, happens
 use Rattle.controller.specs.State.{State, start}
 use Rattle.controller.specs.Recorded.{Recorded}
 use Rattle.controller.specs.ThinCode.{thin_code}
-use Rattle.sem_kept.specs.Tree.{tree_code}
 use Rattle.sem_kept.specs.Agreement.{Agree}
 use Rattle.s7_cli.specs.declared.failures.Failure.{Failure}
 use Rattle.s7_cli.specs.Answer.{Outcome}
@@ -163,17 +162,6 @@ lines-on s0 s1 s2 es i n e seen a b c u before one count shows first second with
       }),
 )
 
--- two programs that agree have one text
-lines-agree : (c d : Code) → Agree c d → (done es : List Entry) → lines_after c done es ≡ lines_after d done es
-lines-agree c d agree done [] = refl
-lines-agree c d agree done (e ∷ es) =
-    ap
-    (λ (seen : Observed). shown_text (length done + 1) seen ++ lines_after c (done ++ e ∷ []) es)
-    (agree.seen (done ++ e ∷ []))
-    ∙ ap
-    (λ (t : List ℕ). entry_text (length done + 1) (happened d (done ++ e ∷ [])) ++ t)
-    (lines-agree c d agree (done ++ e ∷ []) es)
-
 -- the lines by the history are those from state to state
 lines-states : ContinuesReplay → (c : Code) (done es : List Entry) → lines_after c done es ≡ lines_from c (length done) (replay c done) es
 lines-states continues c done [] = refl
@@ -195,48 +183,47 @@ lines-from_start continues c es = lines-states continues c [] es
 abbrev pub Begins : List ThinOb → Recorded → Type 0
 Begins program s = (s.program ≡ program) × (s.history ≡ [])
 
-lines-begin : ContinuesReplay → (program : List ThinOb) (s : Recorded) (es : List Entry) → Begins program s → Agree (tree_code program) (thin_code program)
-    → lines_after (thin_code s.program) s.history es ≡ lines_from (tree_code program) 0 (start (tree_code program)) es
-lines-begin continues program s es begins agree =
+lines-begin : ContinuesReplay → (program : List ThinOb) (s : Recorded) (es : List Entry) → Begins program s
+    → lines_after (thin_code s.program) s.history es ≡ lines_from (thin_code program) 0 (start (thin_code program)) es
+lines-begin continues program s es begins =
     ap (λ (p : List ThinOb). lines_after (thin_code p) s.history es) begins.0
     ∙ ap (λ (h : List Entry). lines_after (thin_code program) h es) begins.1
-    ∙ sym (lines-agree (tree_code program) (thin_code program) agree [] es)
-    ∙ lines-from_start continues (tree_code program) es
+    ∙ lines-from_start continues (thin_code program) es
 
 pub run-cut : ContinuesReplay → (program : List ThinOb) (s : Recorded) (es : List Entry) (a b : SinkAt) (x : Failure) (r : Outcome)
-    → Begins program s → Agree (tree_code program) (thin_code program)
+    → Begins program s
     → TextWritten (lines_after (thin_code s.program) s.history es) (taking a b) (Err x) → r ≡ Err x
-    → TextWritten (run_text (tree_code program) es) (taking a b) r
+    → TextWritten (run_text (thin_code program) es) (taking a b) r
 unfolding run_text
-run-cut continues program s es a b x r begins agree cut is =
+run-cut continues program s es a b x r begins cut is =
     subst
-    (TextWritten (run_text (tree_code program) es) (taking a b))
+    (TextWritten (run_text (thin_code program) es) (taking a b))
     (sym is)
     (text-stops
-    (lines_from (tree_code program) 0 (start (tree_code program)) es)
-    (end_text (length es) (replay (tree_code program) es).mode)
+    (lines_from (thin_code program) 0 (start (thin_code program)) es)
+    (end_text (length es) (replay (thin_code program) es).mode)
     a
     b
     x
-    (subst (λ (t : List ℕ). TextWritten t (taking a b) (Err x)) (lines-begin continues program s es begins agree) cut))
+    (subst (λ (t : List ℕ). TextWritten t (taking a b) (Err x)) (lines-begin continues program s es begins) cut))
 
 pub run-ends : ContinuesReplay → (program : List ThinOb) (s s' : Recorded) (es : List Entry) (n : ℕ) (mode : Mode) (text : List ℕ) (a b c : SinkAt) (u : Unit) (r : Outcome)
-    → Begins program s → Agree (tree_code program) (thin_code program)
+    → Begins program s
     → s' ≡ record s { history = s.history ++ es; spare = s.spare - length es }
     → TextWritten (lines_after (thin_code s.program) s.history es) (taking a b) (Ok u)
     → n ≡ length s'.history → mode ≡ (replay (thin_code s'.program) s'.history).mode
     → text ≡ end_text n mode → TextWritten text (taking b c) r
-    → TextWritten (run_text (tree_code program) es) (taking a c) r
+    → TextWritten (run_text (thin_code program) es) (taking a c) r
 unfolding run_text
-run-ends continues program s s' es n mode text a b c u r begins agree applied written count stands is last =
+run-ends continues program s s' es n mode text a b c u r begins applied written count stands is last =
     text-then
-    (lines_from (tree_code program) 0 (start (tree_code program)) es)
-    (end_text (length es) (replay (tree_code program) es).mode)
+    (lines_from (thin_code program) 0 (start (thin_code program)) es)
+    (end_text (length es) (replay (thin_code program) es).mode)
     a
     b
     c
     r
-    (record { took = subst (λ (v : List ℕ). Took a b v) (lines-begin continues program s es begins agree) written.0; faults = written.1 })
+    (record { took = subst (λ (v : List ℕ). Took a b v) (lines-begin continues program s es begins) written.0; faults = written.1 })
     (subst (λ (t : List ℕ). TextWritten t (taking b c) r) (is ∙ texts) last)
   where
     h : s'.history ≡ es
@@ -245,12 +232,31 @@ run-ends continues program s s' es n mode text a b c u r begins agree applied wr
     p : s'.program ≡ program
     p = ap (λ (t : Recorded). t.program) applied ∙ begins.0
 
-    modes : mode ≡ (replay (tree_code program) es).mode
+    modes : mode ≡ (replay (thin_code program) es).mode
     modes =
         stands
         ∙ ap (λ (q : List ThinOb). (replay (thin_code q) s'.history).mode) p
         ∙ ap (λ (d : List Entry). (replay (thin_code program) d).mode) h
-        ∙ sym (agree.mode es)
 
-    texts : end_text n mode ≡ end_text (length es) (replay (tree_code program) es).mode
+    texts : end_text n mode ≡ end_text (length es) (replay (thin_code program) es).mode
     texts = ap (λ (m : ℕ). end_text m mode) (count ∙ ap length h) ∙ ap (end_text (length es)) modes
+
+-- programs that no history tells apart have the same lines
+lines-agree : (c d : Code) → Agree c d → (done es : List Entry) → lines_after c done es ≡ lines_after d done es
+lines-agree c d agree done [] = refl
+lines-agree c d agree done (e ∷ es) =
+    ap
+    (λ (seen : Observed). shown_text (length done + 1) seen ++ lines_after c (done ++ e ∷ []) es)
+    (agree.seen (done ++ e ∷ []))
+    ∙ ap
+    (λ (t : List ℕ). entry_text (length done + 1) (happened d (done ++ e ∷ [])) ++ t)
+    (lines-agree c d agree (done ++ e ∷ []) es)
+
+-- and one text
+pub texts-agree : ContinuesReplay → (c d : Code) → Agree c d → (es : List Entry) → run_text c es ≡ run_text d es
+unfolding run_text
+texts-agree continues c d agree es =
+    ap
+    (λ (lines : List ℕ). lines ++ end_text (length es) (replay c es).mode)
+    (sym (lines-from_start continues c es) ∙ lines-agree c d agree [] es ∙ lines-from_start continues d es)
+    ∙ ap (λ (mode : Mode). lines_from d 0 (start d) es ++ end_text (length es) mode) (agree.mode es)

@@ -1,5 +1,5 @@
 -- A source is judged by its tokens, its clauses, and what is built.
-use Rattle.std.proofs.Common.{◌≡◌, inl, inr, sym, ◌∙◌, ap, subst, ℕ, List, None, Result, Ok, Err, IfOk, IfErr}
+use Rattle.std.proofs.Common.{◌≡◌, inl, inr, sym, ◌∙◌, ap, ℕ, List, None, Result, Ok, Err}
 use Rattle.plc_base.specs.declared.Refusal.{Refusal}
 use Rattle.plc_base.specs.declared.SourceFault.{SourceFault}
 use Rattle.plc_base.specs.declared.SourceFault.TheVariants.{Refused, NoMemory}
@@ -9,10 +9,13 @@ use Rattle.stl_ast.specs.declared.Tree.{Tree}
 use Rattle.stl_parser.specs.Source.{IsTree, IsRefusedBy}
 use Rattle.controller.specs.declared.ThinOb.{ThinOb}
 use Rattle.controller.specs.Code.{Code}
+use Rattle.controller.specs.ThinCode.{thin_code}
+use Rattle.sem_kept.specs.Agreement.{Agree, RunsAs}
 use Rattle.sem_kept.specs.Built.{program_of}
-use Rattle.sem_kept.specs.Meaning.{IsJudged, MeansCode, built_code}
+use Rattle.sem_kept.specs.Meaning.{IsJudged, built_code}
 use Rattle.sem_kept.specs.Tree.{tree_code}
-use Rattle.s7_cli.specs.Faults.{RefusesSource, RefusesTree}
+use Rattle.s7_cli.specs.Faults.{RefusesSource}
+use Rattle.s7_cli.specs.Unbuilt.{IsUnbuilt}
 
 -- a token breaks a rule
 pub tokens-refused : (source : List ℕ) (fault : SourceFault) → IsRefused source fault → RefusesSource source fault
@@ -28,29 +31,23 @@ clauses-refused source tokens (Refused refusal) are breaks = inr (tokens, are, i
 clauses-refused source tokens NoMemory are breaks = tt
 
 -- a clause isn't built
-unbuilt : (source : List ℕ) (tokens : List Token) (tree : Tree) (fault : SourceFault) → AreTokens source tokens → IsTree source tokens tree
-    → RefusesTree tree fault → RefusesSource source fault
+pub unbuilt-refused : (source : List ℕ) (tokens : List Token) (tree : Tree) (fault : SourceFault) → AreTokens source tokens
+    → IsTree source tokens tree → IsUnbuilt (program_of tree) fault → RefusesSource source fault
 unfolding IsJudged
-unbuilt source tokens tree (Refused refusal) are is_tree breaks =
+unbuilt-refused source tokens tree (Refused refusal) are is_tree breaks =
     inr (tokens, are, inr (tree, is_tree, ap told breaks.1 ∙ sym (ap built_code breaks.0)))
   where
     told : ℕ → Result Code Refusal
     told rule = Err (record { line = refusal.line; rule = rule })
-unbuilt source tokens tree NoMemory are is_tree breaks = tt
+unbuilt-refused source tokens tree NoMemory are is_tree breaks = tt
 
-pub built-refused : (source : List ℕ) (tokens : List Token) (tree : Tree) (r : Result (List ThinOb) SourceFault)
-    → AreTokens source tokens → IsTree source tokens tree → IfErr r (RefusesTree tree) → IfErr r (RefusesSource source)
-built-refused source tokens tree (Ok program) are is_tree breaks = tt
-built-refused source tokens tree (Err fault) are is_tree breaks = unbuilt source tokens tree fault are is_tree breaks
-
-means : (source : List ℕ) (tokens : List Token) (tree : Tree) (program : List ThinOb) → AreTokens source tokens → IsTree source tokens tree
-    → program_of tree ≡ Ok program → MeansCode source None (tree_code program)
+-- the program is built, and runs as the statements of its tree
+pub built-runs : (source : List ℕ) (tokens : List Token) (tree : Tree) (program : List ThinOb) → AreTokens source tokens
+    → IsTree source tokens tree → program_of tree ≡ Ok program → Agree (tree_code program) (thin_code program)
+    → RunsAs source None (thin_code program)
 unfolding IsJudged
-means source tokens tree program are is_tree is = (tokens, are, (tree, is_tree, sym (ap built_code is)))
-
--- the program is built
-pub built-means : (source : List ℕ) (tokens : List Token) (tree : Tree) (r : Result (List ThinOb) SourceFault)
-    → AreTokens source tokens → IsTree source tokens tree → IfOk r (λ program. program_of tree ≡ Ok program)
-    → IfOk r (λ program. MeansCode source None (tree_code program))
-built-means source tokens tree (Ok program) are is_tree is = means source tokens tree program are is_tree is
-built-means source tokens tree (Err fault) are is_tree is = tt
+built-runs source tokens tree program are is_tree is agree = (
+  tree_code program,
+  (tokens, are, (tree, is_tree, sym (ap built_code is))),
+  agree,
+)

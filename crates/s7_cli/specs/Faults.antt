@@ -2,12 +2,9 @@
 use Rattle.std.specs.Prelude.{ℕ, List, None}
 use Rattle.plc_base.specs.declared.SourceFault.{SourceFault}
 use Rattle.plc_base.specs.declared.SourceFault.TheVariants as source
-use Rattle.stl_ast.specs.declared.Tree.{Tree}
-use Rattle.sem_kept.specs.Built.{program_of}
 use Rattle.s7_cli.specs.declared.histories.HistoryFault.{HistoryFault}
 use Rattle.s7_cli.specs.declared.histories.HistoryFault.TheVariants as history
 use Rattle.sem_kept.specs.Meaning.{IsRefusedSource}
-use Rattle.s7_cli.specs.Unbuilt.{IsUnbuilt}
 use Rattle.s7_cli.specs.declared.failures.File.TheVariants.{Source, History}
 use Rattle.s7_cli.specs.declared.failures.Failure.{Failure}
 use Rattle.s7_cli.specs.declared.failures.Failure.TheVariants.{Refused, NoMemory}
@@ -24,7 +21,3 @@ failure_of_history history.NoMemory = NoMemory
 abbrev pub RefusesSource : List ℕ → SourceFault → Type 0
 RefusesSource bytes (source.Refused refusal) = IsRefusedSource bytes None refusal
 RefusesSource bytes source.NoMemory = Unit {0}
-
--- a tree with a clause that isn't built
-abbrev pub RefusesTree : Tree → SourceFault → Type 0
-RefusesTree tree = IsUnbuilt (program_of tree)

@@ -1,4 +1,4 @@
-ghost use Rattle.std.specs.Prelude.{◌≡◌, ◌==◌, ◌++◌, ◌∷◌, [], Some, None, Ok, IfOk, IfErr, IsTrue};
+ghost use Rattle.std.specs.Prelude.{◌≡◌, ◌==◌, ◌++◌, ◌∷◌, [], Some, None, Ok, IfOk, IfErr, IsTrue, option_to_list};
 ghost use Rattle.std.specs.Option.{option_map};
 ghost use Rattle.std.specs.List.{list_any};
 ghost use Rattle.plc_base.specs.declared.SourceFault.TheVariants.{Refused};
@@ -24,8 +24,7 @@ ghost use Rattle.sem_kept.specs.Built.{
   built_block,
   program_of,
 };
-ghost use Rattle.s7_cli.specs.Faults.{RefusesTree};
-ghost use Rattle.s7_cli.specs.Unbuilt.{IsUnbuilt, as_list};
+ghost use Rattle.s7_cli.specs.Unbuilt.{IsUnbuilt};
 
 use controller::{Statements, Thin, ThinCode, ThinOb, ThinStatement};
 use plc_base::{Area, BlockKind, Place, Refusal, SourceFault, Width};
@@ -179,7 +178,7 @@ fn is_empty_statement(code: Mnemonic, operand: &Operand) -> bool
 /// A statement without label and actual parameters; `;` comes to nothing.
 #[tactic(auto, unfolding(sem_kept::specs::Built::statements_of))]
 fn statement_of(line: u32, code: Mnemonic, operand: &Operand) -> Option<Option<ThinStatement>>
-    ensures { option_map as_list result ≡ statements_of line code operand.now }
+    ensures { option_map option_to_list result ≡ statements_of line code operand.now }
 {
     if is_empty_statement(code, operand) {
         return Some(None);
@@ -191,7 +190,7 @@ fn statement_of(line: u32, code: Mnemonic, operand: &Operand) -> Option<Option<T
 /// What a statement comes to, if it is built.
 #[tactic(auto, unfolding(sem_kept::specs::Built::built_statement))]
 fn built_statement(st: &Statement) -> Option<Option<ThinStatement>>
-    ensures { option_map as_list result ≡ built_statement st.now }
+    ensures { option_map option_to_list result ≡ built_statement st.now }
 {
     match (&st.label, st.actuals.as_slice()) {
         (None, []) => statement_of(st.line, st.code, &st.operand),
@@ -204,7 +203,8 @@ fn add_made(
     statements: &mut Vec<ThinStatement>,
     made: Option<ThinStatement>,
 ) -> Result<(), AllocError>
-    ensures { IfOk result (λ _. statements.new.items ≡ statements.old.items ++ as_list made) }
+    ensures { IfOk result
+        (λ _. statements.new.items ≡ statements.old.items ++ option_to_list made) }
 {
     if let Some(statement) = made {
         statements.push(statement)?;
@@ -309,7 +309,7 @@ fn built_block(alloc: Global, before: &[ThinOb], block: &Block) -> Result<ThinOb
 #[tactic(auto, unfolding(sem_kept::specs::Built::program_of))]
 fn built_blocks(alloc: Global, t: &Tree) -> Result<Vec<ThinOb>, SourceFault>
     ensures ok { IfOk result (λ obs. program_of t.now ≡ Ok obs.items) }
-    ensures refused { IfErr result (RefusesTree t.now) }
+    ensures refused { IfErr result (IsUnbuilt (program_of t.now)) }
 {
     let mut obs = Vec::new(alloc);
     for block in t.blocks.as_slice() {
@@ -329,7 +329,7 @@ fn built_blocks(alloc: Global, t: &Tree) -> Result<Vec<ThinOb>, SourceFault>
 pub fn built(alloc: Global, t: &Tree) -> Result<Thin, SourceFault>
     ensures ok { IfOk result (λ program. program_of t.now ≡ Ok program) }
     ensures thin { IfOk result (λ program. IsTrue (is_thin program)) }
-    ensures refused { IfErr result (RefusesTree t.now) }
+    ensures refused { IfErr result (IsUnbuilt (program_of t.now)) }
 {
     Ok(Thin::new(built_blocks(alloc, t)?))
 }

@@ -10,6 +10,7 @@ use crate::files::read_file;
 use crate::finish::end_command;
 use crate::judging::judge;
 use crate::running::run;
+use controller::law_of_replay;
 use plc_io::{Files, Sink};
 use std::alloc::Global;
 
@@ -28,6 +29,8 @@ fn go<F: Files, K: Sink>(
     let source = read_file(alloc, files, File::Source, src)?;
     let history = read_file(alloc, files, File::History, hist)?;
     let (program, entries) = judge(alloc, &source, &history)?;
+    // programs that no history tells apart have one text
+    law_of_replay();
     run(alloc, program, &entries, out)
 }
 

@@ -3,7 +3,6 @@ ghost use Rattle.std.specs.List.{flat_map};
 ghost use Rattle.var_access.specs.Entry.{IsValid};
 ghost use Rattle.controller.specs.Program.{is_thin};
 ghost use Rattle.controller.specs.ThinCode.{thin_code};
-ghost use Rattle.sem_kept.specs.Tree.{tree_code};
 ghost use Rattle.s7_cli.specs.Ends.{taking};
 ghost use Rattle.s7_cli.specs.Inner.{TextWritten};
 ghost use Rattle.s7_cli.specs.LineText.{output_text};
@@ -16,7 +15,6 @@ use crate::texts::{end_line, mode_line, output_line};
 use controller::{Controller, Observed, Thin, law_of_replay};
 use plc_base::Mode;
 use plc_io::Sink;
-use sem_kept::laws;
 use std::alloc::Global;
 use var_access::Entry;
 
@@ -85,11 +83,9 @@ pub fn run<K: Sink>(
 ) -> Result<(), Failure>
     requires thin { IsTrue (is_thin program) }
     requires valid { All IsValid entries.now }
-    ensures { TextWritten (run_text (tree_code program) entries.now)
+    ensures { TextWritten (run_text (thin_code program) entries.now)
         (taking (K.shown out.old) (K.shown out.new)) result }
 {
-    // the controller's program shows what the source's statements do, entry by entry
-    laws::runs_as_source(&program);
     law_of_replay();
     let mut controller = Controller::new(alloc, program)?;
     controller.reserve(entries.len() as u64)?;

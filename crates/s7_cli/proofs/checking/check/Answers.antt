@@ -1,10 +1,10 @@
 use Rattle.std.proofs.Common.{ap, refl, ◌∙◌, subst, List, [], ◌∷◌, ℕ, Vec, Global, None, Ok, Err}
 use Rattle.std.proofs.lemmas.Result.{err_from_is_err_and}
 use Rattle.controller.specs.declared.ThinOb.{ThinOb}
-use Rattle.sem_kept.specs.Tree.{tree_code}
+use Rattle.controller.specs.ThinCode.{thin_code}
+use Rattle.sem_kept.specs.Agreement.{RunsAs}
 use Rattle.s7_cli.specs.Command.{Check}
 use Rattle.s7_cli.specs.Lines.{ok_line}
-use Rattle.sem_kept.specs.Meaning.{MeansCode}
 use Rattle.s7_cli.proofs.ComesLemmas.{comes-unread, comes-refused, comes-written, read-none, one-read}
 use Rattle.s7_cli.proofs.checking.check.Goals as goal
 
@@ -27,8 +27,10 @@ returns-in_err-judge_source g c =
 pub returns : goal.returns
 unfolding ok_line
 returns g c =
+    let running = thin_code c.in_ok-judge_source.field-0 in
+    let runs = subst (λ (b : List ℕ). RunsAs b None running) c.deref.ensures.value c.in_ok-judge_source.ensures.runs in
     comes-written (Check _) _ _ _ _ ok_line _ _ refl
     (one-read _ _ _ c.in_ok-source.source.items c.in_ok-source.ensures)
-    (Ok (tree_code c.in_ok-judge_source.field-0), subst (λ (b : List ℕ). MeansCode b None (tree_code c.in_ok-judge_source.field-0)) c.deref.ensures.value c.in_ok-judge_source.ensures.means, refl)
+    (Ok runs.0, runs.1, refl)
     refl
     c.write_text.ensures

@@ -2,13 +2,14 @@ use Rattle.std.proofs.Common.{ap, refl, sym, ◌∙◌, subst, List, [], ◌∷�
 use Rattle.std.proofs.lemmas.Result.{err_from_is_err_and}
 use Rattle.var_access.specs.declared.Entry.{Entry}
 use Rattle.controller.specs.declared.ThinOb.{ThinOb}
-use Rattle.sem_kept.specs.Tree.{tree_code}
+use Rattle.controller.specs.ThinCode.{thin_code}
+use Rattle.sem_kept.specs.Agreement.{RunsAs}
 use Rattle.s7_cli.specs.Command.{Go}
 use Rattle.s7_cli.specs.History.{history_of}
 use Rattle.s7_cli.specs.RunText.{run_text}
 use Rattle.s7_cli.specs.Says.{go_answer}
-use Rattle.sem_kept.specs.Meaning.{MeansCode}
 use Rattle.s7_cli.proofs.ComesLemmas.{comes-unread, comes-refused, comes-written, read-none, one-read, two-read}
+use Rattle.s7_cli.proofs.RunLemmas.{texts-agree}
 use Rattle.s7_cli.proofs.going.go.Goals as goal
 
 pub returns-in_err-source : goal.returns-in_err-source
@@ -35,10 +36,12 @@ returns-in_err-program g c =
 
 pub returns : goal.returns
 returns g c =
-    let means = subst (λ (b : List ℕ). MeansCode b None (tree_code c.in_ok-program.program)) c.deref.ensures.value c.in_ok-program.ensures.means in
+    let running = thin_code c.in_ok-program.program in
+    let entries = c.in_ok-program.entries.items in
+    let runs = subst (λ (b : List ℕ). RunsAs b None running) c.deref.ensures.value c.in_ok-program.ensures.runs in
     let spells = ap history_of (sym c.deref-2.ensures.value) ∙ c.in_ok-program.ensures.spells in
-    comes-written (Go _ _) _ _ _ _ (run_text (tree_code c.in_ok-program.program) c.in_ok-program.entries.items) _ _ refl
+    comes-written (Go _ _) _ _ _ _ (run_text runs.0 entries) _ _ refl
     (two-read _ _ _ _ _ c.in_ok-source.source.items c.in_ok-history.history.items c.in_ok-source.ensures c.in_ok-history.ensures)
-    (Ok (tree_code c.in_ok-program.program), means, ap (go_answer (Ok (tree_code c.in_ok-program.program))) (sym spells))
-    (ap (run_text (tree_code c.in_ok-program.program)) c.deref-3.ensures.value)
+    (Ok runs.0, runs.1, ap (go_answer (Ok runs.0)) (sym spells))
+    (ap (run_text running) c.deref-3.ensures.value ∙ sym (texts-agree c.law_of_replay.ensures runs.0 running runs.2 entries))
     c.run.ensures

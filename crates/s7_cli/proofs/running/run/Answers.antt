@@ -11,7 +11,6 @@ returns-in_err-write_entries g c =
       ap (λ (s : Recorded). s.program) c.in_ok-reserve.ensures.ok ∙ ap (λ (s : Recorded). s.program) c.in_ok-controller.ensures,
       ap (λ (s : Recorded). s.history) c.in_ok-reserve.ensures.ok ∙ ap (λ (s : Recorded). s.history) c.in_ok-controller.ensures,
     )
-    c.runs_as_source.ensures
     c.in_err-write_entries.ensures.text
     (handed.1 ∙ ap Err handed.2)
 
@@ -21,7 +20,6 @@ returns g c =
       ap (λ (s : Recorded). s.program) c.in_ok-reserve.ensures.ok ∙ ap (λ (s : Recorded). s.program) c.in_ok-controller.ensures,
       ap (λ (s : Recorded). s.history) c.in_ok-reserve.ensures.ok ∙ ap (λ (s : Recorded). s.history) c.in_ok-controller.ensures,
     )
-    c.runs_as_source.ensures
     c.in_ok-write_entries.ensures.ok
     c.in_ok-write_entries.ensures.text
     c.history_len.ensures.len
