@@ -1,5 +1,5 @@
 -- Activations: the list of frames, entering and leaving blocks.
-use Rattle.std.specs.Prelude.{◌≡◌, ℕ, ◌+◌, nat_le, List, [], ◌∷◌, length, reverse, slice_get, Option, Some, None, Result, Ok, Err, false, ◌==◌, if◌then◌else◌}
+use Rattle.std.specs.Prelude.{◌≡◌, ℕ, ◌+◌, nat_le, List, [], ◌∷◌, length, reverse, slice_get, Option, Some, None, Result, Ok, Err, Bool, true, false, ◌==◌, if◌then◌else◌}
 use Rattle.std.specs.Option.{option_map}
 use Rattle.std.specs.Borrow.{Bor}
 use Rattle.status_word.specs.Registers.{regs_at_rest}
@@ -83,8 +83,19 @@ Leaves old new answer = LeavesTo (frames_of old) old new answer
 abbrev pub with_frame : Frame → Activation → Activation
 with_frame f a = record a { running = record a.running { frame = f } }
 
+-- the frame of the caller is the innermost one again; where there is none, no frame stands
+abbrev pub LeavesBlock : (below : List Frame) → (old new : Activation) → Bool → Type 0
+LeavesBlock [] old new false =
+    (frames_of new ≡ []) × (new.running.locals ≡ closed old.running.locals)
+    × (new.running.regs ≡ old.running.regs) × (new.class ≡ old.class) × (new.ob ≡ old.ob) × (new.delay ≡ old.delay)
+LeavesBlock (caller ∷ rest) old new true = new ≡ record old {
+  running = record old.running { frame = caller; locals = closed old.running.locals };
+  below = rest;
+}
+LeavesBlock below old new answer = ⊥
+
 -- one of the frames below is taken off
-abbrev pub Pops : (old new : List Frame) → Option Frame → Type 0
-Pops [] new None = new ≡ []
-Pops (f ∷ rest) new (Some frame) = (frame ≡ f) × (new ≡ rest)
-Pops old new answer = ⊥
+abbrev pub PopsTo : (old new : List Frame) → (frame_old frame_new : Frame) → Bool → Type 0
+PopsTo [] new frame_old frame_new false = (new ≡ []) × (frame_new ≡ frame_old)
+PopsTo (f ∷ rest) new frame_old frame_new true = (frame_new ≡ f) × (new ≡ rest)
+PopsTo old new frame_old frame_new answer = ⊥

@@ -7,16 +7,19 @@ ghost use Rattle.std.specs.Prelude.{
   length,
   false,
   IfNone,
+  None,
 };
 ghost use Rattle.plc_base.specs.Changes.{ChangesOrStays};
 ghost use Rattle.status_word.specs.Registers.{regs_at_rest};
 ghost use Rattle.frames.specs.Activations.{
   Enters,
   Leaves,
-  Pops,
+  LeavesBlock,
+  PopsTo,
   IsFrame,
   IsFrameIn,
   begun,
+  entered,
   frames_of,
   local_byte,
   refused,
@@ -27,12 +30,10 @@ ghost use Rattle.frames.specs.Activations.{
 use crate::frame::Frame;
 use crate::locals::Locals;
 use crate::running::Running;
-use arrayvec::ArrayVec;
 use plc_base::Width;
 use plc_mem::Missing;
 use status_word::Regs;
 use std::marker::Model;
-use std::mem;
 
 /// How many frames lie below the innermost one at most.
 const BELOW: usize = 15;
@@ -47,61 +48,80 @@ pub enum FrameFault {
 }
 
 /// The frames below the innermost one, 15 at most. A contract sees the list of them, the innermost one
-/// first.
+/// first. They stay where they are: a frame is copied in when a block is entered, and out when it is
+/// left, and of its bindings only those that there are.
 #[derive(Drop)]
 pub struct Below {
-    frames: ArrayVec<Frame, BELOW>,
+    frames: [Frame; BELOW],
+    count: usize,
 }
 
 impl Model for Below {
-    ghost use Rattle.std.specs.Prelude.{List, reverse};
+    ghost use Rattle.std.specs.Prelude.{◌≡◌, ◌≤◌, List, length, reverse, take};
     ghost use Rattle.frames.specs.declared.frame.Frame.{Frame};
 
     ghost Value = { List Frame };
 
-    ghost view = { λ b. reverse b.frames.items };
+    ghost view = { λ b. reverse (take b.count b.frames) };
+
+    ghost invariant = { λ b. (b.count ≤ 15) × (length b.frames ≡ 15) };
 }
 
 impl Below {
+    #[tactic(auto, using(crate::proofs::Stack::count_of))]
     fn new() -> Below
         ensures { result ≡ [] }
     {
         Below {
-            frames: ArrayVec::new(),
+            frames: Default::default(),
+            count: 0,
         }
     }
 
+    #[tactic(auto, using(crate::proofs::Stack::count_of))]
     fn len(&self) -> usize
         ensures value { result ≡ length self.now }
         ensures bound { result ≤ 15 }
     {
-        self.frames.len()
+        self.count
     }
 
-    fn push(&mut self, frame: Frame)
+    #[tactic(auto, using(crate::proofs::Stack::count_of, crate::proofs::Stack::pushed))]
+    fn push(&mut self, frame: &Frame)
         requires { length self.old < 15 }
-        ensures { self.new ≡ frame ∷ self.old }
+        ensures { self.new ≡ frame.now ∷ self.old }
     {
-        self.frames.push(frame);
+        let place = self.count;
+        self.frames[place].copy_from(frame);
+        self.count = place + 1;
     }
 
-    fn pop(&mut self) -> Option<Frame>
-        ensures { Pops self.old self.new result }
+    // Copies the innermost frame out and takes it off; false where there is none.
+    #[tactic(auto, using(crate::proofs::Stack::count_of, crate::proofs::Stack::popped))]
+    fn pop_to(&mut self, frame: &mut Frame) -> bool
+        ensures { PopsTo self.old self.new frame.old frame.new result }
     {
-        self.frames.pop()
+        if self.count == 0 {
+            return false;
+        }
+        let place = self.count - 1;
+        frame.copy_from(&self.frames[place]);
+        self.count = place;
+        true
     }
 
     fn clear(&mut self)
         ensures { self.new ≡ [] }
     {
-        self.frames.clear();
+        self.count = 0;
     }
 
     // The frame at a place, counted from the outermost one.
+    #[tactic(auto, using(crate::proofs::Stack::placed))]
     fn get(&self, place: usize) -> Option<&Frame>
         ensures { IsFrameIn self.now place result }
     {
-        self.frames.as_slice().get(place)
+        self.frames[..self.count].get(place)
     }
 }
 
@@ -142,6 +162,23 @@ impl Activation {
         }
     }
 
+    /// Begins an organization block in the place of another activation, as `new`: nothing is moved but what
+    /// is in use. `f` has at most 1,024 local bytes.
+    pub fn restart(&mut self, class: u8, ob: u16, f: &Frame)
+        requires { f.now.local_len ≤ 1024 }
+        ensures { self.new ≡ begun class ob f.now }
+    {
+        self.class = class;
+        self.ob = ob;
+        self.delay = 0;
+        self.running.regs = Regs::new();
+        self.running.frame.copy_from(f);
+        self.running.locals.clear();
+        self.running.locals.open(f.local_len);
+        self.below.clear();
+        self.left = false;
+    }
+
     /// How many frames stand.
     pub fn depth(&self) -> usize
         ensures value { result ≡ length (frames_of self.now) }
@@ -164,6 +201,25 @@ impl Activation {
         }
     }
 
+    /// Enters the block of the innermost frame once more, with so many local bytes, all 0: its frame is
+    /// there twice, and its block's caller makes the upper one that of another block. There is room.
+    pub fn enter_again(&mut self, local_len: u16)
+        requires depth { length self.old.running.locals.starts ≡ length (frames_of self.old) }
+        requires few { length (frames_of self.old) < 16 }
+        requires room { refused local_len self.old ≡ None }
+        ensures { self.new ≡ entered (record self.old.running.frame { local_len = local_len })
+            self.old }
+    {
+        self.running.locals.open(local_len);
+        if self.left {
+            self.below.clear();
+            self.left = false;
+        } else {
+            self.below.push(&self.running.frame);
+        }
+        self.running.frame.local_len = local_len;
+    }
+
     /// Enters a block: its frame is the innermost one, and its local bytes are 0.
     ///
     /// # Errors
@@ -177,16 +233,22 @@ impl Activation {
         if let Some(fault) = self.refuses(f.local_len) {
             return Err(fault);
         }
-        self.running.locals.open(f.local_len);
-        if self.left {
-            self.running.frame = f;
-            self.below.clear();
-            self.left = false;
-            return Ok(());
-        }
-        let caller = mem::replace(&mut self.running.frame, f);
-        self.below.push(caller);
+        self.enter_again(f.local_len);
+        self.running.frame = f;
         Ok(())
+    }
+
+    /// Leaves the innermost block; the answer says whether its caller goes on. One stands.
+    pub fn leave_block(&mut self) -> bool
+        requires { self.old.left ≡ false }
+        ensures { LeavesBlock self.old.below self.old self.new result }
+    {
+        self.running.locals.close();
+        if self.below.pop_to(&mut self.running.frame) {
+            return true;
+        }
+        self.left = true;
+        false
     }
 
     /// Leaves the innermost block, and gives its frame; `None` exactly where no frame stands.
@@ -196,14 +258,10 @@ impl Activation {
         if self.left {
             return None;
         }
-        self.running.locals.close();
-        match self.below.pop() {
-            Some(caller) => Some(mem::replace(&mut self.running.frame, caller)),
-            None => {
-                self.left = true;
-                Some(mem::replace(&mut self.running.frame, Frame::default()))
-            }
-        }
+        let mut frame = Frame::default();
+        frame.copy_from(&self.running.frame);
+        self.leave_block();
+        Some(frame)
     }
 
     /// The priority class.

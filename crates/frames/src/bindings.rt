@@ -1,5 +1,5 @@
 ghost use Rattle.frames.specs.Bound.{set_at};
-ghost use Rattle.std.specs.Prelude.{◌≡◌, ◌<◌, ◌++◌, [], ◌∷◌, length, slice_get};
+ghost use Rattle.std.specs.Prelude.{◌≡◌, ◌+◌, ◌<◌, ◌≤◌, ◌++◌, [], ◌∷◌, length, slice_get};
 
 use arrayvec::ArrayVec;
 use plc_base::{Place, Width};
@@ -48,6 +48,17 @@ impl Model for Bindings {
     ghost view = { λ b. b.all.items };
 }
 
+// The bindings with more behind them.
+fn append(all: &mut ArrayVec<Binding, PARAMETERS>, more: &[Binding])
+    requires { length all.old.items + length more.now ≤ 60 }
+    ensures { all.new.items ≡ all.old.items ++ more.now }
+{
+    match all.try_extend_from_slice(more) {
+        Ok(()) => {}
+        Err(_) => {}
+    }
+}
+
 impl Bindings {
     /// No binding.
     pub fn new() -> Bindings
@@ -88,6 +99,14 @@ impl Bindings {
         if at < self.all.len() {
             self.all.as_mut_slice()[at] = binding;
         }
+    }
+
+    /// Becomes the same as others: as many are copied as there are.
+    pub fn copy_from(&mut self, other: &Bindings)
+        ensures { self.new ≡ other.now }
+    {
+        self.all.clear();
+        append(&mut self.all, other.all.as_slice());
     }
 
     /// The same bindings again.

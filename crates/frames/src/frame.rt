@@ -1,3 +1,5 @@
+ghost use Rattle.std.specs.Prelude.{◌≡◌};
+
 use crate::bindings::Bindings;
 use plc_base::{BlockId, BlockKind};
 use status_word::Brackets;
@@ -37,5 +39,21 @@ impl Default for Frame {
             local_len: 0,
             bindings: Bindings::new(),
         }
+    }
+}
+
+impl Frame {
+    /// Becomes the same as another one: of its bindings as many are copied as there are.
+    pub fn copy_from(&mut self, other: &Frame)
+        ensures { self.new ≡ other.now }
+    {
+        self.block = other.block;
+        self.at = other.at;
+        self.db = other.db;
+        self.di = other.di;
+        self.instance = other.instance;
+        self.brackets = other.brackets.copied();
+        self.local_len = other.local_len;
+        self.bindings.copy_from(&other.bindings);
     }
 }

@@ -62,6 +62,14 @@ impl Locals {
         }
     }
 
+    /// Takes all local bytes of all frames away.
+    pub fn clear(&mut self)
+        ensures { self.new ≡ record { starts = []; bytes = [] } }
+    {
+        self.starts.clear();
+        self.bytes.clear();
+    }
+
     /// How many frames there are.
     pub fn depth(&self) -> usize
         ensures value { result ≡ length self.now.starts }

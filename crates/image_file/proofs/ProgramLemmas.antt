@@ -9,12 +9,16 @@ use Rattle.plc_base.specs.declared.blocks.BlockKind.{BlockKind}
 use Rattle.plc_base.specs.declared.blocks.BlockKind.TheVariants as kinds
 use Rattle.flat_code.specs.Faults.{fault_of, unless, lies_within, is_ob_number, has_number}
 use Rattle.flat_code.specs.Layout.{Layout, is_fine, chain, good_many}
-use Rattle.flat_code.specs.Codes.{code_bytes, code_of, are_ops, ends, overlong, first_of, is_nowhere, last_place, stop_at, only}
+use Rattle.flat_code.specs.Codes.{size, code_bytes, code_of, are_ops, ends, overlong, first_of, is_nowhere, last_place, stop_at, only}
 use Rattle.flat_code.specs.declared.image_fields.Field.TheVariants.{StatementCount}
-use Rattle.flat_code.specs.Ops.{OpData}
+use Rattle.flat_code.specs.Ops.{OpData, is_op}
 use Rattle.flat_code.specs.Programs.{CodeBlock, Program}
+use Rattle.flat_code.specs.declared.programs.Param.{Param}
 use Rattle.flat_code.specs.Records.{BlockRecord}
-use Rattle.flat_code.specs.Image.{plain_u16, plain_u32, zero_u16, kind_field, parameter_count, block_number, local_bytes, instance_bytes, Head, head, counts, data_count, code_block, code_blocks, after_block, raw_of_block, records, records_of, raw_of_records, body, number_of_kind, record_of_block, IsProgram, IsRight, end_marks, statements_in, lines_of, line_field, line_after}
+use Rattle.flat_code.specs.Image.{plain_u16, plain_u32, zero_u16, kind_field, parameter_count, block_number, local_bytes, instance_bytes, Head, head, counts, data_count, code_block, code_blocks, after_block, raw_of_block, records, records_of, raw_of_records, body, number_of_kind, record_of_block, IsProgram, IsRight, end_marks, statements_in, lines_of, line_field, line_after, record_of_param}
+use Rattle.flat_code.specs.declared.image_fields.OpenBracket.{OpenBracket}
+use Rattle.flat_code.specs.Placed.{Placed, placed, places, opened, before_next}
+use Rattle.image_file.specs.Verified.{place_at, Begins, BlockIsRight}
 use Rattle.image_file.specs.Readers.{kind_order, same_id, block_of}
 use Rattle.image_file.specs.Seats.{nowhere, IsSmall, AreSmall, slot_of, HaveSlots}
 use Rattle.image_file.proofs.ImageLemmas.{chain_parts, unless_fine, records_parts, record_parts_of, head_kind, from_size, from_zero, from_statements, from_instance, from_locals, from_number, from_params}
@@ -112,6 +116,9 @@ pub record IsRightCode (b : CodeBlock) : Type 0 where
   pub ended : ends b.code ≡ true
   pub few : overlong 0 0 b.code ≡ None
   pub marks : end_marks b.code ≡ length b.lines
+  pub ops : are_ops b.code ≡ true
+  pub room : b.local_len ≤ 1024
+  pub organization : b.id.kind ≡ kinds.Ob → (b.params ≡ []) × (20 ≤ b.local_len)
 
 abbrev pub AreRight : List CodeBlock → Type 0
 AreRight [] = Unit {0}
@@ -122,12 +129,58 @@ stops_nowhere None last true h = (refl, refl)
 stops_nowhere None last false h = absurd cc
 stops_nowhere (Some at) last ended h = absurd cc
 
-code_right : (n : ℕ) (ops : List OpData) → (code_of true n).good ops ≡ true → (overlong 0 0 ops ≡ None) × (ends ops ≡ true)
+code_right : (n : ℕ) (ops : List OpData) → (code_of true n).good ops ≡ true → (overlong 0 0 ops ≡ None) × (ends ops ≡ true) × (are_ops ops ≡ true)
 unfolding code_of
 code_right n ops h =
     let a = and_parts (are_ops ops && is_nowhere (stop_at true ops [])) (eqb (length (code_bytes ops)) n) h in
     let b = and_parts (are_ops ops) (is_nowhere (stop_at true ops [])) a.0 in
-    stops_nowhere (overlong 0 0 ops) (last_place 0 ops) (ends ops) b.1
+    let stops = stops_nowhere (overlong 0 0 ops) (last_place 0 ops) (ends ops) b.1 in
+    (stops.0, stops.1, b.0)
+
+-- no parameters, and room for the start information
+none_if_ob : (kind count : ℕ) → kind ≡ 1 → (not (eqb kind 1) || eqb count 0) ≡ true → count ≡ 0
+none_if_ob kind count is h = eqb-true count 0 (rw is at h)
+
+room_if_ob : (kind bytes : ℕ) → kind ≡ 1 → (not (eqb kind 1) || leb 20 bytes) ≡ true → 20 ≤ bytes
+room_if_ob kind bytes is h = leb-true 20 bytes (rw is at h)
+
+locals_right : (before : ℕ × ℕ) (h : Head) → (head before).good h ≡ true → h.1.1.1.0 ≤ 1024
+unfolding head local_bytes fault_of
+locals_right before h good =
+    let a = chain_parts (kind_field before.0) (from_params before) h good in
+    let b = chain_parts (parameter_count h.0) (λ params. from_number before h.0) h.1 a.1 in
+    let c = chain_parts (block_number before.0 before.1 h.0) (λ number. from_locals h.0) h.1.1 b.1 in
+    let d = chain_parts (local_bytes h.0) (λ locals. from_instance h.0) h.1.1.1 c.1 in
+    let bytes = h.1.1.1.0 in
+    let has_room = not (eqb h.0 1) || leb 20 bytes in
+    let long = and_parts (ltb bytes 65536) (is_fine (unless (leb bytes 1024 && has_room) 4)) d.0 in
+    leb-true bytes 1024 (and_parts (leb bytes 1024) has_room (unless_fine (leb bytes 1024 && has_room) 4 long.1)).0
+
+ob_right : (before : ℕ × ℕ) (h : Head) → (head before).good h ≡ true → h.0 ≡ 1 → (h.1.0 ≡ 0) × (20 ≤ h.1.1.1.0)
+unfolding head parameter_count local_bytes fault_of
+ob_right before h good is =
+    let a = chain_parts (kind_field before.0) (from_params before) h good in
+    let b = chain_parts (parameter_count h.0) (λ params. from_number before h.0) h.1 a.1 in
+    let c = chain_parts (block_number before.0 before.1 h.0) (λ number. from_locals h.0) h.1.1 b.1 in
+    let d = chain_parts (local_bytes h.0) (λ locals. from_instance h.0) h.1.1.1 c.1 in
+    let count = h.1.0 in
+    let bytes = h.1.1.1.0 in
+    let no_params = not (eqb h.0 1) || eqb count 0 in
+    let has_room = not (eqb h.0 1) || leb 20 bytes in
+    let few = and_parts (ltb count 256) (is_fine (unless (leb count 60 && no_params) 4)) b.0 in
+    let long = and_parts (ltb bytes 65536) (is_fine (unless (leb bytes 1024 && has_room) 4)) d.0 in (
+      none_if_ob h.0 count is (and_parts (leb count 60) no_params (unless_fine (leb count 60 && no_params) 4 few.1)).1,
+      room_if_ob h.0 bytes is (and_parts (leb bytes 1024) has_room (unless_fine (leb bytes 1024 && has_room) 4 long.1)).1,
+    )
+
+none_mapped : (ps : List Param) → length (map record_of_param ps) ≡ 0 → ps ≡ []
+none_mapped [] e = refl
+none_mapped (p ∷ ps) e = absurd (omega (arith, e))
+
+ob_block : (s : ℕ × ℕ) (b : CodeBlock) → (head s).good (raw_of_block (record_of_block b)).0 ≡ true → b.id.kind ≡ kinds.Ob → (b.params ≡ []) × (20 ≤ b.local_len)
+ob_block s b good is =
+    let right = ob_right s (raw_of_block (record_of_block b)).0 good (ap number_of_kind is) in
+    (none_mapped b.params right.0, right.1)
 
 lines_right : (start : ℕ) (h : Head) (ops : List OpData) (lines : List ℕ) → (lines_of true start h ops).good lines ≡ true → end_marks ops ≡ statements_in h
 unfolding lines_of fault_of
@@ -144,7 +197,7 @@ blocks_right s (suc n) (b ∷ bs) h =
     let g = and_parts ((code_block true s).good r) (good_many (code_block true) after_block (after_block s r) n (map record_of_block bs)) h in
     let p = record_parts_of true s r g.0 in
     let c = code_right (length (code_bytes b.code)) b.code p.code_good in
-    (record { ended = c.1; few = c.0; marks = lines_right 0 (raw_of_block r).0 b.code b.lines p.lines_good }, blocks_right (after_block s r) n bs g.1)
+    (record { ended = c.1; few = c.0; ops = c.2; room = locals_right s (raw_of_block r).0 p.head_good; organization = λ is. ob_block s b p.head_good is; marks = lines_right 0 (raw_of_block r).0 b.code b.lines p.lines_good }, blocks_right (after_block s r) n bs g.1)
 
 codes_right : (n : ℕ) (bs : List CodeBlock) → (code_blocks true n).good (map record_of_block bs) ≡ true → AreRight bs
 unfolding code_blocks
@@ -161,3 +214,30 @@ right_at (c ∷ bs) b id h found = by (same_id c.id id) found (λ e. right_at bs
     by : (t : Bool) → cond t (Some c) (block_of id bs) ≡ Some b → (block_of id bs ≡ Some b → IsRightCode b) → IsRightCode b
     by true e more = subst IsRightCode (same_Some c b e) h.0
     by false e more = more e
+
+-- ---- the ops and the beginning of a block
+
+pub op_right : (from : ℕ) (brackets : List OpenBracket) (before ops : List OpData) (at : ℕ) (q : Placed) → are_ops ops ≡ true → place_at at (placed from brackets before ops) ≡ Some q → is_op q.op.code q.op.operand ≡ true
+op_right from brackets before [] at q right found = absurd cc
+op_right from brackets before (o ∷ ops) at q right found =
+    let parts = and_parts (is_op o.code o.operand) (are_ops ops) right in
+    by (eqb from at) found parts.0 (λ e. op_right (from + size o) (opened from o.code brackets) (before_next o before) ops at q parts.1 e)
+  where
+    here : Placed
+    here = record { at = from; brackets = brackets; before = before; op = o; rest = ops }
+
+    behind : Option Placed
+    behind = place_at at (placed (from + size o) (opened from o.code brackets) (before_next o before) ops)
+
+    by : (t : Bool) → cond t (Some here) behind ≡ Some q → is_op o.code o.operand ≡ true → (behind ≡ Some q → is_op q.op.code q.op.operand ≡ true) → is_op q.op.code q.op.operand ≡ true
+    by true e is more = subst (λ (z : Placed). is_op z.op.code z.op.operand ≡ true) (same_Some here q e) is
+    by false e is more = more e
+
+pub code_begins : (b : CodeBlock) (ops : List OpData) → b.code ≡ ops → ends ops ≡ true → Begins b
+code_begins b [] is ended = absurd cc
+code_begins b (o ∷ ops) is ended =
+    let there : place_at 0 (places b.code) ≡ Some (record { at = 0; brackets = []; before = []; op = o; rest = ops }) = rw is refl in
+    record { first = record { at = 0; brackets = []; before = []; op = o; rest = ops }; place = there; offset = refl; statement = refl; closed = refl }
+
+pub block_right : (b : CodeBlock) → IsRightCode b → BlockIsRight b
+block_right b right = record { begins = code_begins b b.code refl right.ended; room = right.room; organization = right.organization }

@@ -13,7 +13,7 @@ use Rattle.flat_code.specs.declared.operands.Passed.{Passed}
 use Rattle.flat_code.specs.declared.operands.Passed.TheVariants as passed
 use Rattle.flat_code.specs.Forms.{width_code}
 use Rattle.flat_code.specs.Faults.{size_of_width}
-use Rattle.flat_code.specs.Ops.{OpData}
+use Rattle.flat_code.specs.Ops.{OpData, is_op}
 use Rattle.flat_code.specs.Codes.{size}
 use Rattle.flat_code.specs.Programs.{CodeBlock, Program}
 use Rattle.flat_code.specs.Image.{record_of_block, record_of_param, kind_of_number}
@@ -71,6 +71,33 @@ pub record HasLine (b : CodeBlock) (at : ℕ) : Type 0 where
 
 abbrev pub StatementsHaveLines : Type 0
 StatementsHaveLines = (p : Program) (b : CodeBlock) (q : Placed) → IsOp p b q → begins q ≡ true → HasLine b q.at
+
+-- each op is one of the table
+abbrev pub OpsAreOfTable : Type 0
+OpsAreOfTable =
+    (p : Program) (b : CodeBlock) (q : Placed) → IsOp p b q
+    → is_op q.op.code q.op.operand ≡ true
+
+-- ---- blocks
+
+-- a block begins with a statement, before which no bracket stands open
+pub record Begins (b : CodeBlock) : Type 0 where
+  pub first : Placed
+  pub place : place_at 0 (places b.code) ≡ Some first
+  pub offset : first.at ≡ 0
+  pub statement : begins first ≡ true
+  pub closed : first.brackets ≡ []
+
+-- a block has at most 1,024 local bytes; an organization block has no parameters, and at least 20
+pub record BlockIsRight (b : CodeBlock) : Type 0 where
+  pub begins : Begins b
+  pub room : b.local_len ≤ 1024
+  pub organization : b.id.kind ≡ kinds.Ob → (b.params ≡ []) × (20 ≤ b.local_len)
+
+abbrev pub BlocksAreRight : Type 0
+BlocksAreRight =
+    (p : Program) (b : CodeBlock) (id : BlockId) → Verifies p
+    → block_of id p.code_blocks ≡ Some b → BlockIsRight b
 
 -- ---- jumps and brackets
 

@@ -1,6 +1,6 @@
 //! Laws of images: each function does nothing, and its contract is the law.
 ghost use Rattle.image_file.specs.Laws.{ImagesAreOfOne, ImagesAreRead, ReadingsAreImages, GivesExactlyImages, KeptIsLeast, WrittenIsLoaded, VerifiesOrHasFault, FaultsAreOne};
-ghost use Rattle.image_file.specs.Verified.{OpsArePlaced, CodeGoesOn, StatementsAreRight, StatementsHaveLines, JumpsLand, ListsLead, BracketsFit, OperandsFit, PreparedFit, CallsFit, PassedFit, CalledAreThere};
+ghost use Rattle.image_file.specs.Verified.{OpsAreOfTable, BlocksAreRight, OpsArePlaced, CodeGoesOn, StatementsAreRight, StatementsHaveLines, JumpsLand, ListsLead, BracketsFit, OperandsFit, PreparedFit, CallsFit, PassedFit, CalledAreThere};
 
 /// Every program has one image, and every byte string is the image of at most one program.
 pub fn one_program()
@@ -33,6 +33,17 @@ pub fn verified_or_refused()
 /// The op that the readers give is the one in its place.
 pub fn ops_are_placed()
     ensures { OpsArePlaced }
+{}
+
+/// Of a program that verifies each op is one of the table.
+pub fn ops_are_of_the_table()
+    ensures { OpsAreOfTable }
+{}
+
+/// Of a program that verifies each block begins with a statement and no open bracket, and has at
+/// most 1,024 local bytes; an organization block has no parameters, and at least 20.
+pub fn blocks_are_right()
+    ensures { BlocksAreRight }
 {}
 
 /// Of a program that verifies each op but the last of a block has a next one, and the last is BE.

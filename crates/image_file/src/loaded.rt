@@ -131,6 +131,13 @@ impl Loaded {
         })
     }
 
+    /// Nothing is done. The contract says that each loaded program verifies.
+    pub fn law_of_verifying(&self)
+        ensures { Verifies self.now.program }
+    {
+        let _ = &self.program;
+    }
+
     /// The names of the program's variables.
     pub fn names(&self) -> &Names
         ensures { result.now ≡ self.now.program.names }

@@ -31,7 +31,7 @@ fn ops_of(block: &CodeBlock) -> &[Op]
 }
 
 impl<'a> LoadedCode<'a> {
-    ghost use Rattle.std.specs.Prelude.{◌≡◌, true};
+    ghost use Rattle.std.specs.Prelude.{◌≡◌, ◌≤◌, length, true};
     ghost use Rattle.std.specs.Option.{option_map};
     ghost use Rattle.flat_code.specs.Placed.{op_placed, line_placed};
     ghost use Rattle.image_file.specs.Readers.{head_of};
@@ -93,9 +93,10 @@ impl<'a> LoadedCode<'a> {
         block.instance_len
     }
 
-    /// The block's parameters.
+    /// The block's parameters, sixty at most.
     pub fn params(&self) -> &'a [Param]
-        ensures { result.now ≡ self.now.params }
+        ensures value { result.now ≡ self.now.params }
+        ensures few { length result.now ≤ 60 }
     {
         let block = self.block;
         block.params.as_slice()

@@ -6,3 +6,19 @@ pub mod Lifts
 pub mod Completing
 pub mod Steps
 pub mod Walks
+pub mod Sizes
+pub mod Staying
+pub mod FrameBytes
+pub mod Keeping
+pub mod Standing
+pub mod Moving
+pub mod Returned
+pub mod BindingLemmas
+pub mod Entered
+pub mod Called
+pub mod Systems
+pub mod Instructions
+pub mod Errors
+pub mod Beginning
+pub mod Lasting
+mod MovedLemmas

@@ -1,12 +1,11 @@
 -- An activation that fits is ready: what its statement needs is in a program that verifies.
-use Rattle.std.proofs.Common.{◌≡◌, ◌∙◌, inl, inr, [], ◌∷◌, ℕ, zero, suc, Bool, true, false, ◌==◌, is_some, if◌then◌else◌, List, length, map, Option, Some, None, refl, sym, ap}
+use Rattle.std.proofs.Common.{◌≡◌, ◌∙◌, inl, inr, [], ◌∷◌, ℕ, zero, suc, Bool, true, false, ◌==◌, is_some, if◌then◌else◌, List, map, Option, Some, None, refl, sym, ap}
 use Rattle.std.proofs.lemmas.Bool.{eqb-true}
 use Rattle.std.specs.Option.{option_map, option_and_then}
 use Rattle.plc_base.specs.declared.BlockId.{BlockId}
 use Rattle.plc_base.specs.declared.blocks.BlockKind.{BlockKind}
 use Rattle.plc_base.specs.declared.blocks.BlockKind.TheVariants as kinds
 use Rattle.plc_mem.specs.Areas.{Areas}
-use Rattle.frames.specs.Locals.{LocalData}
 use Rattle.frames.specs.declared.Activation.{Activation}
 use Rattle.frames.specs.declared.frame.Frame.{Frame}
 use Rattle.flat_code.specs.Blocks.{Callee, callee, system_params}
@@ -251,39 +250,37 @@ at_block p own at (Some b) verifies placed_law calls_law called_law block head t
     (rw block head) there
 
 block_there :
-    (h : Option Head) (f : Frame) (locals : LocalData) (m : Areas) (place : ℕ) → FitsBlock h f locals m place
-    → is_some h ≡ true
-block_there (Some h) f locals m place fits = refl
-block_there None f locals m place fits = absurd fits
+    (h : Option Head) (f : Frame) (below : List Frame) (m : Areas) → FitsBlock h f below m → is_some h ≡ true
+block_there (Some h) f below m fits = refl
+block_there None f below m fits = absurd fits
 
 frame_goes :
-    (p : Program) (brackets : OpenCodes) (m : Areas) (a : Activation) (w : World) (place : ℕ) → Verifies p
+    (p : Program) (brackets : OpenCodes) (m : Areas) (a : Activation) (w : World) → Verifies p
     → OpsArePlaced → CallsFit → CalledAreThere
-    → FrameFits (code_of p) brackets m a.running.locals place a.running.frame
+    → FrameFits (code_of p) brackets m a.below a.running.frame
     → Goes (statement (code_of p) a w)
 unfolding statement
-frame_goes p brackets m a w place verifies placed_law calls_law called_law fits =
+frame_goes p brackets m a w verifies placed_law calls_law called_law fits =
     let own : BlockId = a.running.frame.block
     in let at : ℕ = a.running.frame.at
     in fetched_goes (code_of p) ((code_of p).fetch own at) a w
     (at_block p own at (block_of own p.code_blocks) verifies placed_law calls_law called_law refl
-    (block_there ((code_of p).head own) a.running.frame a.running.locals m place fits.block) fits.statement)
+    (block_there ((code_of p).head own) a.running.frame a.below m fits.block) fits.statement)
 
 true_false : true ≡ false → ⊥
 true_false h = cc
 
 innermost_fits :
     (c : Code) (brackets : OpenCodes) (m : Areas) (a : Activation) (left : Bool) → a.left ≡ left → left ≡ false
-    → FramesFit c brackets m a.running.locals (if left then [] else a.running.frame ∷ a.below)
-    → (place : ℕ) × FrameFits c brackets m a.running.locals place a.running.frame
+    → FramesFit c brackets m (if left then [] else a.running.frame ∷ a.below)
+    → FrameFits c brackets m a.below a.running.frame
 innermost_fits c brackets m a true is e fits = absurd (true_false e)
-innermost_fits c brackets m a false is e fits = (length a.below, fits.0)
+innermost_fits c brackets m a false is e fits = fits.0
 
 pub fits_goes :
     (p : Program) (brackets : OpenCodes) (m : Areas) (a : Activation) (w : World) → Verifies p
     → OpsArePlaced → CallsFit → CalledAreThere → Fits (code_of p) brackets m a
     → Goes (statement (code_of p) a w)
 fits_goes p brackets m a w verifies placed_law calls_law called_law fits =
-    let one : (place : ℕ) × FrameFits (code_of p) brackets m a.running.locals place a.running.frame =
-    innermost_fits (code_of p) brackets m a a.left refl fits.stands fits.frames
-    in frame_goes p brackets m a w one.0 verifies placed_law calls_law called_law one.1
+    frame_goes p brackets m a w verifies placed_law calls_law called_law
+    (innermost_fits (code_of p) brackets m a a.left refl fits.stands fits.frames)

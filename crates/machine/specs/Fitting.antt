@@ -1,6 +1,6 @@
 -- When an activation fits a program and a memory: its statement is there, and so is all that the
 -- statement may need.
-use Rattle.std.specs.Prelude.{◌≡◌, ℕ, ◌+◌, ◌<◌, ◌≤◌, ◌^◌, false, List, [], ◌∷◌, length, map, reverse, IsSome, Option, Some, None}
+use Rattle.std.specs.Prelude.{◌≡◌, ℕ, ◌+◌, ◌<◌, ◌≤◌, ◌^◌, false, List, [], ◌∷◌, length, map, reverse, slice_get, IsSome, Option, Some, None}
 use Rattle.std.specs.Option.{option_map}
 use Rattle.std.specs.FinMap as finmap
 use Rattle.plc_base.specs.declared.Area.{Area}
@@ -8,9 +8,12 @@ use Rattle.plc_base.specs.declared.Area.TheVariants as areas
 use Rattle.plc_base.specs.declared.blocks.BlockKind.{BlockKind}
 use Rattle.plc_base.specs.declared.blocks.BlockKind.TheVariants as kinds
 use Rattle.plc_base.specs.declared.BlockId.{BlockId}
-use Rattle.plc_base.specs.Widths.{bit_count}
-use Rattle.plc_mem.specs.Areas.{Areas}
+use Rattle.plc_base.specs.declared.Width.{Width}
+use Rattle.plc_base.specs.declared.Width.TheVariants as widths
+use Rattle.plc_base.specs.Widths.{bit_count, byte_count}
+use Rattle.plc_mem.specs.Areas.{Areas, PeripheralBytes}
 use Rattle.plc_mem.specs.Fresh.{fresh}
+use Rattle.plc_mem.specs.Number.{number_at}
 use Rattle.status_word.specs.declared.Bracket.{Bracket}
 use Rattle.status_word.specs.declared.Check.{Check}
 use Rattle.frames.specs.Activations.{frames_of}
@@ -20,7 +23,7 @@ use Rattle.frames.specs.declared.bindings.Binding.{Binding}
 use Rattle.frames.specs.declared.bindings.Binding.TheVariants as binding
 use Rattle.frames.specs.declared.frame.Frame.{Frame}
 use Rattle.flat_code.specs.declared.programs.Param.{Param}
-use Rattle.machine.specs.Places.{number_in}
+use Rattle.machine.specs.declared.places.Bound.{Bound}
 use Rattle.machine.specs.Code.{Code, Head}
 
 -- the function codes of the brackets that stand open in the text before a statement, the innermost
@@ -28,29 +31,43 @@ use Rattle.machine.specs.Code.{Code, Head}
 abbrev pub OpenCodes : Type 0
 OpenCodes = BlockId → ℕ → Option (List Check)
 
--- a local place lies in the bytes of a frame below
-abbrev pub LiesBelow : Area → (frame place : ℕ) → Type 0
-LiesBelow areas.L frame place = frame < place
-LiesBelow _ frame place = Unit {0}
+-- the local bytes of the frame at a place of those below, the outermost one's being 0
+abbrev pub local_len_at : (below : List Frame) → (place : ℕ) → Option ℕ
+local_len_at below place = option_map (λ (f : Frame). f.local_len) (slice_get (reverse below) place)
+
+-- a bit is one of a byte's
+abbrev pub HasBit : Width → (bit : ℕ) → Type 0
+HasBit widths.Bit bit = bit < 8
+HasBit _ bit = Unit {0}
+
+-- an operand lies in so many bytes
+abbrev pub LiesIn : Option ℕ → (byte bit : ℕ) → Width → Type 0
+LiesIn None byte bit width = ⊥
+LiesIn (Some len) byte bit width = (byte + byte_count width ≤ len) × HasBit width bit
+
+-- a bound place exists: in the local bytes of a frame below, or in memory
+abbrev pub ExistsIn : Area → Bound → (below : List Frame) → Areas → Type 0
+ExistsIn areas.L at below m =
+    LiesIn (local_len_at below at.frame) at.place.byte at.place.bit at.width
+ExistsIn _ at below m = IsSome (number_at m at.place at.width)
 
 -- a binding of a parameter: a place of its width that exists, a constant that fits an IN parameter,
--- or not supplied in a function block. `place` is the frame's, counted from the outermost one
-abbrev pub IsBound : BlockKind → Param → LocalData → Areas → (place : ℕ) → Binding → Type 0
-IsBound kind p locals m place (binding.Bound at width frame) =
-    (width ≡ p.width) × LiesBelow at.area frame place
-    × IsSome (number_in (record { place = at; width = width; frame = frame }) locals m)
-IsBound kind p locals m place (binding.Constant value) =
+-- or not supplied in a function block. `below` has the frames below, the innermost one first
+abbrev pub IsBound : BlockKind → Param → (below : List Frame) → Areas → Binding → Type 0
+IsBound kind p below m (binding.Bound at width frame) =
+    (width ≡ p.width)
+    × ExistsIn at.area (record { place = at; width = width; frame = frame }) below m
+IsBound kind p below m (binding.Constant value) =
     (p.section ≡ 1) × (value < 2 ^ bit_count p.width)
-IsBound kinds.Fb p locals m place binding.Unsupplied = Unit {0}
-IsBound kind p locals m place binding.Unsupplied = ⊥
+IsBound kinds.Fb p below m binding.Unsupplied = Unit {0}
+IsBound kind p below m binding.Unsupplied = ⊥
 
 -- one binding for each parameter
 abbrev pub AreBound :
-    BlockKind → List Param → LocalData → Areas → (place : ℕ) → List Binding → Type 0
-AreBound kind [] locals m place [] = Unit {0}
-AreBound kind (p ∷ ps) locals m place (b ∷ bs) =
-    IsBound kind p locals m place b × AreBound kind ps locals m place bs
-AreBound kind params locals m place bindings = ⊥
+    BlockKind → List Param → (below : List Frame) → Areas → List Binding → Type 0
+AreBound kind [] below m [] = Unit {0}
+AreBound kind (p ∷ ps) below m (b ∷ bs) = IsBound kind p below m b × AreBound kind ps below m bs
+AreBound kind params below m bindings = ⊥
 
 -- an opened data block is loaded
 abbrev pub IsOpen : Option ℕ → Areas → Type 0
@@ -70,40 +87,42 @@ HasInstance kinds.Fb h m (Some number) = IsLong h.instance_len (finmap.get m.dat
 HasInstance kind h m (Some number) = ⊥
 
 -- what is open in a frame fits the head of its block
-pub record FitsHead
-    (h : Head) (f : Frame) (locals : LocalData) (m : Areas) (place : ℕ) : Type 0 where
+pub record FitsHead (h : Head) (f : Frame) (below : List Frame) (m : Areas) : Type 0 where
   pub local_len : f.local_len ≡ h.local_len
-  pub bindings : AreBound f.block.kind h.params locals m place f.bindings
+  pub bindings : AreBound f.block.kind h.params below m f.bindings
   pub instance : HasInstance f.block.kind h m f.instance
 
-abbrev pub FitsBlock : Option Head → Frame → LocalData → Areas → (place : ℕ) → Type 0
-FitsBlock None f locals m place = ⊥
-FitsBlock (Some h) f locals m place = FitsHead h f locals m place
+-- the same where the block is there
+abbrev pub FitsBlock : Option Head → Frame → (below : List Frame) → Areas → Type 0
+FitsBlock None f below m = ⊥
+FitsBlock (Some h) f below m = FitsHead h f below m
 
+-- the function codes of brackets
 abbrev pub codes_of : List Bracket → List Check
 codes_of brackets = map (λ (b : Bracket). b.code) brackets
 
 -- a frame stands at a statement of a block that is there, with the brackets that are open before it
 pub record FrameFits
-    (code : Code) (brackets : OpenCodes) (m : Areas) (locals : LocalData) (place : ℕ) (f : Frame)
+    (code : Code) (brackets : OpenCodes) (m : Areas) (below : List Frame) (f : Frame)
     : Type 0 where
   pub statement : IsSome (code.fetch f.block f.at)
   pub open_brackets : brackets f.block f.at ≡ Some (codes_of f.brackets)
-  pub block : FitsBlock (code.head f.block) f locals m place
+  pub block : FitsBlock (code.head f.block) f below m
   pub db : IsOpen f.db m
   pub di : IsOpen f.di m
 
 -- the frames, the innermost one first
-abbrev pub FramesFit : Code → OpenCodes → Areas → LocalData → List Frame → Type 0
-FramesFit code brackets m locals [] = Unit {0}
-FramesFit code brackets m locals (f ∷ below) =
-    FrameFits code brackets m locals (length below) f × FramesFit code brackets m locals below
+abbrev pub FramesFit : Code → OpenCodes → Areas → List Frame → Type 0
+FramesFit code brackets m [] = Unit {0}
+FramesFit code brackets m (f ∷ below) =
+    FrameFits code brackets m below f × FramesFit code brackets m below
 
 -- where the local bytes of frames begin, the outermost one first, each behind those before it
 abbrev pub starts_from : (at : ℕ) → List Frame → List ℕ
 starts_from at [] = []
 starts_from at (f ∷ rest) = at ∷ starts_from (at + f.local_len) rest
 
+-- how many local bytes frames have together
 abbrev pub bytes_together : List Frame → ℕ
 bytes_together [] = 0
 bytes_together (f ∷ rest) = f.local_len + bytes_together rest
@@ -116,12 +135,27 @@ pub record LocalsFit (frames : List Frame) (locals : LocalData) : Type 0 where
 -- an activation fits: a frame stands, and each frame fits
 pub record Fits (code : Code) (brackets : OpenCodes) (m : Areas) (a : Activation) : Type 0 where
   pub stands : a.left ≡ false
-  pub frames : FramesFit code brackets m a.running.locals (frames_of a)
+  pub frames : FramesFit code brackets m (frames_of a)
   pub locals : LocalsFit (frames_of a) a.running.locals
 
--- a memory has the data blocks of a program with their lengths
+-- how many bytes a data block has, if it is loaded
 abbrev pub len_in : Areas → ℕ → Option ℕ
 len_in m number = option_map length (finmap.get m.data_blocks number)
 
-abbrev pub HasBlocks : Code → Areas → Type 0
-HasBlocks code m = (number : ℕ) → len_in m number ≡ len_in (fresh code.blocks) number
+-- the two parts of a peripheral area have as many bytes in another memory
+pub record SameParts (p q : PeripheralBytes) : Type 0 where
+  pub low : length q.low ≡ length p.low
+  pub high : length q.high ≡ length p.high
+
+-- each area and each data block has as many bytes in another memory
+pub record SameSizes (m n : Areas) : Type 0 where
+  pub inputs : length n.inputs ≡ length m.inputs
+  pub outputs : length n.outputs ≡ length m.outputs
+  pub bit_memory : length n.bit_memory ≡ length m.bit_memory
+  pub peripheral_inputs : SameParts m.peripheral_inputs n.peripheral_inputs
+  pub peripheral_outputs : SameParts m.peripheral_outputs n.peripheral_outputs
+  pub data_blocks : (number : ℕ) → len_in n number ≡ len_in m number
+
+-- a memory of a program: its areas, and the program's data blocks with their lengths
+abbrev pub IsMemoryOf : Code → Areas → Type 0
+IsMemoryOf code m = SameSizes (fresh code.blocks) m

@@ -22,4 +22,8 @@ pub mod There
 pub mod Fitting
 pub mod Results
 pub mod Flat
+pub mod OpenBrackets
+pub mod ImageLaws
+pub mod Lasting
 pub mod Walking
+pub mod Moved

@@ -1,13 +1,14 @@
 //! Bit logic with an operand: A AN O ON X XN, =, S, R, FP, FN.
 ghost use Rattle.std.specs.Prelude.{◌≡◌, ◌<◌};
-ghost use Rattle.machine.specs.Parts.{own_of};
+ghost use Rattle.machine.specs.Parts.{own_of, then_ok};
 ghost use Rattle.machine.specs.Outcomes.{Acts, Checks};
-ghost use Rattle.machine.specs.BitLogic.{check_of as check_of_word, checking, put_bit as put_bit_of, bit_before as bit_before_of, bit_after as bit_after_of, bit_number as number_of_bit, assigned, bit_set as bit_set_of, edge as edge_of};
+ghost use Rattle.machine.specs.BitLogic.{check_of as check_of_word, checking, put_bit as put_bit_of, bit_before as bit_before_of, bit_after as bit_after_of, bit_number as number_of_bit, assigned, assigned_at, set_at as set_at_of, bit_set as bit_set_of, edge as edge_of};
 
-use crate::places::{Access, Bound, located, number_at};
+use crate::places::{Access, Bound, located, number_at, placed};
 use crate::values::{tested, write};
 use flat_code::{Joined, Operand};
 use frames::Running;
+use plc_base::{Area, Width};
 use plc_mem::Memory;
 use status_word::{Check, Regs};
 use timers_counters::{Counters, Timers};
@@ -27,7 +28,7 @@ pub(crate) fn check_of(with: Joined) -> Check
 
 /// A, AN, O, ON, X, XN.
 #[tactic(auto, unfolding(crate::specs::BitLogic::checking))]
-#[inline(never)]
+#[inline(always)]
 pub(crate) fn check(
     with: Joined,
     operand: &Operand,
@@ -65,7 +66,7 @@ fn bit_before(at: &Bound, s: &Running, m: &Memory) -> Result<bool, u8>
 
 // Writes a bit to a place, with other registers.
 #[tactic(auto, unfolding(crate::specs::BitLogic::put_bit))]
-#[inline(never)]
+#[inline(always)]
 fn put_bit(at: &Bound, bit: bool, regs: Regs, s: &mut Running, m: &mut Memory) -> Result<(), u8>
     ensures { Acts (put_bit_of at.now bit regs (own_of s.old) m.old)
         s.old s.new m.old m.new result }
@@ -75,17 +76,52 @@ fn put_bit(at: &Bound, bit: bool, regs: Regs, s: &mut Running, m: &mut Memory) -
     Ok(())
 }
 
-/// =.
-#[tactic(auto, unfolding(crate::specs::BitLogic::assigned))]
-#[inline(never)]
-pub(crate) fn assign(operand: &Operand, s: &mut Running, m: &mut Memory) -> Result<(), u8>
-    ensures { Acts (assigned operand.now (own_of s.old) m.old) s.old s.new m.old m.new result }
+// = at a place.
+#[inline(always)]
+fn assign_at(at: &Bound, s: &mut Running, m: &mut Memory) -> Result<(), u8>
+    ensures { Acts (assigned_at at.now (own_of s.old) m.old) s.old s.new m.old m.new result }
 {
-    let at = located(Access::Writing, operand, s, m)?;
     let mut regs = s.regs;
     let value = regs.status.rlo;
     regs.store(value);
-    put_bit(&at, value, regs, s, m)
+    put_bit(at, value, regs, s, m)
+}
+
+// = with a fixed place.
+#[tactic(auto, unfolding(crate::specs::BitLogic::assigned, crate::specs::Places::located))]
+#[inline(always)]
+fn assign_direct(area: Area, byte: u16, bit: u8, s: &mut Running, m: &mut Memory) -> Result<(), u8>
+    ensures { Acts (assigned (Operand.Direct area Width.Bit byte bit) (own_of s.old) m.old)
+        s.old s.new m.old m.new result }
+{
+    let at = placed(Access::Writing, area, byte, bit, Width::Bit, s)?;
+    assign_at(&at, s, m)
+}
+
+// = where the operand has no fixed place.
+#[tactic(auto, unfolding(crate::specs::BitLogic::assigned))]
+#[inline(never)]
+fn assign_elsewhere(operand: &Operand, s: &mut Running, m: &mut Memory) -> Result<(), u8>
+    ensures { Acts (assigned operand.now (own_of s.old) m.old) s.old s.new m.old m.new result }
+{
+    let at = located(Access::Writing, operand, s, m)?;
+    assign_at(&at, s, m)
+}
+
+/// =.
+#[inline(always)]
+pub(crate) fn assign(operand: &Operand, s: &mut Running, m: &mut Memory) -> Result<(), u8>
+    ensures { Acts (assigned operand.now (own_of s.old) m.old) s.old s.new m.old m.new result }
+{
+    match *operand {
+        Operand::Direct {
+            area,
+            width: Width::Bit,
+            byte,
+            bit,
+        } => assign_direct(area, byte, bit, s, m),
+        _ => assign_elsewhere(operand, s, m),
+    }
 }
 
 fn bit_after(rlo: bool, value: bool, before: bool) -> bool
@@ -94,9 +130,52 @@ fn bit_after(rlo: bool, value: bool, before: bool) -> bool
     if rlo { value } else { before }
 }
 
-/// S and R of a bit, where `value` is what they write with RLO 1.
+// S and R of a bit at a place.
+#[tactic(auto, unfolding(crate::specs::BitLogic::put_bit))]
+#[inline(always)]
+fn set_at(value: bool, at: &Bound, s: &mut Running, m: &mut Memory) -> Result<(), u8>
+    ensures { Acts (then_ok (bit_before_of at.now (own_of s.old) m.old)
+        (λ before. set_at_of value at.now before (own_of s.old) m.old))
+        s.old s.new m.old m.new result }
+{
+    let before = bit_before(at, s, m)?;
+    let mut regs = s.regs;
+    let bit = bit_after(regs.status.rlo, value, before);
+    regs.store(bit);
+    put_bit(at, bit, regs, s, m)
+}
+
+// S and R with a fixed place.
+#[tactic(auto, unfolding(crate::specs::BitLogic::bit_set, crate::specs::Places::located))]
+#[inline(never)]
+fn set_direct(
+    value: bool,
+    area: Area,
+    byte: u16,
+    bit: u8,
+    s: &mut Running,
+    m: &mut Memory,
+) -> Result<(), u8>
+    ensures { Acts (bit_set_of value (Operand.Direct area Width.Bit byte bit) (own_of s.old) m.old)
+        s.old s.new m.old m.new result }
+{
+    let at = placed(Access::Writing, area, byte, bit, Width::Bit, s)?;
+    set_at(value, &at, s, m)
+}
+
+// S and R where the operand has no fixed place.
 #[tactic(auto, unfolding(crate::specs::BitLogic::bit_set))]
 #[inline(never)]
+fn set_elsewhere(value: bool, operand: &Operand, s: &mut Running, m: &mut Memory) -> Result<(), u8>
+    ensures { Acts (bit_set_of value operand.now (own_of s.old) m.old)
+        s.old s.new m.old m.new result }
+{
+    let at = located(Access::Writing, operand, s, m)?;
+    set_at(value, &at, s, m)
+}
+
+/// S and R of a bit, where `value` is what they write with RLO 1.
+#[inline(always)]
 pub(crate) fn set_bit(
     value: bool,
     operand: &Operand,
@@ -106,12 +185,15 @@ pub(crate) fn set_bit(
     ensures { Acts (bit_set_of value operand.now (own_of s.old) m.old)
         s.old s.new m.old m.new result }
 {
-    let at = located(Access::Writing, operand, s, m)?;
-    let before = bit_before(&at, s, m)?;
-    let mut regs = s.regs;
-    let bit = bit_after(regs.status.rlo, value, before);
-    regs.store(bit);
-    put_bit(&at, bit, regs, s, m)
+    match *operand {
+        Operand::Direct {
+            area,
+            width: Width::Bit,
+            byte,
+            bit,
+        } => set_direct(value, area, byte, bit, s, m),
+        _ => set_elsewhere(value, operand, s, m),
+    }
 }
 
 /// FP and FN.

@@ -1,5 +1,5 @@
 //! CALL, UC and CC of a function or function block.
-ghost use Rattle.std.specs.Prelude.{◌≡◌, ◌≤◌, length, None, false};
+ghost use Rattle.std.specs.Prelude.{◌≡◌, ◌<◌, ◌≤◌, length, None};
 ghost use Rattle.frames.specs.Activations.{entered, refused, frames_of};
 ghost use Rattle.machine.specs.Entering.{at_block as at_block_of, di_of as di_of_instance, fresh as fresh_of, caller_at, supplied, entered_if, Enters, Calls};
 
@@ -53,68 +53,68 @@ fn di_of(instance: Option<u16>, di: Option<u16>) -> Option<u16>
     }
 }
 
-fn fresh(called: &Callee<'_>, bindings: Bindings, caller: &Frame) -> Frame
-    ensures { result ≡ fresh_of called.now bindings caller.now }
+// The frame becomes that of the called block, but for its local bytes.
+fn begin(called: &Callee<'_>, bindings: &Bindings, frame: &mut Frame)
+    requires { frame.old.local_len ≡ called.now.local_len }
+    ensures { frame.new ≡ fresh_of called.now bindings.now frame.old }
 {
-    Frame {
-        block: called.block,
-        at: 0,
-        db: caller.db,
-        di: di_of(called.instance, caller.di),
-        instance: called.instance,
-        brackets: Brackets::new(),
-        local_len: called.local_len,
-        bindings,
-    }
+    frame.block = called.block;
+    frame.at = 0;
+    frame.di = di_of(called.instance, frame.di);
+    frame.instance = called.instance;
+    frame.brackets = Brackets::new();
+    frame.bindings.copy_from(bindings);
 }
 
 // The caller goes on behind the call, and the called block runs; it has room.
-fn enter(called: &Callee<'_>, bindings: Bindings, next: u32, a: &mut Activation)
+fn enter(called: &Callee<'_>, bindings: &Bindings, next: u32, a: &mut Activation)
     requires depth { length a.old.running.locals.starts ≡ length (frames_of a.old) }
+    requires few { length (frames_of a.old) < 16 }
     requires room { refused called.now.local_len a.old ≡ None }
-    ensures { a.new ≡ entered (fresh_of called.now bindings a.old.running.frame)
+    ensures { a.new ≡ entered (fresh_of called.now bindings.now a.old.running.frame)
         (caller_at next a.old) }
 {
-    let frame = fresh(called, bindings, &a.running.frame);
     at_block(&mut a.running.regs);
     a.running.frame.at = next;
-    match a.enter(frame) {
-        Ok(()) => {}
-        Err(_) => {}
-    }
+    a.enter_again(called.local_len);
+    begin(called, bindings, &mut a.running.frame);
 }
 
 // The parameters of a function block are copied in.
-fn supply(instance: Option<u16>, params: &[Param], a: &mut Activation, m: &mut Memory)
-    requires { length params.now ≤ 60 }
+fn supply(
+    instance: Option<u16>,
+    params: &[Param],
+    bindings: &Bindings,
+    a: &mut Activation,
+    m: &mut Memory,
+)
+    requires few { length params.now ≤ 60 }
+    requires bound { a.old.running.frame.bindings ≡ bindings.now }
     ensures { supplied instance params.now a.old m.old ≡ Enters a.new m.new }
 {
     match instance {
         None => {}
-        Some(instance) => {
-            let bindings = a.running.frame.bindings.copied();
-            params_in(params, &bindings, instance, &mut a.running, m);
-        }
+        Some(instance) => params_in(params, bindings, instance, &mut a.running, m),
     }
 }
 
 /// The block is entered, if it has room.
 pub(crate) fn enter_if_room(
     called: &Callee<'_>,
-    bindings: Bindings,
+    bindings: &Bindings,
     next: u32,
     a: &mut Activation,
     m: &mut Memory,
 ) -> Result<(), FrameFault>
     requires depth { length a.old.running.locals.starts ≡ length (frames_of a.old) }
     requires params { length called.now.params ≤ 60 }
-    ensures { Calls (entered_if (refused called.now.local_len a.old) called.now bindings next
+    ensures { Calls (entered_if (refused called.now.local_len a.old) called.now bindings.now next
         a.old m.old) a.old a.new m.old m.new result }
 {
     if let Some(fault) = a.refuses(called.local_len) {
         return Err(fault);
     }
     enter(called, bindings, next, a);
-    supply(called.instance, called.params, a, m);
+    supply(called.instance, called.params, bindings, a, m);
     Ok(())
 }

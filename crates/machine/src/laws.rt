@@ -1,13 +1,28 @@
 //! Laws of statements: each function does nothing, and its contract is the law.
-ghost use Rattle.std.specs.Prelude.{◌≡◌, true};
-ghost use Rattle.frames.specs.declared.activation.Activation.{Activation};
-ghost use Rattle.machine.specs.Code.{Code};
-ghost use Rattle.machine.specs.Statement.{World, fetched, statement, Goes};
-ghost use Rattle.machine.specs.Fitting.{OpenCodes, Fits};
-ghost use Rattle.machine.specs.Flat.{code_of};
+ghost use Rattle.std.specs.Prelude.{◌≡◌, ◌≤◌, ◌<◌, ℕ, true, Some, IsSome};
+ghost use Rattle.plc_base.specs.declared.blocks.BlockKind.TheVariants as kinds;
+ghost use Rattle.plc_base.specs.declared.places.Place.{Place};
+ghost use Rattle.plc_base.specs.declared.places.Width.{Width};
 ghost use Rattle.plc_mem.specs.Areas.{Areas};
+ghost use Rattle.plc_mem.specs.Fresh.{fresh};
+ghost use Rattle.plc_mem.specs.Peripherals.{with_input, outputs_cleared};
+ghost use Rattle.plc_mem.specs.Refresh.{refreshed};
+ghost use Rattle.plc_mem.specs.Writing.{written};
+ghost use Rattle.status_word.specs.declared.registers.Regs.{Regs};
+ghost use Rattle.frames.specs.Activations.{begun, with_local_byte};
+ghost use Rattle.frames.specs.declared.activation.Activation.{Activation};
+ghost use Rattle.frames.specs.declared.bindings.Binding.{Binding};
 ghost use Rattle.flat_code.specs.Programs.{Program};
 ghost use Rattle.flat_code.specs.Loading.{Verifies};
+ghost use Rattle.machine.specs.declared.outcomes.Outcome.{Outcome};
+ghost use Rattle.machine.specs.Code.{Code, Head};
+ghost use Rattle.machine.specs.Fitting.{SameSizes, IsMemoryOf};
+ghost use Rattle.machine.specs.Flat.{code_of};
+ghost use Rattle.machine.specs.ImageLaws.{ImageLaws};
+ghost use Rattle.machine.specs.Lasting.{FitsProgram, GoesOn, IsReady, Lasts, LeavesFit, first_frame, ob_block};
+ghost use Rattle.machine.specs.Results.{GivesResult};
+ghost use Rattle.machine.specs.Statement.{World, fetched, statement, Goes, Comes};
+ghost use Rattle.machine.specs.Moved.{StatementsMove};
 ghost use Rattle.machine.specs.There.{is_complete};
 
 /// A statement that is there, with what it calls, goes.
@@ -18,11 +33,100 @@ pub fn what_is_there_goes()
         → Goes (fetched c (c.fetch a.running.frame.block a.running.frame.at) a w) }
 {}
 
-/// Of a program that verifies, the statement at which an activation that fits stands goes.
-pub fn what_fits_goes()
-    ensures { (p : Program) (brackets : OpenCodes) (m : Areas) (a : Activation) (w : World)
-        → Verifies p → Fits (code_of p) brackets m a → Goes (statement (code_of p) a w) }
+// What verifying gives the laws below.
+fn what_verifying_gives()
+    ensures { ImageLaws }
 {
     image_file::laws::ops_are_placed();
+    image_file::laws::ops_are_of_the_table();
+    image_file::laws::blocks_are_right();
+    image_file::laws::code_goes_on();
+    image_file::laws::statements_are_right();
+    image_file::laws::statements_have_lines();
+    image_file::laws::brackets_fit();
+    image_file::laws::jumps_land();
+    image_file::laws::operands_fit();
+    image_file::laws::prepared_fit();
     image_file::laws::calls_fit();
 }
+
+/// Of a program that verifies an activation that fits is ready: `statement` may be called.
+pub fn what_fits_goes()
+    ensures { (p : Program) (m : Areas) (a : Activation)
+        → Verifies p → FitsProgram p m a → IsReady p a }
+{
+    what_verifying_gives();
+}
+
+/// Of a program that verifies an activation that fits does so again after each statement, whatever
+/// comes of it: by the statement's meaning, and by what a call of `statement` answers.
+pub fn what_fits_lasts()
+    ensures step { (p : Program) (a : Activation) (w : World)
+        → Verifies p → FitsProgram p w.memory a → Lasts p w (statement (code_of p) a w) }
+    ensures answer { (p : Program) (old new : Activation) (w after : World) (answer : Outcome)
+        → Verifies p → FitsProgram p w.memory old
+        → Comes (statement (code_of p) old w) old new w after answer
+        → LeavesFit p w.memory after.memory new answer }
+{
+    what_verifying_gives();
+}
+
+/// Where memory keeps its sizes, an activation fits as before: so do those that wait.
+pub fn what_fits_stays()
+    ensures { (p : Program) (m n : Areas) (a : Activation)
+        → SameSizes m n → FitsProgram p m a → FitsProgram p n a }
+{}
+
+/// Of a program that verifies an organization block begins with an activation that fits, and has
+/// room for its start information in its first 20 local bytes.
+pub fn blocks_begin()
+    ensures fits { (p : Program) (m : Areas) (class ob : ℕ) (h : Head)
+        → Verifies p → IsMemoryOf (code_of p) m → (code_of p).head (ob_block ob) ≡ Some h
+        → FitsProgram p m (begun class ob (first_frame ob h.local_len)) }
+    ensures room { (p : Program) (ob : ℕ) (h : Head)
+        → Verifies p → (code_of p).head (ob_block ob) ≡ Some h → h.local_len ≤ 1024 }
+    ensures start { (p : Program) (class ob byte value : ℕ) (h : Head)
+        → Verifies p → (code_of p).head (ob_block ob) ≡ Some h → byte < 20
+        → IsSome (with_local_byte 0 byte value (begun class ob (first_frame ob h.local_len))) }
+{
+    what_verifying_gives();
+}
+
+/// With other registers, another delay or another local byte an activation fits as before.
+pub fn what_fits_may_change()
+    ensures registers { (p : Program) (m : Areas) (a : Activation) (r : Regs)
+        → FitsProgram p m a
+        → FitsProgram p m (record a { running = record a.running { regs = r } }) }
+    ensures delay { (p : Program) (m : Areas) (a : Activation) (n : ℕ)
+        → FitsProgram p m a → FitsProgram p m (record a { delay = n }) }
+    ensures local_byte { (p : Program) (m : Areas) (a b : Activation) (frame byte value : ℕ)
+        → with_local_byte frame byte value a ≡ Some b → FitsProgram p m a → FitsProgram p m b }
+{}
+
+/// After RET_VAL was given an activation fits as before.
+pub fn results_fit()
+    ensures { (p : Program) (m n : Areas) (a b : Activation) (to : Binding) (value : ℕ)
+        → Verifies p → FitsProgram p m a → GivesResult to value a b m n → GoesOn p m n b }
+{
+    what_verifying_gives();
+}
+
+/// Memory begins as one of the program, and no call of it changes a size.
+pub fn memory_is_kept()
+    ensures begins { (p : Program) → IsMemoryOf (code_of p) (fresh (code_of p).blocks) }
+    ensures writes { (m n : Areas) (place : Place) (width : Width) (value : ℕ)
+        → written m place width value ≡ Some n → SameSizes m n }
+    ensures inputs { (m n : Areas) (byte value : ℕ)
+        → with_input m byte value ≡ Some n → SameSizes m n }
+    ensures clears { (p : Program) (m : Areas)
+        → IsMemoryOf (code_of p) m → SameSizes m (outputs_cleared m) }
+    ensures refreshes { (p : Program) (m : Areas)
+        → IsMemoryOf (code_of p) m → SameSizes m (refreshed m) }
+{}
+
+/// In a code that follows another a statement does the same, at the position there: only positions
+/// differ.
+#[tactic(auto, using(crate::proofs::MovedLemmas::statements_move))]
+pub fn statements_move()
+    ensures { StatementsMove }
+{}

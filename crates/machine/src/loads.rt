@@ -5,11 +5,11 @@ ghost use Rattle.machine.specs.Parts.{own_of};
 ghost use Rattle.machine.specs.Outcomes.{Acts, Checks};
 ghost use Rattle.machine.specs.Loads.{loading, loading_bcd, transferred, transferring, with_loaded as with_loaded_of, status_loaded, status_transferred};
 
-use crate::places::{Access, located};
+use crate::places::{Access, located, placed};
 use crate::values::{bcd_loaded, loaded, write};
 use flat_code::Operand;
 use frames::Running;
-use plc_base::Width;
+use plc_base::{Area, Width};
 use plc_mem::Memory;
 use status_word::{Regs, Status};
 use timers_counters::{Counters, Timers};
@@ -24,7 +24,7 @@ pub(crate) fn put_loaded(r: &mut Regs, number: u32)
 
 /// L.
 #[tactic(auto, unfolding(crate::specs::Loads::loading))]
-#[inline(never)]
+#[inline(always)]
 pub(crate) fn load(
     operand: &Operand,
     s: &mut Running,
@@ -86,12 +86,40 @@ pub(crate) fn put_number(
     write(&at, low(at.width, number), s, m)
 }
 
+// The lowest bits of a number to a fixed place.
+#[tactic(auto, unfolding(crate::specs::Loads::transferred, crate::specs::Places::located))]
+#[inline(always)]
+fn put_direct(
+    number: u32,
+    area: Area,
+    width: Width,
+    byte: u16,
+    bit: u8,
+    s: &mut Running,
+    m: &mut Memory,
+) -> Result<(), u8>
+    ensures { Acts (transferred number (Operand.Direct area width byte bit) (own_of s.old) m.old)
+        s.old s.new m.old m.new result }
+{
+    let at = placed(Access::Writing, area, byte, bit, width, s)?;
+    write(&at, low(at.width, number), s, m)
+}
+
 /// T.
+#[inline(always)]
 pub(crate) fn transfer(operand: &Operand, s: &mut Running, m: &mut Memory) -> Result<(), u8>
     ensures { Acts (transferring operand.now (own_of s.old) m.old)
         s.old s.new m.old m.new result }
 {
-    put_number(s.regs.a1, operand, s, m)
+    match *operand {
+        Operand::Direct {
+            area,
+            width,
+            byte,
+            bit,
+        } => put_direct(s.regs.a1, area, width, byte, bit, s, m),
+        _ => put_number(s.regs.a1, operand, s, m),
+    }
 }
 
 /// L STW.

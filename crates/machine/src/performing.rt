@@ -32,6 +32,7 @@ pub(crate) fn fail(code: u8, next: u32, a: &mut Activation) -> Outcome
 
 /// An instruction that touches no position.
 #[tactic(auto, using(crate::proofs::Steps::went_comes, crate::proofs::Steps::failed_comes))]
+#[inline(always)]
 pub(crate) fn perform(
     opens: Option<u16>,
     word: Word,
@@ -102,7 +103,7 @@ fn cause_of(fault: FrameFault) -> u8
 #[tactic(auto, using(crate::proofs::Steps::call_comes))]
 pub(crate) fn call_block(
     called: &Callee<'_>,
-    bindings: Bindings,
+    bindings: &Bindings,
     next: u32,
     a: &mut Activation,
     m: &mut Memory,
@@ -110,7 +111,7 @@ pub(crate) fn call_block(
     requires depth { length a.old.running.locals.starts ≡ length (frames_of a.old) }
     requires params { length called.now.params ≤ 60 }
     ensures { (t : List Timer) (n : List Counter) →
-        Comes (after_call (called_with (Ok bindings) called.now next a.old m.old) next a.old
+        Comes (after_call (called_with (Ok bindings.now) called.now next a.old m.old) next a.old
         (world m.old t n)) a.old a.new (world m.old t n) (world m.new t n) result }
 {
     match enter_if_room(called, bindings, next, a, m) {

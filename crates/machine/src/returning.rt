@@ -29,10 +29,7 @@ fn leave(a: &mut Activation) -> bool
     ensures { Left a.old a.new result }
 {
     at_block(&mut a.running.regs);
-    match a.leave() {
-        Some(_) => !a.left,
-        None => false,
-    }
+    a.leave_block()
 }
 
 /// Returns from the innermost block; the answer says whether the caller goes on.

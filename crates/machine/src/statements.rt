@@ -6,9 +6,10 @@ ghost use Rattle.timers_counters.specs.Counter.{Counter};
 ghost use Rattle.flat_code.specs.Instr.{Passing, Calls, Returns};
 ghost use Rattle.machine.specs.Code.{Code};
 ghost use Rattle.machine.specs.Entering.{call};
-ghost use Rattle.machine.specs.Parts.{own_of};
+ghost use Rattle.machine.specs.Does.{does_with as does_with_of};
+ghost use Rattle.machine.specs.Parts.{own_of, parts_of};
 ghost use Rattle.machine.specs.Flat.{code_of, jump_instr, is_jl as is_jl_of, kind_called as kind_called_of, instance_named as instance_named_of, instr_of, statement_at, head_of};
-ghost use Rattle.machine.specs.Statement.{World, world, returned, after_call, after_system_call, callee_of, statement as statement_of, fetched, performed, called, block_called, system_called, is_called as is_called_of, is_ended as is_ended_of, is_system as is_system_of, Goes, Comes};
+ghost use Rattle.machine.specs.Statement.{World, world, went_on, returned, after_call, after_system_call, callee_of, statement as statement_of, fetched, performed, called, block_called, system_called, is_called as is_called_of, is_ended as is_ended_of, is_system as is_system_of, Goes, Comes};
 ghost use Rattle.machine.specs.SystemCalls.{system_function as system_function_of, system_call, count_inputs};
 ghost use Rattle.machine.specs.Walking.{Passes};
 
@@ -38,6 +39,7 @@ fn is_jl(word: JumpWord) -> bool
 }
 
 // A jump, JL among them.
+#[inline(never)]
 fn jump_or_list(
     code: &LoadedCode<'_>,
     word: JumpWord,
@@ -111,7 +113,7 @@ fn call_with(
 {
     match bind_all(code, at, called.params, &a.running, m) {
         Err(error) => fail(error, next, a),
-        Ok(bindings) => call_block(called, bindings, next, a, m),
+        Ok(bindings) => call_block(called, &bindings, next, a, m),
     }
 }
 
@@ -133,12 +135,11 @@ fn call_loaded(
         a.old m.old) next a.old
         (world m.old t n)) a.old a.new (world m.old t n) (world m.new t n) result }
 {
-    let head = callee.head();
     let called = Callee {
         block,
         instance,
-        local_len: head.local_len,
-        params: head.params.as_slice(),
+        local_len: callee.local_len(),
+        params: callee.params(),
     };
     call_with(&called, code, at, next, a, m)
 }
@@ -214,6 +215,7 @@ fn call_function(
 }
 
 // CALL, UC and CC.
+#[inline(never)]
 fn call_op(
     c: &Loaded,
     code: &LoadedCode<'_>,
@@ -273,6 +275,7 @@ pub(crate) fn is_system(kind: BlockKind) -> bool
 }
 
 // BE, BEU and BEC.
+#[inline(never)]
 fn end_op(
     code: &LoadedCode<'_>,
     how: EndWord,
@@ -299,11 +302,30 @@ fn end_loaded(code: &LoadedCode<'_>, a: &mut Activation, m: &mut Memory) -> Outc
         Comes (returned (Some (head_of code.now)) a.old (world m.old t n))
         a.old a.new (world m.old t n) (world m.new t n) result }
 {
-    let head = code.head();
-    end_block(head.params.as_slice(), a, m)
+    end_block(code.params(), a, m)
+}
+
+// An instruction that touches no position, of an operand that its word doesn't take.
+#[inline(never)]
+fn perform_other(
+    opens: Option<u16>,
+    word: Word,
+    operand: &Operand,
+    next: u32,
+    a: &mut Activation,
+    m: &mut Memory,
+    t: &mut Timers,
+    n: &mut Counters,
+) -> Outcome
+    ensures { Comes (went_on (does_with_of opens word operand.now
+        (parts_of a.old.running m.old t.old n.old)) next a.old)
+        a.old a.new (world m.old t.old n.old) (world m.new t.new n.new) result }
+{
+    perform(opens, word, operand, next, a, m, t, n)
 }
 
 // The last op of a statement, which begins at `at`, with the data block that the statement opens.
+#[inline(always)]
 fn perform_op(
     c: &Loaded,
     code: &LoadedCode<'_>,
@@ -333,7 +355,7 @@ fn perform_op(
     match word {
         Word::Jump => match *operand {
             Operand::Jump { kind, target } => { jump_or_list(code, jump_of(kind), target, next, a) }
-            _ => perform(opens, word, operand, next, a, m, t, n),
+            _ => perform_other(opens, word, operand, next, a, m, t, n),
         },
         Word::Call(how) => match *operand {
             Operand::Called {
@@ -346,9 +368,9 @@ fn perform_op(
                     let instance = instance_named(instance);
                     call_op(c, code, at, how, block, instance, next, a, m)
                 }
-                None => perform(opens, word, operand, next, a, m, t, n),
+                None => perform_other(opens, word, operand, next, a, m, t, n),
             },
-            _ => perform(opens, word, operand, next, a, m, t, n),
+            _ => perform_other(opens, word, operand, next, a, m, t, n),
         },
         Word::End(how) => end_op(code, how, next, a, m),
         _ => perform(opens, word, operand, next, a, m, t, n),
@@ -357,6 +379,7 @@ fn perform_op(
 
 // The statement of a block that begins where the innermost frame stands.
 #[tactic(auto, using(crate::proofs::Fetching::fetched_walk))]
+#[inline(always)]
 fn perform_at(
     c: &Loaded,
     code: &LoadedCode<'_>,
@@ -415,8 +438,8 @@ pub fn statement(
     ensures { Comes (statement_of (code_of c.now.program) a.old (world m.old t.old n.old))
         a.old a.new (world m.old t.old n.old) (world m.new t.new n.new) result }
 {
-    match c.code(a.running.frame.block) {
-        Some(code) => perform_at(c, &code, a, m, t, n),
-        None => missing(),
-    }
+    let Some(code) = c.code(a.running.frame.block) else {
+        return missing();
+    };
+    perform_at(c, &code, a, m, t, n)
 }

@@ -6,10 +6,10 @@ ghost use Rattle.machine.specs.Parts.{own_of};
 ghost use Rattle.machine.specs.Outcomes.{Acts};
 ghost use Rattle.machine.specs.Values.{number_of_binding as number_of_binding_of, number as number_of, bit_of_numbered as bit_of_numbered_of, value_of_numbered as value_of_numbered_of, bcd_of_numbered as bcd_of_numbered_of, number_named as number_named_of, bcd_loaded as bcd_loaded_of, faulty, tested as tested_of, loaded as loaded_of, is_one, write as write_of};
 
-use crate::places::{Access, Bound, located, number_from, read};
+use crate::places::{Access, Bound, located, number_from, placed, read};
 use flat_code::{CONDITIONS, Operand};
 use frames::{Binding, Running};
-use plc_base::{Area, Flag};
+use plc_base::{Area, Flag, Width};
 use plc_mem::Memory;
 use timers_counters::{Counters, TimerFault, Timers};
 
@@ -50,6 +50,24 @@ pub(crate) fn number(operand: &Operand, s: &Running, m: &Memory) -> Result<u32, 
             read(&at, s, m)
         }
     }
+}
+
+// The number of an operand with a fixed place.
+#[tactic(auto, unfolding(crate::specs::Values::number, crate::specs::Places::located))]
+#[inline(always)]
+fn direct_number(
+    area: Area,
+    width: Width,
+    byte: u16,
+    bit: u8,
+    s: &Running,
+    m: &Memory,
+) -> Result<u32, u8>
+    ensures { result ≡ number_of (Operand.Direct area width byte bit) (own_of s.now) m.now }
+{
+    let at = placed(Access::Reading, area, byte, bit, width, s)?;
+    let number = read(&at, s, m)?;
+    Ok(number)
 }
 
 /// The code of a fault of a timer or counter, where `code` is that of a number that there isn't.
@@ -141,9 +159,10 @@ fn bit(operand: &Operand, s: &Running, m: &Memory) -> Result<bool, u8>
     Ok(number(operand, s, m)? == 1)
 }
 
-/// The bit that a check reads.
+// The bit that a check reads where its operand has no fixed place.
 #[tactic(auto, unfolding(crate::specs::Values::tested))]
-pub(crate) fn tested(
+#[inline(never)]
+fn tested_elsewhere(
     operand: &Operand,
     s: &Running,
     m: &Memory,
@@ -163,9 +182,42 @@ pub(crate) fn tested(
     }
 }
 
-/// The number that L reads.
+// The bit at a fixed place.
+#[inline(always)]
+fn direct_bit(area: Area, byte: u16, bit: u8, s: &Running, m: &Memory) -> Result<bool, u8>
+    ensures { result ≡ is_one (number_of (Operand.Direct area Width.Bit byte bit)
+        (own_of s.now) m.now) }
+{
+    Ok(direct_number(area, Width::Bit, byte, bit, s, m)? == 1)
+}
+
+/// The bit that a check reads.
+#[tactic(auto, unfolding(crate::specs::Values::tested))]
+#[inline(always)]
+pub(crate) fn tested(
+    operand: &Operand,
+    s: &Running,
+    m: &Memory,
+    t: &Timers,
+    n: &Counters,
+) -> Result<bool, u8>
+    ensures { result ≡ tested_of operand.now (own_of s.now) m.now t.now n.now }
+{
+    match *operand {
+        Operand::Direct {
+            area,
+            width: Width::Bit,
+            byte,
+            bit,
+        } => direct_bit(area, byte, bit, s, m),
+        _ => tested_elsewhere(operand, s, m, t, n),
+    }
+}
+
+// The number that L reads where its operand has no fixed place.
 #[tactic(auto, unfolding(crate::specs::Values::loaded))]
-pub(crate) fn loaded(
+#[inline(never)]
+fn loaded_elsewhere(
     operand: &Operand,
     s: &Running,
     m: &Memory,
@@ -181,6 +233,29 @@ pub(crate) fn loaded(
             value_of_numbered(kind, number, t, n)
         }
         _ => number(operand, s, m),
+    }
+}
+
+/// The number that L reads.
+#[tactic(auto, unfolding(crate::specs::Values::loaded))]
+#[inline(always)]
+pub(crate) fn loaded(
+    operand: &Operand,
+    s: &Running,
+    m: &Memory,
+    t: &Timers,
+    n: &Counters,
+) -> Result<u32, u8>
+    ensures { result ≡ loaded_of operand.now (own_of s.now) m.now t.now n.now }
+{
+    match *operand {
+        Operand::Direct {
+            area,
+            width,
+            byte,
+            bit,
+        } => direct_number(area, width, byte, bit, s, m),
+        _ => loaded_elsewhere(operand, s, m, t, n),
     }
 }
 

@@ -93,6 +93,7 @@ fn free(
 
 /// An instruction that touches no position.
 #[tactic(auto, unfolding(crate::specs::Does::does), using(crate::proofs::Lifts::checks_meet, crate::proofs::Lifts::changes_meet, crate::proofs::Lifts::turns_meet, crate::proofs::Lifts::acts_meet, crate::proofs::Lifts::times_meet, crate::proofs::Lifts::counts_meet))]
+#[inline(always)]
 pub(crate) fn does(
     word: Word,
     operand: &Operand,
@@ -183,6 +184,7 @@ pub(crate) fn does(
 }
 
 // The rest of a statement whose data block was opened; it is closed again after an error.
+#[inline(never)]
 fn does_opened(
     number: u16,
     word: Word,
@@ -208,6 +210,7 @@ fn does_opened(
 
 /// An instruction that touches no position, with the data block that its statement opens.
 #[tactic(auto, unfolding(crate::specs::Does::does_with))]
+#[inline(always)]
 pub(crate) fn does_with(
     opens: Option<u16>,
     word: Word,

@@ -1,6 +1,5 @@
-use Rattle.machine.proofs.Ready.{fits_goes}
+use Rattle.machine.proofs.Lasting.{ready_is}
 use Rattle.machine.proofs.laws.what_fits_goes.Goals as goal
 
 pub returns : goal.returns
-returns c = λ p brackets m a w verifies fits.
-    fits_goes p brackets m a w verifies c.ops_are_placed.ensures c.calls_fit.ensures.calls c.calls_fit.ensures.blocks fits
+returns c = ready_is c.what_verifying_gives.ensures

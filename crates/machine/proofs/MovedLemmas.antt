@@ -1,0 +1,224 @@
+-- Statements do the same at other positions.
+use Rattle.std.proofs.Common.{◌≡◌, ℕ, zero, suc, ◌%◌, ◌^◌, Bool, true, false, if◌then◌else◌, List, [], ◌∷◌, length, map, slice_get, unwrap_or, Option, Some, None, Result, Ok, Err, option_map, refl, sym, ap, ◌∙◌}
+use Rattle.std.proofs.lemmas.List.{length-map}
+use Rattle.plc_base.specs.declared.blocks.BlockId.{BlockId}
+use Rattle.plc_mem.specs.Areas.{Areas}
+use Rattle.status_word.specs.declared.registers.Regs.{Regs}
+use Rattle.flat_code.specs.Instr.{Instr, Passing, Does, Jumps, JumpsByList, Calls, Returns}
+use Rattle.flat_code.specs.declared.kinds.JumpWord.{JumpWord}
+use Rattle.flat_code.specs.declared.programs.Param.{Param}
+use Rattle.frames.specs.Activations.{frames_of, refused, entered}
+use Rattle.frames.specs.declared.Activation.{Activation}
+use Rattle.frames.specs.declared.frame.Frame.{Frame}
+use Rattle.frames.specs.declared.bindings.Binding.{Binding}
+use Rattle.frames.specs.declared.FrameFault.{FrameFault}
+use Rattle.machine.specs.Bindings.{bindings_of}
+use Rattle.machine.specs.Code.{Code, Fetched, Head}
+use Rattle.machine.specs.Copies.{params_in, params_out}
+use Rattle.machine.specs.Does.{does_with}
+use Rattle.machine.specs.Entering.{Callee, Call, Fails, Stops, Enters, fresh, going_on, caller_at, with_scene, supplied, entered_if, called_with, call, at_block}
+use Rattle.machine.specs.Jumps.{is_taken, after_jump, goes_to, listed, rlo_tested}
+use Rattle.machine.specs.Moved.{aimed_instr, moved_fetched, Follows, moved_frame, moved, moved_step, StatementsMove}
+use Rattle.machine.specs.Parts.{Parts, own_of, scene_of, parts_of}
+use Rattle.machine.specs.Returning.{Stage, Return, GoesOn, Ends, given_back, left, left_to, returning}
+use Rattle.machine.specs.Statement.{World, Step, Went, Ended, SyncError, SysCall, Stop, Stuck, went_on, jumped, after_call, callee_of, block_called, after_system_call, system_called, is_system, called, is_called, not_called, after_return, returned, is_ended, performed, fetched, statement, moved_on}
+use Rattle.machine.specs.SystemCalls.{Given, system_call, system_function}
+
+-- the run goes on at the position of the next one
+went_on_moves :
+    (f : BlockId → ℕ → ℕ) (r : Result Parts ℕ) (next : ℕ) (a : Activation)
+    → went_on r (f a.running.frame.block next) (moved f a) ≡ moved_step f (went_on r next a)
+went_on_moves f (Ok p) next a = refl
+went_on_moves f (Err code) next a = refl
+
+goes_to_moves : (g : ℕ → ℕ) (b : Bool) (target next : ℕ) → goes_to b (g target) (g next) ≡ g (goes_to b target next)
+goes_to_moves g true target next = refl
+goes_to_moves g false target next = refl
+
+jumped_moves :
+    (f : BlockId → ℕ → ℕ) (how : JumpWord) (target next : ℕ) (a : Activation) (w : World)
+    → jumped how (f a.running.frame.block target) (f a.running.frame.block next) (moved f a) w
+    ≡ moved_step f (jumped how target next a w)
+jumped_moves f how target next a w =
+    ap (λ (at : ℕ). Went (going_on at (after_jump how a.running.regs) (moved f a)) w)
+    (goes_to_moves (f a.running.frame.block) (is_taken how a.running.regs) target next)
+
+picked_moves : (g : ℕ → ℕ) (targets : List ℕ) (k otherwise : ℕ) → unwrap_or (slice_get (map g targets) k) (g otherwise) ≡ g (unwrap_or (slice_get targets k) otherwise)
+picked_moves g [] k otherwise = refl
+picked_moves g (t ∷ targets) zero otherwise = refl
+picked_moves g (t ∷ targets) (suc k) otherwise = picked_moves g targets k otherwise
+
+listed_moves : (g : ℕ → ℕ) (targets : List ℕ) (otherwise : ℕ) (r : Regs) → listed (map g targets) (g otherwise) r ≡ g (listed targets otherwise r)
+unfolding listed
+listed_moves g targets otherwise r = picked_moves g targets (r.a1 % 2 ^ 8) otherwise
+
+-- ---- calls
+
+abbrev moved_call : (BlockId → ℕ → ℕ) → Call → Call
+moved_call f (Fails code) = Fails code
+moved_call f (Stops fault) = Stops fault
+moved_call f (Enters a m) = Enters (moved f a) m
+
+frames_move : (f : BlockId → ℕ → ℕ) (a : Activation) → frames_of (moved f a) ≡ map (moved_frame f) (frames_of a)
+frames_move f a = by a.left
+  where
+    by : (b : Bool) → (if b then [] else moved_frame f a.running.frame ∷ map (moved_frame f) a.below)
+        ≡ map (moved_frame f) (if b then [] else a.running.frame ∷ a.below)
+    by true = refl
+    by false = refl
+
+frame_count : (f : BlockId → ℕ → ℕ) (a : Activation) → length (frames_of (moved f a)) ≡ length (frames_of a)
+frame_count f a = ap length (frames_move f a) ∙ length-map (frames_of a) (moved_frame f)
+
+refused_same : (f : BlockId → ℕ → ℕ) (local_len : ℕ) (a : Activation) → refused local_len (moved f a) ≡ refused local_len a
+refused_same f local_len a = rw (frame_count f a) refl
+
+enters_moves :
+    (f : BlockId → ℕ → ℕ) (to : Callee) (bindings : List Binding) (next : ℕ) (a : Activation) → f to.block 0 ≡ 0
+    → entered (fresh to bindings (moved f a).running.frame) (caller_at (f a.running.frame.block next) (moved f a))
+    ≡ moved f (entered (fresh to bindings a.running.frame) (caller_at next a))
+enters_moves f to bindings next a start = by a.left
+  where
+    caller : Frame
+    caller = record a.running.frame { at = next }
+
+    new : (at : ℕ) (below : List Frame) → Activation
+    new at below = record (entered (record (fresh to bindings a.running.frame) { at = at }) (caller_at next a)) { below = below; left = false }
+
+    by : (b : Bool) → new 0 (if b then [] else moved_frame f caller ∷ map (moved_frame f) a.below)
+        ≡ new (f to.block 0) (map (moved_frame f) (if b then [] else caller ∷ a.below))
+    by true = ap (λ (at : ℕ). new at []) (sym start)
+    by false = ap (λ (at : ℕ). new at (moved_frame f caller ∷ map (moved_frame f) a.below)) (sym start)
+
+supplied_moves :
+    (f : BlockId → ℕ → ℕ) (instance : Option ℕ) (params : List Param) (a : Activation) (m : Areas)
+    → supplied instance params (moved f a) m ≡ moved_call f (supplied instance params a m)
+supplied_moves f None params a m = refl
+supplied_moves f (Some instance) params a m = refl
+
+entered_moves :
+    (f : BlockId → ℕ → ℕ) (fault : Option FrameFault) (to : Callee) (bindings : List Binding) (next : ℕ) (a : Activation) (m : Areas)
+    → f to.block 0 ≡ 0
+    → entered_if fault to bindings (f a.running.frame.block next) (moved f a) m ≡ moved_call f (entered_if fault to bindings next a m)
+entered_moves f (Some fault) to bindings next a m start = refl
+entered_moves f None to bindings next a m start =
+    ap (λ (z : Activation). supplied to.instance to.params z m) (enters_moves f to bindings next a start)
+    ∙ supplied_moves f to.instance to.params (entered (fresh to bindings a.running.frame) (caller_at next a)) m
+
+called_with_moves :
+    (f : BlockId → ℕ → ℕ) (r : Result (List Binding) ℕ) (to : Callee) (next : ℕ) (a : Activation) (m : Areas) → f to.block 0 ≡ 0
+    → called_with r to (f a.running.frame.block next) (moved f a) m ≡ moved_call f (called_with r to next a m)
+called_with_moves f (Err code) to next a m start = refl
+called_with_moves f (Ok bindings) to next a m start =
+    ap (λ (z : Option FrameFault). entered_if z to bindings (f a.running.frame.block next) (moved f a) m) (refused_same f to.local_len a)
+    ∙ entered_moves f (refused to.local_len a) to bindings next a m start
+
+call_moves :
+    (f : BlockId → ℕ → ℕ) (to : Callee) (passings : List Passing) (next : ℕ) (a : Activation) (m : Areas) → f to.block 0 ≡ 0
+    → call to passings (f a.running.frame.block next) (moved f a) m ≡ moved_call f (call to passings next a m)
+unfolding call
+call_moves f to passings next a m start =
+    called_with_moves f (bindings_of to.params passings (own_of a.running) m) to next a m start
+
+after_call_moves :
+    (f : BlockId → ℕ → ℕ) (c : Call) (next : ℕ) (a : Activation) (w : World)
+    → after_call (moved_call f c) (f a.running.frame.block next) (moved f a) w ≡ moved_step f (after_call c next a w)
+after_call_moves f (Fails code) next a w = refl
+after_call_moves f (Stops fault) next a w = refl
+after_call_moves f (Enters after m) next a w = refl
+
+block_called_moves :
+    (f : BlockId → ℕ → ℕ) (h : Option Head) (block : BlockId) (instance : Option ℕ) (passings : List Passing) (next : ℕ) (a : Activation) (w : World)
+    → f block 0 ≡ 0
+    → block_called h block instance passings (f a.running.frame.block next) (moved f a) w ≡ moved_step f (block_called h block instance passings next a w)
+block_called_moves f None block instance passings next a w start = refl
+block_called_moves f (Some h) block instance passings next a w start =
+    ap (λ (z : Call). after_call z (f a.running.frame.block next) (moved f a) w) (call_moves f (callee_of block instance h) passings next a w.memory start)
+    ∙ after_call_moves f (call (callee_of block instance h) passings next a w.memory) next a w
+
+after_system_moves :
+    (f : BlockId → ℕ → ℕ) (r : Result Given ℕ) (number next : ℕ) (a : Activation)
+    → after_system_call r number (f a.running.frame.block next) (moved f a) ≡ moved_step f (after_system_call r number next a)
+after_system_moves f (Err code) number next a = refl
+after_system_moves f (Ok given) number next a = refl
+
+system_moves :
+    (f : BlockId → ℕ → ℕ) (params : Option (List Param)) (number : ℕ) (passings : List Passing) (next : ℕ) (a : Activation) (w : World)
+    → system_called params number passings (f a.running.frame.block next) (moved f a) w ≡ moved_step f (system_called params number passings next a w)
+system_moves f None number passings next a w = refl
+system_moves f (Some params) number passings next a w =
+    after_system_moves f (system_call params passings (own_of a.running) w.memory) number next a
+
+called_moves :
+    (f : BlockId → ℕ → ℕ) (c d : Code) (block : BlockId) (instance : Option ℕ) (passings : List Passing) (next : ℕ) (a : Activation) (w : World)
+    → Follows f c d
+    → called d block instance passings (f a.running.frame.block next) (moved f a) w ≡ moved_step f (called c block instance passings next a w)
+called_moves f c d block instance passings next a w follows = by (is_system block.kind)
+  where
+    there : ℕ
+    there = f a.running.frame.block next
+
+    by : (b : Bool) → (if b then system_called (system_function block.number) block.number passings there (moved f a) w
+        else block_called (d.head block) block instance passings there (moved f a) w)
+        ≡ moved_step f (if b then system_called (system_function block.number) block.number passings next a w
+        else block_called (c.head block) block instance passings next a w)
+    by true = system_moves f (system_function block.number) block.number passings next a w
+    by false = ap (λ (h : Option Head). block_called h block instance passings there (moved f a) w) (follows.head block)
+        ∙ block_called_moves f (c.head block) block instance passings next a w (follows.start block)
+
+-- ---- returns
+
+left_moves :
+    (f : BlockId → ℕ → ℕ) (below : List Frame) (instance : Option ℕ) (params : List Param) (a : Activation) (m : Areas) (w : World)
+    → after_return (left (map (moved_frame f) below) (given_back instance params (moved f a) m)) w
+    ≡ moved_step f (after_return (left below (given_back instance params a m)) w)
+left_moves f [] None params a m w = refl
+left_moves f [] (Some instance) params a m w = refl
+left_moves f (caller ∷ rest) None params a m w = refl
+left_moves f (caller ∷ rest) (Some instance) params a m w = refl
+
+returned_moves :
+    (f : BlockId → ℕ → ℕ) (h : Option Head) (a : Activation) (w : World)
+    → returned h (moved f a) w ≡ moved_step f (returned h a w)
+unfolding returning
+returned_moves f None a w = refl
+returned_moves f (Some h) a w = left_moves f a.below a.running.frame.instance h.params a w.memory w
+
+-- ---- statements
+
+either_moves :
+    (f : BlockId → ℕ → ℕ) (b : Bool) (x x' y y' : Step) → x' ≡ moved_step f x → y' ≡ moved_step f y
+    → (if b then x' else y') ≡ moved_step f (if b then x else y)
+either_moves f true x x' y y' h k = h
+either_moves f false x x' y y' h k = k
+
+performed_moves :
+    (f : BlockId → ℕ → ℕ) (c d : Code) (i : Instr) (next : ℕ) (a : Activation) (w : World) → Follows f c d
+    → performed d (aimed_instr (f a.running.frame.block) i) (f a.running.frame.block next) (moved f a) w
+    ≡ moved_step f (performed c i next a w)
+performed_moves f c d (Does use_db word operand) next a w follows =
+    went_on_moves f (does_with use_db word operand (parts_of a.running w.memory w.timers w.counters)) next a
+performed_moves f c d (Jumps how target) next a w follows = jumped_moves f how target next a w
+performed_moves f c d (JumpsByList targets otherwise) next a w follows =
+    ap (λ (at : ℕ). Went (moved_on at (moved f a)) w) (listed_moves (f a.running.frame.block) targets otherwise a.running.regs)
+performed_moves f c d (Calls how block instance passings) next a w follows =
+    either_moves f (is_called how a.running.regs.status.rlo)
+    (called c block instance passings next a w) _ (Went (going_on next (not_called a.running.regs) a) w) _
+    (called_moves f c d block instance passings next a w follows) refl
+performed_moves f c d (Returns how) next a w follows =
+    either_moves f (is_ended how a.running.regs.status.rlo)
+    (returned (c.head a.running.frame.block) a w) _ (Went (going_on next (rlo_tested a.running.regs) a) w) _
+    (ap (λ (h : Option Head). returned h (moved f a) w) (follows.head a.running.frame.block)
+    ∙ returned_moves f (c.head a.running.frame.block) a w) refl
+
+fetched_moves :
+    (f : BlockId → ℕ → ℕ) (c d : Code) (o : Option Fetched) (a : Activation) (w : World) → Follows f c d
+    → fetched d (option_map (moved_fetched (f a.running.frame.block)) o) (moved f a) w ≡ moved_step f (fetched c o a w)
+fetched_moves f c d None a w follows = refl
+fetched_moves f c d (Some s) a w follows = performed_moves f c d s.instr s.next a w follows
+
+pub statements_move : StatementsMove
+unfolding statement
+statements_move f c d a w follows =
+    ap (λ (o : Option Fetched). fetched d o (moved f a) w) (follows.fetch a.running.frame.block a.running.frame.at)
+    ∙ fetched_moves f c d (c.fetch a.running.frame.block a.running.frame.at) a w follows

@@ -1,0 +1,113 @@
+-- What comes of a statement of an activation that fits: it fits again, whatever the statement does.
+use Rattle.std.specs.Prelude.{◌≡◌, ◌⊎◌, ℕ, ◌<◌, ◌^◌, ◌==◌, nat_le, Bool, true, false, ◌&&◌, ◌||◌, if◌then◌else◌, List, [], ◌∷◌, length, Option, Some, None, IsSome}
+use Rattle.plc_base.specs.declared.BlockId.{BlockId}
+use Rattle.plc_base.specs.declared.blocks.BlockKind.TheVariants as kinds
+use Rattle.plc_base.specs.declared.Width.{Width}
+use Rattle.plc_base.specs.Widths.{bit_count}
+use Rattle.plc_mem.specs.Areas.{Areas}
+use Rattle.frames.specs.Activations.{frames_of}
+use Rattle.frames.specs.declared.Activation.{Activation}
+use Rattle.frames.specs.declared.bindings.Binding.{Binding}
+use Rattle.frames.specs.declared.bindings.Binding.TheVariants as binding
+use Rattle.frames.specs.declared.frame.Frame.{Frame}
+use Rattle.flat_code.specs.declared.programs.Param.{Param}
+use Rattle.flat_code.specs.Programs.{Program}
+use Rattle.machine.specs.Parts.{own_of}
+use Rattle.machine.specs.declared.outcomes.Outcome.{Outcome}
+use Rattle.machine.specs.declared.outcomes.Outcome.TheVariants as outcome
+use Rattle.machine.specs.Values.{stored_at}
+use Rattle.machine.specs.Fitting.{IsMemoryOf, SameSizes, Fits}
+use Rattle.machine.specs.Flat.{code_of}
+use Rattle.machine.specs.OpenBrackets.{open_codes}
+use Rattle.machine.specs.SystemCalls.{system_function}
+use Rattle.machine.specs.Statement.{World, Step, Went, Ended, SyncError, SysCall, Stop, Stuck, Goes, statement}
+
+-- an activation fits a program and its memory
+pub record FitsProgram (p : Program) (m : Areas) (a : Activation) : Type 0 where
+  pub memory : IsMemoryOf (code_of p) m
+  pub fits : Fits (code_of p) (open_codes p) m a
+
+-- what a call of a statement asks for: a frame stands, as many frames have local data as stand, and
+-- nothing that the statement needs is missing
+pub record IsReady (p : Program) (a : Activation) : Type 0 where
+  pub stands : a.left ≡ false
+  pub depth : length a.running.locals.starts ≡ length (frames_of a)
+  pub there : (w : World) → Goes (statement (code_of p) a w)
+
+-- an organization block by its number
+abbrev pub ob_block : ℕ → BlockId
+ob_block number = record { kind = kinds.Ob; number = number }
+
+-- the frame with which an organization block begins: at its first statement, with nothing open
+abbrev pub first_frame : (ob local_len : ℕ) → Frame
+first_frame ob local_len = record {
+  block = ob_block ob;
+  at = 0;
+  db = None;
+  di = None;
+  instance = None;
+  brackets = [];
+  local_len = local_len;
+  bindings = [];
+}
+
+-- no area and no data block has become longer or shorter, and the activation fits
+pub record GoesOn (p : Program) (old new : Areas) (a : Activation) : Type 0 where
+  pub sizes : SameSizes old new
+  pub fits : FitsProgram p new a
+
+-- the result of a system function can be written where it was bound; some have none
+abbrev pub TakesResult : Option Binding → Activation → Areas → Type 0
+TakesResult None a m = Unit {0}
+TakesResult (Some (binding.Bound place width frame)) a m =
+    (value : ℕ)
+    → IsSome (stored_at (record { place = place; width = width; frame = frame }) value
+    (own_of a.running) m)
+TakesResult (Some result) a m = ⊥
+
+-- the widths of IN parameters
+abbrev pub input_widths : List Param → List Width
+input_widths [] = []
+input_widths (p ∷ rest) =
+    if p.section == 1 then p.width ∷ input_widths rest else input_widths rest
+
+-- one number for each width, which it fits
+abbrev pub FitWidths : List Width → List ℕ → Type 0
+FitWidths [] [] = Unit {0}
+FitWidths (w ∷ ws) (n ∷ ns) = (n < 2 ^ bit_count w) × FitWidths ws ns
+FitWidths widths numbers = ⊥
+
+-- a system function that there is, given a number for each IN parameter
+abbrev pub TakesInputs : Option (List Param) → (inputs : List ℕ) → Type 0
+TakesInputs None inputs = ⊥
+TakesInputs (Some params) inputs = FitWidths (input_widths params) inputs
+
+-- the codes of synchronous errors: 21 to 3A (OB 121), 42 and 43 (OB 122)
+abbrev pub is_error_code : (code : ℕ) → Bool
+is_error_code code = nat_le 0x21 code && nat_le code 0x3A || nat_le 0x42 code && nat_le code 0x43
+
+-- what comes of a statement of an activation that fits: it fits again
+abbrev pub Lasts : Program → World → Step → Type 0
+Lasts p w (Went a after) = GoesOn p w.memory after.memory a
+Lasts p w (Ended regs after) = SameSizes w.memory after.memory
+Lasts p w (SyncError code a) = (is_error_code code ≡ true) × FitsProgram p w.memory a
+Lasts p w (SysCall number given a) =
+    TakesInputs (system_function number) given.inputs × TakesResult given.result a w.memory
+    × FitsProgram p w.memory a
+Lasts p w (Stop cause) = (cause ≡ 6) ⊎ (cause ≡ 7)
+Lasts p w Stuck = ⊥
+
+-- the same of what a call of a statement answers and leaves
+abbrev pub Leaves : Program → Areas → Activation → Outcome → Type 0
+Leaves p m a outcome.Went = FitsProgram p m a
+Leaves p m a outcome.Ended = IsMemoryOf (code_of p) m
+Leaves p m a (outcome.SyncError code) = (is_error_code code ≡ true) × FitsProgram p m a
+Leaves p m a (outcome.SysCall number inputs result) =
+    TakesInputs (system_function number) inputs × TakesResult result a m × FitsProgram p m a
+Leaves p m a (outcome.Stop cause) = ((cause ≡ 6) ⊎ (cause ≡ 7)) × FitsProgram p m a
+
+-- what a call leaves. No area and no data block becomes longer or shorter, so activations that wait
+-- fit as before
+pub record LeavesFit (p : Program) (old new : Areas) (a : Activation) (answer : Outcome) : Type 0 where
+  pub sizes : SameSizes old new
+  pub leaves : Leaves p new a answer

@@ -1,0 +1,53 @@
+-- The same program at other positions: what a function of positions does to code, frames and what
+-- comes of a statement.
+use Rattle.std.specs.Prelude.{◌≡◌, ℕ, List, map, Option, Some, None}
+use Rattle.std.specs.Option.{option_map}
+use Rattle.plc_base.specs.declared.blocks.BlockId.{BlockId}
+use Rattle.flat_code.specs.Instr.{Instr, Does, Jumps, JumpsByList, Calls, Returns}
+use Rattle.frames.specs.declared.Activation.{Activation}
+use Rattle.frames.specs.declared.frame.Frame.{Frame}
+use Rattle.machine.specs.Code.{Code, Fetched}
+use Rattle.machine.specs.Statement.{World, Step, Went, Ended, SyncError, SysCall, Stop, Stuck, statement}
+
+-- an instruction with other targets
+abbrev pub aimed_instr : (ℕ → ℕ) → Instr → Instr
+aimed_instr f (Does use_db w o) = Does use_db w o
+aimed_instr f (Jumps how target) = Jumps how (f target)
+aimed_instr f (JumpsByList targets otherwise) = JumpsByList (map f targets) (f otherwise)
+aimed_instr f (Calls how block instance passings) = Calls how block instance passings
+aimed_instr f (Returns how) = Returns how
+
+abbrev pub moved_fetched : (ℕ → ℕ) → Fetched → Fetched
+moved_fetched f s = record { instr = aimed_instr f s.instr; next = f s.next; line = s.line }
+
+-- one code follows another: at the position of each position is the same statement, and everything
+-- else is the same. Blocks begin at position 0 in both
+pub record Follows (f : BlockId → ℕ → ℕ) (c d : Code) : Type 0 where
+  pub start : (b : BlockId) → f b 0 ≡ 0
+  pub fetch : (b : BlockId) (at : ℕ) → d.fetch b (f b at) ≡ option_map (moved_fetched (f b)) (c.fetch b at)
+  pub head : (b : BlockId) → d.head b ≡ c.head b
+  pub blocks : d.blocks ≡ c.blocks
+
+abbrev pub moved_frame : (BlockId → ℕ → ℕ) → Frame → Frame
+moved_frame f frame = record frame { at = f frame.block frame.at }
+
+abbrev pub moved : (BlockId → ℕ → ℕ) → Activation → Activation
+moved f a =
+    record a {
+      running = record a.running { frame = moved_frame f a.running.frame };
+      below = map (moved_frame f) a.below;
+    }
+
+abbrev pub moved_step : (BlockId → ℕ → ℕ) → Step → Step
+moved_step f (Went a w) = Went (moved f a) w
+moved_step f (Ended regs w) = Ended regs w
+moved_step f (SyncError code a) = SyncError code (moved f a)
+moved_step f (SysCall number given a) = SysCall number given (moved f a)
+moved_step f (Stop cause) = Stop cause
+moved_step f Stuck = Stuck
+
+-- a statement does the same in a code that follows, at the position there
+abbrev pub StatementsMove : Type 0
+StatementsMove =
+    (f : BlockId → ℕ → ℕ) (c d : Code) (a : Activation) (w : World) → Follows f c d
+    → statement d (moved f a) w ≡ moved_step f (statement c a w)

@@ -1,0 +1,38 @@
+-- The brackets that stand open before each statement of an image.
+use Rattle.std.specs.Prelude.{ℕ, ◌==◌, List, map, reverse, Option, Some, None, if◌then◌else◌}
+use Rattle.std.specs.Option.{option_and_then}
+use Rattle.status_word.specs.declared.Check.{Check}
+use Rattle.status_word.specs.declared.Check.TheVariants as check
+use Rattle.flat_code.specs.declared.image_fields.OpenBracket.{OpenBracket}
+use Rattle.flat_code.specs.Placed.{Placed, places, begins, bracket_codes}
+use Rattle.flat_code.specs.Programs.{CodeBlock, Program}
+use Rattle.image_file.specs.Readers.{block_of}
+use Rattle.image_file.specs.Verified.{place_at}
+use Rattle.machine.specs.Fitting.{OpenCodes}
+
+-- the function code of a bracket: 18 A( 19 AN( 1A O( 1B ON( 1C X( 1D XN(
+abbrev pub check_named : (code : ℕ) → Check
+check_named code =
+    if code == 0x18 then check.A
+    else if code == 0x19 then check.An
+    else if code == 0x1A then check.O
+    else if code == 0x1B then check.On
+    else if code == 0x1C then check.X
+    else check.Xn
+
+-- those of open brackets, the innermost first
+abbrev pub checks_of : List OpenBracket → List Check
+checks_of brackets = reverse (map check_named (bracket_codes brackets))
+
+-- before an op that begins a statement
+abbrev pub open_before : Option Placed → Option (List Check)
+open_before None = None
+open_before (Some q) = if begins q then Some (checks_of q.brackets) else None
+
+-- before the statement of a block that begins at an offset
+abbrev pub open_in : CodeBlock → (at : ℕ) → Option (List Check)
+open_in b at = open_before (place_at at (places b.code))
+
+-- the same of the blocks of a program
+abbrev pub open_codes : Program → OpenCodes
+open_codes p = λ block at. option_and_then (λ b. open_in b at) (block_of block p.code_blocks)
