@@ -1,15 +1,14 @@
-use Rattle.std.proofs.Common.{ℕ, zero, suc, ◌≡◌, ◌<◌, ◌≤◌, ◌+◌, List, [], ◌∷◌, ◌++◌, append_assoc, Option, Some, None, Bool, true, false, ◌&&◌, ◌||◌, not, if◌then◌else◌, refl, sym, ◌∙◌, ap, subst, arith, length, drop, get_or}
+use Rattle.std.proofs.Common.{ℕ, suc, ◌≡◌, ◌<◌, ◌≤◌, ◌+◌, List, [], ◌∷◌, ◌++◌, append_assoc, Option, Bool, true, false, ◌&&◌, ◌||◌, not, if◌then◌else◌, refl, sym, ◌∙◌, ap, subst, arith, length, drop, get_or}
 use Rattle.std.proofs.Math.ListN.{drop_of_length-le}
 use Rattle.std.proofs.lemmas.List.{drop_more, append-nil}
 use Rattle.plc_base.specs.declared.refusals.Refusal.{Refusal}
 use Rattle.stl_ast.specs.declared.blocks.PartKind.{PartKind}
 use Rattle.stl_ast.specs.declared.declarations.Declaration.{Declaration}
 use Rattle.stl_symbols.specs.Least.{least, lesser}
-use Rattle.stl_symbols.specs.Gathered.{gathered}
 use Rattle.stl_symbols.proofs.LeastLemmas.{least-append, lesser_assoc, lesser_nothing}
 use Rattle.block_layout.specs.declared.cells.Cell.{Cell}
 use Rattle.block_layout.specs.declared.verdicts.Verdict.{Verdict}
-use Rattle.block_layout.specs.Around.{Outside, in_list, in_rest, onto}
+use Rattle.block_layout.specs.Around.{Outside, in_rest, onto}
 use Rattle.block_layout.specs.Cells.{cell_of, cells_of, is_sound, is_temp, opened}
 use Rattle.block_layout.specs.Rule21.{broken_21}
 use Rattle.block_layout.specs.Rule56.{broken_56}

@@ -1,4 +1,4 @@
-use Rattle.std.proofs.Common.{ℕ, zero, suc, ◌≡◌, ◌<◌, ◌≤◌, ◌+◌, List, [], ◌∷◌, Option, Some, None, Bool, true, false, ◌||◌, nat_eq, refl, sym, ◌∙◌, ap, arith, length, map, get_or, Vec, ◌-◌, ◌++◌, append_assoc, drop, add-one, subst}
+use Rattle.std.proofs.Common.{ℕ, zero, suc, ◌≡◌, ◌<◌, ◌≤◌, ◌+◌, List, [], ◌∷◌, Some, Bool, true, false, ◌||◌, nat_eq, refl, sym, ◌∙◌, ap, arith, length, map, get_or, Vec, ◌-◌, ◌++◌, append_assoc, drop, add-one, subst}
 use Rattle.std.proofs.lemmas.List.{length-map, drop_more}
 use Rattle.std.specs.List.{list_any, slice_get}
 use Rattle.stl_ast.specs.declared.blocks.Block.{Block}

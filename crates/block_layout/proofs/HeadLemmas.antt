@@ -72,6 +72,11 @@ pub at_most_one : (v : Bool) (one : ℕ) → one ≡ (if v then 1 else 0) → on
 at_most_one true one is = omega (arith, is)
 at_most_one false one is = omega (arith, is)
 
+-- the least of two lists one behind the other
+pub two_lists : (xs ys : List Refusal) (x y whole : Option Refusal) → x ≡ least xs → y ≡ least ys → whole ≡ lesser x y → whole ≡ least (xs ++ ys)
+two_lists xs ys x y whole is_x is_y is_whole =
+    is_whole ∙ ap (λ (o : Option Refusal). lesser o y) is_x ∙ ap (λ (o : Option Refusal). lesser (least xs) o) is_y ∙ sym (least-append xs ys)
+
 -- the least of three lists one behind the other
 pub three_lists : (xs ys zs : List Refusal) (x y z inner whole : Option Refusal) → x ≡ least xs → y ≡ least ys → z ≡ least zs → inner ≡ lesser x y → whole ≡ lesser inner z →
     whole ≡ least (xs ++ ys ++ zs)

@@ -1,4 +1,4 @@
-use Rattle.std.proofs.Common.{ℕ, zero, suc, ◌≡◌, ◌/◌, List, [], ◌∷◌, Option, Some, None, true, ◌<◌, length, get_or, arith, map, refl, sym, ◌∙◌, ap, if◌then◌else◌}
+use Rattle.std.proofs.Common.{ℕ, zero, suc, ◌≡◌, ◌/◌, List, [], ◌∷◌, Option, Some, None, true, ◌<◌, length, get_or, arith, map, refl, sym, ◌∙◌, ap}
 use Rattle.std.proofs.lemmas.List.{length-map}
 use Rattle.std.specs.List.{slice_get}
 use Rattle.std.specs.Option.{option_map}
@@ -6,8 +6,10 @@ use Rattle.stl_ast.specs.declared.blocks.Block.{Block}
 use Rattle.block_layout.specs.declared.cells.Cell.{Cell}
 use Rattle.block_layout.specs.declared.blocks.Shape.{Shape}
 use Rattle.block_layout.specs.declared.blocks.Shape.TheVariants as shape
+use Rattle.block_layout.specs.declared.outlines.Outline.{Outline}
 use Rattle.block_layout.specs.Cells.{components_of, temps_of}
-use Rattle.block_layout.specs.Lengths.{bits_of_cells, block_bits, is_structured, length_of, shape_bits, shape_of}
+use Rattle.block_layout.specs.Facts.{outline_of}
+use Rattle.block_layout.specs.Lengths.{bits_of_cells, block_bits, is_structured, length_of, shape_of}
 use Rattle.block_layout.specs.Types.{Types}
 
 got_mapped : {X Z : Type 0} (f : X → Z) (xs : List X) (i : ℕ) → slice_get (map f xs) i ≡ option_map f (slice_get xs i)
@@ -15,23 +17,29 @@ got_mapped f [] i = refl
 got_mapped f (x ∷ xs) zero = refl
 got_mapped f (x ∷ xs) (suc i) = got_mapped f xs i
 
-pub bits_there : (y : Types) (blocks : List Block) (components : List (List Cell)) (place r : ℕ) → components ≡ map (components_of y) blocks → r ≡ bits_of_cells (slice_get components place) →
-    r ≡ block_bits y (slice_get blocks place)
-bits_there y blocks components place r are is_r =
-    is_r ∙ ap (λ (l : List (List Cell)). bits_of_cells (slice_get l place)) are ∙ ap (λ (o : Option (List Cell)). bits_of_cells o) (got_mapped (components_of y) blocks place)
+components_there : (y : Types) (b : Option Block) → option_map (λ o. o.components) (option_map (outline_of y) b) ≡ option_map (components_of y) b
+components_there y None = refl
+components_there y (Some b) = refl
 
-pub own_length : (y : Types) (blocks : List Block) (b : Block) (components : List (List Cell)) (place r : ℕ) (s : Shape) → components ≡ map (components_of y) blocks → slice_get blocks place ≡ Some b →
-    s ≡ shape_of y b → s ≡ shape.Own → is_structured b.kind ≡ true → r ≡ bits_of_cells (slice_get components place) → r / 8 ≡ length_of y blocks b
+pub bits_there : (y : Types) (blocks : List Block) (outlines : List Outline) (place r : ℕ) → outlines ≡ map (outline_of y) blocks →
+    r ≡ bits_of_cells (option_map (λ o. o.components) (slice_get outlines place)) → r ≡ block_bits y (slice_get blocks place)
+bits_there y blocks outlines place r are is_r =
+    is_r ∙ ap (λ (l : List Outline). bits_of_cells (option_map (λ o. o.components) (slice_get l place))) are
+    ∙ ap (λ (o : Option Outline). bits_of_cells (option_map (λ p. p.components) o)) (got_mapped (outline_of y) blocks place)
+    ∙ ap (λ (o : Option (List Cell)). bits_of_cells o) (components_there y (slice_get blocks place))
+
+pub own_length : (y : Types) (blocks : List Block) (b : Block) (outlines : List Outline) (place r : ℕ) (s : Shape) → outlines ≡ map (outline_of y) blocks → slice_get blocks place ≡ Some b →
+    s ≡ shape_of y b → s ≡ shape.Own → is_structured b.kind ≡ true → r ≡ bits_of_cells (option_map (λ o. o.components) (slice_get outlines place)) → r / 8 ≡ length_of y blocks b
 unfolding length_of
-own_length y blocks b components place r s are there is_shape own structured is_r =
+own_length y blocks b outlines place r s are there is_shape own structured is_r =
     rw structured (rw (sym is_shape ∙ own)
-    (ap (λ (n : ℕ). n / 8) (bits_there y blocks components place r are is_r ∙ ap (λ (o : Option Block). block_bits y o) there)))
+    (ap (λ (n : ℕ). n / 8) (bits_there y blocks outlines place r are is_r ∙ ap (λ (o : Option Block). block_bits y o) there)))
 
-pub other_length : (y : Types) (blocks : List Block) (b : Block) (components : List (List Cell)) (other r : ℕ) (s : Shape) → components ≡ map (components_of y) blocks →
-    s ≡ shape_of y b → s ≡ shape.Of other → is_structured b.kind ≡ true → r ≡ bits_of_cells (slice_get components other) → r / 8 ≡ length_of y blocks b
+pub other_length : (y : Types) (blocks : List Block) (b : Block) (outlines : List Outline) (other r : ℕ) (s : Shape) → outlines ≡ map (outline_of y) blocks →
+    s ≡ shape_of y b → s ≡ shape.Of other → is_structured b.kind ≡ true → r ≡ bits_of_cells (option_map (λ o. o.components) (slice_get outlines other)) → r / 8 ≡ length_of y blocks b
 unfolding length_of
-other_length y blocks b components other r s are is_shape of_other structured is_r =
-    rw structured (rw (sym is_shape ∙ of_other) (ap (λ (n : ℕ). n / 8) (bits_there y blocks components other r are is_r)))
+other_length y blocks b outlines other r s are is_shape of_other structured is_r =
+    rw structured (rw (sym is_shape ∙ of_other) (ap (λ (n : ℕ). n / 8) (bits_there y blocks outlines other r are is_r)))
 
 pub no_length : (y : Types) (blocks : List Block) (b : Block) (s : Shape) → s ≡ shape_of y b → s ≡ shape.Unknown → is_structured b.kind ≡ true → 0 ≡ length_of y blocks b
 unfolding length_of
@@ -50,11 +58,14 @@ mapped_at f [] i x d within = absurd (let never : ⊥ = omega arith in never)
 mapped_at f (z ∷ xs) zero x d within = refl
 mapped_at f (z ∷ xs) (suc i) x d within = let w : i < length xs = omega arith in mapped_at f xs i x d w
 
--- the temporary variables at a place are those of the block there
-pub temps_there : (y : Types) (bs : List Block) (temps : List (List Cell)) (i : ℕ) (b : Block) (cells : List Cell) → temps ≡ map (temps_of y) bs → i < length bs → b ≡ get_or bs i b →
-    cells ≡ get_or temps i cells → cells ≡ temps_of y b
-temps_there y bs temps i b cells are within is_b is_cells =
-    is_cells ∙ ap (λ (l : List (List Cell)). get_or l i cells) are ∙ mapped_at (temps_of y) bs i b cells within ∙ ap (λ (x : Block). temps_of y x) (sym is_b)
+-- the declarations at a place are those of the block there
+pub outline_there : (y : Types) (bs : List Block) (outlines : List Outline) (i : ℕ) (b : Block) (o : Outline) → outlines ≡ map (outline_of y) bs → i < length bs → b ≡ get_or bs i b →
+    o ≡ get_or outlines i o → o ≡ outline_of y b
+outline_there y bs outlines i b o are within is_b is_o =
+    is_o ∙ ap (λ (l : List Outline). get_or l i o) are ∙ mapped_at (outline_of y) bs i b o within ∙ ap (λ (x : Block). outline_of y x) (sym is_b)
 
-pub temps_within : (y : Types) (bs : List Block) (temps : List (List Cell)) (i : ℕ) → temps ≡ map (temps_of y) bs → i < length bs → i < length temps
-temps_within y bs temps i are within = let same : length temps ≡ length bs = ap length are ∙ length-map bs (temps_of y) in omega arith
+pub outline_is : (y : Types) (b : Block) (components temps : List Cell) → components ≡ components_of y b → temps ≡ temps_of y b → record { components = components; temps = temps } ≡ outline_of y b
+outline_is y b components temps are temps_are = rw are (rw temps_are refl)
+
+pub length-outlines : (y : Types) (bs : List Block) (outlines : List Outline) → outlines ≡ map (outline_of y) bs → length outlines ≡ length bs
+length-outlines y bs outlines are = ap length are ∙ length-map bs (outline_of y)

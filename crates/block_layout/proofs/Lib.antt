@@ -7,7 +7,14 @@ pub mod CellLemmas
 pub mod SectionLemmas
 pub mod MeasureLemmas
 pub mod WalkLemmas
+pub mod BeyondLemmas
+pub mod PlaceLemmas
+pub mod StartLemmas
+pub mod FillLemmas
 pub mod LengthLemmas
+pub mod LayoutLemmas
+pub mod TableLemmas
+pub mod OffsetLemmas
 pub mod CycleLemmas
 pub mod DirectoryLemmas
 pub mod HeadLemmas

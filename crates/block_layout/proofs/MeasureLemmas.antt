@@ -1,4 +1,4 @@
-use Rattle.std.proofs.Common.{ℕ, zero, suc, ◌≡◌, ◌+◌, List, [], ◌∷◌, refl, sym, ◌∙◌, ap, arith, min, max, map, add-one}
+use Rattle.std.proofs.Common.{ℕ, ◌≡◌, ◌+◌, List, [], ◌∷◌, refl, ◌∙◌, ap, arith, max, map, add-one}
 use Rattle.stl_ast.specs.declared.declarations.Declaration.{Declaration}
 use Rattle.block_layout.specs.Around.{of_structure}
 use Rattle.stl_ast.specs.declared.blocks.Block.{Block}

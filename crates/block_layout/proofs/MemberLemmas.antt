@@ -1,4 +1,4 @@
-use Rattle.std.proofs.Common.{ℕ, zero, suc, ◌≡◌, ◌<◌, ◌≤◌, ◌+◌, List, [], ◌∷◌, ◌++◌, append_assoc, Option, Some, None, Bool, true, false, nat_eq, nat_lt, ◌&&◌, refl, sym, ◌∙◌, ap, subst, arith, length, drop, get_or, ⊎_elim, if◌then◌else◌}
+use Rattle.std.proofs.Common.{ℕ, suc, ◌≡◌, ◌<◌, ◌≤◌, ◌+◌, List, [], ◌∷◌, ◌++◌, append_assoc, Option, Some, None, true, false, nat_eq, nat_lt, ◌&&◌, refl, sym, ◌∙◌, ap, subst, arith, length, drop, get_or, ⊎_elim}
 use Rattle.std.specs.Option.{option_map, option_and_then, IfSome}
 use Rattle.std.specs.List.{slice_get}
 use Rattle.std.specs.Str.{bytes_eq}

@@ -1,4 +1,4 @@
-use Rattle.std.proofs.Common.{ℕ, zero, suc, ◌≡◌, ◌<◌, ◌≤◌, ◌+◌, List, [], ◌∷◌, Option, Some, None, Bool, true, false, refl, sym, ◌∙◌, ap, subst, arith, length, drop, get_or}
+use Rattle.std.proofs.Common.{ℕ, zero, suc, ◌≡◌, ◌+◌, List, [], ◌∷◌, Option, Some, refl, sym, ◌∙◌, ap, drop, get_or}
 use Rattle.std.specs.List.{slice_get}
 use Rattle.block_layout.specs.declared.cells.Cell.{Cell}
 use Rattle.block_layout.specs.declared.members.Member.{Member}
@@ -8,7 +8,7 @@ use Rattle.block_layout.specs.declared.cells.Element.TheVariants.{Structure}
 use Rattle.block_layout.specs.declared.walks.Spot.{Spot}
 use Rattle.block_layout.specs.declared.walks.Walk.{Walk}
 use Rattle.block_layout.specs.Paths.{cells_at, found_at, named_in}
-use Rattle.block_layout.specs.Scopes.{IsScope, HasComponents, AreKept}
+use Rattle.block_layout.specs.Scopes.{IsScope}
 use Rattle.block_layout.specs.declared.members.Scope.{Scope}
 
 pub members_from : (x y : Cell) (d behind : List Cell) (s t : Scope) → IsScope y d t → s ≡ t → x ≡ y → behind ≡ d → s.members.items ≡ members_of (x.level + 1) 0 0 behind

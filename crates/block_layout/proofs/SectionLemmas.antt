@@ -1,11 +1,10 @@
-use Rattle.std.proofs.Common.{ℕ, zero, suc, ◌≡◌, ◌<◌, ◌≤◌, ◌+◌, List, [], ◌∷◌, ◌++◌, append_assoc, Option, Some, None, Bool, true, false, not, if◌then◌else◌, refl, sym, ◌∙◌, ap, subst, arith, length, drop, get_or}
+use Rattle.std.proofs.Common.{ℕ, zero, suc, ◌≡◌, ◌<◌, ◌≤◌, ◌+◌, List, [], ◌∷◌, ◌++◌, append_assoc, Option, None, Bool, true, false, not, if◌then◌else◌, refl, sym, ◌∙◌, ap, subst, arith, length, drop, get_or}
 use Rattle.std.specs.List.{flat_map}
 use Rattle.std.proofs.Math.ListN.{drop_of_length-le}
 use Rattle.std.proofs.lemmas.List.{drop_more, append-nil}
 use Rattle.plc_base.specs.declared.refusals.Refusal.{Refusal}
 use Rattle.stl_ast.specs.declared.blocks.Block.{Block}
 use Rattle.stl_ast.specs.declared.blocks.Part.{Part}
-use Rattle.stl_ast.specs.declared.blocks.PartKind.{PartKind}
 use Rattle.stl_ast.specs.declared.declarations.Declaration.{Declaration}
 use Rattle.stl_symbols.specs.Least.{least, lesser}
 use Rattle.stl_symbols.proofs.LeastLemmas.{least-append, lesser_assoc, lesser_first, lesser_nothing}

@@ -1,4 +1,4 @@
-use Rattle.std.proofs.Common.{ℕ, zero, suc, ◌≡◌, ◌<◌, ◌≤◌, ◌+◌, List, [], ◌∷◌, ◌++◌, Option, Some, None, Bool, true, false, nat_eq, nat_lt, refl, sym, ◌∙◌, ap, subst, arith, length, drop, get_or, min, if◌then◌else◌, add-one, slice_set}
+use Rattle.std.proofs.Common.{ℕ, zero, suc, ◌≡◌, ◌<◌, ◌≤◌, ◌+◌, List, [], ◌∷◌, Bool, true, false, nat_lt, refl, sym, ◌∙◌, ap, subst, arith, length, drop, get_or, if◌then◌else◌, add-one, slice_set}
 use Rattle.std.proofs.lemmas.Bool.Decides.{nat_tests}
 use Rattle.std.proofs.Math.ListN.{drop_of_length-le}
 use Rattle.std.proofs.lemmas.List.{drop_more, drop-set}
@@ -8,7 +8,7 @@ use Rattle.block_layout.specs.declared.cells.Cell.{Cell}
 use Rattle.block_layout.specs.declared.cells.Element.{Element}
 use Rattle.block_layout.specs.declared.cells.Element.TheVariants.{Plain, Structure, DateAndTime, Udt, Unknown}
 use Rattle.block_layout.specs.declared.cells.TheConstants.{LARGEST}
-use Rattle.block_layout.specs.Sizes.{up, alignment, past, stepped, cell_bits, element_of, end_of, elements_of, capped, array_bits, element_bits, plain_bits}
+use Rattle.block_layout.specs.Sizes.{stepped, cell_bits, element_of, end_of, elements_of, capped, array_bits, element_bits}
 
 drop_suc : {X : Type 0} (x : X) (xs : List X) (i : ℕ) → drop (i + 1) xs ≡ drop (suc i + 1) (x ∷ xs)
 drop_suc x xs i = rw (add-one, add-one) refl

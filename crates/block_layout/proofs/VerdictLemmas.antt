@@ -1,6 +1,4 @@
-use Rattle.std.proofs.Common.{ℕ, zero, suc, ◌≡◌, ◌<◌, ◌≤◌, ◌+◌, List, [], ◌∷◌, ◌++◌, append_assoc, Option, Some, None, Bool, true, false, nat_eq, nat_lt, nat_le, ◌&&◌, ◌||◌, not, is_some, refl, sym, ◌∙◌, ap, subst, arith, length, drop, take, get_or, min, if◌then◌else◌, ⊎_elim, ◌⊎◌, inl, inr}
-use Rattle.std.specs.List.{list_all}
-use Rattle.std.specs.Prelude.{sum_by}
+use Rattle.std.proofs.Common.{ℕ, ◌≡◌, ◌<◌, ◌≤◌, ◌+◌, List, [], ◌∷◌, ◌++◌, append_assoc, Bool, true, false, nat_eq, nat_lt, ◌||◌, not, refl, sym, ◌∙◌, ap, subst, arith, length, drop, take, get_or, ⊎_elim}
 use Rattle.std.proofs.lemmas.Bool.{cases_Bool}
 use Rattle.std.proofs.lemmas.Bool.Decides.{nat_tests}
 use Rattle.std.proofs.lemmas.List.{drop_more, append-nil, get_or-take, length-take-le, length-append}
@@ -10,18 +8,16 @@ use Rattle.stl_ast.specs.declared.declarations.ElementType.TheVariants.{Plain, S
 use Rattle.std.proofs.Math.Seq.{get_or-append_seam}
 use Rattle.stl_ast.specs.declared.declarations.Declaration.{Declaration}
 use Rattle.stl_ast.specs.Outline.{IsOutline, level_behind}
-use Rattle.stl_symbols.specs.Folding.{folded}
-use Rattle.stl_symbols.specs.Names.{place_of}
 use Rattle.block_layout.specs.declared.verdicts.Frame.{Frame}
 use Rattle.block_layout.specs.declared.verdicts.Verdict.{Verdict}
-use Rattle.block_layout.specs.Around.{Holder, Outside, around, onto}
-use Rattle.block_layout.specs.Cells.{breaks_rule, is_sound, uses_oversized}
+use Rattle.block_layout.specs.Around.{Outside, around, onto}
+use Rattle.block_layout.specs.Cells.{breaks_rule}
 use Rattle.block_layout.specs.Declarations.{is_unknown_type, has_upside_down, init_fits}
 use Rattle.block_layout.specs.Measures.{deep}
-use Rattle.block_layout.specs.Rule21.{is_twice, names_before, name_here}
+use Rattle.block_layout.specs.Rule21.{is_twice, names_before}
 use Rattle.block_layout.specs.Rule56.{own_depth, depth_around, opened_by, is_too_deep}
 use Rattle.block_layout.specs.Types.{Types}
-use Rattle.block_layout.specs.Verdicts.{AreOpen, JudgedOnto, breaks_alone, breaks_in, entered_by, frame_of, inside, is_deep_in, verdict_in, verdict_of, verdicts_of, with_name}
+use Rattle.block_layout.specs.Verdicts.{AreOpen, JudgedOnto, breaks_in, entered_by, frame_of, inside, is_deep_in, verdict_in, verdict_of, verdicts_of, with_name}
 
 -- depths beyond 8 may count as 9
 pub deep_same : (a own : ℕ) → is_deep_in (deep a) (deep own) ≡ is_deep_in a own

@@ -1,8 +1,7 @@
-use Rattle.std.proofs.Common.{ℕ, zero, suc, ◌≡◌, ◌<◌, ◌≤◌, ◌+◌, ◌*◌, List, [], ◌∷◌, Option, Some, None, Bool, true, false, ◌||◌, nat_eq, if◌then◌else◌, refl, sym, ◌∙◌, ap, subst, arith, length, drop, get_or, ⊎_elim}
-use Rattle.std.specs.Prelude.{ℤ, int_lt}
+use Rattle.std.proofs.Common.{ℕ, ◌≡◌, ◌<◌, ◌≤◌, ◌+◌, List, ◌∷◌, Option, Some, None, Bool, true, false, nat_eq, if◌then◌else◌, refl, sym, ◌∙◌, ap, subst, length, drop, get_or}
+use Rattle.std.specs.Prelude.{ℤ}
 use Rattle.std.specs.List.{slice_get}
 use Rattle.std.proofs.Math.ListN.{drop_of_length-le}
-use Rattle.std.proofs.lemmas.Bool.{cases_Bool}
 use Rattle.std.proofs.lemmas.List.{drop_more}
 use Rattle.stl_ast.specs.declared.blocks.PathStep.{PathStep}
 use Rattle.stl_ast.specs.declared.blocks.PathStep.TheVariants as step
@@ -16,7 +15,7 @@ use Rattle.block_layout.specs.declared.walks.Spot.{Spot}
 use Rattle.block_layout.specs.declared.walks.Walk.{Walk}
 use Rattle.block_layout.specs.declared.walks.Walk.TheVariants as walk
 use Rattle.block_layout.specs.Members.{component}
-use Rattle.block_layout.specs.Paths.{IsSoundAt, ReachesSound, OffsetIsNear, cells_at, entered, found_at, goes_on, indexed, indexed_behind, is_beyond, named, named_behind, named_in, outermost, step_of, walked, within}
+use Rattle.block_layout.specs.Paths.{IsSoundAt, ReachesSound, cells_at, entered, found_at, goes_on, indexed, indexed_behind, is_beyond, named, named_behind, named_in, outermost, step_of, walked, within}
 
 if_entered : (l : List BlockLayout) (block : ℕ) (temporary : Bool) (place offset : ℕ) (c : Cell) (sound : Bool) → c.sound ≡ sound → slice_get (cells_at l block temporary) place ≡ Some c →
     ReachesSound l (if sound then walk.Reaches (record { block = block; temporary = temporary; place = place; depth = 0; offset = offset }) else walk.Rests)

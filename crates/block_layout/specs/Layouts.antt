@@ -1,5 +1,8 @@
 -- The layouts of a source: one of each block, in the order of the text.
-use Rattle.std.specs.Prelude.{◌≡◌, Bool, ◌||◌, List, [], ◌∷◌, Option, Some, None, Result, Ok, Err}
+use Rattle.std.specs.Prelude.{◌≡◌, Bool, ◌||◌, List, [], ◌∷◌, map, Option, Some, None, Result, Ok, Err}
+use Rattle.std.specs.List.{slice_get}
+use Rattle.std.specs.Option.{option_and_then}
+use Rattle.plc_base.specs.declared.blocks.BlockId.{BlockId}
 use Rattle.plc_base.specs.declared.refusals.Refusal.{Refusal}
 use Rattle.plc_base.specs.declared.refusals.SourceFault.{SourceFault}
 use Rattle.plc_base.specs.declared.refusals.SourceFault.TheVariants.{Refused, NoMemory}
@@ -7,7 +10,7 @@ use Rattle.stl_ast.specs.declared.blocks.Block.{Block}
 use Rattle.stl_ast.specs.declared.blocks.Tree.{Tree}
 use Rattle.stl_symbols.specs.Symbol.{Symbol}
 use Rattle.block_layout.specs.declared.blocks.BlockLayout.{BlockLayout}
-use Rattle.block_layout.specs.Blocks.{id_of}
+use Rattle.block_layout.specs.Blocks.{id_of, known_block}
 use Rattle.block_layout.specs.Cells.{components_of, temps_of}
 use Rattle.block_layout.specs.Lengths.{shape_of, local_len, length_of}
 use Rattle.block_layout.specs.Measures.{types_of}
@@ -52,6 +55,10 @@ layouts_by y blocks = layouts_from y blocks [] blocks
 
 unfoldable pub layouts_of : Tree → List Symbol → List BlockLayout
 layouts_of t symbols = layouts_by (types_of symbols t.blocks) t.blocks
+
+-- the layout of the block that is meant
+abbrev pub layout_of : BlockId → List BlockLayout → Option BlockLayout
+layout_of id l = option_and_then (slice_get l) (known_block id (map (λ b. b.id) l))
 
 -- the layouts where no rule is broken, else the least refusal
 abbrev pub LaysOut : Option Refusal → List BlockLayout → Result (List BlockLayout) SourceFault

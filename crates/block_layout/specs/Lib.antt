@@ -1,4 +1,5 @@
 pub mod Before
+pub mod Facts
 pub mod Blocks
 pub mod Numbered
 pub mod Types
@@ -15,6 +16,7 @@ pub mod Measures
 pub mod Lengths
 pub mod Heads
 pub mod Operands
+pub mod ByPlace
 pub mod Settings
 pub mod Layouts
 pub mod Paths
@@ -36,4 +38,5 @@ pub mod Rule53
 pub mod Rule54
 pub mod Rule55
 pub mod Rule56
+pub mod SettingFaults
 pub mod Table

@@ -1,5 +1,5 @@
 -- The place and the width of an elementary component.
-use Rattle.std.specs.Prelude.{ℕ, ◌/◌, ◌%◌, nat_le, true, false, List, map, Option, Some, None, if◌then◌else◌, ◌&&◌, not}
+use Rattle.std.specs.Prelude.{ℕ, ◌/◌, ◌%◌, nat_le, Bool, true, false, List, map, Option, Some, None, if◌then◌else◌}
 use Rattle.std.specs.Option.{option_and_then}
 use Rattle.plc_base.specs.declared.blocks.BlockId.{BlockId}
 use Rattle.plc_base.specs.declared.places.Area.{Area}
@@ -42,19 +42,29 @@ abbrev pub reached : List BlockLayout → Area → (number : ℕ) → Walk → O
 reached l a number (walk.Reaches spot) = placed a number spot.offset (elementary_at l spot)
 reached l a number _ = None
 
--- the variables of a data block lie in it, those of a function block in the block of the DI register, and temporary ones in
--- the local data
+-- a component of a data block, in that block
+abbrev pub component : List BlockLayout → (number block : ℕ) → List PathStep
+    → Option (Place × Width)
+component l number block path =
+    if leaves_judged l (structure_of l block) path then None
+    else reached l area.Db number (walked_data l block path)
+
+-- a variable of a code block, in an area
+abbrev pub variable : List BlockLayout → Area → (block : ℕ) → (temporary : Bool) → List PathStep
+    → Option (Place × Width)
+variable l a block temporary path =
+    if leaves_from l block temporary path then None
+    else reached l a 0 (walked_from l block temporary path)
+
+-- the variables of a function block lie in the block of the DI register, and temporary ones in the local data
 abbrev pub offset_in : List BlockLayout → BlockId → Section → List PathStep → ℕ
     → Option (Place × Width)
 offset_in l id section.Global path block =
-    if is_data_block id.kind && not (leaves_judged l (structure_of l block) path)
-    then reached l area.Db id.number (walked_data l block path) else None
+    if is_data_block id.kind then component l id.number block path else None
 offset_in l id section.Instance path block =
-    if is_function_block id.kind && not (leaves_from l block false path)
-    then reached l area.Di 0 (walked_from l block false path) else None
+    if is_function_block id.kind then variable l area.Di block false path else None
 offset_in l id section.Temp path block =
-    if is_code id.kind && not (leaves_from l block true path)
-    then reached l area.L 0 (walked_from l block true path) else None
+    if is_code id.kind then variable l area.L block true path else None
 
 -- none where the block isn't there or is broken, or the path leads to no elementary component
 unfoldable pub offset_of : List BlockLayout → BlockId → Section → List PathStep

@@ -1,7 +1,9 @@
 -- Where components lie, as a relation: the offset of each is the least place at or past the end of its preceding sibling
 -- that meets its alignment.
-use Rattle.std.specs.Prelude.{◌≡◌, ℕ, ◌+◌, ◌%◌, ◌≤◌, nat_lt, nat_eq, ◌&&◌, List, [], ◌∷◌, ◌++◌, if◌then◌else◌}
+use Rattle.std.specs.Prelude.{◌≡◌, ℕ, ◌+◌, ◌%◌, ◌≤◌, nat_lt, nat_eq, Bool, false, ◌&&◌, List, [], ◌∷◌, ◌++◌, map, Option, Some, None, if◌then◌else◌}
+use Rattle.std.specs.List.{filter, slice_get}
 use Rattle.block_layout.specs.declared.cells.Cell.{Cell}
+use Rattle.block_layout.specs.Members.{members_of}
 use Rattle.block_layout.specs.Sizes.{alignment, cell_bits}
 
 -- the least place at or past `end` that meets the alignment
@@ -30,3 +32,13 @@ AreOffsets end [] [] = Unit {0}
 AreOffsets end (s ∷ ss) (place ∷ places) = IsLeastPlace end s.align place
     × AreOffsets (place + s.bits) ss places
 AreOffsets end _ _ = ⊥
+
+abbrev pub is_sound_cell : Option Cell → Bool
+is_sound_cell None = false
+is_sound_cell (Some c) = c.sound
+
+-- the offsets that the layout gives the sound components at a level, of which these cells are the first
+abbrev pub sound_offsets : ℕ → List Cell → List ℕ
+sound_offsets level cells =
+    map (λ m. m.offset)
+    (filter (λ m. is_sound_cell (slice_get cells m.place)) (members_of level 0 0 cells))

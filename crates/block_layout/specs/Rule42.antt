@@ -1,6 +1,6 @@
 -- Rule 42: an array with the upper below the lower bound, or an index outside its array, in a setting or an operand. The
 -- line is that of the declaration, of the setting, of the statement, or of the actual parameter.
-use Rattle.std.specs.Prelude.{ℕ, ◌+◌, Bool, false, List, [], ◌∷◌, ◌++◌, Option, Some, None}
+use Rattle.std.specs.Prelude.{ℕ, Bool, false, List, ◌++◌, Option, Some, None}
 use Rattle.plc_base.specs.declared.refusals.Refusal.{Refusal}
 use Rattle.stl_ast.specs.declared.blocks.Block.{Block}
 use Rattle.stl_ast.specs.declared.blocks.PathStep.{PathStep}
@@ -14,6 +14,7 @@ use Rattle.stl_symbols.specs.Folding.{folded}
 use Rattle.stl_symbols.specs.Least.{broken_if}
 use Rattle.block_layout.specs.Around.{Outside, in_blocks}
 use Rattle.block_layout.specs.Blocks.{found_block, is_data_block}
+use Rattle.block_layout.specs.ByPlace.{by_place}
 use Rattle.block_layout.specs.Declarations.{has_upside_down}
 use Rattle.block_layout.specs.Operands.{Judged, in_body}
 use Rattle.block_layout.specs.Paths.{folded_path, leaves_judged, leaves_local, setting_structure, structure_of}
@@ -50,8 +51,7 @@ operand_42 y l block o = broken_if (operand_is_outside y l block o.operand) o.li
 
 -- the bodies of the blocks from this place on
 abbrev pub bodies_42 : Types → List BlockLayout → (block : ℕ) → List Block → List Refusal
-bodies_42 y l block [] = []
-bodies_42 y l block (b ∷ bs) = in_body (operand_42 y l block) b.body ++ bodies_42 y l (block + 1) bs
+bodies_42 y l block blocks = by_place (λ k b. in_body (operand_42 y l k) b.body) block blocks
 
 unfoldable pub rule_42 : Types → List BlockLayout → List Block → List Refusal
 rule_42 y l blocks =

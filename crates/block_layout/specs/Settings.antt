@@ -1,15 +1,17 @@
 -- Rules on the settings of data blocks: the line is that of the setting.
-use Rattle.std.specs.Prelude.{ℕ, ◌+◌, Bool, List, [], ◌∷◌, ◌++◌}
+use Rattle.std.specs.Prelude.{ℕ, Bool, List}
 use Rattle.std.specs.List.{flat_map}
 use Rattle.plc_base.specs.declared.refusals.Refusal.{Refusal}
 use Rattle.stl_ast.specs.declared.blocks.Block.{Block}
 use Rattle.stl_ast.specs.declared.blocks.Setting.{Setting}
 use Rattle.stl_symbols.specs.Least.{broken_if}
+use Rattle.block_layout.specs.ByPlace.{by_place}
+
+abbrev pub in_settings : (breaks : Setting → Bool) → (rule : ℕ) → List Setting → List Refusal
+in_settings breaks rule settings = flat_map (λ s. broken_if (breaks s) s.line rule) settings
 
 -- of the blocks from this place on
 abbrev pub on_settings : (breaks : ℕ → Setting → Bool) → (rule block : ℕ) → List Block
     → List Refusal
-on_settings breaks rule block [] = []
-on_settings breaks rule block (b ∷ bs) =
-    flat_map (λ s. broken_if (breaks block s) s.line rule) b.settings
-    ++ on_settings breaks rule (block + 1) bs
+on_settings breaks rule block blocks =
+    by_place (λ k b. in_settings (breaks k) rule b.settings) block blocks

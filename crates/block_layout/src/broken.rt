@@ -70,7 +70,8 @@ pub(crate) fn is_broken(
     local: u64,
     len: u64,
 ) -> bool
-    ensures { (blocks some : List Block) → in_itself ≡ contains_itself types.now blocks some block.now
+    ensures { (blocks some : List Block)
+        → in_itself ≡ contains_itself types.now blocks some block.now
         → local ≡ local_len types.now block.now → len ≡ length_of types.now blocks block.now
         → IsBefore types.now blocks some before
         → result ≡ is_broken types.now blocks some block.now }

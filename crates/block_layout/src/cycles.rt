@@ -3,13 +3,22 @@ ghost use Rattle.block_layout.specs.Heads.{flagged};
 ghost use Rattle.block_layout.specs.Types.{Types};
 ghost use Rattle.std.specs.List.{flat_map, list_any, slice_get};
 ghost use Rattle.stl_ast.specs.declared.blocks.Block.{Block};
-ghost use Rattle.block_layout.specs.Rule43.{contains_itself, if_some, leads_to, used_by, uses_of};
+ghost use Rattle.block_layout.specs.Rule43.{
+  contains_itself,
+  if_some,
+  leads_to,
+  rule_43,
+  used_by,
+  uses_of,
+};
+ghost use Rattle.stl_symbols.specs.Least.{least};
 ghost use Rattle.block_layout.specs.Cycles.{IsReached, uses_of_all};
 
 use crate::types::Types;
-use plc_base::BlockKind;
+use plc_base::{BlockKind, Refusal};
 use std::alloc::{AllocError, Global};
 use stl_ast::{Block, Declaration, ElementType};
+use stl_symbols::{broken_if, lesser};
 
 /// The data type that an element type uses.
 fn used_by(types: &Types, of: &ElementType) -> Option<usize>
@@ -47,7 +56,7 @@ fn leads(uses: &[usize], to: usize, reached: &[bool]) -> bool
         .any(|used| *used == to || flag_at(reached, *used))
 }
 
-fn flag_at(flags: &[bool], place: usize) -> bool
+pub(crate) fn flag_at(flags: &[bool], place: usize) -> bool
     ensures { result ≡ get_or flags.now place false }
 {
     if place < flags.len() {
@@ -161,4 +170,19 @@ pub(crate) fn cycles(
         flags.push(flag)?;
     }
     Ok(flags)
+}
+
+/// The least refusal by rule 43, where it is known of each block whether it is a data type that
+/// contains itself.
+#[tactic(auto, unfolding(crate::specs::Rule43::rule_43))]
+pub(crate) fn least_in_itself(in_itself: &[bool], blocks: &[Block]) -> Option<Refusal>
+    ensures { (y : Types) → in_itself.now ≡ flagged (contains_itself y blocks.now) [] blocks.now
+        → result ≡ least (rule_43 y blocks.now) }
+{
+    let mut found = None;
+    for (place, block) in blocks.iter().enumerate() {
+        let contains = flag_at(in_itself, place);
+        found = lesser(found, broken_if(contains, block.line, 43));
+    }
+    found
 }

@@ -48,14 +48,14 @@ impl Model for Layout {
 }
 
 /// The cells from a place on.
-fn behind(cells: &[Cell], from: usize) -> &[Cell]
+pub(crate) fn behind(cells: &[Cell], from: usize) -> &[Cell]
     requires { from ≤ length cells.now }
     ensures { result.now ≡ drop from cells.now }
 {
     &cells[from..]
 }
 
-fn numbers_behind(numbers: &[u64], from: usize) -> &[u64]
+pub(crate) fn numbers_behind(numbers: &[u64], from: usize) -> &[u64]
     requires { from ≤ length numbers.now }
     ensures { result.now ≡ drop from numbers.now }
 {
@@ -124,6 +124,13 @@ impl Layout {
         self.cells.as_slice()
     }
 
+    /// The bits of an element of each cell.
+    pub(crate) fn elements(&self) -> &[u64]
+        ensures { result.now ≡ elements_of self.now }
+    {
+        self.elements.as_slice()
+    }
+
     /// The bits of a structure of these cells.
     pub fn bits(&self) -> u64
         ensures value { result ≡ structure_bits self.now }
@@ -159,7 +166,8 @@ impl Layout {
         requires within { place < length self.now }
         requires sound { (c : Cell) → (get_or self.now place c).sound ≡ true }
         ensures value { (c : Cell) → result
-            ≡ component ((get_or self.now place c).level + 1) 0 0 name.now (drop (place + 1) self.now) }
+            ≡ component ((get_or self.now place c).level + 1) 0 0 name.now
+            (drop (place + 1) self.now) }
         ensures within { IfSome result (λ m. place + 1 + m.place < 2 ^ 64) }
     {
         let behind = behind(self.cells.as_slice(), place + 1);

@@ -2,7 +2,7 @@ ghost use Rattle.std.specs.Prelude.{◌≡◌, ◌≤◌, ◌<◌, ◌^◌, ◌/
 ghost use Rattle.std.specs.List.{slice_get};
 ghost use Rattle.stl_ast.specs.declared.blocks.Block.{Block};
 ghost use Rattle.block_layout.specs.Types.{Types};
-ghost use Rattle.std.specs.Option.{option_copied};
+ghost use Rattle.std.specs.Option.{option_copied, option_map};
 ghost use Rattle.stl_ast.specs.Blocks.{is_parameter};
 ghost use Rattle.stl_ast.specs.Statements.{is_empty};
 ghost use Rattle.block_layout.specs.Blocks.{
@@ -13,7 +13,8 @@ ghost use Rattle.block_layout.specs.Blocks.{
   is_function_block,
   is_organization_block,
 };
-ghost use Rattle.block_layout.specs.Cells.{components_of, temps_of};
+ghost use Rattle.block_layout.specs.Cells.{temps_of};
+ghost use Rattle.block_layout.specs.Facts.{outline_of};
 ghost use Rattle.block_layout.specs.Lengths.{
   actuals_end,
   farthest,
@@ -35,6 +36,7 @@ ghost use Rattle.block_layout.specs.Sizes.{structure_bits};
 use crate::blocks::Shape;
 use crate::cells::LARGEST;
 use crate::layouts::Layout;
+use crate::outlines::Outline;
 use crate::types::Types;
 use plc_base::BlockKind;
 use std::alloc::{AllocError, Global};
@@ -140,7 +142,8 @@ fn least_local(kind: BlockKind) -> u64
 /// The length of the local data of a block, with these temporary variables.
 #[tactic(auto, unfolding(crate::specs::Lengths::local_len, crate::specs::Sizes::up))]
 pub(crate) fn local_len(block: &Block, temps: &Layout) -> u64
-    ensures value { (y : Types) → temps.now ≡ temps_of y block.now → result ≡ local_len y block.now }
+    ensures value { (y : Types)
+        → temps.now ≡ temps_of y block.now → result ≡ local_len y block.now }
     ensures near { result < 2 ^ 32 }
 {
     match block.kind {
@@ -158,21 +161,22 @@ fn is_structured(kind: BlockKind) -> bool
     matches!(kind, BlockKind::Db | BlockKind::Fb | BlockKind::Udt)
 }
 
-fn bits_at(components: &[Layout], place: usize) -> u64
-    ensures value { result ≡ bits_of_cells (slice_get components.now place) }
+fn bits_at(outlines: &[Outline], place: usize) -> u64
+    ensures value { result
+        ≡ bits_of_cells (option_map (λ o. o.components) (slice_get outlines.now place)) }
     ensures near { result ≤ LARGEST }
 {
-    match components.get(place) {
-        Some(layout) => layout.bits(),
+    match outlines.get(place) {
+        Some(outline) => outline.components.bits(),
         None => 0,
     }
 }
 
-/// The length of the structure of the block at a place, by the components of all blocks.
+/// The length of the structure of the block at a place, by the declarations of all blocks.
 #[tactic(auto, unfolding(crate::specs::Lengths::length_of), using(crate::proofs::LengthLemmas::bits_there))]
-pub(crate) fn length_of(block: &Block, place: usize, shape: Shape, components: &[Layout]) -> u64
+pub(crate) fn length_of(block: &Block, place: usize, shape: Shape, outlines: &[Outline]) -> u64
     ensures value { (y : Types) (blocks : List Block)
-        → components.now ≡ map (components_of y) blocks → slice_get blocks place ≡ Some block.now
+        → outlines.now ≡ map (outline_of y) blocks → slice_get blocks place ≡ Some block.now
         → shape ≡ shape_of y block.now → result ≡ length_of y blocks block.now }
     ensures near { result < 2 ^ 32 }
 {
@@ -180,44 +184,44 @@ pub(crate) fn length_of(block: &Block, place: usize, shape: Shape, components: &
         return 0;
     }
     match shape {
-        Shape::Own => bits_at(components, place) / 8,
-        Shape::Of { block } => bits_at(components, block) / 8,
+        Shape::Own => bits_at(outlines, place) / 8,
+        Shape::Of { block } => bits_at(outlines, block) / 8,
         Shape::Unknown => 0,
     }
 }
 
-/// The lengths of the local data of all blocks, by their temporary variables.
+/// The lengths of the local data of all blocks, by their declarations.
 pub(crate) fn local_lens(
     alloc: Global,
     types: &Types,
     blocks: &[Block],
-    temps: &[Layout],
+    outlines: &[Outline],
 ) -> Result<Vec<u64>, AllocError>
-    requires { temps.now ≡ map (temps_of types.now) blocks.now }
+    requires { outlines.now ≡ map (outline_of types.now) blocks.now }
     ensures { IfOk result (λ v. v.items ≡ map (local_len types.now) blocks.now) }
 {
     let mut lens = Vec::with_capacity(alloc, blocks.len())?;
     for i in 0..blocks.len() {
-        lens.push(local_len(&blocks[i], &temps[i]))?;
+        lens.push(local_len(&blocks[i], &outlines[i].temps))?;
     }
     Ok(lens)
 }
 
-/// The lengths of the structures of all blocks, by their components.
+/// The lengths of the structures of all blocks, by their declarations.
 pub(crate) fn all_lengths(
     alloc: Global,
     types: &Types,
     blocks: &[Block],
-    components: &[Layout],
+    outlines: &[Outline],
 ) -> Result<Vec<u64>, AllocError>
-    requires { components.now ≡ map (components_of types.now) blocks.now }
+    requires { outlines.now ≡ map (outline_of types.now) blocks.now }
     ensures { IfOk result (λ v. v.items ≡ map (length_of types.now blocks.now) blocks.now) }
 {
     let mut lens = Vec::with_capacity(alloc, blocks.len())?;
     for i in 0..blocks.len() {
         let block = &blocks[i];
         let shape = shape_of(types, block);
-        lens.push(length_of(block, i, shape, components))?;
+        lens.push(length_of(block, i, shape, outlines))?;
     }
     Ok(lens)
 }

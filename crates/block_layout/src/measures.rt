@@ -32,7 +32,7 @@ use stl_ast::{Block, PartKind};
 use stl_symbols::Symbols;
 
 /// How many rounds settle the data types of a source.
-const ROUNDS: u32 = 9;
+pub(crate) const ROUNDS: u32 = 9;
 
 /// The deepest place of a structure with these components.
 #[tactic(auto, using(crate::proofs::MeasureLemmas::reaches_floor))]

@@ -1,6 +1,6 @@
 ghost use Rattle.std.specs.Prelude.{◌≡◌, IfOk, map};
 ghost use Rattle.stl_symbols.specs.Least.{least};
-ghost use Rattle.block_layout.specs.Cells.{components_of, temps_of};
+ghost use Rattle.block_layout.specs.Facts.{outline_of};
 ghost use Rattle.block_layout.specs.Rule21.{rule_21};
 ghost use Rattle.block_layout.specs.Rule56.{rule_56};
 
@@ -12,12 +12,18 @@ use std::alloc::{AllocError, Global};
 use stl_ast::Block;
 use stl_symbols::lesser;
 
+/// The declarations of a block, laid out.
+#[derive(Drop)]
+pub(crate) struct Outline {
+    pub(crate) components: Layout,
+    pub(crate) temps: Layout,
+}
+
 /// The declarations of all blocks, laid out, and the least refusals by names that stand twice and by
 /// types nested too deep.
 #[derive(Drop)]
 pub(crate) struct Outlines {
-    pub(crate) components: Vec<Layout>,
-    pub(crate) temps: Vec<Layout>,
+    pub(crate) list: Vec<Outline>,
     pub(crate) twice: Option<Refusal>,
     pub(crate) deep: Option<Refusal>,
 }
@@ -29,14 +35,11 @@ pub(crate) fn outline_all(
     types: &Types,
     blocks: &[Block],
 ) -> Result<Outlines, AllocError>
-    ensures components { IfOk result (λ o. o.components.items
-        ≡ map (components_of types.now) blocks.now) }
-    ensures temps { IfOk result (λ o. o.temps.items ≡ map (temps_of types.now) blocks.now) }
+    ensures list { IfOk result (λ o. o.list.items ≡ map (outline_of types.now) blocks.now) }
     ensures twice { IfOk result (λ o. o.twice ≡ least (rule_21 blocks.now)) }
     ensures deep { IfOk result (λ o. o.deep ≡ least (rule_56 types.now blocks.now)) }
 {
-    let mut components = Vec::with_capacity(alloc, blocks.len())?;
-    let mut temps = Vec::with_capacity(alloc, blocks.len())?;
+    let mut list = Vec::with_capacity(alloc, blocks.len())?;
     let mut twice = None;
     let mut deep = None;
     for block in blocks {
@@ -44,17 +47,14 @@ pub(crate) fn outline_all(
         twice = lesser(twice, made.twice);
         deep = lesser(deep, made.deep);
         let Declared {
-            components: own,
-            temps: temporary,
+            components,
+            temps,
             ..
         } = made;
-        components.push(Layout::new(alloc, own)?)?;
-        temps.push(Layout::new(alloc, temporary)?)?;
+        list.push(Outline {
+            components: Layout::new(alloc, components)?,
+            temps: Layout::new(alloc, temps)?,
+        })?;
     }
-    Ok(Outlines {
-        components,
-        temps,
-        twice,
-        deep,
-    })
+    Ok(Outlines { list, twice, deep })
 }

@@ -82,7 +82,8 @@ fn names_unknown(types: &Types, operand: &Operand) -> bool
 }
 
 fn unknown_in(types: &Types, operand: &Operand, line: u32) -> Option<Refusal>
-    ensures { result ≡ least (operand_23 types.now (record { line = line; operand = operand.now })) }
+    ensures { result
+        ≡ least (operand_23 types.now (record { line = line; operand = operand.now })) }
 {
     broken_if(names_unknown(types, operand), line, 23)
 }

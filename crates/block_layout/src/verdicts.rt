@@ -95,7 +95,8 @@ fn enter(
 ) -> Result<Verdict, AllocError>
     requires { declaration.now.level < length open_.old.items }
     ensures verdict { IfOk result (λ v. (f : Frame)
-        → v ≡ verdict_in types.now (get_or open_.old.items declaration.now.level f) declaration.now) }
+        → v ≡ verdict_in types.now (get_or open_.old.items declaration.now.level f)
+        declaration.now) }
     ensures lists { IfOk result (λ _. (f : Frame) → open_.new.items
         ≡ entered_by types.now open_.old.items
         (get_or open_.old.items declaration.now.level f) declaration.now) }

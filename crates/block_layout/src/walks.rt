@@ -68,7 +68,7 @@ pub enum Walk {
 }
 
 /// The declarations of a block that a path is in.
-fn layout_at(layouts: &[BlockLayout], block: usize, temporary: bool) -> Option<&Layout>
+pub(crate) fn layout_at(layouts: &[BlockLayout], block: usize, temporary: bool) -> Option<&Layout>
     ensures some { IfSome result (λ l. l.now ≡ cells_at layouts.now block temporary) }
     ensures none { IfNone result (cells_at layouts.now block temporary ≡ []) }
 {
@@ -133,7 +133,7 @@ fn found_at(
 
 /// A name in the outermost declarations of a block.
 #[tactic(auto, unfolding(crate::specs::Paths::outermost, crate::specs::Members::component))]
-fn outermost(
+pub(crate) fn outermost(
     layouts: &[BlockLayout],
     block: usize,
     temporary: bool,
@@ -153,7 +153,7 @@ fn outermost(
     }
 }
 
-fn is_used_up(cell: &Cell, depth: usize) -> bool
+pub(crate) fn is_used_up(cell: &Cell, depth: usize) -> bool
     ensures { result ≡ nat_eq depth (length cell.now.bounds) }
 {
     depth == cell.bounds.len()
@@ -206,7 +206,7 @@ fn named(layouts: &[BlockLayout], spot: Spot, name: &[u8]) -> Walk
     named_in(layouts, layout, spot, name, cell)
 }
 
-fn bounds_at(bounds: &[Bounds], depth: usize) -> Option<Bounds>
+pub(crate) fn bounds_at(bounds: &[Bounds], depth: usize) -> Option<Bounds>
     ensures value { result ≡ slice_get bounds.now depth }
     ensures within { IfSome result (λ _. depth < length bounds.now) }
 {
@@ -217,7 +217,7 @@ fn bounds_at(bounds: &[Bounds], depth: usize) -> Option<Bounds>
     }
 }
 
-fn bounds_behind(bounds: &[Bounds], depth: usize) -> &[Bounds]
+pub(crate) fn bounds_behind(bounds: &[Bounds], depth: usize) -> &[Bounds]
     requires { depth < length bounds.now }
     ensures { result.now ≡ drop (depth + 1) bounds.now }
 {
@@ -274,7 +274,7 @@ fn indexed(layouts: &[BlockLayout], spot: Spot, at: i32) -> Walk
 
 /// A step.
 #[tactic(auto, unfolding(crate::specs::Paths::step_of))]
-fn step(layouts: &[BlockLayout], spot: Spot, step: &PathStep) -> Walk
+pub(crate) fn step(layouts: &[BlockLayout], spot: Spot, step: &PathStep) -> Walk
     requires offset { spot.offset ≤ LARGEST }
     requires sound { IsSoundAt layouts.now spot }
     ensures value { result ≡ step_of layouts.now spot step.now }
@@ -306,7 +306,7 @@ fn walk_behind(layouts: &[BlockLayout], start: Spot, path: &[PathStep]) -> Walk
 
 /// Where a path leads from a component that was looked up.
 #[tactic(auto, using(crate::proofs::WalkLemmas::goes_to))]
-fn walk_on(layouts: &[BlockLayout], found: Walk, path: &[PathStep]) -> Walk
+pub(crate) fn walk_on(layouts: &[BlockLayout], found: Walk, path: &[PathStep]) -> Walk
     requires near { OffsetIsNear found }
     requires sound { ReachesSound layouts.now found }
     ensures value { result ≡ goes_on found (λ spot. walked layouts.now spot path.now) }

@@ -1,4 +1,4 @@
-use Rattle.std.proofs.Common.{ℕ, zero, suc, ◌≡◌, ◌≤◌, ◌<◌, ◌+◌, ◌*◌, ◌^◌, length, arith, rules}
+use Rattle.std.proofs.Common.{ℕ, zero, suc, ◌<◌, ◌*◌, ◌^◌, arith, rules}
 use Rattle.block_layout.proofs.constants.number_of.Goals as goal
 
 four_bytes : (n i : ℕ) → n < 256 ^ i → i < 4 → 256 * n < 2 ^ 32

@@ -1,4 +1,4 @@
-use Rattle.std.proofs.Common.{◌≡◌, drop, ◌<◌, ◌≤◌, ◌^◌, length}
+use Rattle.std.proofs.Common.{◌≡◌, drop, ◌<◌, ◌^◌}
 use Rattle.block_layout.specs.Fits.{number_from}
 use Rattle.block_layout.proofs.constants.number_of.Given as goal
 

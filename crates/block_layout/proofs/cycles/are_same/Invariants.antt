@@ -1,4 +1,4 @@
-use Rattle.std.proofs.Common.{◌≡◌, ◌<◌, ℕ, length, get_or, false}
+use Rattle.std.proofs.Common.{◌≡◌, ◌<◌, ℕ, get_or, false}
 use Rattle.block_layout.proofs.cycles.are_same.Given as goal
 
 abbrev pub invariant-loop-i : goal.invariant-loop-i

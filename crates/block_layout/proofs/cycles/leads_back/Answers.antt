@@ -1,4 +1,4 @@
-use Rattle.std.proofs.Common.{rules, arith, ◌≡◌, ◌≤◌, ◌+◌, ℕ, List, Bool, false, refl, sym, ◌∙◌, ap, length, get_or, subst}
+use Rattle.std.proofs.Common.{arith, ℕ, List, Bool, false, sym, ◌∙◌, ap, length, get_or, subst}
 use Rattle.block_layout.specs.Cycles.{IsReached}
 use Rattle.block_layout.specs.Rule43.{leads_to}
 use Rattle.block_layout.proofs.CycleLemmas.{reached_next, settled}

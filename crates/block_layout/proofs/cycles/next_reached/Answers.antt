@@ -1,4 +1,4 @@
-use Rattle.std.proofs.Common.{rules, arith, ◌≡◌, ◌++◌, ◌||◌, [], ◌∷◌, List, Bool, false, ap, nat_eq, get_or, ◌∙◌}
+use Rattle.std.proofs.Common.{rules, ◌≡◌, ◌++◌, ◌||◌, [], ◌∷◌, Bool, false, ap, nat_eq, get_or, ◌∙◌}
 use Rattle.std.specs.List.{list_any}
 use Rattle.block_layout.proofs.CycleLemmas.{map_next}
 use Rattle.block_layout.proofs.cycles.next_reached.Goals as goal

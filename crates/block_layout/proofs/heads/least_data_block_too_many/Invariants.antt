@@ -1,4 +1,4 @@
-use Rattle.std.proofs.Common.{◌≡◌, ◌≤◌, List, ◌∷◌, drop, length, false}
+use Rattle.std.proofs.Common.{◌≡◌, ◌≤◌, List, ◌∷◌, drop, false}
 use Rattle.stl_ast.specs.declared.blocks.Block.{Block}
 use Rattle.stl_symbols.specs.Gathered.{gathered}
 use Rattle.stl_symbols.specs.Least.{broken_if, least, lesser}

@@ -1,4 +1,4 @@
-use Rattle.std.proofs.Common.{rules, List, ◌≡◌, sym, ◌∙◌, ap}
+use Rattle.std.proofs.Common.{rules, List, sym, ◌∙◌, ap}
 use Rattle.plc_base.specs.declared.refusals.Refusal.{Refusal}
 use Rattle.stl_symbols.specs.Least.{broken_if, least}
 use Rattle.block_layout.specs.Rule52.{has_too_many_parameters, rule_52}

@@ -1,4 +1,4 @@
-use Rattle.std.proofs.Common.{rules, List, ◌≡◌, sym, ◌∙◌, ap}
+use Rattle.std.proofs.Common.{rules, List, sym, ◌∙◌, ap}
 use Rattle.plc_base.specs.declared.refusals.Refusal.{Refusal}
 use Rattle.stl_symbols.specs.Least.{broken_if, least}
 use Rattle.block_layout.specs.Rule44.{has_wrong_number, rule_44}

@@ -1,6 +1,6 @@
-use Rattle.std.proofs.Common.{◌≡◌, rules, arith, refl, sym, ◌∙◌, ap, subst, length, ◌<◌, ◌≤◌, ◌+◌, ℕ, List}
+use Rattle.std.proofs.Common.{rules, arith, ◌<◌}
 use Rattle.block_layout.proofs.SizeLemmas.{size_within}
-use Rattle.block_layout.proofs.ScopeLemmas.{FirstScopes, behind_elements, scopes_next}
+use Rattle.block_layout.proofs.ScopeLemmas.{behind_elements, scopes_next}
 use Rattle.block_layout.proofs.layouts.scopes.Goals as goal
 
 pub numbers_behind-requires : goal.numbers_behind-requires

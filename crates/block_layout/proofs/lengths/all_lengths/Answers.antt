@@ -1,4 +1,4 @@
-use Rattle.std.proofs.Common.{rules, arith, ◌≡◌, ◌++◌, [], ◌∷◌, List, ℕ, sym, ◌∙◌, ap}
+use Rattle.std.proofs.Common.{rules, ◌≡◌, ◌++◌, [], ◌∷◌, ℕ, ◌∙◌, ap}
 use Rattle.block_layout.specs.Lengths.{length_of}
 use Rattle.block_layout.proofs.CycleLemmas.{map_next}
 use Rattle.block_layout.proofs.LengthLemmas.{block_there}

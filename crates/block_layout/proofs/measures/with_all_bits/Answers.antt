@@ -1,4 +1,4 @@
-use Rattle.std.proofs.Common.{rules, ◌≡◌, arith}
+use Rattle.std.proofs.Common.{arith}
 use Rattle.block_layout.proofs.MeasureLemmas.{bits_step, bits_done}
 use Rattle.block_layout.proofs.measures.with_all_bits.Goals as goal
 

@@ -1,4 +1,4 @@
-use Rattle.std.proofs.Common.{rules, ◌≡◌, arith}
+use Rattle.std.proofs.Common.{arith}
 use Rattle.block_layout.proofs.MeasureLemmas.{depths_step, depths_done}
 use Rattle.block_layout.proofs.measures.with_all_depths.Goals as goal
 

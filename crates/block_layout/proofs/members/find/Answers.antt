@@ -1,8 +1,4 @@
-use Rattle.std.proofs.Common.{◌≡◌, rules, ◌∙◌, sym, ap, Option, Some, None, ℕ, arith}
-use Rattle.std.proofs.Common.{List, subst, length, ◌<◌}
-use Rattle.std.specs.Option.{IfSome}
-use Rattle.std.specs.List.{slice_get}
-use Rattle.block_layout.specs.declared.members.Member.{Member}
+use Rattle.std.proofs.Common.{rules, arith}
 use Rattle.block_layout.proofs.MemberLemmas.{component_is, found_is, within_is}
 use Rattle.block_layout.proofs.members.find.Goals as goal
 

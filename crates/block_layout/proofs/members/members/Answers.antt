@@ -1,4 +1,4 @@
-use Rattle.std.proofs.Common.{◌≡◌, rules, refl, ◌∙◌}
+use Rattle.std.proofs.Common.{refl, ◌∙◌}
 use Rattle.block_layout.proofs.MemberLemmas.{names_next, members_next, names_lower, members_lower, names_done, members_done}
 use Rattle.block_layout.proofs.members.members.Goals as goal
 

@@ -2,15 +2,14 @@ use Rattle.std.proofs.Common.{◌≡◌, drop, ◌++◌, map}
 use Rattle.std.specs.List.{flat_map}
 use Rattle.stl_symbols.specs.Least.{least, lesser}
 use Rattle.block_layout.specs.Around.{in_block}
-use Rattle.block_layout.specs.Cells.{components_of, temps_of}
+use Rattle.block_layout.specs.Facts.{outline_of}
 use Rattle.block_layout.specs.Rule21.{broken_21}
 use Rattle.block_layout.specs.Rule56.{broken_56}
 use Rattle.block_layout.proofs.outlines.outline_all.Given as goal
 
 abbrev pub invariant-loop-block : goal.invariant-loop-block
 invariant-loop-block l = record {
-  components : l.components.items ++ map (components_of l.types) (drop l.block-index l.blocks) ≡ map (components_of l.types) l.blocks;
-  temps : l.temps.items ++ map (temps_of l.types) (drop l.block-index l.blocks) ≡ map (temps_of l.types) l.blocks;
+  list : l.list.items ++ map (outline_of l.types) (drop l.block-index l.blocks) ≡ map (outline_of l.types) l.blocks;
   twice : lesser l.twice (least (flat_map (in_block broken_21) (drop l.block-index l.blocks))) ≡ least (flat_map (in_block broken_21) l.blocks);
   deep : lesser l.deep (least (flat_map (in_block (broken_56 l.types)) (drop l.block-index l.blocks))) ≡ least (flat_map (in_block (broken_56 l.types)) l.blocks);
 }

@@ -1,9 +1,4 @@
-use Rattle.std.proofs.Common.{rules, ◌≡◌, refl, sym, ◌∙◌, ap, List, Option}
-use Rattle.stl_ast.specs.declared.declarations.Declaration.{Declaration}
-use Rattle.plc_base.specs.declared.refusals.Refusal.{Refusal}
-use Rattle.stl_symbols.specs.Least.{least, lesser}
-use Rattle.block_layout.specs.declared.verdicts.Verdict.{Verdict}
-use Rattle.block_layout.specs.Verdicts.{by_verdicts, cells_by, deep_by, twice_by}
+use Rattle.std.proofs.Common.{refl}
 use Rattle.block_layout.proofs.SectionLemmas.{declared_all}
 use Rattle.block_layout.proofs.sections.declarations_of.Goals as goal
 

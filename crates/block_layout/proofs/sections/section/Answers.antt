@@ -1,4 +1,4 @@
-use Rattle.std.proofs.Common.{rules, ◌≡◌, sym, ◌∙◌, ap, List, Option}
+use Rattle.std.proofs.Common.{sym, ◌∙◌, ap, List, Option}
 use Rattle.plc_base.specs.declared.refusals.Refusal.{Refusal}
 use Rattle.stl_symbols.specs.Least.{least, lesser}
 use Rattle.block_layout.specs.declared.verdicts.Verdict.{Verdict}

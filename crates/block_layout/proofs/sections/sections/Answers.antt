@@ -1,6 +1,6 @@
-use Rattle.std.proofs.Common.{rules, ◌≡◌, ◌++◌, ◌+◌, refl, sym, ◌∙◌, ap, drop, List}
+use Rattle.std.proofs.Common.{rules, ◌+◌, refl, sym, ◌∙◌, ap, drop, List}
 use Rattle.stl_ast.specs.declared.blocks.Part.{Part}
-use Rattle.block_layout.proofs.SectionLemmas.{Left, first_left, left_at, left_next, left_done, parts_split, parts_none}
+use Rattle.block_layout.proofs.SectionLemmas.{first_left, left_at, left_next, left_done, parts_split, parts_none}
 use Rattle.block_layout.proofs.sections.sections.Goals as goal
 
 pub loop-part-init : goal.loop-part-init

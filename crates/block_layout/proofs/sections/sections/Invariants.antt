@@ -1,4 +1,4 @@
-use Rattle.std.proofs.Common.{◌≡◌, ◌<◌, drop, length}
+use Rattle.std.proofs.Common.{◌<◌, drop, length}
 use Rattle.block_layout.proofs.SectionLemmas.{Left}
 use Rattle.block_layout.proofs.sections.sections.Given as goal
 

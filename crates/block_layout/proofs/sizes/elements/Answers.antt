@@ -1,8 +1,6 @@
-use Rattle.std.proofs.Common.{◌≡◌, rules, arith, length, ℕ, ◌-◌, ◌+◌, ◌<◌, sym, ◌∙◌, ap, subst, drop, List}
+use Rattle.std.proofs.Common.{◌≡◌, arith, ◌-◌, ◌+◌}
 use Rattle.std.proofs.lemmas.Grind.{common_steps}
-use Rattle.stl_ast.specs.declared.declarations.Bounds.{Bounds}
-use Rattle.block_layout.specs.declared.cells.Cell.{Cell}
-use Rattle.block_layout.specs.Sizes.{element_of, elements_of}
+use Rattle.block_layout.specs.Sizes.{element_of}
 use Rattle.block_layout.proofs.SizeLemmas.{elements_next}
 use Rattle.block_layout.proofs.sizes.elements.Goals as goal
 

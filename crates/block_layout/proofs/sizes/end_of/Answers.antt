@@ -1,4 +1,3 @@
-use Rattle.std.proofs.Common.{◌≡◌, rules}
 use Rattle.block_layout.proofs.SizeLemmas.{end_next, end_done}
 use Rattle.block_layout.proofs.sizes.end_of.Goals as goal
 

@@ -1,4 +1,4 @@
-use Rattle.std.proofs.Common.{rules, ◌≡◌, refl}
+use Rattle.std.proofs.Common.{rules, refl}
 use Rattle.block_layout.proofs.VerdictLemmas.{fits_open, outline_next, judged_next, judged_done}
 use Rattle.block_layout.proofs.verdicts.judge_all.Goals as goal
 

@@ -1,4 +1,4 @@
-use Rattle.std.proofs.Common.{◌≡◌, ◌<◌, ◌≤◌, drop, ◌++◌, List, ℕ, length, ◌+◌}
+use Rattle.std.proofs.Common.{◌≡◌, ◌<◌, drop, ◌++◌, List, ℕ, length}
 use Rattle.stl_ast.specs.declared.declarations.Declaration.{Declaration}
 use Rattle.stl_ast.specs.Outline.{IsOutline}
 use Rattle.block_layout.specs.Around.{Outside, onto}

@@ -1,4 +1,4 @@
-use Rattle.std.proofs.Common.{rules, ◌≡◌, refl}
+use Rattle.std.proofs.Common.{refl}
 use Rattle.stl_symbols.proofs.LeastLemmas.{lesser_first}
 use Rattle.block_layout.specs.Verdicts.{twice_by}
 use Rattle.block_layout.proofs.CellLemmas.{by_verdicts_next, by_verdicts_done}

@@ -1,4 +1,3 @@
-use Rattle.std.proofs.Common.{rules, ◌≡◌, sym}
 use Rattle.block_layout.proofs.PathLemmas.{named_structure}
 use Rattle.block_layout.proofs.walks.named_in.Goals as goal
 

@@ -1,4 +1,3 @@
-use Rattle.std.proofs.Common.{rules, ◌≡◌}
 use Rattle.block_layout.proofs.WalkLemmas.{walk_next, step_sound}
 use Rattle.block_layout.proofs.walks.walk_behind.Goals as goal
 

@@ -1,4 +1,4 @@
-use Rattle.std.proofs.Common.{◌≡◌, rules, arith, refl, sym, ◌∙◌, ap, length, ◌<◌}
+use Rattle.std.proofs.Common.{rules, sym}
 use Rattle.block_layout.proofs.SizeLemmas.{elements_value, elements_near, elements_within}
 use Rattle.block_layout.proofs.layouts.Layout.element_at.Goals as goal
 

@@ -1,4 +1,4 @@
-use Rattle.std.proofs.Common.{◌≡◌, rules, arith, refl, sym, ◌∙◌, ap, subst, true, length, get_or, Some, ◌<◌, ◌+◌, List, drop}
+use Rattle.std.proofs.Common.{◌≡◌, arith, sym, ◌∙◌, ap, subst, true, length, get_or, ◌<◌, ◌+◌, List, drop}
 use Rattle.block_layout.specs.declared.cells.Cell.{Cell}
 use Rattle.block_layout.proofs.PathLemmas.{members_from}
 use Rattle.block_layout.proofs.layouts.Layout.inner.Goals as goal

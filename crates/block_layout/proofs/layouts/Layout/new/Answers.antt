@@ -1,4 +1,4 @@
-use Rattle.std.proofs.Common.{◌≡◌, sym, ◌∙◌, ap, subst, length, List, ℕ}
+use Rattle.std.proofs.Common.{◌∙◌, ap, subst, length, List}
 use Rattle.block_layout.specs.declared.cells.Cell.{Cell}
 use Rattle.block_layout.specs.Members.{names_of, members_of}
 use Rattle.block_layout.specs.Sizes.{elements_of, structure_bits}

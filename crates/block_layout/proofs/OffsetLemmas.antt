@@ -1,0 +1,215 @@
+-- Where components lie: the least places, and no others.
+use Rattle.std.proofs.Common.{ℕ, zero, suc, ◌≡◌, ◌<◌, ◌≤◌, ◌+◌, ◌⊎◌, inl, inr, ⊎_elim, List, [], ◌∷◌, ◌++◌, Some, Bool, true, false, ◌&&◌, nat_eq, nat_lt, refl, sym, ◌∙◌, ap, subst, arith, length, drop, map, add-one, if◌then◌else◌}
+use Rattle.std.proofs.lemmas.Bool.{cases_Bool}
+use Rattle.std.specs.List.{filter, slice_get}
+use Rattle.stl_ast.specs.declared.declarations.Simple.TheVariants as simple
+use Rattle.block_layout.specs.declared.cells.Cell.{Cell}
+use Rattle.block_layout.specs.declared.cells.Element.{Element}
+use Rattle.block_layout.specs.declared.cells.Element.TheVariants.{Plain, Structure, DateAndTime, Udt, Unknown}
+use Rattle.block_layout.specs.declared.cells.TheConstants.{LARGEST}
+use Rattle.block_layout.specs.declared.members.Member.{Member}
+use Rattle.block_layout.specs.Members.{members_of}
+use Rattle.block_layout.specs.Places.{AreOffsets, IsLeastPlace, Sibling, is_sound_cell, siblings, sound_offsets}
+use Rattle.block_layout.specs.Sizes.{alignment, capped, cell_bits, element_alignment, element_of, end_of, stepped, up}
+
+-- a place that is the least is one alone
+same_place : (end align p q : ℕ) → IsLeastPlace end align p → IsLeastPlace end align q → p ≡ q
+same_place end align p q a b = let le = a.least q b.behind b.meets in let ge = b.least p a.behind a.meets in omega arith
+
+one_places : (end : ℕ) (ss : List Sibling) (ps qs : List ℕ) → AreOffsets end ss ps → AreOffsets end ss qs → ps ≡ qs
+one_places end [] [] [] a b = refl
+one_places end [] [] (q ∷ qs) a b = absurd b
+one_places end [] (p ∷ ps) qs a b = absurd a
+one_places end (s ∷ ss) [] qs a b = absurd a
+one_places end (s ∷ ss) (p ∷ ps) [] a b = absurd b
+one_places end (s ∷ ss) (p ∷ ps) (q ∷ qs) a b =
+    let here : p ≡ q = same_place end s.align p q a.0 b.0 in
+    ap (λ (n : ℕ). n ∷ ps) here
+    ∙ ap (λ (l : List ℕ). q ∷ l) (one_places (q + s.bits) ss ps qs (subst (λ (n : ℕ). AreOffsets (n + s.bits) ss ps) here a.1) b.1)
+
+-- the alignments that there are
+abbrev IsAlignment : ℕ → Type 0
+IsAlignment n = (n ≡ 1) ⊎ ((n ≡ 8) ⊎ (n ≡ 16))
+
+element_aligned : (e : Element) → IsAlignment (element_alignment e)
+element_aligned (Plain simple.Bool) = inl refl
+element_aligned (Plain simple.Byte) = inr (inl refl)
+element_aligned (Plain simple.Char) = inr (inl refl)
+element_aligned (Plain simple.Word) = inr (inr refl)
+element_aligned (Plain simple.Int) = inr (inr refl)
+element_aligned (Plain simple.S5time) = inr (inr refl)
+element_aligned (Plain simple.Dword) = inr (inr refl)
+element_aligned (Plain simple.Dint) = inr (inr refl)
+element_aligned (Plain simple.Time) = inr (inr refl)
+element_aligned Structure = inr (inr refl)
+element_aligned DateAndTime = inr (inr refl)
+element_aligned (Udt block bits) = inr (inr refl)
+element_aligned Unknown = inr (inr refl)
+
+or_even : (opens one : Bool) (n : ℕ) → IsAlignment n → IsAlignment (if opens then 16 else if one then n else 16)
+or_even true one n h = inr (inr refl)
+or_even false true n h = h
+or_even false false n h = inr (inr refl)
+
+aligned : (c : Cell) → IsAlignment (alignment c)
+aligned c = or_even c.opens (nat_eq (length c.bounds) 0) (element_alignment c.of) (element_aligned c.of)
+
+least_1 : (n : ℕ) → IsLeastPlace n 1 (up n 1)
+unfolding up
+least_1 n = record { behind = omega arith; meets = omega arith; least = λ m at meets. omega arith }
+
+least_8 : (n : ℕ) → IsLeastPlace n 8 (up n 8)
+unfolding up
+least_8 n = record { behind = omega arith; meets = omega arith; least = λ m at meets. omega arith }
+
+least_16 : (n : ℕ) → IsLeastPlace n 16 (up n 16)
+unfolding up
+least_16 n = record { behind = omega arith; meets = omega arith; least = λ m at meets. omega arith }
+
+up_is_least : (n align : ℕ) → IsAlignment align → IsLeastPlace n align (up n align)
+up_is_least n align h =
+    ⊎_elim
+    (λ one. subst (λ (a : ℕ). IsLeastPlace n a (up n a)) (sym one) (least_1 n))
+    (λ more. ⊎_elim
+    (λ eight. subst (λ (a : ℕ). IsLeastPlace n a (up n a)) (sym eight) (least_8 n))
+    (λ sixteen. subst (λ (a : ℕ). IsLeastPlace n a (up n a)) (sym sixteen) (least_16 n))
+    more)
+    h
+
+here_least : (n : ℕ) (c : Cell) → IsLeastPlace n (alignment c) (up n (alignment c))
+here_least n c = up_is_least n (alignment c) (aligned c)
+
+-- the end of components is no lower than where they begin
+pub record Grows (at next : ℕ) : Type 0 where
+  pub above : at ≤ next
+  pub near : next ≤ LARGEST
+
+grows_by : (here sound : Bool) (at first bits : ℕ) → at ≤ LARGEST → at ≤ first → Grows at (if here then if sound then capped (first + bits) else at else at)
+grows_by true true at first bits near past_ = record { above = omega arith; near = omega arith }
+grows_by true false at first bits near past_ = record { above = omega arith; near = near }
+grows_by false sound at first bits near past_ = record { above = omega arith; near = near }
+
+step_grows : (level at : ℕ) (c : Cell) (bits : ℕ) → at ≤ LARGEST → Grows at (stepped level at c bits)
+step_grows level at c bits near = grows_by (nat_eq c.level level) c.sound at (up at (alignment c)) bits near (here_least at c).behind
+
+end_step : (level at : ℕ) (c : Cell) (cs : List Cell) → nat_lt c.level level ≡ false → end_of level at (c ∷ cs) ≡ end_of level (stepped level at c (cell_bits c cs)) cs
+unfolding end_of element_of
+end_step level at c cs stays = rw stays refl
+
+end_stop : (level at : ℕ) (c : Cell) (cs : List Cell) → nat_lt c.level level ≡ true → end_of level at (c ∷ cs) ≡ at
+unfolding end_of
+end_stop level at c cs lower = rw lower refl
+
+end_none : (level at : ℕ) → end_of level at [] ≡ at
+unfolding end_of
+end_none level at = refl
+
+end_grows : (level at : ℕ) (cells : List Cell) → at ≤ LARGEST → at ≤ end_of level at cells
+end_grows level at [] near = let none = end_none level at in omega arith
+end_grows level at (c ∷ cs) near =
+    ⊎_elim
+    (λ lower. let stop = end_stop level at c cs lower in omega arith)
+    (λ stays.
+    let step = end_step level at c cs stays in
+    let grows = step_grows level at c (cell_bits c cs) near in
+    let later = end_grows level (stepped level at c (cell_bits c cs)) cs grows.near in
+    omega (arith, step, grows.above, later))
+    (cases_Bool (nat_lt c.level level))
+
+-- the offsets of the sound components, one behind the other
+abbrev offsets_from : (level at : ℕ) → List Cell → List ℕ
+offsets_from level at [] = []
+offsets_from level at (c ∷ cs) =
+    if nat_lt c.level level then []
+    else (if c.sound && nat_eq c.level level then up at (alignment c) ∷ [] else []) ++ offsets_from level (stepped level at c (cell_bits c cs)) cs
+
+step_here : (level at : ℕ) (c : Cell) (bits : ℕ) → (c.sound && nat_eq c.level level) ≡ true → stepped level at c bits ≡ capped (up at (alignment c) + bits)
+step_here level at c bits here = by_tests c.sound (nat_eq c.level level) here where
+  by_tests : (sound same : Bool) → (sound && same) ≡ true → (if same then if sound then capped (up at (alignment c) + bits) else at else at) ≡ capped (up at (alignment c) + bits)
+  by_tests true true h = refl
+  by_tests true false h = cc
+  by_tests false same h = cc
+
+step_stays : (level at : ℕ) (c : Cell) (bits : ℕ) → (c.sound && nat_eq c.level level) ≡ false → stepped level at c bits ≡ at
+step_stays level at c bits other = by_tests c.sound (nat_eq c.level level) other where
+  by_tests : (sound same : Bool) → (sound && same) ≡ false → (if same then if sound then capped (up at (alignment c) + bits) else at else at) ≡ at
+  by_tests true true h = cc
+  by_tests true false h = refl
+  by_tests false true h = refl
+  by_tests false false h = refl
+
+-- the first of those that are left, and those behind it
+from_here : (level at : ℕ) (c : Cell) (cs : List Cell) (next : ℕ) → (c.sound && nat_eq c.level level) ≡ true → nat_lt c.level level ≡ false → next ≡ up at (alignment c) + cell_bits c cs →
+    stepped level at c (cell_bits c cs) ≡ next → AreOffsets next (siblings level cs) (offsets_from level next cs) → AreOffsets at (siblings level (c ∷ cs)) (offsets_from level at (c ∷ cs))
+from_here level at c cs next here stays is_next is_step later =
+    rw stays (rw here (rw is_step (here_least at c, subst (λ (n : ℕ). AreOffsets n (siblings level cs) (offsets_from level next cs)) is_next later)))
+
+from_there : (level at : ℕ) (c : Cell) (cs : List Cell) → (c.sound && nat_eq c.level level) ≡ false → nat_lt c.level level ≡ false →
+    stepped level at c (cell_bits c cs) ≡ at → AreOffsets at (siblings level cs) (offsets_from level at cs) → AreOffsets at (siblings level (c ∷ cs)) (offsets_from level at (c ∷ cs))
+from_there level at c cs other stays is_step later = rw stays (rw other (rw is_step later))
+
+are_from : (level at : ℕ) (cells : List Cell) → at ≤ LARGEST → end_of level at cells < LARGEST → AreOffsets at (siblings level cells) (offsets_from level at cells)
+are_from level at [] near short = tt
+are_from level at (c ∷ cs) near short =
+    ⊎_elim
+    (λ lower. rw lower tt)
+    (λ stays.
+    let next = stepped level at c (cell_bits c cs) in
+    let grows = step_grows level at c (cell_bits c cs) near in
+    let ends : end_of level next cs < LARGEST = subst (λ (n : ℕ). n < LARGEST) (end_step level at c cs stays) short in
+    let later = are_from level next cs grows.near ends in
+    ⊎_elim
+    (λ here.
+    let below = end_grows level next cs grows.near in
+    let is = step_here level at c (cell_bits c cs) here in
+    let whole : next ≡ up at (alignment c) + cell_bits c cs = omega (arith, is, below, ends) in
+    from_here level at c cs next here stays whole refl later)
+    (λ other.
+    let is = step_stays level at c (cell_bits c cs) other in
+    from_there level at c cs other stays is (subst (λ (n : ℕ). AreOffsets n (siblings level cs) (offsets_from level n cs)) is later))
+    (cases_Bool (c.sound && nat_eq c.level level)))
+    (cases_Bool (nat_lt c.level level))
+
+-- the cell at a place, and those behind it
+at_place : (all : List Cell) (p : ℕ) (c : Cell) (cs : List Cell) → drop p all ≡ c ∷ cs → slice_get all p ≡ Some c
+at_place [] zero c cs e = cc
+at_place [] (suc p) c cs e = cc
+at_place (x ∷ xs) zero c cs e = cc
+at_place (x ∷ xs) (suc p) c cs e = at_place xs p c cs e
+
+behind_place : (all : List Cell) (p : ℕ) (c : Cell) (cs : List Cell) → drop p all ≡ c ∷ cs → drop (p + 1) all ≡ cs
+behind_place [] zero c cs e = cc
+behind_place [] (suc p) c cs e = cc
+behind_place (x ∷ xs) zero c cs e = cc
+behind_place (x ∷ xs) (suc p) c cs e = rw add-one (let h = behind_place xs p c cs e in rw add-one at h)
+
+abbrev sound_from : List Cell → List Member → List ℕ
+sound_from all ms = map (λ m. m.offset) (filter (λ m. is_sound_cell (slice_get all m.place)) ms)
+
+-- a member that is there by two tests
+one_sound : (all : List Cell) (c : Cell) (p offset : ℕ) (same sound : Bool) (ms : List Member) → slice_get all p ≡ Some c → c.sound ≡ sound →
+    sound_from all ((if same then record { place = p; offset = offset } ∷ [] else []) ++ ms) ≡ (if sound && same then offset ∷ [] else []) ++ sound_from all ms
+one_sound all c p offset true true ms there is = rw there (rw is refl)
+one_sound all c p offset true false ms there is = rw there (rw is refl)
+one_sound all c p offset false true ms there is = refl
+one_sound all c p offset false false ms there is = refl
+
+from_members : (all : List Cell) (level at p : ℕ) (cells : List Cell) → drop p all ≡ cells → sound_from all (members_of level at p cells) ≡ offsets_from level at cells
+unfolding members_of
+from_members all level at p [] e = refl
+from_members all level at p (c ∷ cs) e =
+    ⊎_elim
+    (λ lower. rw lower refl)
+    (λ stays.
+    rw stays
+    (one_sound all c p (up at (alignment c)) (nat_eq c.level level) c.sound (members_of level (stepped level at c (cell_bits c cs)) (p + 1) cs) (at_place all p c cs e) refl
+    ∙ ap (λ (l : List ℕ). (if c.sound && nat_eq c.level level then up at (alignment c) ∷ [] else []) ++ l)
+    (from_members all level (stepped level at c (cell_bits c cs)) (p + 1) cs (behind_place all p c cs e))))
+    (cases_Bool (nat_lt c.level level))
+
+pub offsets_are : (level : ℕ) (cells : List Cell) → end_of level 0 cells < LARGEST → AreOffsets 0 (siblings level cells) (sound_offsets level cells)
+offsets_are level cells short =
+    subst (λ (l : List ℕ). AreOffsets 0 (siblings level cells) l) (sym (from_members cells level 0 0 cells refl)) (are_from level 0 cells (omega arith) short)
+
+pub offsets_alone : (level : ℕ) (cells : List Cell) (places : List ℕ) → end_of level 0 cells < LARGEST → AreOffsets 0 (siblings level cells) places → places ≡ sound_offsets level cells
+offsets_alone level cells places short are = one_places 0 (siblings level cells) places (sound_offsets level cells) are (offsets_are level cells short)

@@ -1,0 +1,155 @@
+ghost use Rattle.std.specs.Prelude.{◌≡◌, ◌≤◌, Some};
+ghost use Rattle.std.specs.List.{slice_get};
+ghost use Rattle.block_layout.specs.Paths.{
+  IsSoundAt,
+  OffsetIsNear,
+  ReachesSound,
+  cells_at,
+  further,
+  is_beyond,
+  is_beyond_in,
+  is_judged,
+  leaves,
+  leaves_from,
+  leaves_judged,
+  leaves_local,
+  leaves_sections,
+  step_is_beyond,
+};
+
+use crate::blocks::BlockLayout;
+use crate::cells::{Cell, LARGEST};
+use crate::routes::{in_sections, walk_local};
+use crate::walks::{Spot, Walk, bounds_at, layout_at, outermost, step, walk_from};
+use stl_ast::{Bounds, PathStep};
+
+/// Whether an index is outside these bounds.
+pub(crate) fn is_beyond(bounds: &Bounds, at: i32) -> bool
+    ensures { result ≡ is_beyond bounds.now at }
+{
+    at < bounds.low || bounds.high < at
+}
+
+fn is_beyond_in(cell: &Cell, depth: usize, at: i32) -> bool
+    ensures { result ≡ is_beyond_in depth (Some cell.now) at }
+{
+    match bounds_at(cell.bounds.as_slice(), depth) {
+        None => false,
+        Some(bounds) => is_beyond(&bounds, at),
+    }
+}
+
+fn index_is_beyond(layouts: &[BlockLayout], spot: Spot, at: i32) -> bool
+    ensures { result ≡ is_beyond_in spot.depth
+        (slice_get (cells_at layouts.now spot.block spot.temporary) spot.place) at }
+{
+    let Some(layout) = layout_at(layouts, spot.block, spot.temporary) else {
+        return false;
+    };
+    match layout.cell_at(spot.place) {
+        None => false,
+        Some(cell) => is_beyond_in(cell, spot.depth, at),
+    }
+}
+
+fn step_is_beyond(layouts: &[BlockLayout], spot: Spot, step: &PathStep) -> bool
+    ensures { result ≡ step_is_beyond layouts.now spot step.now }
+{
+    match step {
+        PathStep::Named { .. } => false,
+        PathStep::Index { at } => index_is_beyond(layouts, spot, *at),
+    }
+}
+
+/// Whether an index of a path is outside its array, from a sound component on.
+#[tactic(auto, using(crate::proofs::WalkLemmas::step_sound))]
+fn leaves(layouts: &[BlockLayout], start: Spot, path: &[PathStep]) -> bool
+    requires offset { start.offset ≤ LARGEST }
+    requires sound { IsSoundAt layouts.now start }
+    ensures { result ≡ leaves layouts.now start path.now }
+{
+    let mut spot = start;
+    for next in path {
+        if step_is_beyond(layouts, spot, next) {
+            return true;
+        }
+        match step(layouts, spot, next) {
+            Walk::Reaches { spot: reached } => spot = reached,
+            _ => return false,
+        }
+    }
+    false
+}
+
+/// Whether a path leaves an array behind a component that was looked up.
+fn leaves_behind(layouts: &[BlockLayout], found: Walk, path: &[PathStep]) -> bool
+    requires near { OffsetIsNear found }
+    requires sound { ReachesSound layouts.now found }
+    ensures { result ≡ further found (λ spot. leaves layouts.now spot path.now) }
+{
+    match found {
+        Walk::Reaches { spot } => leaves(layouts, spot, path),
+        _ => false,
+    }
+}
+
+/// Whether a path in the outermost declarations of a block leaves an array.
+#[tactic(auto, using(crate::proofs::WalkLemmas::outermost_reaches))]
+pub(crate) fn leaves_from(
+    layouts: &[BlockLayout],
+    block: usize,
+    temporary: bool,
+    path: &[PathStep],
+) -> bool
+    ensures { result ≡ leaves_from layouts.now block temporary path.now }
+{
+    match path {
+        [PathStep::Named { name }, behind @ ..] => {
+            let found = outermost(layouts, block, temporary, 0, name.as_bytes());
+            leaves_behind(layouts, found, behind)
+        }
+        _ => false,
+    }
+}
+
+fn is_judged(walk: Walk) -> bool
+    ensures { result ≡ is_judged walk }
+{
+    !matches!(walk, Walk::Rests)
+}
+
+/// Whether a path leaves an array of the structure of a data block, where it is judged.
+pub(crate) fn leaves_judged(
+    layouts: &[BlockLayout],
+    structure: Option<usize>,
+    path: &[PathStep],
+) -> bool
+    ensures { result ≡ leaves_judged layouts.now structure path.now }
+{
+    match structure {
+        None => false,
+        Some(block) => {
+            is_judged(walk_from(layouts, block, false, path))
+                && leaves_from(layouts, block, false, path)
+        }
+    }
+}
+
+fn leaves_sections(layouts: &[BlockLayout], block: usize, name: &[u8], path: &[PathStep]) -> bool
+    ensures { result ≡ leaves_sections layouts.now block name.now path.now }
+{
+    let found = in_sections(layouts, block, name);
+    leaves_behind(layouts, found, path)
+}
+
+/// Whether a path in the body of a block leaves an array of its own variables, where it is judged.
+pub(crate) fn leaves_local(
+    layouts: &[BlockLayout],
+    block: usize,
+    name: &[u8],
+    path: &[PathStep],
+) -> bool
+    ensures { result ≡ leaves_local layouts.now block name.now path.now }
+{
+    is_judged(walk_local(layouts, block, name, path)) && leaves_sections(layouts, block, name, path)
+}

@@ -1,0 +1,136 @@
+ghost use Rattle.std.specs.Prelude.{◌≡◌, Some};
+ghost use Rattle.std.specs.Option.{option_and_then};
+ghost use Rattle.block_layout.specs.Blocks.{is_code, is_function_block};
+ghost use Rattle.block_layout.specs.Offsets.{component, offset_in, placed, reached, variable, width_of};
+ghost use Rattle.block_layout.specs.Paths.{if_whole};
+
+use crate::beyond::{leaves_from, leaves_judged};
+use crate::blocks::{BlockLayout, Section};
+use crate::heads::is_data_block;
+use crate::routes::{elementary_at, if_whole, structure_of, walk_data};
+use crate::walks::{Walk, walk_from};
+use plc_base::{Area, BlockId, BlockKind, Place, Width};
+use stl_ast::{PathStep, Simple};
+
+fn is_code(kind: BlockKind) -> bool
+    ensures { result ≡ is_code kind }
+{
+    matches!(kind, BlockKind::Ob | BlockKind::Fc | BlockKind::Fb)
+}
+
+fn is_function_block(kind: BlockKind) -> bool
+    ensures { result ≡ is_function_block kind }
+{
+    matches!(kind, BlockKind::Fb)
+}
+
+fn width_of(kind: Simple) -> Width
+    ensures { result ≡ width_of kind }
+{
+    match kind {
+        Simple::Bool => Width::Bit,
+        Simple::Byte | Simple::Char => Width::Byte,
+        Simple::Word | Simple::Int | Simple::S5time => Width::Word,
+        Simple::Dword | Simple::Dint | Simple::Time => Width::Dword,
+    }
+}
+
+/// The place so many bits from the start of an area or a data block.
+fn placed(area: Area, number: u16, bits: u64, kind: Simple) -> Option<(Place, Width)>
+    ensures { result ≡ placed area number bits (Some kind) }
+{
+    let byte = bits / 8;
+    if byte <= 65_535 {
+        let place = Place {
+            area,
+            number,
+            byte: byte as u16,
+            bit: (bits % 8) as u8,
+        };
+        Some((place, width_of(kind)))
+    } else {
+        None
+    }
+}
+
+fn reached(layouts: &[BlockLayout], area: Area, number: u16, walk: Walk) -> Option<(Place, Width)>
+    ensures { result ≡ reached layouts.now area number walk }
+{
+    match walk {
+        Walk::Reaches { spot } => {
+            let kind = elementary_at(layouts, spot)?;
+            placed(area, number, spot.offset, kind)
+        }
+        _ => None,
+    }
+}
+
+/// A component of a data block.
+fn component(
+    layouts: &[BlockLayout],
+    number: u16,
+    block: usize,
+    path: &[PathStep],
+) -> Option<(Place, Width)>
+    ensures { result ≡ component layouts.now number block path.now }
+{
+    if leaves_judged(layouts, structure_of(layouts, block), path) {
+        None
+    } else {
+        let walk = walk_data(layouts, block, path);
+        reached(layouts, Area::Db, number, walk)
+    }
+}
+
+/// A variable of a code block, which lies in this area.
+fn variable(
+    layouts: &[BlockLayout],
+    area: Area,
+    block: usize,
+    temporary: bool,
+    path: &[PathStep],
+) -> Option<(Place, Width)>
+    ensures { result ≡ variable layouts.now area block temporary path.now }
+{
+    if leaves_from(layouts, block, temporary, path) {
+        None
+    } else {
+        let walk = walk_from(layouts, block, temporary, path);
+        reached(layouts, area, 0, walk)
+    }
+}
+
+fn offset_in(
+    layouts: &[BlockLayout],
+    id: BlockId,
+    section: Section,
+    path: &[PathStep],
+    block: usize,
+) -> Option<(Place, Width)>
+    ensures { result ≡ offset_in layouts.now id section path.now block }
+{
+    match section {
+        Section::Global if is_data_block(id.kind) => component(layouts, id.number, block, path),
+        Section::Instance if is_function_block(id.kind) => {
+            variable(layouts, Area::Di, block, false, path)
+        }
+        Section::Temp if is_code(id.kind) => variable(layouts, Area::L, block, true, path),
+        _ => None,
+    }
+}
+
+/// The place and the width of the elementary component that a path in a block names; `known` is the
+/// place of the block in the source.
+pub(crate) fn offset(
+    layouts: &[BlockLayout],
+    known: Option<usize>,
+    id: BlockId,
+    section: Section,
+    path: &[PathStep],
+) -> Option<(Place, Width)>
+    ensures { result ≡ option_and_then (offset_in layouts.now id section path.now)
+        (option_and_then (if_whole layouts.now) known) }
+{
+    let block = if_whole(layouts, known?)?;
+    offset_in(layouts, id, section, path, block)
+}

@@ -1,0 +1,68 @@
+ghost use Rattle.std.specs.Prelude.{◌≡◌, IfOk, List, map};
+ghost use Rattle.std.specs.List.{flat_map};
+ghost use Rattle.plc_base.specs.declared.refusals.Refusal.{Refusal};
+ghost use Rattle.stl_symbols.specs.Least.{least};
+ghost use Rattle.block_layout.specs.Facts.{AreFacts};
+ghost use Rattle.block_layout.specs.Rule21.{rule_21};
+ghost use Rattle.block_layout.specs.Rule56.{rule_56};
+ghost use Rattle.block_layout.specs.Table.{refusals_by};
+
+use crate::blocks::BlockLayout;
+use crate::building::Facts;
+use crate::cycles::least_in_itself;
+use crate::excess::{least_exceeding, least_too_long, least_too_much_local};
+use crate::heads::{
+    least_block_twice, least_data_block_too_many, least_too_many_parameters,
+    least_too_many_statements, least_wrong_number,
+};
+use crate::outside::{least_outside, least_unfit};
+use crate::types::Types;
+use crate::unknown::least_unknown;
+use plc_base::Refusal;
+use std::alloc::{AllocError, Global};
+use stl_ast::Block;
+use stl_symbols::least_of;
+
+/// The least of what some rules find.
+fn least_among(found: &[Option<Refusal>]) -> Option<Refusal>
+    ensures { (rules : List (List Refusal)) → found.now ≡ map least rules
+        → result ≡ least (flat_map (λ r. r) rules) }
+{
+    least_of(found, |one: &Option<Refusal>| *one)
+}
+
+/// The least refusal by the rules that are judged with the layout, where those by rules 21 and 56
+/// were found with the declarations.
+pub(crate) fn least_refusal(
+    alloc: Global,
+    types: &Types,
+    layouts: &[BlockLayout],
+    blocks: &[Block],
+    facts: &Facts,
+    twice: Option<Refusal>,
+    deep: Option<Refusal>,
+) -> Result<Option<Refusal>, AllocError>
+    requires facts { AreFacts types.now blocks.now facts.now }
+    requires twice { twice ≡ least (rule_21 blocks.now) }
+    requires deep { deep ≡ least (rule_56 types.now blocks.now) }
+    ensures { IfOk result (λ r. r ≡ least (refusals_by types.now layouts.now blocks.now)) }
+{
+    let unfit = least_unfit(alloc, types, layouts, blocks)?;
+    let outside = least_outside(alloc, types, layouts, blocks)?;
+    Ok(least_among(&[
+        twice,
+        least_block_twice(types, blocks),
+        least_unknown(types, blocks),
+        unfit,
+        outside,
+        least_in_itself(&facts.in_itself, blocks),
+        least_wrong_number(types.symbols, blocks),
+        least_too_much_local(&facts.local_lens, blocks),
+        least_too_long(&facts.lengths, blocks),
+        least_too_many_parameters(blocks),
+        least_data_block_too_many(blocks),
+        least_exceeding(&facts.lengths, blocks),
+        least_too_many_statements(blocks),
+        deep,
+    ]))
+}
