@@ -1,0 +1,58 @@
+-- Walks over the statements of a body.
+use Rattle.std.proofs.Common.{ℕ, ◌≡◌, ◌<◌, ◌≤◌, ◌+◌, List, ◌∷◌, ◌++◌, Option, length, drop, get_or, sym, ◌∙◌, ap}
+use Rattle.std.proofs.Math.ListN.{drop_of_length-le}
+use Rattle.std.proofs.lemmas.List.{append_assoc, append-nil, drop_more}
+use Rattle.plc_base.specs.declared.refusals.Refusal.{Refusal}
+use Rattle.stl_ast.specs.declared.statements.Statement.{Statement}
+use Rattle.stl_symbols.specs.Least.{broken_if, least, lesser}
+use Rattle.stl_symbols.proofs.LeastLemmas.{least-append, lesser_assoc, lesser_nothing}
+use Rattle.stl_types.specs.Brackets.{behind, behind_all}
+use Rattle.stl_types.specs.Labels.{label_of}
+use Rattle.stl_types.specs.Landings.{list_here, lists_at_labels}
+use Rattle.stl_types.specs.Lists.{is_wrong_list, lists_from}
+use Rattle.stl_types.specs.declared.brackets.Bracket.{Bracket}
+
+-- one statement more
+pub behind_turn : (brackets after whole : List Bracket) (body : List Statement) (i : ℕ) (s : Statement) → i < length body → s ≡ get_or body i s → after ≡ behind brackets s →
+    behind_all brackets (drop i body) ≡ whole → behind_all after (drop (i + 1) body) ≡ whole
+behind_turn brackets after whole body i s within is_s is_after so_far =
+    let split : drop i body ≡ s ∷ drop (i + 1) body = drop_more body i s within ∙ ap (λ (y : Statement). y ∷ drop (i + 1) body) (sym is_s) in
+    ap (λ (b : List Bracket). behind_all b (drop (i + 1) body)) is_after ∙ ap (λ (l : List Statement). behind_all brackets l) (sym split) ∙ so_far
+
+pub behind_end : (brackets whole : List Bracket) (body : List Statement) (i : ℕ) → length body ≤ i → behind_all brackets (drop i body) ≡ whole → brackets ≡ whole
+behind_end brackets whole body i over so_far = ap (λ (l : List Statement). behind_all brackets l) (sym (drop_of_length-le body over)) ∙ so_far
+
+-- the same of the refusals by jump lists
+pub lists_turn : (before after : List (List ℕ)) (body : List Statement) (i : ℕ) (s : Statement) (found one next whole : Option Refusal) → i < length body → s ≡ get_or body i s →
+    after ≡ before ++ label_of s.label → one ≡ least (broken_if (is_wrong_list after s (drop (i + 1) body)) s.line 32) → next ≡ lesser found one →
+    lesser found (least (lists_from before (drop i body))) ≡ whole → lesser next (least (lists_from after (drop (i + 1) body))) ≡ whole
+lists_turn before after body i s found one next whole within is_s is_after is_one is_next so_far =
+    let rest : List Statement = drop (i + 1) body in
+    let here : List Refusal = broken_if (is_wrong_list after s rest) s.line 32 in
+    let split : drop i body ≡ s ∷ rest = drop_more body i s within ∙ ap (λ (y : Statement). y ∷ rest) (sym is_s) in
+    let turn : lists_from before (s ∷ rest) ≡ here ++ lists_from after rest =
+    ap (λ (b : List (List ℕ)). broken_if (is_wrong_list b s rest) s.line 32 ++ lists_from b rest) (sym is_after) in
+    ap (λ (o : Option Refusal). lesser o (least (lists_from after rest))) (is_next ∙ ap (λ (o : Option Refusal). lesser found o) is_one)
+    ∙ lesser_assoc found (least here) (least (lists_from after rest))
+    ∙ ap (λ (o : Option Refusal). lesser found o) (sym (least-append here (lists_from after rest)) ∙ ap (λ (l : List Refusal). least l) (sym turn) ∙ ap (λ (l : List Statement). least (lists_from before l)) (sym split))
+    ∙ so_far
+
+pub lists_end : (before : List (List ℕ)) (body : List Statement) (i : ℕ) (found whole : Option Refusal) → length body ≤ i → lesser found (least (lists_from before (drop i body))) ≡ whole → found ≡ whole
+lists_end before body i found whole over so_far =
+    sym (lesser_nothing found) ∙ ap (λ (l : List Statement). lesser found (least (lists_from before l))) (sym (drop_of_length-le body over)) ∙ so_far
+
+-- and of the lists of brackets at labels
+pub landings_turn : (brackets after : List Bracket) (lists more whole : List (List ℕ)) (body : List Statement) (i : ℕ) (s : Statement) → i < length body → s ≡ get_or body i s →
+    after ≡ behind brackets s → more ≡ lists ++ list_here brackets s.label → lists ++ lists_at_labels brackets (drop i body) ≡ whole →
+    more ++ lists_at_labels after (drop (i + 1) body) ≡ whole
+landings_turn brackets after lists more whole body i s within is_s is_after is_more so_far =
+    let rest : List Statement = drop (i + 1) body in
+    let split : drop i body ≡ s ∷ rest = drop_more body i s within ∙ ap (λ (y : Statement). y ∷ rest) (sym is_s) in
+    ap (λ (l : List (List ℕ)). l ++ lists_at_labels after rest) is_more
+    ∙ ap (λ (b : List Bracket). (lists ++ list_here brackets s.label) ++ lists_at_labels b rest) is_after
+    ∙ append_assoc lists (list_here brackets s.label) (lists_at_labels (behind brackets s) rest)
+    ∙ ap (λ (l : List Statement). lists ++ lists_at_labels brackets l) (sym split) ∙ so_far
+
+pub landings_end : (brackets : List Bracket) (lists whole : List (List ℕ)) (body : List Statement) (i : ℕ) → length body ≤ i → lists ++ lists_at_labels brackets (drop i body) ≡ whole → lists ≡ whole
+landings_end brackets lists whole body i over so_far =
+    sym (append-nil lists) ∙ ap (λ (l : List Statement). lists ++ lists_at_labels brackets l) (sym (drop_of_length-le body over)) ∙ so_far

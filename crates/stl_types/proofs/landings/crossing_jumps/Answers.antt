@@ -1,0 +1,28 @@
+use Rattle.std.proofs.Common.{Bool, false, refl, ◌∙◌, ap, List}
+use Rattle.stl_ast.specs.declared.statements.Statement.{Statement}
+use Rattle.stl_symbols.specs.Least.{broken_if, least}
+use Rattle.stl_symbols.proofs.GatheredLemmas.{gathered_done, gathered_next}
+use Rattle.stl_symbols.proofs.LeastLemmas.{lesser_first}
+use Rattle.stl_types.specs.Brackets.{behind, with_brackets}
+use Rattle.stl_types.specs.Landings.{crosses}
+use Rattle.stl_types.specs.declared.brackets.Bracket.{Bracket}
+use Rattle.stl_types.proofs.landings.crossing_jumps.Goals as goal
+
+pub loop-statement-init : goal.loop-statement-init
+loop-statement-init c =
+    let at = c.args.landings.now in
+    lesser_first _ ∙ ap (λ (l : List Bracket). least (with_brackets (λ brackets s. broken_if (crosses at.labels at.lists.items brackets s.operand) s.line 33) l c.args.body.now)) c.new-brackets.ensures.items
+
+pub loop-statement-preserved : goal.loop-statement-preserved
+loop-statement-preserved c =
+    let at = c.args.landings.now in
+    let one = c.broken_if.ensures ∙ ap (λ (v : Bool). least (broken_if v c.statement-item.result.line 33)) (let a = c.as_slice.ensures.value in let k = c.in_ok-wrong.ensures in cc) in
+    gathered_next (λ s. false) (λ brackets (s : Statement). broken_if (crosses at.labels at.lists.items brackets s.operand) s.line 33) behind
+    c.loop-statement.brackets.items c.pass.new.brackets.items c.args.body.now c.loop-statement.statement-index c.statement-item.result _ _ _ _ c.loop-statement-test.true c.statement-item.is refl
+    one c.lesser-found.ensures c.in_ok-pass.ensures c.loop-statement.invariant
+
+pub returns : goal.returns
+returns c =
+    let at = c.args.landings.now in
+    gathered_done (λ s. false) (λ brackets (s : Statement). broken_if (crosses at.labels at.lists.items brackets s.operand) s.line 33) behind
+    c.loop-statement.brackets.items c.args.body.now _ _ _ c.loop-statement-test.false c.loop-statement.invariant

@@ -1,0 +1,93 @@
+-- Which actual parameters fit which parameters.
+use Rattle.std.specs.Prelude.{ℕ, nat_eq, Bool, true, false, ◌&&◌, ◌||◌, not, find, List, Option, Some, None}
+use Rattle.std.specs.Str.{bytes_eq}
+use Rattle.plc_base.specs.declared.places.Width.{Width}
+use Rattle.plc_base.specs.declared.places.Width.TheVariants as width
+use Rattle.stl_ast.specs.declared.blocks.PartKind.{PartKind}
+use Rattle.stl_ast.specs.declared.blocks.PartKind.TheVariants as part
+use Rattle.stl_ast.specs.declared.declarations.Simple.{Simple}
+use Rattle.stl_ast.specs.declared.declarations.Simple.TheVariants as simple
+use Rattle.stl_ast.specs.declared.operands.Operand.{Operand}
+use Rattle.stl_ast.specs.declared.operands.Operand.TheVariants as operand
+use Rattle.stl_symbols.specs.Folding.{folded}
+use Rattle.block_layout.specs.Fits.{fits}
+use Rattle.block_layout.specs.Offsets.{width_of}
+use Rattle.stl_types.specs.Context.{Context}
+use Rattle.stl_types.specs.Seen.{seen}
+use Rattle.stl_types.specs.declared.parameters.Formal.{Formal}
+use Rattle.stl_types.specs.declared.views.Seen.{Seen}
+use Rattle.stl_types.specs.declared.views.Seen.TheVariants.{Sees, Unknown, Rests}
+use Rattle.stl_types.specs.declared.views.Side.{Side}
+use Rattle.stl_types.specs.declared.views.Side.TheVariants as side
+use Rattle.stl_types.specs.declared.views.View.{View}
+use Rattle.stl_types.specs.declared.views.View.TheVariants as view
+
+-- the parameter of this name
+abbrev pub formal_named : List Formal → List ℕ → Option Formal
+formal_named formals name = find (λ f. bytes_eq (folded name) f.name) formals
+
+-- VAR_INPUT
+abbrev pub is_input_section : PartKind → Bool
+is_input_section part.Input = true
+is_input_section _ = false
+
+-- widths by number, as they rise
+abbrev pub width_number : Width → ℕ
+width_number width.Bit = 1
+width_number width.Byte = 2
+width_number width.Word = 3
+width_number width.Dword = 4
+
+-- two widths are equal
+abbrev pub is_same_width : Width → Width → Bool
+is_same_width a b = nat_eq (width_number a) (width_number b)
+
+-- elementary types by number
+abbrev pub type_number : Simple → ℕ
+type_number simple.Bool = 1
+type_number simple.Byte = 2
+type_number simple.Char = 3
+type_number simple.Word = 4
+type_number simple.Int = 5
+type_number simple.S5time = 6
+type_number simple.Dword = 7
+type_number simple.Dint = 8
+type_number simple.Time = 9
+
+-- two elementary types are equal
+abbrev pub is_same_type : Simple → Simple → Bool
+is_same_type a b = nat_eq (type_number a) (type_number b)
+
+-- IN takes no PQ, OUT and IN_OUT take no PI
+abbrev pub takes_side : PartKind → Side → Bool
+takes_side section side.Both = true
+takes_side section side.Inputs = is_input_section section
+takes_side section side.Outputs = not (is_input_section section)
+
+-- IN takes each parameter of a function, OUT and IN_OUT take no input
+abbrev pub takes_section : PartKind → (own : PartKind) → Bool
+takes_section section own = is_input_section section || not (is_input_section own)
+
+-- an absolute operand fits by its width, a variable by its type
+abbrev pub fits_type : Formal → Width → Option Simple → Bool
+fits_type f w None = is_same_width w (width_of f.kind)
+fits_type f w (Some declared) = is_same_type declared f.kind
+
+-- what an actual parameter names fits a parameter
+unfoldable pub fits_view : Formal → View → Bool
+fits_view f (view.Direct place w side declared) =
+    fits_type f w declared && takes_side f.section side
+fits_view f (view.Parameter index own declared) =
+    is_same_type declared f.kind && takes_section f.section own
+fits_view f _ = false
+
+-- an operand that isn't there or isn't judged breaks no further rule
+abbrev pub fits_seen : Formal → Seen → Bool
+fits_seen f (Sees v) = fits_view f v
+fits_seen f Unknown = true
+fits_seen f Rests = true
+
+-- a constant fits an IN parameter by its type
+unfoldable pub fits_operand : Context → Formal → Operand → Bool
+fits_operand c f (operand.Constant value) = is_input_section f.section && fits value f.kind
+fits_operand c f o = fits_seen f (seen c o)

@@ -1,0 +1,46 @@
+-- Places that the letters of an address stand for.
+use Rattle.std.specs.Prelude.{ℕ, Option, Some, None}
+use Rattle.std.specs.Option.{option_map}
+use Rattle.plc_base.specs.declared.places.Area.{Area}
+use Rattle.plc_base.specs.declared.places.Area.TheVariants as area
+use Rattle.plc_base.specs.declared.places.Width.{Width}
+use Rattle.stl_ast.specs.declared.operands.Letters.{Letters}
+use Rattle.stl_ast.specs.declared.operands.Letters.TheVariants as letters
+use Rattle.stl_types.specs.declared.views.Seen.{Seen}
+use Rattle.stl_types.specs.declared.views.Seen.TheVariants.{Sees, Rests}
+use Rattle.stl_types.specs.declared.views.Side.{Side}
+use Rattle.stl_types.specs.declared.views.Side.TheVariants as side
+use Rattle.stl_types.specs.declared.views.View.{View}
+use Rattle.stl_types.specs.declared.views.View.TheVariants as view
+
+-- the area that letters name: PI and PQ are one
+abbrev pub area_of : Letters → Area
+area_of letters.I = area.I
+area_of letters.Q = area.Q
+area_of letters.M = area.M
+area_of letters.Db = area.Db
+area_of letters.Di = area.Di
+area_of letters.L = area.L
+area_of letters.Pi = area.P
+area_of letters.Pq = area.P
+
+-- and which way they name it
+abbrev pub side_of : Letters → Side
+side_of letters.Pi = side.Inputs
+side_of letters.Pq = side.Outputs
+side_of _ = side.Both
+
+-- the area of a pointer, where it has one
+abbrev pub area_left : Option Letters → Option Area
+area_left a = option_map area_of a
+
+-- an address; `number` is that of the data block before it, else 0
+abbrev pub address : (number : ℕ) → Letters → Width → (byte bit : ℕ) → View
+address number a width byte bit =
+    view.Direct (record { area = area_of a; number = number; byte = byte; bit = bit }) width
+    (side_of a) None
+
+-- an address in a data block, where that doesn't break a rule itself
+abbrev pub address_in : Option ℕ → Letters → Width → (byte bit : ℕ) → Seen
+address_in None a width byte bit = Rests
+address_in (Some number) a width byte bit = Sees (address number a width byte bit)

@@ -1,0 +1,77 @@
+-- Rules 29, 30 and 31: brackets, from A( to XN( and ).
+use Rattle.std.specs.Prelude.{ℕ, ◌-◌, ◌&&◌, nat_eq, nat_le, Bool, true, false, is_some, List, [], ◌∷◌, ◌++◌, length, take, Option, Some, None, if◌then◌else◌}
+use Rattle.std.specs.List.{flat_map}
+use Rattle.plc_base.specs.declared.refusals.Refusal.{Refusal}
+use Rattle.stl_ast.specs.declared.blocks.Block.{Block}
+use Rattle.stl_ast.specs.declared.mnemonics.Mnemonic.{Mnemonic}
+use Rattle.stl_ast.specs.declared.mnemonics.Mnemonic.TheVariants as code
+use Rattle.stl_ast.specs.declared.statements.Statement.{Statement}
+use Rattle.stl_symbols.specs.Gathered.{gathered}
+use Rattle.stl_symbols.specs.Least.{broken_if}
+use Rattle.stl_types.specs.Bodies.{in_bodies}
+use Rattle.stl_types.specs.declared.brackets.Bracket.{Bracket}
+
+-- the function code of an opening bracket: 0 to 5 for A( AN( O( ON( X( XN(
+unfoldable pub opening : Mnemonic → Option ℕ
+opening code.AOpen = Some 0
+opening code.AnOpen = Some 1
+opening code.OOpen = Some 2
+opening code.OnOpen = Some 3
+opening code.XOpen = Some 4
+opening code.XnOpen = Some 5
+opening _ = None
+
+-- an instruction that closes a bracket
+unfoldable pub closes : Mnemonic → Bool
+closes code.Close = true
+closes _ = false
+
+-- the brackets that are open behind a statement, the outermost first. A ) without open bracket leaves none
+abbrev pub closed : List Bracket → Mnemonic → List Bracket
+closed brackets m = if closes m then take (length brackets - 1) brackets else brackets
+
+-- an opening bracket stands behind those that are open
+abbrev pub opened : List Bracket → Statement → Option ℕ → List Bracket
+opened brackets s None = closed brackets s.code
+opened brackets s (Some function) =
+    brackets ++ record { function = function; line = s.line } ∷ []
+
+-- the brackets that are open behind a statement
+abbrev pub behind : List Bracket → Statement → List Bracket
+behind brackets s = opened brackets s (opening s.code)
+
+-- and behind all statements of a list
+abbrev pub behind_all : List Bracket → List Statement → List Bracket
+behind_all brackets [] = brackets
+behind_all brackets (s ∷ ss) = behind_all (behind brackets s) ss
+
+-- a walk with the brackets that are open
+abbrev pub with_brackets : (List Bracket → Statement → List Refusal) → List Bracket
+    → List Statement → List Refusal
+with_brackets broken brackets body = gathered (λ s. false) broken behind brackets body
+
+-- a bracket closes where none is open
+abbrev pub closes_none : List Bracket → Statement → Bool
+closes_none brackets s = closes s.code && nat_eq (length brackets) 0
+
+-- the nesting stack has seven entries
+abbrev pub is_eighth : List Bracket → Statement → Bool
+is_eighth brackets s = is_some (opening s.code) && nat_le 7 (length brackets)
+
+-- the line is that of the )
+unfoldable pub rule_29 : List Block → List Refusal
+rule_29 blocks =
+    in_bodies (with_brackets (λ brackets s. broken_if (closes_none brackets s) s.line 29) []) blocks
+
+-- a bracket that is open at the block's end: the line is that of the bracket
+abbrev pub left_open : List Statement → List Refusal
+left_open body = flat_map (λ b. broken_if true b.line 30) (behind_all [] body)
+
+-- rule 30, in all bodies
+unfoldable pub rule_30 : List Block → List Refusal
+rule_30 blocks = in_bodies left_open blocks
+
+-- the eighth open bracket, and each one inside it
+unfoldable pub rule_31 : List Block → List Refusal
+rule_31 blocks =
+    in_bodies (with_brackets (λ brackets s. broken_if (is_eighth brackets s) s.line 31) []) blocks

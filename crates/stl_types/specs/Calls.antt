@@ -1,0 +1,188 @@
+-- Rules 34 to 38, 40 and 46: calls. Those of an actual parameter have its line, all others that of the statement. A call
+-- of a block that breaks a rule itself, or by the declaration of a parameter, isn't judged by them.
+use Rattle.std.specs.Prelude.{ℕ, nat_eq, Bool, true, false, ◌&&◌, ◌||◌, not, is_some, List, [], ◌∷◌, ◌++◌, map, Option, Some, None}
+use Rattle.std.specs.List.{flat_map, list_all, list_any, slice_get}
+use Rattle.std.specs.Str.{bytes_eq}
+use Rattle.std.specs.Option.{is_none}
+use Rattle.plc_base.specs.declared.blocks.BlockId.{BlockId}
+use Rattle.plc_base.specs.declared.refusals.Refusal.{Refusal}
+use Rattle.stl_ast.specs.declared.blocks.Block.{Block}
+use Rattle.stl_ast.specs.declared.operands.Operand.{Operand}
+use Rattle.stl_ast.specs.declared.operands.Operand.TheVariants as operand
+use Rattle.stl_ast.specs.declared.statements.Actual.{Actual}
+use Rattle.stl_ast.specs.declared.statements.Statement.{Statement}
+use Rattle.stl_ast.specs.Statements.{has_actuals}
+use Rattle.stl_symbols.specs.Folding.{folded}
+use Rattle.stl_symbols.specs.Gathered.{gathered}
+use Rattle.stl_symbols.specs.Least.{broken_if}
+use Rattle.stl_symbols.specs.Names.{place_of}
+use Rattle.block_layout.specs.Blocks.{is_function_block, is_system_function, named_block}
+use Rattle.block_layout.specs.declared.blocks.BlockLayout.{BlockLayout}
+use Rattle.block_layout.specs.declared.blocks.Shape.{Shape}
+use Rattle.block_layout.specs.declared.blocks.Shape.TheVariants as shape
+use Rattle.stl_types.specs.Actuals.{fits_operand, formal_named}
+use Rattle.stl_types.specs.Bodies.{in_contexts}
+use Rattle.stl_types.specs.Context.{Context, whole_data_place}
+use Rattle.stl_types.specs.Kinds.{is_date}
+use Rattle.stl_types.specs.Parameters.{Callee, callee_of, system_formals}
+use Rattle.stl_types.specs.Seen.{seen}
+use Rattle.stl_types.specs.declared.parameters.Formal.{Formal}
+use Rattle.stl_types.specs.declared.views.Seen.{Seen}
+use Rattle.stl_types.specs.declared.views.Seen.TheVariants.{Sees}
+
+-- what the calls of a body break, by the block that is called
+abbrev pub by_callee : (Callee → Statement → List Refusal) → Statement → Option Callee
+    → List Refusal
+by_callee broken s None = []
+by_callee broken s (Some callee) = broken callee s
+
+-- the same in all bodies
+abbrev pub in_calls : (Context → Callee → Statement → List Refusal) → Context → List Block
+    → List Refusal
+in_calls broken c blocks =
+    in_contexts (λ c body. flat_map (λ s. by_callee (broken c) s (callee_of c s.operand)) body) c
+    blocks
+
+-- a parameter has this name, in upper case
+abbrev pub has_formal : List Formal → List ℕ → Bool
+has_formal formals name = list_any (λ f. bytes_eq name f.name) formals
+
+-- 34: the call names no such parameter
+abbrev pub names_none : List Formal → Actual → Bool
+names_none formals a = not (has_formal formals (folded a.name))
+
+-- 34 in a call, for each of its actual parameters
+abbrev pub unnamed : List Formal → List Actual → List Refusal
+unnamed formals actuals = flat_map (λ a. broken_if (names_none formals a) a.line 34) actuals
+
+-- 34, in all bodies
+unfoldable pub rule_34 : Context → List Block → List Refusal
+rule_34 c blocks = in_calls (λ c callee s. unnamed callee.formals s.actuals) c blocks
+
+-- 35: a parameter is supplied twice; the second one, and each later one
+abbrev pub is_supplied_twice : List Formal → (before : List (List ℕ)) → Actual → Bool
+is_supplied_twice formals before a =
+    not (names_none formals a) && is_some (place_of (folded a.name) before)
+
+-- 35 in a call, with the names before
+abbrev pub supplied_twice : List Formal → (before : List (List ℕ)) → List Actual → List Refusal
+supplied_twice formals before actuals =
+    gathered (λ a. false) (λ before a. broken_if (is_supplied_twice formals before a) a.line 35)
+    (λ before a. before ++ folded a.name ∷ []) before actuals
+
+-- 35, in all bodies
+unfoldable pub rule_35 : Context → List Block → List Refusal
+rule_35 c blocks =
+    in_calls (λ c callee s. supplied_twice callee.formals [] s.actuals) c blocks
+
+-- the names that a call supplies, in upper case
+abbrev pub supplied : List Actual → List (List ℕ)
+supplied actuals = map (λ a. folded a.name) actuals
+
+-- 36: a parameter of a function or system function isn't supplied by CALL
+abbrev pub is_supplied : (names : List (List ℕ)) → Formal → Bool
+is_supplied names f = is_some (place_of f.name names)
+
+-- 36 in a call
+abbrev pub lacks_actual : Callee → Statement → Bool
+lacks_actual callee s =
+    has_actuals s.code && not (is_function_block callee.id.kind)
+    && not (list_all (is_supplied (supplied s.actuals)) callee.formals)
+
+-- 36, in all bodies
+unfoldable pub rule_36 : Context → List Block → List Refusal
+rule_36 c blocks =
+    in_calls (λ c callee s. broken_if (lacks_actual callee s) s.line 36) c blocks
+
+-- 37: an actual parameter doesn't fit
+abbrev pub misfits : Context → Actual → Option Formal → Bool
+misfits c a None = false
+misfits c a (Some f) = not (fits_operand c f a.value)
+
+-- 37 in a call, for each of its actual parameters
+abbrev pub call_37 : Context → Callee → Statement → List Refusal
+call_37 c callee s =
+    flat_map (λ a. broken_if (misfits c a (formal_named callee.formals a.name)) a.line 37) s.actuals
+
+-- 37, in all bodies
+unfoldable pub rule_37 : Context → List Block → List Refusal
+rule_37 c blocks = in_calls call_37 c blocks
+
+-- 24: a DATE_AND_TIME as an actual parameter, whatever is called
+abbrev pub sees_date : Seen → Bool
+sees_date (Sees v) = is_date v
+sees_date _ = false
+
+-- the actual parameters of a body
+abbrev pub dates_in : Context → List Statement → List Refusal
+dates_in c body =
+    flat_map (λ s. flat_map (λ a. broken_if (sees_date (seen c a.value)) a.line 24) s.actuals) body
+
+-- 24, in all bodies
+unfoldable pub rule_24_of_actuals : Context → List Block → List Refusal
+rule_24_of_actuals c blocks = in_contexts dates_in c blocks
+
+-- 38: the data block isn't an instance of the function block
+abbrev pub is_of_block : (place : Option ℕ) → Shape → Bool
+is_of_block (Some place) (shape.Of block) = nat_eq place block
+is_of_block _ _ = false
+
+-- the layout of a data block is that of an instance
+abbrev pub is_instance : (place : Option ℕ) → Option BlockLayout → Bool
+is_instance place None = true
+is_instance place (Some b) = is_of_block place b.shape
+
+-- a data block that is absent or breaks a rule itself isn't judged
+abbrev pub is_no_instance : Context → (place : Option ℕ) → Option ℕ → Bool
+is_no_instance c place None = false
+is_no_instance c place (Some block) = not (is_instance place (slice_get c.layouts block))
+
+-- 38 in a call
+abbrev pub has_wrong_instance : Context → Callee → Operand → Bool
+has_wrong_instance c callee (operand.Called name (Some instance)) =
+    is_function_block callee.id.kind
+    && is_no_instance c callee.place (whole_data_place c instance)
+has_wrong_instance c callee _ = false
+
+-- 38, in all bodies
+unfoldable pub rule_38 : Context → List Block → List Refusal
+rule_38 c blocks =
+    in_calls (λ c callee s. broken_if (has_wrong_instance c callee s.operand) s.line 38) c blocks
+
+-- 40: UC or CC of a block with parameters, or CALL of a function block without data block
+abbrev pub has_no_instance : Operand → Bool
+has_no_instance (operand.Called name None) = true
+has_no_instance _ = false
+
+-- a block has parameters
+abbrev pub has_formals : List Formal → Bool
+has_formals [] = false
+has_formals (f ∷ fs) = true
+
+-- 40 in a call
+abbrev pub is_bare_call : Callee → Statement → Bool
+is_bare_call callee s =
+    (has_actuals s.code && is_function_block callee.id.kind && has_no_instance s.operand)
+    || (not (has_actuals s.code) && has_formals callee.formals)
+
+-- 40, in all bodies
+unfoldable pub rule_40 : Context → List Block → List Refusal
+rule_40 c blocks =
+    in_calls (λ c callee s. broken_if (is_bare_call callee s) s.line 40) c blocks
+
+-- 46: a system function that isn't one of the nine
+abbrev pub is_unknown_function : Option BlockId → Bool
+is_unknown_function None = false
+is_unknown_function (Some id) = is_system_function id.kind && is_none (system_formals id.number)
+
+-- 46 in a statement
+abbrev pub calls_unknown : Context → Operand → Bool
+calls_unknown c (operand.Called name instance) =
+    is_unknown_function (named_block c.symbols name)
+calls_unknown c _ = false
+
+-- 46, in all bodies
+unfoldable pub rule_46 : Context → List Block → List Refusal
+rule_46 c blocks =
+    in_contexts (λ c body. flat_map (λ s. broken_if (calls_unknown c s.operand) s.line 46) body) c
+    blocks

@@ -1,0 +1,38 @@
+-- Constants as operands of instructions.
+use Rattle.std.specs.Prelude.{ℕ, ℤ, pos, negsuc, nat_le, Bool, true, false, not}
+use Rattle.stl_ast.specs.declared.literals.Literal.{Literal}
+use Rattle.stl_ast.specs.declared.literals.Literal.TheVariants as literal
+use Rattle.block_layout.specs.Fits.{fits}
+use Rattle.stl_types.specs.declared.forms.Form.{Form}
+use Rattle.stl_types.specs.declared.forms.Form.TheVariants as form
+
+-- a number from 0 to a greatest one
+abbrev pub is_up_to : (most : ℕ) → ℤ → Bool
+is_up_to most (pos n) = nat_le n most
+is_up_to most (negsuc n) = false
+
+-- a decimal number from 0 to a greatest one
+abbrev pub is_count : (most : ℕ) → Literal → Bool
+is_count most (literal.Number value) = is_up_to most value
+is_count most _ = false
+
+-- a decimal number or L#
+abbrev pub is_added : Literal → Bool
+is_added (literal.Number value) = true
+is_added (literal.Long value) = true
+is_added _ = false
+
+-- TRUE or FALSE
+abbrev pub is_truth : Literal → Bool
+is_truth (literal.Truth value) = true
+is_truth _ = false
+
+-- L takes each constant but TRUE and FALSE; NOP, BLD, INC, DEC and the shifts take a count; + takes a decimal number or
+-- L#; word logic takes what fits WORD or DWORD
+unfoldable pub takes_constant : Form → Literal → Bool
+takes_constant form.Loads value = not (is_truth value)
+takes_constant (form.Counts most) value = is_count most value
+takes_constant (form.Shifts most) value = is_count most value
+takes_constant form.Adds value = is_added value
+takes_constant (form.Combines kind) value = fits value kind
+takes_constant _ value = false

@@ -1,0 +1,53 @@
+-- What the operands of a body are resolved by.
+use Rattle.std.specs.Prelude.{ℕ, Bool, false, List, map, Option, Some, None}
+use Rattle.std.specs.List.{slice_get}
+use Rattle.std.specs.Option.{option_map, option_and_then}
+use Rattle.plc_base.specs.declared.blocks.BlockId.{BlockId}
+use Rattle.stl_ast.specs.declared.blocks.Block.{Block}
+use Rattle.stl_ast.specs.declared.names.BlockName.{BlockName}
+use Rattle.stl_symbols.specs.Symbol.{Symbol}
+use Rattle.block_layout.specs.Blocks.{found_block, is_data_block, is_function, known_block}
+use Rattle.block_layout.specs.Paths.{if_whole, whole_at}
+use Rattle.block_layout.specs.declared.blocks.BlockLayout.{BlockLayout}
+
+-- the symbols, the blocks of the source with their layouts, and the place of the block that has the body
+pub record Context : Type 0 where
+  pub symbols : List Symbol
+  pub blocks : List Block
+  pub layouts : List BlockLayout
+  pub block : ℕ
+
+-- the blocks of the source in order, by kind and number
+abbrev pub ids : Context → List (Option BlockId)
+ids c = map (λ b. b.id) c.layouts
+
+-- the place of a block, where it doesn't break a rule itself
+abbrev pub whole_place : Context → BlockId → Option ℕ
+whole_place c id = option_and_then (if_whole c.layouts) (known_block id (ids c))
+
+-- the place of the data block that a name means
+abbrev pub data_place : Context → BlockName → Option ℕ
+data_place c name = found_block c.symbols (ids c) is_data_block name
+
+-- the same, where it doesn't break a rule itself
+abbrev pub whole_data_place : Context → BlockName → Option ℕ
+whole_data_place c name = option_and_then (if_whole c.layouts) (data_place c name)
+
+-- the number of a block
+abbrev pub number_of : Option BlockId → Option ℕ
+number_of id = option_map (λ i. i.number) id
+
+-- the number of the data block that a name means, where it doesn't break a rule itself
+abbrev pub data_number : Context → BlockName → Option ℕ
+data_number c name =
+    option_and_then (λ b. number_of b.id)
+    (option_and_then (whole_at c.layouts) (data_place c name))
+
+-- a block is a function
+abbrev pub is_of_function : Option Block → Bool
+is_of_function None = false
+is_of_function (Some b) = is_function b.kind
+
+-- the body is that of a function
+abbrev pub in_function : Context → Bool
+in_function c = is_of_function (slice_get c.blocks c.block)

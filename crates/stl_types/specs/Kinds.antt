@@ -1,0 +1,130 @@
+-- Kinds of operands.
+use Rattle.std.specs.Prelude.{Bool, true, false, ◌||◌, Option, Some, None}
+use Rattle.plc_base.specs.declared.blocks.BlockKind.{BlockKind}
+use Rattle.plc_base.specs.declared.places.Area.{Area}
+use Rattle.plc_base.specs.declared.places.Area.TheVariants as area
+use Rattle.plc_base.specs.declared.places.Width.{Width}
+use Rattle.plc_base.specs.declared.places.Width.TheVariants as width
+use Rattle.stl_ast.specs.declared.operands.Numbered.TheVariants as numbered
+use Rattle.block_layout.specs.Blocks.{is_function, is_function_block, is_system_function}
+use Rattle.block_layout.specs.Offsets.{width_of}
+use Rattle.stl_types.specs.declared.views.Register.TheVariants as register
+use Rattle.stl_types.specs.declared.views.View.{View}
+use Rattle.stl_types.specs.declared.views.View.TheVariants as view
+
+-- no operand
+abbrev pub is_nothing : View → Bool
+is_nothing view.Nothing = true
+is_nothing _ = false
+
+-- a place with an address of its own
+abbrev pub is_direct : View → Bool
+is_direct (view.Direct place width side declared) = true
+is_direct _ = false
+
+-- a place in memory: direct, a parameter of a function, or by a pointer
+abbrev pub is_in_memory : View → Bool
+is_in_memory (view.Direct place width side declared) = true
+is_in_memory (view.Parameter index section declared) = true
+is_in_memory (view.ByMemory a width from byte) = true
+is_in_memory (view.ByRegister a width register bits) = true
+is_in_memory _ = false
+
+-- a timer, also one whose number stands in memory
+abbrev pub is_timer : View → Bool
+is_timer (view.Timer number) = true
+is_timer (view.NumberBy numbered.Timer from byte) = true
+is_timer _ = false
+
+-- a counter, also one whose number stands in memory
+abbrev pub is_counter : View → Bool
+is_counter (view.Counter number) = true
+is_counter (view.NumberBy numbered.Counter from byte) = true
+is_counter _ = false
+
+-- a data block that is opened
+abbrev pub is_opened : View → Bool
+is_opened (view.OpenBlock di number) = true
+is_opened (view.NumberBy numbered.Db from byte) = true
+is_opened (view.NumberBy numbered.Di from byte) = true
+is_opened _ = false
+
+-- a condition of the status word
+abbrev pub is_condition : View → Bool
+is_condition (view.OfStatus flag) = true
+is_condition _ = false
+
+-- a pointer constant
+abbrev pub is_pointer : View → Bool
+is_pointer (view.Pointer a byte bit) = true
+is_pointer _ = false
+
+-- a label
+abbrev pub is_label : View → Bool
+is_label view.Label = true
+is_label _ = false
+
+-- STW
+abbrev pub is_status_word : View → Bool
+is_status_word (view.Register register.Stw) = true
+is_status_word _ = false
+
+-- AR2
+abbrev pub is_second_register : View → Bool
+is_second_register (view.Register register.Ar2) = true
+is_second_register _ = false
+
+-- a register that can be loaded: the status word, numbers and lengths of the open data blocks
+abbrev pub is_loaded : View → Bool
+is_loaded (view.Register register.Ar2) = false
+is_loaded (view.Register which) = true
+is_loaded _ = false
+
+-- a block of code that can be called
+abbrev pub is_callable : BlockKind → Bool
+is_callable k = is_function k || is_function_block k || is_system_function k
+
+-- a function, a function block or a system function; only a function block has an instance
+abbrev pub is_called : View → Bool
+is_called (view.Called id None) = is_callable id.kind
+is_called (view.Called id (Some instance)) = is_function_block id.kind
+is_called _ = false
+
+-- a structure, an array or a DATE_AND_TIME
+abbrev pub is_composite : View → Bool
+is_composite view.Composite = true
+is_composite view.Date = true
+is_composite _ = false
+
+-- a DATE_AND_TIME
+abbrev pub is_date : View → Bool
+is_date view.Date = true
+is_date _ = false
+
+-- the width of a place in memory
+abbrev pub width_in : View → Option Width
+width_in (view.Direct place width side declared) = Some width
+width_in (view.Parameter index section declared) = Some (width_of declared)
+width_in (view.ByMemory a width from byte) = Some width
+width_in (view.ByRegister a width register bits) = Some width
+width_in _ = None
+
+-- the width is a bit
+abbrev pub is_bit : Option Width → Bool
+is_bit (Some width.Bit) = true
+is_bit _ = false
+
+-- the width is a double word
+abbrev pub is_double_word : Option Width → Bool
+is_double_word (Some width.Dword) = true
+is_double_word _ = false
+
+-- the peripheral area
+abbrev pub is_peripheral : Area → Bool
+is_peripheral area.P = true
+is_peripheral _ = false
+
+-- a pointer that has the peripheral area
+abbrev pub is_peripheral_area : Option Area → Bool
+is_peripheral_area None = false
+is_peripheral_area (Some a) = is_peripheral a

@@ -1,0 +1,73 @@
+-- Rule 32: the jump list of a JL. Its label comes later, and between the two stand jumps JU alone, at most 255 of them;
+-- an empty statement is none. The line is that of the JL.
+use Rattle.std.specs.Prelude.{ℕ, ◌-◌, ◌&&◌, nat_lt, Bool, true, false, not, is_some, List, [], ◌∷◌, ◌++◌, Option, Some, None, if◌then◌else◌}
+use Rattle.std.specs.Str.{bytes_eq}
+use Rattle.plc_base.specs.declared.refusals.Refusal.{Refusal}
+use Rattle.stl_ast.specs.declared.blocks.Block.{Block}
+use Rattle.stl_ast.specs.declared.mnemonics.Mnemonic.{Mnemonic}
+use Rattle.stl_ast.specs.declared.mnemonics.Mnemonic.TheVariants as code
+use Rattle.stl_ast.specs.declared.operands.Operand.{Operand}
+use Rattle.stl_ast.specs.declared.operands.Operand.TheVariants as operand
+use Rattle.stl_ast.specs.declared.statements.Statement.{Statement}
+use Rattle.stl_ast.specs.Statements.{is_empty}
+use Rattle.stl_symbols.specs.Least.{broken_if}
+use Rattle.stl_symbols.specs.Names.{place_of}
+use Rattle.stl_types.specs.Bodies.{in_bodies}
+use Rattle.stl_types.specs.Labels.{label_of}
+
+-- JL
+abbrev pub is_list_jump : Mnemonic → Bool
+is_list_jump code.Jl = true
+is_list_jump _ = false
+
+-- JU
+abbrev pub is_plain_jump : Mnemonic → Bool
+is_plain_jump code.Ju = true
+is_plain_jump _ = false
+
+-- a statement has this label
+abbrev pub has_label : List ℕ → Option (List ℕ) → Bool
+has_label name None = false
+has_label name (Some label) = bytes_eq name label
+
+-- how many jumps a list may still have behind a statement; none where it isn't of the list
+abbrev pub left_behind : (left : ℕ) → Mnemonic → Option ℕ
+left_behind left m =
+    if is_empty m then Some left
+    else if is_plain_jump m && nat_lt 0 left then Some (left - 1) else None
+
+-- the list goes on with so many jumps left
+abbrev pub goes_on : Option ℕ → (ℕ → Bool) → Bool
+goes_on None next = false
+goes_on (Some left) next = next left
+
+-- the statements from here on are a jump list of at most `left` jumps, up to the label
+abbrev pub is_list_to : (left : ℕ) → List ℕ → List Statement → Bool
+is_list_to left name [] = false
+is_list_to left name (s ∷ ss) =
+    if has_label name s.label then true
+    else goes_on (left_behind left s.code) (λ next. is_list_to next name ss)
+
+-- the label is that of no statement before, and a list leads to it
+abbrev pub has_list : (before : List (List ℕ)) → List ℕ → (behind : List Statement) → Bool
+has_list before name rest = not (is_some (place_of name before)) && is_list_to 255 name rest
+
+-- a JL without a label breaks another rule
+abbrev pub lacks_list : (before : List (List ℕ)) → Operand → (behind : List Statement) → Bool
+lacks_list before (operand.Label name) rest = not (has_list before name rest)
+lacks_list before _ rest = false
+
+-- a JL that breaks the rule
+abbrev pub is_wrong_list : (before : List (List ℕ)) → Statement → (behind : List Statement) → Bool
+is_wrong_list before s rest = is_list_jump s.code && lacks_list before s.operand rest
+
+-- the JLs of a body; `before` are the labels before
+abbrev pub lists_from : (before : List (List ℕ)) → List Statement → List Refusal
+lists_from before [] = []
+lists_from before (s ∷ ss) =
+    broken_if (is_wrong_list (before ++ label_of s.label) s ss) s.line 32
+    ++ lists_from (before ++ label_of s.label) ss
+
+-- rule 32, in all bodies
+unfoldable pub rule_32 : List Block → List Refusal
+rule_32 blocks = in_bodies (λ body. lists_from [] body) blocks

@@ -1,0 +1,133 @@
+-- Rules 24, 25 and 39: the operand of an instruction. 24: its width doesn't fit; 25: its form isn't allowed, or the
+-- constant that it is; 39: an input parameter of a function is written. The line is that of the statement.
+use Rattle.std.specs.Prelude.{ℕ, Bool, true, false, ◌&&◌, ◌||◌, not, List, [], ◌∷◌, Option, Some, None, if◌then◌else◌}
+use Rattle.std.specs.List.{flat_map}
+use Rattle.plc_base.specs.declared.places.Width.{Width}
+use Rattle.plc_base.specs.declared.refusals.Refusal.{Refusal}
+use Rattle.stl_ast.specs.declared.blocks.Block.{Block}
+use Rattle.stl_ast.specs.declared.blocks.PartKind.TheVariants as part
+use Rattle.stl_ast.specs.declared.operands.Operand.{Operand}
+use Rattle.stl_ast.specs.declared.operands.Operand.TheVariants as operand
+use Rattle.stl_ast.specs.declared.statements.Statement.{Statement}
+use Rattle.stl_types.specs.Bodies.{in_contexts}
+use Rattle.stl_types.specs.Constants.{takes_constant}
+use Rattle.stl_types.specs.Context.{Context}
+use Rattle.stl_types.specs.Forms.{form_of}
+use Rattle.stl_types.specs.Kinds.{is_nothing, is_direct, is_in_memory, is_timer, is_counter, is_opened, is_condition, is_pointer, is_label, is_status_word, is_second_register, is_loaded, is_called, is_composite, width_in, is_bit, is_double_word, is_peripheral, is_peripheral_area}
+use Rattle.stl_types.specs.Seen.{seen}
+use Rattle.stl_types.specs.declared.forms.Form.{Form}
+use Rattle.stl_types.specs.declared.forms.Form.TheVariants as form
+use Rattle.stl_types.specs.declared.views.Seen.{Seen}
+use Rattle.stl_types.specs.declared.views.Seen.TheVariants.{Sees}
+use Rattle.stl_types.specs.declared.views.Side.TheVariants as side
+use Rattle.stl_types.specs.declared.views.View.{View}
+use Rattle.stl_types.specs.declared.views.View.TheVariants as view
+
+-- the operands but constants that a form takes, whatever their width
+unfoldable pub takes : Form → View → Bool
+takes form.Bare v = is_nothing v
+takes form.ReadsBit v = is_in_memory v || is_timer v || is_counter v || is_condition v
+takes form.ReadsBitOrBare v =
+    is_nothing v || is_in_memory v || is_timer v || is_counter v || is_condition v
+takes form.WritesBit v = is_in_memory v
+takes form.Sets v = is_in_memory v || is_counter v
+takes form.Resets v = is_in_memory v || is_timer v || is_counter v
+takes form.Loads v = is_in_memory v || is_timer v || is_counter v || is_pointer v || is_loaded v
+takes form.Transfers v = is_in_memory v || is_status_word v
+takes form.LoadsBcd v = is_timer v || is_counter v
+takes form.LoadsAr1 v = is_nothing v || is_pointer v || is_direct v || is_second_register v
+takes form.LoadsAr2 v = is_nothing v || is_pointer v || is_direct v
+takes form.StoresAr1 v = is_nothing v || is_direct v || is_second_register v
+takes form.StoresAr2 v = is_nothing v || is_direct v
+takes form.AddsToAr v = is_nothing v || is_pointer v
+takes (form.Counts most) v = false
+takes (form.Shifts most) v = is_nothing v
+takes form.Adds v = false
+takes (form.Combines kind) v = is_nothing v
+takes form.Jumps v = is_label v
+takes form.StartsTimer v = is_timer v
+takes form.Enables v = is_timer v || is_counter v
+takes form.StepsCounter v = is_counter v
+takes form.Calls v = is_called v
+takes form.Opens v = is_opened v
+
+-- bit instructions take a bit, L and T a byte, a word or a double word, those of address registers a double word
+unfoldable pub takes_width : Form → Option Width → Bool
+takes_width form.ReadsBit w = is_bit w
+takes_width form.ReadsBitOrBare w = is_bit w
+takes_width form.WritesBit w = is_bit w
+takes_width form.Sets w = is_bit w
+takes_width form.Resets w = is_bit w
+takes_width form.Loads w = not (is_bit w)
+takes_width form.Transfers w = not (is_bit w)
+takes_width form.LoadsAr1 w = is_double_word w
+takes_width form.LoadsAr2 w = is_double_word w
+takes_width form.StoresAr1 w = is_double_word w
+takes_width form.StoresAr2 w = is_double_word w
+takes_width _ w = true
+
+-- only a place in memory has a width
+abbrev pub has_width : Form → Option Width → Bool
+has_width f None = true
+has_width f (Some w) = takes_width f (Some w)
+
+-- what writes its operand
+abbrev pub writes : Form → Bool
+writes form.WritesBit = true
+writes form.Sets = true
+writes form.Resets = true
+writes form.Transfers = true
+writes form.StoresAr1 = true
+writes form.StoresAr2 = true
+writes _ = false
+
+-- the peripheral area has inputs to read and outputs to write, and no pointer leads there by an area of its own
+abbrev pub is_on_wrong_side : Form → View → Bool
+is_on_wrong_side f (view.Direct place width side.Inputs declared) = writes f
+is_on_wrong_side f (view.Direct place width side.Outputs declared) = not (writes f)
+is_on_wrong_side f (view.ByMemory a width from byte) = is_peripheral a
+is_on_wrong_side f (view.ByRegister a width register bits) = is_peripheral_area a
+is_on_wrong_side f _ = false
+
+-- an input parameter of a function
+abbrev pub is_input : View → Bool
+is_input (view.Parameter index part.Input declared) = true
+is_input _ = false
+
+-- the rule that an instruction breaks by its operand: a structure, an array or a DATE_AND_TIME has no width that fits; of
+-- an operand that the form takes, the width comes before the side
+unfoldable pub rule_of : Form → View → Option ℕ
+rule_of f v =
+    if is_composite v then Some 24
+    else if not (takes f v) then Some 25
+    else if not (has_width f (width_in v)) then Some 24
+    else if is_on_wrong_side f v then Some 25
+    else if writes f && is_input v then Some 39
+    else None
+
+-- the same of what an operand comes to; a constant is judged by itself, and nothing where the operand isn't seen
+abbrev pub rule_seen : Form → Seen → Option ℕ
+rule_seen f (Sees v) = rule_of f v
+rule_seen f _ = None
+
+-- the rule that an operand breaks with an instruction of a form
+abbrev pub operand_rule : Context → Form → Operand → Option ℕ
+operand_rule c f (operand.Constant value) = if takes_constant f value then None else Some 25
+operand_rule c f o = rule_seen f (seen c o)
+
+-- the refusal of a line by the rule that is broken, if one is
+abbrev pub at_line : (line : ℕ) → Option ℕ → List Refusal
+at_line line None = []
+at_line line (Some rule) = record { line = line; rule = rule } ∷ []
+
+-- the rule that a statement breaks by its operand
+abbrev pub statement_rule : Context → Statement → Option ℕ
+statement_rule c s = operand_rule c (form_of s.code) s.operand
+
+-- what the statements of a body break by their operands
+abbrev pub operands_24 : Context → List Statement → List Refusal
+operands_24 c body = flat_map (λ s. at_line s.line (statement_rule c s)) body
+
+-- rules 24, 25 and 39, in all bodies
+unfoldable pub rules_24_25_39 : Context → List Block → List Refusal
+rules_24_25_39 c blocks = in_contexts operands_24 c blocks

@@ -1,0 +1,118 @@
+-- The parameters of a block that is called.
+use Rattle.std.specs.Prelude.{ℕ, nat_eq, Bool, true, false, List, [], ◌∷◌, codes, Option, Some, None, if◌then◌else◌}
+use Rattle.std.specs.List.{flat_map, list_all}
+use Rattle.std.specs.Option.{option_map, option_and_then}
+use Rattle.plc_base.specs.declared.blocks.BlockId.{BlockId}
+use Rattle.plc_base.specs.declared.blocks.BlockKind.{BlockKind}
+use Rattle.stl_ast.specs.declared.blocks.PartKind.{PartKind}
+use Rattle.stl_ast.specs.declared.blocks.PartKind.TheVariants as part
+use Rattle.stl_ast.specs.declared.declarations.Simple.{Simple}
+use Rattle.stl_ast.specs.declared.declarations.Simple.TheVariants as simple
+use Rattle.stl_ast.specs.declared.operands.Operand.{Operand}
+use Rattle.stl_ast.specs.declared.operands.Operand.TheVariants as operand
+use Rattle.stl_ast.specs.Blocks.{is_parameter}
+use Rattle.block_layout.specs.Blocks.{is_function, is_function_block, is_system_function, named_block}
+use Rattle.block_layout.specs.Paths.{cells_at}
+use Rattle.block_layout.specs.declared.cells.Cell.{Cell}
+use Rattle.block_layout.specs.declared.cells.Element.{Element}
+use Rattle.block_layout.specs.declared.cells.Element.TheVariants as element
+use Rattle.stl_types.specs.Context.{Context, whole_place}
+use Rattle.stl_types.specs.declared.parameters.Formal.{Formal}
+
+-- a parameter by its parts
+abbrev pub formal : List ℕ → PartKind → Simple → Formal
+formal name section kind = record { name = name; section = section; kind = kind }
+
+-- the parameters of the nine system functions, in their order; of another one none are known
+abbrev pub ob_nr : Formal
+ob_nr = formal (codes "OB_NR") part.Input simple.Int
+
+-- the return value
+abbrev pub returns : Simple → Formal
+returns kind = formal (codes "RET_VAL") part.Output kind
+
+-- which interrupts are meant
+abbrev pub mode : Formal
+mode = formal (codes "MODE") part.Input simple.Byte
+
+-- the delay
+abbrev pub dtime : Formal
+dtime = formal (codes "DTIME") part.Input simple.Time
+
+-- the mark of the start
+abbrev pub sign : Formal
+sign = formal (codes "SIGN") part.Input simple.Word
+
+-- a number is one of these
+abbrev pub is_one_of : List ℕ → ℕ → Bool
+is_one_of [] n = false
+is_one_of (m ∷ ms) n = if nat_eq n m then true else is_one_of ms n
+
+-- the parameters of a system function by its number
+unfoldable pub system_formals : ℕ → Option (List Formal)
+system_formals n =
+    if nat_eq n 32 then Some (ob_nr ∷ dtime ∷ sign ∷ returns simple.Int ∷ [])
+    else if nat_eq n 33 then Some (ob_nr ∷ returns simple.Int ∷ [])
+    else if is_one_of (39 ∷ 40 ∷ []) n then Some (mode ∷ ob_nr ∷ returns simple.Int ∷ [])
+    else if is_one_of (41 ∷ 42 ∷ []) n then Some (returns simple.Int ∷ [])
+    else if is_one_of (43 ∷ 46 ∷ []) n then Some []
+    else if nat_eq n 64 then Some (returns simple.Time ∷ [])
+    else None
+
+-- the parameter that a component is; parameters are of elementary type
+abbrev pub formal_of : Cell → Element → List Formal
+formal_of c (element.Plain kind) = formal c.name c.section kind ∷ []
+formal_of c _ = []
+
+-- the parameter that a component is, if it is one
+abbrev pub formal_here : Cell → List Formal
+formal_here c = if is_parameter c.section then formal_of c c.of else []
+
+-- the parameters among components
+abbrev pub formals_of : List Cell → List Formal
+formals_of cells = flat_map formal_here cells
+
+-- no parameter breaks a rule by its declaration
+abbrev pub is_sound_formal : Cell → Bool
+is_sound_formal c = if is_parameter c.section then c.sound else true
+
+-- the parameters, where none of them breaks a rule
+abbrev pub sound_formals : List Cell → Option (List Formal)
+sound_formals cells = if list_all is_sound_formal cells then Some (formals_of cells) else None
+
+-- a block that is called, with its parameters; `place` is that of a block of the source
+pub record Callee : Type 0 where
+  pub id : BlockId
+  pub place : Option ℕ
+  pub formals : List Formal
+
+-- a system function of the nine
+abbrev pub system_callee : BlockId → Option Callee
+system_callee id =
+    option_map (λ formals. record { id = id; place = None; formals = formals })
+    (system_formals id.number)
+
+-- a block of the source at its place
+abbrev pub callee_at : Context → BlockId → ℕ → Option Callee
+callee_at c id place =
+    option_map (λ formals. record { id = id; place = Some place; formals = formals })
+    (sound_formals (cells_at c.layouts place false))
+
+-- a block of the source that breaks no rule itself
+abbrev pub source_callee : Context → BlockId → Option Callee
+source_callee c id = option_and_then (callee_at c id) (whole_place c id)
+
+-- a block by its kind; the others can't be called
+abbrev pub callee_by : Context → BlockId → BlockKind → Option Callee
+callee_by c id k =
+    if is_system_function k then system_callee id
+    else if is_function k then source_callee c id
+    else if is_function_block k then source_callee c id
+    else None
+
+-- the block that a call is judged by: a system function of the nine, or a function or function block of the source that
+-- breaks no rule itself or by a parameter
+unfoldable pub callee_of : Context → Operand → Option Callee
+callee_of c (operand.Called name instance) =
+    option_and_then (λ id. callee_by c id id.kind) (named_block c.symbols name)
+callee_of c _ = None

@@ -1,0 +1,19 @@
+-- What a statement of a source that breaks no rule does its instruction on.
+use Rattle.std.specs.Prelude.{Option, Some, None, if◌then◌else◌}
+use Rattle.std.specs.Option.{is_none}
+use Rattle.stl_ast.specs.declared.statements.Statement.{Statement}
+use Rattle.stl_types.specs.Context.{Context}
+use Rattle.stl_types.specs.Operands.{statement_rule}
+use Rattle.stl_types.specs.Seen.{seen}
+use Rattle.stl_types.specs.declared.views.Seen.{Seen}
+use Rattle.stl_types.specs.declared.views.Seen.TheVariants.{Sees}
+use Rattle.stl_types.specs.declared.views.View.{View}
+
+-- what is seen, if something is
+abbrev pub seen_view : Seen → Option View
+seen_view (Sees v) = Some v
+seen_view _ = None
+
+-- what the operand of a statement names, where its instruction takes it
+unfoldable pub resolved : Context → Statement → Option View
+resolved c s = if is_none (statement_rule c s) then seen_view (seen c s.operand) else None

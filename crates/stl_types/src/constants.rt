@@ -1,0 +1,54 @@
+ghost use Rattle.std.specs.Prelude.{◌≡◌};
+ghost use Rattle.stl_types.specs.Constants.{
+  is_added,
+  is_count,
+  is_truth,
+  is_up_to,
+  takes_constant,
+};
+
+use crate::forms::Form;
+use block_layout::fits;
+use stl_ast::Literal;
+
+fn is_up_to(most: u16, value: i32) -> bool
+    ensures { result ≡ is_up_to most value }
+{
+    value >= 0 && value <= most as i32
+}
+
+fn is_count(most: u16, value: &Literal) -> bool
+    ensures { result ≡ is_count most value.now }
+{
+    match value {
+        Literal::Number { value } => is_up_to(most, *value),
+        _ => false,
+    }
+}
+
+fn is_added(value: &Literal) -> bool
+    ensures { result ≡ is_added value.now }
+{
+    matches!(value, Literal::Number { .. } | Literal::Long { .. })
+}
+
+fn is_truth(value: &Literal) -> bool
+    ensures { result ≡ is_truth value.now }
+{
+    matches!(value, Literal::Truth { .. })
+}
+
+/// Whether an instruction of a form takes a constant.
+#[tactic(auto, unfolding(crate::specs::Constants::takes_constant))]
+pub(crate) fn takes_constant(form: Form, value: &Literal) -> bool
+    ensures { result ≡ takes_constant form value.now }
+{
+    match form {
+        Form::Loads => !is_truth(value),
+        Form::Counts { most } => is_count(most, value),
+        Form::Shifts { most } => is_count(most, value),
+        Form::Adds => is_added(value),
+        Form::Combines { of } => fits(value, of),
+        _ => false,
+    }
+}

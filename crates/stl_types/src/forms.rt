@@ -1,0 +1,158 @@
+ghost use Rattle.std.specs.Prelude.{◌≡◌};
+ghost use Rattle.stl_types.specs.Forms.{form_of};
+
+use stl_ast::{Mnemonic, Simple};
+
+/// The operands that an instruction takes; instructions of one form take the same ones.
+#[derive(Clone, Copy, Debug, PartialEq, Eq)]
+pub enum Form {
+    /// No operand: the empty statement, `A(` to `)`, SET, +I, BEU and many others.
+    Bare,
+    /// A, AN, ON, X, XN.
+    ReadsBit,
+    /// O, which also stands alone.
+    ReadsBitOrBare,
+    /// `=`, FP, FN.
+    WritesBit,
+    /// S.
+    Sets,
+    /// R.
+    Resets,
+    /// L.
+    Loads,
+    /// T.
+    Transfers,
+    /// LC.
+    LoadsBcd,
+    LoadsAr1,
+    LoadsAr2,
+    StoresAr1,
+    StoresAr2,
+    /// `+AR1`, `+AR2`.
+    AddsToAr,
+    /// A decimal number up to `most`: NOP, BLD, INC, DEC.
+    Counts { most: u16 },
+    /// A shift or rotation: a count up to `most`, or nothing.
+    Shifts { most: u16 },
+    /// `+` with a constant.
+    Adds,
+    /// Word logic: a constant of the type, or nothing.
+    Combines { of: Simple },
+    Jumps,
+    /// SP, SE, SD, SS, SF.
+    StartsTimer,
+    /// FR.
+    Enables,
+    /// CU, CD.
+    StepsCounter,
+    /// CALL, UC, CC.
+    Calls,
+    /// OPN.
+    Opens,
+}
+
+/// The form of an instruction.
+#[tactic(auto, unfolding(crate::specs::Forms::form_of))]
+pub(crate) fn form_of(code: Mnemonic) -> Form
+    ensures { result ≡ form_of code }
+{
+    match code {
+        Mnemonic::Nop => Form::Counts { most: 1 },
+        Mnemonic::Bld | Mnemonic::Inc | Mnemonic::Dec => Form::Counts { most: 255 },
+        Mnemonic::A | Mnemonic::An | Mnemonic::On | Mnemonic::X | Mnemonic::Xn => Form::ReadsBit,
+        Mnemonic::O => Form::ReadsBitOrBare,
+        Mnemonic::Assign | Mnemonic::Fp | Mnemonic::Fn => Form::WritesBit,
+        Mnemonic::S => Form::Sets,
+        Mnemonic::R => Form::Resets,
+        Mnemonic::L => Form::Loads,
+        Mnemonic::T => Form::Transfers,
+        Mnemonic::Lc => Form::LoadsBcd,
+        Mnemonic::Lar1 => Form::LoadsAr1,
+        Mnemonic::Lar2 => Form::LoadsAr2,
+        Mnemonic::Tar1 => Form::StoresAr1,
+        Mnemonic::Tar2 => Form::StoresAr2,
+        Mnemonic::AddAr1 | Mnemonic::AddAr2 => Form::AddsToAr,
+        Mnemonic::Add => Form::Adds,
+        Mnemonic::Aw | Mnemonic::Ow | Mnemonic::Xow => Form::Combines { of: Simple::Word },
+        Mnemonic::Ad | Mnemonic::Od | Mnemonic::Xod => Form::Combines { of: Simple::Dword },
+        Mnemonic::Ssi | Mnemonic::Slw | Mnemonic::Srw => Form::Shifts { most: 15 },
+        Mnemonic::Ssd | Mnemonic::Sld | Mnemonic::Srd | Mnemonic::Rld | Mnemonic::Rrd => {
+            Form::Shifts { most: 32 }
+        }
+        Mnemonic::Ju
+        | Mnemonic::Jl
+        | Mnemonic::Jc
+        | Mnemonic::Jcn
+        | Mnemonic::Jcb
+        | Mnemonic::Jnb
+        | Mnemonic::Jbi
+        | Mnemonic::Jnbi
+        | Mnemonic::Jo
+        | Mnemonic::Jos
+        | Mnemonic::Jz
+        | Mnemonic::Jn
+        | Mnemonic::Jp
+        | Mnemonic::Jm
+        | Mnemonic::Jpz
+        | Mnemonic::Jmz
+        | Mnemonic::Juo
+        | Mnemonic::Loop => Form::Jumps,
+        Mnemonic::Sp | Mnemonic::Se | Mnemonic::Sd | Mnemonic::Ss | Mnemonic::Sf => {
+            Form::StartsTimer
+        }
+        Mnemonic::Fr => Form::Enables,
+        Mnemonic::Cu | Mnemonic::Cd => Form::StepsCounter,
+        Mnemonic::Call | Mnemonic::Uc | Mnemonic::Cc => Form::Calls,
+        Mnemonic::Opn => Form::Opens,
+        Mnemonic::Empty
+        | Mnemonic::AOpen
+        | Mnemonic::AnOpen
+        | Mnemonic::OOpen
+        | Mnemonic::OnOpen
+        | Mnemonic::XOpen
+        | Mnemonic::XnOpen
+        | Mnemonic::Close
+        | Mnemonic::Set
+        | Mnemonic::Clr
+        | Mnemonic::Not
+        | Mnemonic::Save => Form::Bare,
+        Mnemonic::Car
+        | Mnemonic::Tak
+        | Mnemonic::Push
+        | Mnemonic::Pop
+        | Mnemonic::Caw
+        | Mnemonic::Cad
+        | Mnemonic::Rlda
+        | Mnemonic::Rrda
+        | Mnemonic::Be
+        | Mnemonic::Bec
+        | Mnemonic::Beu
+        | Mnemonic::Cdb => Form::Bare,
+        Mnemonic::AddI
+        | Mnemonic::SubI
+        | Mnemonic::MulI
+        | Mnemonic::DivI
+        | Mnemonic::AddD
+        | Mnemonic::SubD
+        | Mnemonic::MulD
+        | Mnemonic::DivD
+        | Mnemonic::Mod
+        | Mnemonic::Invi
+        | Mnemonic::Invd
+        | Mnemonic::Negi
+        | Mnemonic::Negd => Form::Bare,
+        Mnemonic::EqI
+        | Mnemonic::NeI
+        | Mnemonic::GtI
+        | Mnemonic::LtI
+        | Mnemonic::GeI
+        | Mnemonic::LeI
+        | Mnemonic::EqD
+        | Mnemonic::NeD
+        | Mnemonic::GtD
+        | Mnemonic::LtD
+        | Mnemonic::GeD
+        | Mnemonic::LeD => Form::Bare,
+        Mnemonic::Bti | Mnemonic::Itb | Mnemonic::Btd | Mnemonic::Dtb | Mnemonic::Itd => Form::Bare,
+    }
+}

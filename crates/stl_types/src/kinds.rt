@@ -1,0 +1,191 @@
+ghost use Rattle.std.specs.Prelude.{◌≡◌};
+ghost use Rattle.block_layout.specs.Offsets.{width_of};
+ghost use Rattle.stl_types.specs.Kinds.{
+  is_bit,
+  is_callable,
+  is_called,
+  is_composite,
+  is_condition,
+  is_counter,
+  is_direct,
+  is_double_word,
+  is_in_memory,
+  is_label,
+  is_loaded,
+  is_nothing,
+  is_opened,
+  is_pointer,
+  is_second_register,
+  is_status_word,
+  is_timer,
+  width_in,
+};
+
+use crate::views::{Register, View};
+use plc_base::{BlockKind, Width};
+use stl_ast::{Numbered, Simple};
+
+/// The width of a type.
+pub(crate) fn width_of(kind: Simple) -> Width
+    ensures { result ≡ width_of kind }
+{
+    match kind {
+        Simple::Bool => Width::Bit,
+        Simple::Byte | Simple::Char => Width::Byte,
+        Simple::Word | Simple::Int | Simple::S5time => Width::Word,
+        Simple::Dword | Simple::Dint | Simple::Time => Width::Dword,
+    }
+}
+
+pub(crate) fn is_nothing(view: View) -> bool
+    ensures { result ≡ is_nothing view }
+{
+    matches!(view, View::Nothing)
+}
+
+/// Whether a place has an address of its own.
+pub(crate) fn is_direct(view: View) -> bool
+    ensures { result ≡ is_direct view }
+{
+    matches!(view, View::Direct { .. })
+}
+
+/// Whether a place in memory is meant: direct, a parameter of a function, or by a pointer.
+pub(crate) fn is_in_memory(view: View) -> bool
+    ensures { result ≡ is_in_memory view }
+{
+    matches!(
+        view,
+        View::Direct { .. }
+            | View::Parameter { .. }
+            | View::ByMemory { .. }
+            | View::ByRegister { .. }
+    )
+}
+
+pub(crate) fn is_timer(view: View) -> bool
+    ensures { result ≡ is_timer view }
+{
+    match view {
+        View::Timer { .. } => true,
+        View::NumberBy { what, .. } => matches!(what, Numbered::Timer),
+        _ => false,
+    }
+}
+
+pub(crate) fn is_counter(view: View) -> bool
+    ensures { result ≡ is_counter view }
+{
+    match view {
+        View::Counter { .. } => true,
+        View::NumberBy { what, .. } => matches!(what, Numbered::Counter),
+        _ => false,
+    }
+}
+
+/// Whether a data block is opened.
+pub(crate) fn is_opened(view: View) -> bool
+    ensures { result ≡ is_opened view }
+{
+    match view {
+        View::OpenBlock { .. } => true,
+        View::NumberBy { what, .. } => matches!(what, Numbered::Db | Numbered::Di),
+        _ => false,
+    }
+}
+
+pub(crate) fn is_condition(view: View) -> bool
+    ensures { result ≡ is_condition view }
+{
+    matches!(view, View::OfStatus { .. })
+}
+
+pub(crate) fn is_pointer(view: View) -> bool
+    ensures { result ≡ is_pointer view }
+{
+    matches!(view, View::Pointer { .. })
+}
+
+pub(crate) fn is_label(view: View) -> bool
+    ensures { result ≡ is_label view }
+{
+    matches!(view, View::Label)
+}
+
+pub(crate) fn is_status_word(view: View) -> bool
+    ensures { result ≡ is_status_word view }
+{
+    match view {
+        View::Register { which } => matches!(which, Register::Stw),
+        _ => false,
+    }
+}
+
+pub(crate) fn is_second_register(view: View) -> bool
+    ensures { result ≡ is_second_register view }
+{
+    match view {
+        View::Register { which } => matches!(which, Register::Ar2),
+        _ => false,
+    }
+}
+
+/// Whether a register can be loaded by L.
+pub(crate) fn is_loaded(view: View) -> bool
+    ensures { result ≡ is_loaded view }
+{
+    match view {
+        View::Register { which } => !matches!(which, Register::Ar2),
+        _ => false,
+    }
+}
+
+fn is_callable(kind: BlockKind) -> bool
+    ensures { result ≡ is_callable kind }
+{
+    matches!(kind, BlockKind::Fc | BlockKind::Fb | BlockKind::Sfc)
+}
+
+/// Whether a block can be called so: only a function block has an instance.
+pub(crate) fn is_called(view: View) -> bool
+    ensures { result ≡ is_called view }
+{
+    match view {
+        View::Called { block, instance } => match instance {
+            None => is_callable(block.kind),
+            Some(_) => matches!(block.kind, BlockKind::Fb),
+        },
+        _ => false,
+    }
+}
+
+pub(crate) fn is_composite(view: View) -> bool
+    ensures { result ≡ is_composite view }
+{
+    matches!(view, View::Composite | View::Date)
+}
+
+/// The width of a place in memory.
+pub(crate) fn width_in(view: View) -> Option<Width>
+    ensures { result ≡ width_in view }
+{
+    match view {
+        View::Direct { width, .. } => Some(width),
+        View::Parameter { declared, .. } => Some(width_of(declared)),
+        View::ByMemory { width, .. } => Some(width),
+        View::ByRegister { width, .. } => Some(width),
+        _ => None,
+    }
+}
+
+pub(crate) fn is_bit(width: Option<Width>) -> bool
+    ensures { result ≡ is_bit width }
+{
+    matches!(width, Some(Width::Bit))
+}
+
+pub(crate) fn is_double_word(width: Option<Width>) -> bool
+    ensures { result ≡ is_double_word width }
+{
+    matches!(width, Some(Width::Dword))
+}

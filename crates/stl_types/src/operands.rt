@@ -1,0 +1,168 @@
+ghost use Rattle.std.specs.Prelude.{◌≡◌};
+ghost use Rattle.stl_types.specs.Kinds.{is_peripheral, is_peripheral_area};
+ghost use Rattle.stl_types.specs.Operands.{
+  has_width,
+  is_input,
+  is_on_wrong_side,
+  rule_of,
+  takes,
+  takes_width,
+  writes,
+};
+
+use crate::forms::Form;
+use crate::kinds::{
+    is_bit, is_called, is_composite, is_condition, is_counter, is_direct, is_double_word,
+    is_in_memory, is_label, is_loaded, is_nothing, is_opened, is_pointer, is_second_register,
+    is_status_word, is_timer, width_in,
+};
+use crate::views::{Side, View};
+use plc_base::{Area, Width};
+use stl_ast::PartKind;
+
+/// Whether a form takes an operand that is no constant, whatever its width.
+#[tactic(auto, unfolding(crate::specs::Operands::takes))]
+fn takes(form: Form, view: View) -> bool
+    ensures { result ≡ takes form view }
+{
+    match form {
+        Form::Bare | Form::Shifts { .. } | Form::Combines { .. } => is_nothing(view),
+        Form::ReadsBit => {
+            is_in_memory(view) || is_timer(view) || is_counter(view) || is_condition(view)
+        }
+        Form::ReadsBitOrBare => {
+            is_nothing(view)
+                || is_in_memory(view)
+                || is_timer(view)
+                || is_counter(view)
+                || is_condition(view)
+        }
+        Form::WritesBit => is_in_memory(view),
+        Form::Sets => is_in_memory(view) || is_counter(view),
+        Form::Resets => is_in_memory(view) || is_timer(view) || is_counter(view),
+        Form::Loads => {
+            is_in_memory(view)
+                || is_timer(view)
+                || is_counter(view)
+                || is_pointer(view)
+                || is_loaded(view)
+        }
+        Form::Transfers => is_in_memory(view) || is_status_word(view),
+        Form::LoadsBcd | Form::Enables => is_timer(view) || is_counter(view),
+        Form::LoadsAr1 => {
+            is_nothing(view) || is_pointer(view) || is_direct(view) || is_second_register(view)
+        }
+        Form::LoadsAr2 => is_nothing(view) || is_pointer(view) || is_direct(view),
+        Form::StoresAr1 => is_nothing(view) || is_direct(view) || is_second_register(view),
+        Form::StoresAr2 => is_nothing(view) || is_direct(view),
+        Form::AddsToAr => is_nothing(view) || is_pointer(view),
+        Form::Counts { .. } | Form::Adds => false,
+        Form::Jumps => is_label(view),
+        Form::StartsTimer => is_timer(view),
+        Form::StepsCounter => is_counter(view),
+        Form::Calls => is_called(view),
+        Form::Opens => is_opened(view),
+    }
+}
+
+#[tactic(auto, unfolding(crate::specs::Operands::takes_width))]
+fn takes_width(form: Form, width: Option<Width>) -> bool
+    ensures { result ≡ takes_width form width }
+{
+    match form {
+        Form::ReadsBit | Form::ReadsBitOrBare | Form::WritesBit | Form::Sets | Form::Resets =>
+            is_bit(width),
+        Form::Loads | Form::Transfers => !is_bit(width),
+        Form::LoadsAr1 | Form::LoadsAr2 | Form::StoresAr1 | Form::StoresAr2 => {
+            is_double_word(width)
+        }
+        _ => true,
+    }
+}
+
+/// Only a place in memory has a width.
+fn has_width(form: Form, width: Option<Width>) -> bool
+    ensures { result ≡ has_width form width }
+{
+    match width {
+        None => true,
+        Some(_) => takes_width(form, width),
+    }
+}
+
+/// Whether instructions of a form write their operand.
+fn writes(form: Form) -> bool
+    ensures { result ≡ writes form }
+{
+    matches!(
+        form,
+        Form::WritesBit
+            | Form::Sets
+            | Form::Resets
+            | Form::Transfers
+            | Form::StoresAr1
+            | Form::StoresAr2
+    )
+}
+
+fn is_peripheral(area: Area) -> bool
+    ensures { result ≡ is_peripheral area }
+{
+    matches!(area, Area::P)
+}
+
+fn is_peripheral_area(area: Option<Area>) -> bool
+    ensures { result ≡ is_peripheral_area area }
+{
+    match area {
+        None => false,
+        Some(area) => is_peripheral(area),
+    }
+}
+
+fn is_on_wrong_side(form: Form, view: View) -> bool
+    ensures { result ≡ is_on_wrong_side form view }
+{
+    match view {
+        View::Direct { side, .. } => match side {
+            Side::Both => false,
+            Side::Inputs => writes(form),
+            Side::Outputs => !writes(form),
+        },
+        View::ByMemory { area, .. } => is_peripheral(area),
+        View::ByRegister { area, .. } => is_peripheral_area(area),
+        _ => false,
+    }
+}
+
+fn is_input(view: View) -> bool
+    ensures { result ≡ is_input view }
+{
+    match view {
+        View::Parameter { section, .. } => matches!(section, PartKind::Input),
+        _ => false,
+    }
+}
+
+/// The rule that an instruction breaks by an operand that is no constant.
+#[tactic(auto, unfolding(crate::specs::Operands::rule_of))]
+pub(crate) fn rule_of(form: Form, view: View) -> Option<u16>
+    ensures { result ≡ rule_of form view }
+{
+    if is_composite(view) {
+        return Some(24);
+    }
+    if !takes(form, view) {
+        return Some(25);
+    }
+    if !has_width(form, width_in(view)) {
+        return Some(24);
+    }
+    if is_on_wrong_side(form, view) {
+        return Some(25);
+    }
+    if writes(form) && is_input(view) {
+        return Some(39);
+    }
+    None
+}

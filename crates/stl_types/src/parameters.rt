@@ -1,0 +1,31 @@
+use plc_base::BlockId;
+use std::marker::Model;
+use stl_ast::{Name, PartKind, Simple};
+
+/// A parameter of a block: its name in upper case, its section and its type.
+#[derive(Drop)]
+pub(crate) struct Formal {
+    pub(crate) name: Name,
+    pub(crate) section: PartKind,
+    pub(crate) kind: Simple,
+}
+
+/// A block that is called, with its parameters; `place` is that of a block of the source.
+#[derive(Drop)]
+pub(crate) struct Callee {
+    pub(crate) id: BlockId,
+    pub(crate) place: Option<usize>,
+    pub(crate) formals: Vec<Formal>,
+}
+
+impl Model for Callee {
+    ghost use Rattle.stl_types.specs.Parameters.{Callee as CalleeData};
+
+    ghost Value = { CalleeData };
+
+    ghost view = { λ c. record {
+      id = c.id;
+      place = c.place;
+      formals = c.formals.items;
+    } };
+}
