@@ -96,7 +96,8 @@ impl Bins {
 
     /// The best request, with its class in the operating mode.
     pub(crate) fn best(&self, mode: Mode) -> Option<Pending>
-        ensures { result ≡ best_of mode (pending_of self.now) }
+        ensures value { result ≡ best_of mode (pending_of self.now) }
+        ensures known { IfSome result (λ best. IsTrue (can_wait best.ob)) }
     {
         let (ob, info) = self.first()?;
         Some(Pending {

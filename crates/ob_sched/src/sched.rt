@@ -88,6 +88,7 @@ impl Sched {
     pub fn best(&self, mode: Mode) -> Option<Pending>
         ensures value { result ≡ best_of mode (scheduler_of self.now).pending }
         ensures best { IfSome result (λ best. IsBest best (scheduler_of self.now).pending) }
+        ensures known { IfSome result (λ best. IsTrue (can_wait best.ob)) }
     {
         self.pending.best(mode)
     }

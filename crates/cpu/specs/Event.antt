@@ -1,0 +1,32 @@
+-- What one entry of a history does to the state, over any program.
+use Rattle.std.specs.Prelude.{ℕ, ◌+◌, unwrap_or, if◌then◌else◌}
+use Rattle.plc_mem.specs.Peripherals.{with_input}
+use Rattle.machine.specs.Code.{Code}
+use Rattle.machine.specs.Statement.{World}
+use Rattle.cpu.specs.declared.entries.What.{What}
+use Rattle.cpu.specs.declared.entries.What.TheVariants.{Step, Input, Arrive, Tick}
+use Rattle.cpu.specs.Requests.{arrived}
+use Rattle.cpu.specs.Settling.{settled}
+use Rattle.cpu.specs.State.{State, is_stop}
+use Rattle.cpu.specs.Stepping.{stepped}
+use Rattle.cpu.specs.Ticking.{time_passed}
+
+-- the entry is counted
+abbrev pub counted : State → State
+counted s = record s { entries = s.entries + 1 }
+
+-- another byte of the peripheral inputs
+abbrev pub input_set : (byte value : ℕ) → World → World
+input_set byte value w =
+    record w { memory = unwrap_or (with_input w.memory byte value) w.memory }
+
+-- an input changes in every mode; in STOP a step does nothing
+abbrev pub effect : Code → What → State → State
+effect code Step s = if is_stop s.mode then s else stepped code s
+effect code (Input byte value) s = record s { world = input_set byte value s.world }
+effect code (Arrive ob value) s = arrived code ob value s
+effect code (Tick ms) s = time_passed code ms s
+
+-- one entry, and settling after it
+unfoldable pub state_after : Code → What → State → State
+state_after code what s = settled code (effect code what (counted s))

@@ -1,0 +1,22 @@
+-- When the next statement can be executed: nothing of it is missing.
+use Rattle.std.specs.Prelude.{◌≡◌, false, ℕ, List, [], ◌∷◌, length, IsSome}
+use Rattle.plc_base.specs.declared.BlockId.{BlockId}
+use Rattle.frames.specs.Activations.{frames_of}
+use Rattle.frames.specs.declared.Activation.{Activation}
+use Rattle.machine.specs.Code.{Code}
+use Rattle.machine.specs.Statement.{World, Goes, statement}
+
+-- a statement of a block stands at a position
+unfoldable pub HasStatement : Code → BlockId → (at : ℕ) → Type 0
+HasStatement code block at = IsSome (code.fetch block at)
+
+-- a frame stands, each frame has its local data, and nothing that its statement needs is missing
+pub record CanGo (code : Code) (a : Activation) : Type 0 where
+  pub stands : a.left ≡ false
+  pub depth : length a.running.locals.starts ≡ length (frames_of a)
+  pub there : (w : World) → Goes (statement code a w)
+
+-- this is so of the running activation, if one runs
+abbrev pub IsReady : Code → List Activation → Type 0
+IsReady code [] = Unit {0}
+IsReady code (a ∷ below) = CanGo code a

@@ -1,0 +1,51 @@
+-- What an entry shows.
+use Rattle.std.specs.Prelude.{ℕ, ◌==◌, Bool, true, false, List, Option, Some, None, if◌then◌else◌}
+use Rattle.std.specs.List.{filter_map, range_with_len}
+use Rattle.plc_base.specs.declared.Mode.{Mode}
+use Rattle.plc_base.specs.declared.Mode.TheVariants.{Run, Startup, Stop}
+use Rattle.plc_mem.specs.Areas.{PeripheralBytes}
+use Rattle.plc_mem.specs.Bits.{peripheral_byte}
+use Rattle.machine.specs.Code.{Code}
+use Rattle.cpu.specs.declared.entries.What.{What}
+use Rattle.cpu.specs.State.{State}
+
+-- a byte that exists, with its new value, unless that is the old one
+abbrev pub if_changed : (byte : ℕ) (before after : Option ℕ) → Option (ℕ × ℕ)
+if_changed byte before None = None
+if_changed byte None (Some new) = Some (byte, new)
+if_changed byte (Some old) (Some new) = if old == new then None else Some (byte, new)
+
+-- a byte of these peripheral outputs, if it changed
+abbrev pub changed_output : (before after : PeripheralBytes) (byte : ℕ) → Option (ℕ × ℕ)
+changed_output before after byte =
+    if_changed byte (peripheral_byte before byte) (peripheral_byte after byte)
+
+-- the peripheral output bytes that changed, by rising number, with their new values; the greatest number
+-- is 767
+unfoldable pub changed_outputs : (before after : PeripheralBytes) → List (ℕ × ℕ)
+changed_outputs before after =
+    filter_map (changed_output before after) (range_with_len 0 768)
+
+-- whether two modes are the same; in STOP cause and spot stay as they are
+abbrev pub is_same_mode : Mode → Mode → Bool
+is_same_mode Run Run = true
+is_same_mode Startup Startup = true
+is_same_mode (Stop cause at) (Stop cause' at') = true
+is_same_mode before after = false
+
+-- the mode after an entry, where the entry changed it
+abbrev pub changed_mode : (before after : Mode) → Option Mode
+changed_mode before after = if is_same_mode before after then None else Some after
+
+-- the changed peripheral outputs, and the new mode
+pub record Shown : Type 0 where
+  pub outputs : List (ℕ × ℕ)
+  pub mode : Option Mode
+
+-- what an entry shows, by the program, the states before and after it, and the entry
+unfoldable pub shown : Code → (before : State) → What → (after : State) → Shown
+shown code before what after = record {
+  outputs = changed_outputs before.world.memory.peripheral_outputs
+      after.world.memory.peripheral_outputs;
+  mode = changed_mode before.mode after.mode;
+}
