@@ -1,0 +1,84 @@
+-- The code of a block, read back: the statement at the offset of each is the statement that was
+-- compiled, with offsets as targets.
+use Rattle.std.specs.Prelude.{◌≡◌, ◌≤◌, ℕ, zero, suc, ◌+◌, Bool, true, false, List, [], ◌∷◌, length, map, take, drop, Option, Some, None, if◌then◌else◌}
+use Rattle.std.specs.List.{slice_get, AllByRecursion}
+use Rattle.std.specs.Option.{option_map}
+use Rattle.plc_base.specs.declared.blocks.BlockId.{BlockId}
+use Rattle.plc_base.specs.declared.blocks.BlockKind.{BlockKind}
+use Rattle.plc_base.specs.declared.blocks.BlockKind.TheVariants as kinds
+use Rattle.flat_code.specs.Instr.{Instr, Passing, Does, Jumps, JumpsByList, Calls, Returns}
+use Rattle.flat_code.specs.Programs.{CodeBlock}
+use Rattle.flat_code.specs.declared.kinds.JumpWord.{JumpWord}
+use Rattle.flat_code.specs.declared.kinds.JumpWord.TheVariants as jump
+use Rattle.flat_code.specs.declared.operands.Operand.{Operand}
+use Rattle.flat_code.specs.declared.operands.Operand.TheVariants as operand
+use Rattle.flat_code.specs.declared.words.Word.{Word}
+use Rattle.flat_code.specs.declared.words.Word.TheVariants as word
+use Rattle.machine.specs.Code.{Fetched}
+use Rattle.machine.specs.Flat.{statement_at, is_jl}
+use Rattle.machine.specs.Moved.{aimed_instr}
+use Rattle.stl_codegen.specs.Compiled.{Stated, ops_in, offset_of, code_in, lines_in}
+use Rattle.stl_codegen.specs.Instruction.{numbers_from}
+
+-- the statement of a number, at its offset
+abbrev pub aimed_statement : (ℕ → ℕ) → (n : ℕ) → Stated → Fetched
+aimed_statement f n s =
+    record { instr = aimed_instr f s.instr; next = f (suc n); line = s.line }
+
+-- a word of an instruction that goes on to the next statement
+abbrev pub goes_on : Word → Bool
+goes_on word.Jump = false
+goes_on (word.Call how) = false
+goes_on (word.End how) = false
+goes_on _ = true
+
+-- an operand with a target, which no such word has
+abbrev pub is_target : Operand → Bool
+is_target (operand.Jump kind target) = true
+is_target _ = false
+
+-- functions, function blocks and system functions are called
+abbrev pub is_called : BlockKind → Bool
+is_called kinds.Fc = true
+is_called kinds.Fb = true
+is_called kinds.Sfc = true
+is_called _ = false
+
+-- no data block has the number 0
+abbrev pub IsInstance : Option ℕ → Type 0
+IsInstance None = Unit {0}
+IsInstance (Some number) = 1 ≤ number
+
+abbrev pub is_ju : Instr → Bool
+is_ju (Jumps jump.Ju target) = true
+is_ju _ = false
+
+abbrev pub IsJu : Stated → Type 0
+IsJu s = is_ju s.instr ≡ true
+
+-- the list of a JL: the JU statements behind it, at most 255, up to its target
+pub record IsList (n : ℕ) (targets : List ℕ) (otherwise : ℕ) (behind : List Stated) : Type 0 where
+  pub few : length targets ≤ 255
+  pub numbers : targets ≡ numbers_from (suc n) (length targets)
+  pub ends : otherwise ≡ suc n + length targets
+  pub there : length targets ≤ length behind
+  pub jumps : AllByRecursion IsJu (take (length targets) behind)
+
+-- an instruction that code is generated for: the one of a statement, with those behind it
+abbrev pub IsCompiled : (n : ℕ) → Instr → (behind : List Stated) → Type 0
+IsCompiled n (Does use_db w o) behind = (goes_on w ≡ true) × (is_target o ≡ false)
+IsCompiled n (Jumps how target) behind = is_jl how ≡ false
+IsCompiled n (JumpsByList targets otherwise) behind = IsList n targets otherwise behind
+IsCompiled n (Calls how block instance passings) behind =
+    (is_called block.kind ≡ true) × IsInstance instance × (length passings ≤ 63)
+IsCompiled n (Returns how) behind = Unit {0}
+
+abbrev pub AreCompiled : (n : ℕ) → List Stated → Type 0
+AreCompiled n [] = Unit {0}
+AreCompiled n (s ∷ behind) = IsCompiled n s.instr behind × AreCompiled (suc n) behind
+
+-- the code of a block is read back as its statements, and nothing begins behind them
+abbrev pub IsReadBack : CodeBlock → List Stated → Type 0
+IsReadBack b statements =
+    (n : ℕ) → statement_at b (offset_of (ops_in statements) n)
+    ≡ option_map (aimed_statement (offset_of (ops_in statements)) n) (slice_get statements n)

@@ -1,0 +1,70 @@
+-- The code of a block: the ops of its statements one behind the other. A target is the number of a
+-- statement, from 0, before the ops have their places, and a byte offset then.
+use Rattle.std.specs.Prelude.{ℕ, zero, suc, ◌+◌, Bool, true, false, List, [], ◌∷◌, map}
+use Rattle.std.specs.List.{flat_map}
+use Rattle.plc_base.specs.declared.blocks.BlockId.{BlockId}
+use Rattle.flat_code.specs.Codes.{size}
+use Rattle.flat_code.specs.Instr.{Instr}
+use Rattle.flat_code.specs.Ops.{OpData}
+use Rattle.flat_code.specs.Programs.{CodeBlock}
+use Rattle.flat_code.specs.declared.programs.Param.{Param}
+use Rattle.flat_code.specs.declared.operands.Operand.{Operand}
+use Rattle.flat_code.specs.declared.operands.Operand.TheVariants as operand
+use Rattle.stl_codegen.specs.Emitted.{ops_of}
+
+-- a statement of a block, empty ones left out: its instruction and its line
+pub record Stated : Type 0 where
+  pub instr : Instr
+  pub line : ℕ
+
+-- the ops of statements, whose targets are still numbers of statements
+abbrev pub ops_in : List Stated → List OpData
+ops_in statements = flat_map (λ s. ops_of s.instr) statements
+
+-- the offset of the first op of a statement, of ops that begin at an offset; `begins`: whether a
+-- statement begins with the first of them. Behind the last statement it is the end of the code
+abbrev pub offset_from : (at : ℕ) → (begins : Bool) → List OpData → ℕ → ℕ
+offset_from at begins [] n = at
+offset_from at true (op ∷ ops) zero = at
+offset_from at true (op ∷ ops) (suc n) = offset_from (at + size op) op.last ops n
+offset_from at false (op ∷ ops) n = offset_from (at + size op) op.last ops n
+
+unfoldable pub offset_of : List OpData → ℕ → ℕ
+offset_of ops n = offset_from 0 true ops n
+
+-- targets by a function of positions
+abbrev pub aimed : (ℕ → ℕ) → Operand → Operand
+aimed f (operand.Jump kind target) = operand.Jump kind (f target)
+aimed f o = o
+
+abbrev pub aimed_op : (ℕ → ℕ) → OpData → OpData
+aimed_op f op = record op { operand = aimed f op.operand }
+
+-- the ops with byte offsets as targets
+unfoldable pub placed_ops : List OpData → List OpData
+placed_ops ops = map (aimed_op (offset_of ops)) ops
+
+-- the code and the lines of statements
+abbrev pub code_in : List Stated → List OpData
+code_in statements = placed_ops (ops_in statements)
+
+abbrev pub lines_in : List Stated → List ℕ
+lines_in statements = map (λ s. s.line) statements
+
+-- a code block before its statements are ops
+pub record StatedBlock : Type 0 where
+  pub id : BlockId
+  pub local_len : ℕ
+  pub instance_len : ℕ
+  pub params : List Param
+  pub statements : List Stated
+
+abbrev pub compiled : StatedBlock → CodeBlock
+compiled b = record {
+  id = b.id;
+  local_len = b.local_len;
+  instance_len = b.instance_len;
+  params = b.params;
+  code = code_in b.statements;
+  lines = lines_in b.statements;
+}

@@ -1,0 +1,64 @@
+-- The ops of an instruction. Those before the last one only prepare; the last one has the end mark.
+use Rattle.std.specs.Prelude.{ℕ, true, false, List, [], ◌∷◌, ◌++◌, Option, Some, None}
+use Rattle.plc_base.specs.declared.blocks.BlockId.{BlockId}
+use Rattle.plc_base.specs.declared.blocks.BlockKind.{BlockKind}
+use Rattle.plc_base.specs.declared.blocks.BlockKind.TheVariants as kinds
+use Rattle.flat_code.specs.Instr.{Instr, Passing, Does, Jumps, JumpsByList, Calls, Returns}
+use Rattle.flat_code.specs.Kinds.{kind_of}
+use Rattle.flat_code.specs.OpCodes.{code_of}
+use Rattle.flat_code.specs.Ops.{OpData, op_of}
+use Rattle.flat_code.specs.declared.kinds.JumpWord.{JumpWord}
+use Rattle.flat_code.specs.declared.kinds.JumpWord.TheVariants as jump
+use Rattle.flat_code.specs.declared.operands.Operand.{Operand}
+use Rattle.flat_code.specs.declared.operands.Operand.TheVariants as operand
+use Rattle.flat_code.specs.declared.words.CallWord.{CallWord}
+use Rattle.flat_code.specs.declared.words.EndWord.{EndWord}
+use Rattle.flat_code.specs.declared.words.Word.{Word}
+use Rattle.flat_code.specs.declared.words.Word.TheVariants as word
+
+-- an op that prepares its statement, and the op that does it
+abbrev pub preparing : Word → Operand → OpData
+preparing w o = op_of (code_of w) false o
+
+abbrev pub ending : Word → Operand → OpData
+ending w o = op_of (code_of w) true o
+
+-- USEDB: the data block that the statement opens first
+abbrev pub opening : Option ℕ → List OpData
+opening None = []
+opening (Some number) = preparing word.UseDb (operand.UseDb number) ∷ []
+
+-- PASS: what a CALL passes, one op for each parameter that is supplied
+abbrev pub passing : List Passing → List OpData
+passing [] = []
+passing (p ∷ ps) = preparing word.Pass (operand.Pass p.index p.actual) ∷ passing ps
+
+abbrev pub jump_op : JumpWord → (target : ℕ) → OpData
+jump_op how target = ending word.Jump (operand.Jump (kind_of how) target)
+
+-- the kinds of called blocks: 2 FC, 3 FB, 5 SFC; no other kind is called
+abbrev pub called_kind : BlockKind → ℕ
+called_kind kinds.Fc = 2
+called_kind kinds.Fb = 3
+called_kind _ = 5
+
+-- 0 stands for no instance
+abbrev pub instance_number : Option ℕ → ℕ
+instance_number None = 0
+instance_number (Some number) = number
+
+abbrev pub call_op : CallWord → BlockId → (instance : Option ℕ) → OpData
+call_op how block instance =
+    ending (word.Call how)
+    (operand.Called (called_kind block.kind) block.number (instance_number instance))
+
+abbrev pub end_op : EndWord → OpData
+end_op how = ending (word.End how) operand.Nothing
+
+unfoldable pub ops_of : Instr → List OpData
+ops_of (Does use_db w o) = opening use_db ++ ending w o ∷ []
+ops_of (Jumps how target) = jump_op how target ∷ []
+-- the list of a JL is the JU statements behind it
+ops_of (JumpsByList targets otherwise) = jump_op jump.Jl otherwise ∷ []
+ops_of (Calls how block instance passings) = passing passings ++ call_op how block instance ∷ []
+ops_of (Returns how) = end_op how ∷ []

@@ -1,0 +1,207 @@
+-- The program of a source that breaks no rule.
+use Rattle.std.specs.Prelude.{ℕ, suc, ◌+◌, ◌/◌, ◌%◌, nat_eq, nat_lt, Bool, true, false, ◌&&◌, ◌||◌, List, [], ◌∷◌, ◌++◌, map, flat_map, Option, Some, None, if◌then◌else◌, slice_get}
+use Rattle.std.specs.Option.{option_and_then}
+use Rattle.plc_base.specs.declared.blocks.BlockId.{BlockId}
+use Rattle.plc_base.specs.declared.blocks.BlockKind.{BlockKind}
+use Rattle.plc_base.specs.declared.blocks.BlockKind.TheVariants as kinds
+use Rattle.plc_base.specs.declared.places.Area.{Area}
+use Rattle.plc_base.specs.declared.places.Area.TheVariants as area
+use Rattle.plc_base.specs.declared.places.Width.{Width}
+use Rattle.flat_code.specs.Faults.{is_before}
+use Rattle.flat_code.specs.Instr.{Returns}
+use Rattle.flat_code.specs.Names.{upper_case}
+use Rattle.flat_code.specs.Programs.{DataBlock, NameEntry, Program}
+use Rattle.flat_code.specs.declared.programs.Param.{Param}
+use Rattle.flat_code.specs.declared.words.EndWord.TheVariants as ends
+use Rattle.stl_ast.specs.Statements.{is_empty}
+use Rattle.stl_ast.specs.declared.blocks.Block.{Block}
+use Rattle.stl_ast.specs.declared.blocks.PartKind.{PartKind}
+use Rattle.stl_ast.specs.declared.blocks.PartKind.TheVariants as part
+use Rattle.stl_ast.specs.declared.blocks.Tree.{Tree}
+use Rattle.stl_ast.specs.declared.statements.Statement.{Statement}
+use Rattle.stl_symbols.specs.Symbol.{Symbol}
+use Rattle.stl_symbols.specs.declared.targets.Target.{Target}
+use Rattle.stl_symbols.specs.declared.targets.Target.TheVariants as target
+use Rattle.block_layout.specs.Blocks.{is_function, is_function_block, is_data_block, is_code}
+use Rattle.block_layout.specs.InitialBytes.{initial_bytes}
+use Rattle.block_layout.specs.Members.{component}
+use Rattle.block_layout.specs.Offsets.{width_of}
+use Rattle.block_layout.specs.declared.blocks.BlockLayout.{BlockLayout}
+use Rattle.block_layout.specs.declared.blocks.Shape.{Shape}
+use Rattle.block_layout.specs.declared.blocks.Shape.TheVariants as shape
+use Rattle.block_layout.specs.declared.cells.Cell.{Cell}
+use Rattle.block_layout.specs.declared.cells.Element.{Element}
+use Rattle.block_layout.specs.declared.cells.Element.TheVariants as element
+use Rattle.block_layout.specs.declared.members.Member.{Member}
+use Rattle.stl_types.specs.Bodies.{first_context}
+use Rattle.stl_types.specs.Context.{Context}
+use Rattle.stl_ast.specs.Blocks.{is_parameter}
+use Rattle.stl_codegen.specs.Compiled.{Stated, StatedBlock, compiled}
+use Rattle.stl_codegen.specs.Instruction.{instruction, in_order}
+
+-- ---- statements
+
+-- those of a body from a number on; empty statements have no number
+abbrev pub stated_from : Context → (body : List Statement) → (n : ℕ) → List Statement → List Stated
+stated_from c body n [] = []
+stated_from c body n (s ∷ ss) =
+    if is_empty s.code then stated_from c body n ss
+    else record { instr = instruction c body n s; line = s.line }
+    ∷ stated_from c body (suc n) ss
+
+-- and one more that returns, with the line of the END clause
+abbrev pub returning : Block → Stated
+returning b = record { instr = Returns ends.Be; line = b.end_line }
+
+unfoldable pub statements_of : Context → Block → List Stated
+statements_of c b = stated_from c b.body 0 b.body ++ returning b ∷ []
+
+-- ---- parameters
+
+-- the sections by their numbers in an image
+abbrev pub section_number : PartKind → ℕ
+section_number part.Input = 1
+section_number part.Output = 2
+section_number _ = 3
+
+abbrev pub param : (section : ℕ) → Width → (bits : ℕ) → Param
+param section width bits =
+    record { section = section; width = width; byte = bits / 8; bit = bits % 8 }
+
+-- a parameter of a function block has its place in the instance
+abbrev pub offset_named : Option Member → ℕ
+offset_named None = 0
+offset_named (Some m) = m.offset
+
+abbrev pub param_bits : (in_instance : Bool) → List Cell → Cell → ℕ
+param_bits in_instance cells c =
+    if in_instance then offset_named (component 0 0 0 c.name cells) else 0
+
+abbrev pub param_of : (in_instance : Bool) → List Cell → Cell → Element → List Param
+param_of in_instance cells c (element.Plain kind) =
+    param (section_number c.section) (width_of kind) (param_bits in_instance cells c) ∷ []
+param_of in_instance cells c _ = []
+
+abbrev pub param_here : (in_instance : Bool) → List Cell → Cell → List Param
+param_here in_instance cells c =
+    if is_parameter c.section then param_of in_instance cells c c.of else []
+
+unfoldable pub params_of : Block → BlockLayout → List Param
+params_of b l =
+    in_order (Some b)
+    (flat_map (λ c. param_here (is_function_block b.kind) l.components c) l.components)
+
+-- ---- blocks
+
+abbrev pub instance_len : Block → BlockLayout → ℕ
+instance_len b l = if is_function_block b.kind then l.length else 0
+
+abbrev pub code_block : Context → Block → BlockLayout → BlockId → StatedBlock
+code_block c b l id = record {
+  id = id;
+  local_len = l.local_len;
+  instance_len = instance_len b l;
+  params = params_of b l;
+  statements = statements_of c b;
+}
+
+abbrev pub code_block_of : Context → Block → BlockLayout → Option BlockId → List StatedBlock
+code_block_of c b l None = []
+code_block_of c b l (Some id) = if is_code id.kind then code_block c b l id ∷ [] else []
+
+-- the function block whose instance a data block is
+abbrev pub function_block_number : Option BlockId → Option ℕ
+function_block_number None = None
+function_block_number (Some id) = if is_function_block id.kind then Some id.number else None
+
+abbrev pub instance_in : List BlockLayout → Shape → Option ℕ
+instance_in layouts (shape.Of block) =
+    option_and_then (λ l. function_block_number l.id) (slice_get layouts block)
+instance_in layouts _ = None
+
+abbrev pub data_block : Context → BlockLayout → BlockId → DataBlock
+data_block c l id = record {
+  number = id.number;
+  instance_of = instance_in c.layouts l.shape;
+  bytes = initial_bytes c.layouts c.blocks c.block;
+}
+
+abbrev pub data_block_of : Context → BlockLayout → Option BlockId → List DataBlock
+data_block_of c l None = []
+data_block_of c l (Some id) = if is_data_block id.kind then data_block c l id ∷ [] else []
+
+-- from each block of the source with its layout
+abbrev pub each_block : {A : Type 0} → (Context → Block → BlockLayout → List A) → Context
+    → List Block → List BlockLayout → List A
+each_block of c [] ls = []
+each_block of c (b ∷ bs) [] = []
+each_block of c (b ∷ bs) (l ∷ ls) =
+    of c b l ++ each_block of (record c { block = suc c.block }) bs ls
+
+-- ---- in order
+
+-- kinds in the order of an image: organization blocks, functions, function blocks
+abbrev pub rank : BlockKind → ℕ
+rank kinds.Ob = 1
+rank kinds.Fc = 2
+rank _ = 3
+
+abbrev pub is_code_before : StatedBlock → StatedBlock → Bool
+is_code_before a b =
+    nat_lt (rank a.id.kind) (rank b.id.kind)
+    || nat_eq (rank a.id.kind) (rank b.id.kind) && nat_lt a.id.number b.id.number
+
+abbrev pub is_data_before : DataBlock → DataBlock → Bool
+is_data_before a b = nat_lt a.number b.number
+
+abbrev pub is_name_before : NameEntry → NameEntry → Bool
+is_name_before a b = is_before a.name b.name
+
+-- in front of the first one that comes behind it
+abbrev pub inserted : {A : Type 0} → (A → A → Bool) → A → List A → List A
+inserted before x [] = x ∷ []
+inserted before x (y ∷ ys) = if before x y then x ∷ y ∷ ys else y ∷ inserted before x ys
+
+unfoldable pub sorted : {A : Type 0} → (A → A → Bool) → List A → List A
+sorted before [] = []
+sorted before (x ∷ xs) = inserted before x (sorted before xs)
+
+-- ---- names
+
+-- the variables in I, Q and M have their names in the program
+abbrev pub has_name : Area → Bool
+has_name area.I = true
+has_name area.Q = true
+has_name area.M = true
+has_name _ = false
+
+abbrev pub name_entry : List ℕ → Target → List NameEntry
+name_entry name (target.Variable place width) =
+    if has_name place.area
+    then record { name = upper_case name; place = place; width = width } ∷ [] else []
+name_entry name _ = []
+
+abbrev pub names_of : List Symbol → List NameEntry
+names_of symbols = sorted is_name_before (flat_map (λ s. name_entry s.name s.target) symbols)
+
+-- ---- the program
+
+-- its code blocks, as statements, and its data blocks
+unfoldable pub code_blocks_of : Tree → List Symbol → List BlockLayout → List StatedBlock
+code_blocks_of t symbols layouts =
+    sorted is_code_before
+    (each_block (λ c b l. code_block_of c b l l.id) (first_context symbols layouts t.blocks)
+    t.blocks layouts)
+
+unfoldable pub data_blocks_of : Tree → List Symbol → List BlockLayout → List DataBlock
+data_blocks_of t symbols layouts =
+    sorted is_data_before
+    (each_block (λ c b l. data_block_of c l l.id) (first_context symbols layouts t.blocks)
+    t.blocks layouts)
+
+abbrev pub program_of : Tree → List Symbol → List BlockLayout → Program
+program_of t symbols layouts = record {
+  code_blocks = map compiled (code_blocks_of t symbols layouts);
+  data_blocks = data_blocks_of t symbols layouts;
+  names = names_of symbols;
+}

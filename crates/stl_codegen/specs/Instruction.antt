@@ -1,0 +1,97 @@
+-- The instruction of a statement of the source. A target is the number of a statement of the block,
+-- from 0; empty statements have none. In a source that breaks no rule each statement names what its
+-- instruction takes; another statement comes to NOP 0, so that each has its number.
+use Rattle.std.specs.Prelude.{ℕ, zero, suc, ◌+◌, ◌-◌, List, [], ◌∷◌, ◌++◌, take, drop, Option, Some, None, if◌then◌else◌, slice_get}
+use Rattle.std.specs.Option.{option_and_then}
+use Rattle.flat_code.specs.Instr.{Instr, Passing, Does, Jumps, JumpsByList, Calls, Returns}
+use Rattle.flat_code.specs.declared.kinds.JumpWord.{JumpWord}
+use Rattle.flat_code.specs.declared.kinds.JumpWord.TheVariants as jump
+use Rattle.flat_code.specs.declared.operands.Operand.TheVariants as flat
+use Rattle.flat_code.specs.declared.words.CallWord.{CallWord}
+use Rattle.flat_code.specs.declared.words.EndWord.{EndWord}
+use Rattle.flat_code.specs.declared.words.Word.TheVariants as word
+use Rattle.stl_ast.specs.Statements.{is_empty}
+use Rattle.stl_ast.specs.declared.blocks.Block.{Block}
+use Rattle.stl_ast.specs.declared.declarations.Simple.{Simple}
+use Rattle.stl_ast.specs.declared.operands.Operand.{Operand}
+use Rattle.stl_ast.specs.declared.operands.Operand.TheVariants as operand
+use Rattle.stl_ast.specs.declared.statements.Statement.{Statement}
+use Rattle.stl_types.specs.Context.{Context}
+use Rattle.stl_types.specs.Lists.{has_label}
+use Rattle.stl_types.specs.Parameters.{Formal, Callee, callee_of}
+use Rattle.stl_types.specs.Resolved.{resolved}
+use Rattle.stl_types.specs.declared.views.View.{View}
+use Rattle.stl_types.specs.declared.views.View.TheVariants as view
+use Rattle.stl_codegen.specs.Operands.{opened_by, operand_of}
+use Rattle.stl_codegen.specs.Passed.{passings_from}
+use Rattle.stl_codegen.specs.Words.{jump_of, call_of, end_of, word_of}
+
+-- the number of the first statement that has a label
+abbrev pub counted : Statement → ℕ
+counted s = if is_empty s.code then 0 else 1
+
+unfoldable pub target_in : List ℕ → List Statement → ℕ
+target_in name [] = 0
+target_in name (s ∷ ss) = if has_label name s.label then 0 else counted s + target_in name ss
+
+abbrev pub target_of : List Statement → Operand → ℕ
+target_of body (operand.Label name) = target_in name body
+target_of body _ = 0
+
+-- the numbers of so many statements from one on
+abbrev pub numbers_from : ℕ → (count : ℕ) → List ℕ
+numbers_from n zero = []
+numbers_from n (suc count) = n ∷ numbers_from (suc n) count
+
+-- JL has the JU behind it, up to its label, as its list
+abbrev pub jump_instr : JumpWord → (n target : ℕ) → Instr
+jump_instr jump.Jl n target =
+    JumpsByList (numbers_from (suc n) (target - suc n)) target
+jump_instr how n target = Jumps how target
+
+-- the parameters of a block by their index in a call: the return value of a function is the last
+abbrev pub return_last : {A : Type 0} → Option Simple → List A → List A
+return_last None params = params
+return_last (Some result) params = drop 1 params ++ take 1 params
+
+abbrev pub in_order : {A : Type 0} → Option Block → List A → List A
+in_order None params = params
+in_order (Some b) params = return_last b.result params
+
+abbrev pub block_at : List Block → Option ℕ → Option Block
+block_at blocks place = option_and_then (slice_get blocks) place
+
+abbrev pub passings_to : Context → Statement → Option Callee → List Passing
+passings_to c s None = []
+passings_to c s (Some callee) =
+    passings_from c s.actuals 0 (in_order (block_at c.blocks callee.place) callee.formals)
+
+-- for a statement that doesn't name what its instruction takes
+abbrev pub filler : Instr
+filler = Does None word.Nop (flat.Literal 0)
+
+-- the block that is called
+abbrev pub call_instr : Context → Statement → CallWord → View → Instr
+call_instr c s how (view.Called id instance) =
+    Calls how id instance (passings_to c s (callee_of c s.operand))
+call_instr c s how _ = filler
+
+abbrev pub end_instr : Statement → View → Option EndWord → Instr
+end_instr s v None = Does (opened_by v) (word_of s.code s.operand v) (operand_of s.operand v)
+end_instr s v (Some how) = Returns how
+
+abbrev pub view_instr : Context → Statement → View → Option CallWord → Instr
+view_instr c s v None = end_instr s v (end_of s.code)
+view_instr c s v (Some how) = call_instr c s how v
+
+abbrev pub resolved_instr : Context → Statement → Option View → Instr
+resolved_instr c s None = filler
+resolved_instr c s (Some v) = view_instr c s v (call_of s.code)
+
+abbrev pub instr_by : Context → List Statement → (n : ℕ) → Statement → Option JumpWord → Instr
+instr_by c body n s None = resolved_instr c s (resolved c s)
+instr_by c body n s (Some how) = jump_instr how n (target_of body s.operand)
+
+-- the instruction of a statement with its number in a body
+unfoldable pub instruction : Context → List Statement → (n : ℕ) → Statement → Instr
+instruction c body n s = instr_by c body n s (jump_of s.code)

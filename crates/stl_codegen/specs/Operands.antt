@@ -1,0 +1,82 @@
+-- The operand of an instruction in the code, by what the operand of the source names.
+use Rattle.std.specs.Prelude.{ℕ, ◌+◌, ◌*◌, ◌^◌, nat_eq, Bool, true, false, ◌&&◌, not, Option, Some, None, if◌then◌else◌}
+use Rattle.plc_base.specs.Pointer.{area_number}
+use Rattle.plc_base.specs.declared.places.Area.{Area}
+use Rattle.plc_base.specs.declared.places.Area.TheVariants as area
+use Rattle.plc_base.specs.declared.places.Place.{Place}
+use Rattle.plc_base.specs.declared.places.Width.{Width}
+use Rattle.flat_code.specs.Kinds.{condition_of}
+use Rattle.flat_code.specs.declared.operands.Operand.{Operand as FlatOperand}
+use Rattle.flat_code.specs.declared.operands.Operand.TheVariants as flat
+use Rattle.stl_ast.specs.declared.literals.Literal.{Literal}
+use Rattle.stl_ast.specs.declared.operands.Numbered.{Numbered}
+use Rattle.stl_ast.specs.declared.operands.Numbered.TheVariants as numbered
+use Rattle.stl_ast.specs.declared.operands.Operand.{Operand}
+use Rattle.stl_ast.specs.declared.operands.Operand.TheVariants as operand
+use Rattle.block_layout.specs.Fits.{bits_of}
+use Rattle.block_layout.specs.Offsets.{width_of}
+use Rattle.stl_types.specs.declared.views.Register.{Register}
+use Rattle.stl_types.specs.declared.views.Register.TheVariants as register
+use Rattle.stl_types.specs.declared.views.View.{View}
+use Rattle.stl_types.specs.declared.views.View.TheVariants as view
+
+abbrev pub is_db : Area → Bool
+is_db area.Db = true
+is_db _ = false
+
+-- a place in a data block that is named, as DB10.DBW 2: the statement opens it first
+abbrev pub is_in_named_block : Place → Bool
+is_in_named_block place = is_db place.area && not (nat_eq place.number 0)
+
+abbrev pub opened_by_place : Place → Option ℕ
+opened_by_place place = if is_in_named_block place then Some place.number else None
+
+abbrev pub opened_by : View → Option ℕ
+opened_by (view.Direct place width side declared) = opened_by_place place
+opened_by _ = None
+
+abbrev pub direct : Place → Width → FlatOperand
+direct place width = flat.Direct place.area width place.byte place.bit
+
+-- the bits of a pointer constant: without an area the bit and the byte alone
+abbrev pub pointer_bits : Option Area → (byte bit : ℕ) → ℕ
+pointer_bits None byte bit = 8 * byte + bit
+pointer_bits (Some a) byte bit = 2 ^ 31 + 2 ^ 24 * area_number a + 8 * byte + bit
+
+-- the bits of a constant; the operand is one
+abbrev pub constant_bits : Operand → ℕ
+constant_bits (operand.Constant value) = bits_of value
+constant_bits _ = 0
+
+-- L DBLG, L DBNO, L DILG, L DINO; STW and AR2 stand in the word
+abbrev pub register_operand : Register → FlatOperand
+register_operand register.Dblg = flat.Literal 0
+register_operand register.Dbno = flat.Literal 1
+register_operand register.Dilg = flat.Literal 2
+register_operand register.Dino = flat.Literal 3
+register_operand _ = flat.Nothing
+
+-- what has a number that memory gives: timers and counters are 1 and 2, and so are the two
+-- registers of open data blocks
+abbrev pub numbered_operand : Numbered → Area → (byte : ℕ) → FlatOperand
+numbered_operand numbered.Timer from byte = flat.NumberedBy 1 from byte
+numbered_operand numbered.Counter from byte = flat.NumberedBy 2 from byte
+numbered_operand numbered.Db from byte = flat.OpenBy 1 from byte
+numbered_operand numbered.Di from byte = flat.OpenBy 2 from byte
+
+-- the operand of an instruction that goes on; what names a block, a label or no elementary variable
+-- comes to no such instruction
+unfoldable pub operand_of : Operand → View → FlatOperand
+operand_of o (view.Direct place width side declared) = direct place width
+operand_of o (view.Parameter index section declared) = flat.Parameter index (width_of declared)
+operand_of o (view.ByMemory a width from byte) = flat.ByMemory a width from byte
+operand_of o (view.ByRegister a width r bits) = flat.ByRegister a width r bits
+operand_of o (view.Timer number) = flat.Numbered 1 number
+operand_of o (view.Counter number) = flat.Numbered 2 number
+operand_of o (view.NumberBy what from byte) = numbered_operand what from byte
+operand_of o view.Constant = flat.Literal (constant_bits o)
+operand_of o (view.Pointer a byte bit) = flat.Literal (pointer_bits a byte bit)
+operand_of o (view.OfStatus flag) = flat.OfStatus (condition_of flag)
+operand_of o (view.Register which) = register_operand which
+operand_of o (view.OpenBlock di number) = flat.OpenBlock (if di then 2 else 1) number
+operand_of o _ = flat.Nothing

@@ -1,0 +1,57 @@
+-- What a CALL passes: the actual parameters by the index of their parameters.
+use Rattle.std.specs.Prelude.{ℕ, suc, List, [], ◌∷◌, ◌++◌, Option, Some, None, if◌then◌else◌, find}
+use Rattle.std.specs.Str.{bytes_eq}
+use Rattle.plc_base.specs.declared.places.Place.{Place}
+use Rattle.plc_base.specs.declared.places.Width.{Width}
+use Rattle.flat_code.specs.Instr.{Passing}
+use Rattle.flat_code.specs.declared.operands.Passed.{Passed}
+use Rattle.flat_code.specs.declared.operands.Passed.TheVariants as passed
+use Rattle.stl_ast.specs.declared.operands.Operand.{Operand}
+use Rattle.stl_ast.specs.declared.statements.Actual.{Actual}
+use Rattle.stl_symbols.specs.Folding.{folded}
+use Rattle.block_layout.specs.Offsets.{width_of}
+use Rattle.stl_types.specs.Context.{Context}
+use Rattle.stl_types.specs.Parameters.{Formal}
+use Rattle.stl_types.specs.Seen.{seen}
+use Rattle.stl_types.specs.declared.views.Seen.{Seen}
+use Rattle.stl_types.specs.declared.views.Seen.TheVariants.{Sees}
+use Rattle.stl_types.specs.declared.views.View.{View}
+use Rattle.stl_types.specs.declared.views.View.TheVariants as view
+use Rattle.stl_codegen.specs.Operands.{is_in_named_block, constant_bits}
+
+-- a place is passed as it is written: in a data block that is named, or in the open one
+abbrev pub passed_place : Place → Width → Passed
+passed_place place width =
+    if is_in_named_block place
+    then passed.InBlock place.number place.area width place.byte place.bit
+    else passed.Direct place.area width place.byte place.bit
+
+-- a constant, a place, or a parameter of the function that calls; nothing else fits a parameter
+abbrev pub passed_view : Operand → View → Option Passed
+passed_view o (view.Direct place width side declared) = Some (passed_place place width)
+passed_view o (view.Parameter index section declared) =
+    Some (passed.Parameter index (width_of declared))
+passed_view o view.Constant = Some (passed.Literal (constant_bits o))
+passed_view o _ = None
+
+abbrev pub passed_seen : Operand → Seen → Option Passed
+passed_seen o (Sees v) = passed_view o v
+passed_seen o _ = None
+
+-- the actual parameter that is supplied for a parameter
+abbrev pub supplied : List Actual → Formal → Option Actual
+supplied actuals f = find (λ a. bytes_eq (folded a.name) f.name) actuals
+
+abbrev pub with_index : ℕ → Option Passed → List Passing
+with_index index None = []
+with_index index (Some actual) = record { index = index; actual = actual } ∷ []
+
+abbrev pub passed_actual : Context → (index : ℕ) → Option Actual → List Passing
+passed_actual c index None = []
+passed_actual c index (Some a) = with_index index (passed_seen a.value (seen c a.value))
+
+-- one after the other, by rising index
+abbrev pub passings_from : Context → List Actual → (index : ℕ) → List Formal → List Passing
+passings_from c actuals index [] = []
+passings_from c actuals index (f ∷ fs) =
+    passed_actual c index (supplied actuals f) ++ passings_from c actuals (suc index) fs
