@@ -18,7 +18,7 @@ use Rattle.stl_ast.specs.declared.operands.Operand.TheVariants as operand
 use Rattle.stl_ast.specs.declared.statements.Statement.{Statement}
 use Rattle.stl_types.specs.Context.{Context}
 use Rattle.stl_types.specs.Lists.{has_label}
-use Rattle.stl_types.specs.Parameters.{Formal, Callee, callee_of}
+use Rattle.stl_types.specs.Parameters.{Callee, callee_of}
 use Rattle.stl_types.specs.Resolved.{resolved}
 use Rattle.stl_types.specs.declared.views.View.{View}
 use Rattle.stl_types.specs.declared.views.View.TheVariants as view

@@ -11,7 +11,7 @@ use Rattle.stl_ast.specs.declared.statements.Actual.{Actual}
 use Rattle.stl_symbols.specs.Folding.{folded}
 use Rattle.block_layout.specs.Offsets.{width_of}
 use Rattle.stl_types.specs.Context.{Context}
-use Rattle.stl_types.specs.Parameters.{Formal}
+use Rattle.stl_types.specs.declared.parameters.Formal.{Formal}
 use Rattle.stl_types.specs.Seen.{seen}
 use Rattle.stl_types.specs.declared.views.Seen.{Seen}
 use Rattle.stl_types.specs.declared.views.Seen.TheVariants.{Sees}

@@ -17,4 +17,5 @@ mod views;
 
 pub use brackets::Bracket;
 pub use forms::Form;
+pub use parameters::Formal;
 pub use views::{Register, Seen, Side, View};

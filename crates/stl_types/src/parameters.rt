@@ -4,10 +4,10 @@ use stl_ast::{Name, PartKind, Simple};
 
 /// A parameter of a block: its name in upper case, its section and its type.
 #[derive(Drop)]
-pub(crate) struct Formal {
-    pub(crate) name: Name,
-    pub(crate) section: PartKind,
-    pub(crate) kind: Simple,
+pub struct Formal {
+    pub name: Name,
+    pub section: PartKind,
+    pub kind: Simple,
 }
 
 /// A block that is called, with its parameters; `place` is that of a block of the source.
