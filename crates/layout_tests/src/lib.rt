@@ -1,0 +1,9 @@
+//! Tests of the public calls of block_layout. The library itself is empty.
+#![tactic(auto)]
+
+#[cfg(test)]
+mod calls;
+#[cfg(test)]
+mod offset_tests;
+#[cfg(test)]
+mod refusal_tests;
