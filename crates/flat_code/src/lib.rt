@@ -4,6 +4,7 @@
 mod decoding;
 mod encoding;
 mod fields;
+mod fitting;
 mod image_fields;
 mod kinds;
 pub mod laws;
