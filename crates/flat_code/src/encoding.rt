@@ -20,7 +20,7 @@ fn code_of_area(area: Area) -> u8
     }
 }
 
-fn code_of_width(width: Width) -> u8
+pub(crate) fn code_of_width(width: Width) -> u8
     ensures { result ≡ width_code width }
 {
     match width {

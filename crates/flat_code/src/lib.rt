@@ -5,7 +5,10 @@ mod decoding;
 mod encoding;
 mod fields;
 mod fitting;
+mod good_blocks;
+mod good_data;
 mod image_fields;
+mod image_size;
 mod kinds;
 pub mod laws;
 mod names;
@@ -13,6 +16,7 @@ mod op_codes;
 mod operands;
 mod ops;
 mod programs;
+mod record_numbers;
 mod table;
 mod words;
 
