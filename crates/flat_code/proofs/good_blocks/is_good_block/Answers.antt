@@ -1,4 +1,4 @@
-use Rattle.std.proofs.Common.{◌≡◌, ◌∙◌, sym}
+use Rattle.std.proofs.Common.{◌∙◌, sym}
 use Rattle.flat_code.specs.Checking.{good_params}
 use Rattle.flat_code.specs.Image.{head, number_of_kind, raw_of_block, record_of_block}
 use Rattle.flat_code.proofs.CheckLemmas.{block_by_parts, met, unmet}

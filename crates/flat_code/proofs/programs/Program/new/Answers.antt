@@ -1,4 +1,4 @@
-use Rattle.std.proofs.Common.{◌≡◌, List, [], true, sym, subst}
+use Rattle.std.proofs.Common.{List, sym, subst}
 use Rattle.flat_code.specs.Image.{IsProgram}
 use Rattle.flat_code.specs.Programs.{NameEntry}
 use Rattle.flat_code.proofs.CheckLemmas.{made, unmade, of_parts}
