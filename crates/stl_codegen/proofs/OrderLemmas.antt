@@ -1,5 +1,5 @@
 -- A stable sort puts records in the order of the definition.
-use Rattle.std.proofs.Common.{◌≡◌, ℕ, zero, suc, ◌+◌, ◌<◌, ◌≤◌, Bool, true, false, cond, eqb, ltb, not, ◌&&◌, ◌||◌, List, [], ◌∷◌, length, get_or, map, refl, sym, ap, ◌∙◌, arith}
+use Rattle.std.proofs.Common.{◌≡◌, ℕ, suc, ◌<◌, ◌≤◌, Bool, true, false, cond, eqb, ltb, not, ◌&&◌, ◌||◌, List, [], ◌∷◌, length, get_or, map, refl, sym, ap, ◌∙◌, arith}
 use Rattle.std.specs.Cmp.{IsStrictWeakOrder}
 use Rattle.std.specs.Cmp.Lexicographic.{slice_cmp}
 use Rattle.std.specs.List.{filter}
@@ -8,8 +8,7 @@ use Rattle.std.specs.Ordering.{is_lt, nat_cmp}
 use Rattle.std.proofs.lemmas.Bool.Decides.{nat_tests}
 use Rattle.std.proofs.lemmas.Cmp.{nat_list_cmp_total}
 use Rattle.std.proofs.lemmas.List.Sorted.{IsStrictWeakOrder-by_number, ranks_by, sorted_far}
-use Rattle.flat_code.specs.Faults.{is_before}
-use Rattle.flat_code.specs.Programs.{CodeBlock, DataBlock, NameEntry}
+use Rattle.flat_code.specs.Programs.{CodeBlock, NameEntry}
 use Rattle.flat_code.proofs.NameLemmas.{before_is_less}
 use Rattle.stl_codegen.specs.Compiled.{StatedBlock, compiled}
 use Rattle.stl_codegen.specs.Order.{rank, is_block_before, is_code_before, is_data_before, is_name_before, inserted, sorted}
@@ -145,9 +144,9 @@ first_ties lt o y z ys zs none none2 h true e = refl
 first_ties lt o y z ys zs none none2 h false e =
     let other : ties lt z y ≡ false = turned (lt y z) (lt z y) ∙ e in
     let a : lt y z ≡ false = alike_not_before lt (ties lt y) z y zs (filter (ties lt y) ys) none2
-        (sym (first_left_out (ties lt y) z zs e) ∙ sym (h y) ∙ first_kept (ties lt y) y ys (same_as_itself lt o y)) in
+    (sym (first_left_out (ties lt y) z zs e) ∙ sym (h y) ∙ first_kept (ties lt y) y ys (same_as_itself lt o y)) in
     let b : lt z y ≡ false = alike_not_before lt (ties lt z) y z ys (filter (ties lt z) zs) none
-        (sym (first_left_out (ties lt z) y ys other) ∙ h z ∙ first_kept (ties lt z) z zs (same_as_itself lt o z)) in
+    (sym (first_left_out (ties lt z) y ys other) ∙ h z ∙ first_kept (ties lt z) z zs (same_as_itself lt o z)) in
     sym e ∙ rw (a, b) refl
   where
     turned : (a b : Bool) → (not b && not a) ≡ (not a && not b)

@@ -1,12 +1,10 @@
 -- The offsets of statements in a table, and jumps that lead to them.
-use Rattle.std.proofs.Common.{◌≡◌, ℕ, zero, suc, ◌+◌, ◌≤◌, ◌<◌, Bool, true, false, cond, ltb, ◌&&◌, List, [], ◌∷◌, ◌++◌, length, map, take, drop, get_or, Option, Some, None, slice_get, refl, sym, ap, subst, ◌∙◌, arith}
-use Rattle.std.proofs.lemmas.Bool.{and_parts, ltb-true}
+use Rattle.std.proofs.Common.{◌≡◌, ℕ, zero, suc, ◌+◌, ◌≤◌, ◌<◌, Bool, true, false, List, [], ◌∷◌, ◌++◌, length, map, drop, get_or, Option, Some, None, refl, sym, ap, subst, ◌∙◌, arith}
+use Rattle.std.proofs.lemmas.Bool.{and_parts}
 use Rattle.std.proofs.lemmas.List.{drop_more}
 use Rattle.flat_code.specs.Codes.{are_ops, size}
 use Rattle.flat_code.specs.Ops.{OpData, IsOp, is_op}
-use Rattle.flat_code.specs.declared.operands.Operand.{Operand}
-use Rattle.flat_code.specs.declared.operands.Operand.TheVariants as operand
-use Rattle.stl_codegen.specs.Compiled.{offset_from, offset_of, aimed, aimed_op, placed_ops}
+use Rattle.stl_codegen.specs.Compiled.{offset_from, offset_of, aimed_op, placed_ops}
 use Rattle.stl_codegen.specs.Places.{offset_in, started, IsOffset, AreOffsets}
 
 -- the offset of a statement behind others that begin at these offsets
@@ -61,13 +59,6 @@ pub offsets_past : (starts : List ℕ) (at : ℕ) (begins : Bool) (left ops : Li
 offsets_past starts at begins left ops past h = record { each = λ n. subst (λ (k : ℕ). IsOffset (offset_in starts None n) k) (h.each n) (offsets_at starts at begins left None n (λ m. let le = from_there at begins left m in omega arith)) }
 
 -- ---- jumps
-
--- a target that doesn't fit is none of an op
-pub far_is_none : (code kind target : ℕ) → 4294967296 ≤ target → is_op code (operand.Jump kind target) ≡ true → ⊥
-unfolding is_op
-far_is_none code kind target far h =
-    let fits = (and_parts _ _ h).1 in
-    let lt = ltb-true target 4294967296 (and_parts _ _ fits).1 in omega arith
 
 next_of : (xs : List OpData) (i : ℕ) (x : OpData) → i < length xs → x ≡ get_or xs i x → drop i xs ≡ x ∷ drop (i + 1) xs
 next_of xs i x lt is = drop_more xs i x lt ∙ ap (λ (z : OpData). z ∷ drop (i + 1) xs) (sym is)
