@@ -7,11 +7,10 @@ ghost use Rattle.flat_code.specs.Faults.{fault_of};
 ghost use Rattle.flat_code.specs.Image.{code_block, head, instance_bytes, local_bytes, number_of_kind, parameter, plain_u16, plain_u32, raw_of_block, record_of_block, record_of_param, zero_u16};
 ghost use Rattle.flat_code.specs.Layout.{is_fine};
 
-use crate::encoding::code_of_width;
 use crate::image_fields::Field;
 use crate::ops::Op;
 use crate::programs::{CodeBlock, Param};
-use crate::record_numbers::kind_number;
+use crate::record_numbers::{kind_number, width_number};
 
 /// Whether a field has no fault.
 pub(crate) fn is_fine(field: Field) -> bool
@@ -55,7 +54,7 @@ pub(crate) fn code_len(ops: &[Op]) -> Option<u32>
 fn is_good_parameter(kind: u8, instance: u16, param: &Param) -> bool
     ensures { result ≡ (parameter kind instance).good (record_of_param param.now) }
 {
-    let width = code_of_width(param.width);
+    let width = width_number(param.width);
     is_good_u8(
         param.section,
         Field::Section {

@@ -1,16 +1,15 @@
 //! Whether the data blocks and the names of a program have no fault in their image.
 ghost use Rattle.std.specs.Prelude.{◌≡◌, ◌+◌, ◌≤◌, [], true, length};
 ghost use Rattle.flat_code.specs.Checking.{good_datas, good_names};
-ghost use Rattle.flat_code.specs.Faults.{ends_blank, name_fault};
+ghost use Rattle.flat_code.specs.Faults.{name_fault};
 ghost use Rattle.flat_code.specs.Image.{bytes_fit, data_block, data_len, instance_field, name_len, name_of_entry, name_record, number_of_instance, plain_u16};
 ghost use Rattle.flat_code.specs.Layout.{is_fine};
 
-use crate::encoding::code_of_width;
 use crate::good_blocks::{is_fine, is_good_u8, is_good_u16};
 use crate::image_fields::Field;
-use crate::names::{NameEntry, is_name_before, is_upper_case};
+use crate::names::{NameEntry, ends_blank, is_name_before, is_upper_case};
 use crate::programs::DataBlock;
-use crate::record_numbers::area_number;
+use crate::record_numbers::{area_number, width_number};
 
 /// A law: bytes fit a field of their number.
 fn law_of_bytes(bytes: &[u8])
@@ -77,17 +76,6 @@ pub(crate) fn are_good_data_blocks(blocks: &[DataBlock]) -> bool
     true
 }
 
-/// Whether the last byte is a blank.
-fn ends_blank(name: &[u8]) -> bool
-    ensures { result ≡ ends_blank name.now }
-{
-    let mut blank = false;
-    for x in name {
-        blank = *x == 32;
-    }
-    blank
-}
-
 /// Whether the bytes of a name behind another (empty for none) have no fault.
 #[tactic(auto, unfolding(crate::specs::Faults::name_fault))]
 fn is_good_text(before: &[u8], name: &[u8]) -> bool
@@ -110,7 +98,7 @@ fn is_good_name(before: &[u8], entry: &NameEntry) -> bool
 {
     let name = entry.name.as_slice();
     let area = area_number(&entry.place);
-    let width = code_of_width(entry.width);
+    let width = width_number(entry.width);
     law_of_bytes(name);
     law_of_word(entry.place.byte);
     is_good_name_len(name.len())

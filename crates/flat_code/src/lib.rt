@@ -24,10 +24,11 @@ pub use decoding::{BadOp, decode_op};
 pub use encoding::encode_op;
 pub use image_fields::{Field, OpenBracket, ParameterRecord};
 pub use kinds::{CONDITIONS, JUMPS, JumpWord, condition_of, flag_of, jump_of};
-pub use names::{NameEntry, Names, is_name_before, is_upper_case};
+pub use names::{NameEntry, Names, ends_blank, is_name_before, is_upper_case};
 pub use operands::{Operand, Passed};
 pub use ops::Op;
 pub use programs::{CodeBlock, DataBlock, Param, Program};
+pub use record_numbers::{area_number, kind_number, width_number};
 pub use table::{Takes, taken_by, taken_by_word};
 pub use words::{
     Adding, CallWord, Comparison, EndWord, Joined, Logic, Number, PointerWord, Shift, StartWord,

@@ -1,7 +1,7 @@
-use Rattle.std.proofs.Common.{◌≡◌, ◌<◌, ℕ, suc, Bool, eqb, List, [], ◌∷◌, ◌++◌, length, take, get_or, add-one, refl, sym, ap, ◌∙◌}
+use Rattle.std.proofs.Common.{◌≡◌, ◌<◌, ℕ, suc, eqb, List, [], ◌∷◌, ◌++◌, length, take, get_or, add-one, refl, sym, ap, ◌∙◌}
 use Rattle.std.proofs.Math.Seq.{take-suc}
 use Rattle.flat_code.specs.Faults.{ends_blank}
-use Rattle.image_file.proofs.data.ends_blank.Goals as goal
+use Rattle.flat_code.proofs.names.ends_blank.Goals as goal
 
 last_blank : (xs : List ℕ) (x : ℕ) → ends_blank (xs ++ x ∷ []) ≡ eqb x 32
 last_blank [] x = refl
