@@ -7,3 +7,5 @@ pub mod Compiled
 pub mod Order
 pub mod Places
 pub mod Generated
+pub mod Fitting
+pub mod Bodies
