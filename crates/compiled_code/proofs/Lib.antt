@@ -1,5 +1,3 @@
 mod Runs
 mod Reading
 mod Following
-mod Instructions
-mod Verified

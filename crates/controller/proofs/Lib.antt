@@ -1,2 +1,8 @@
-pub mod BlockLemmas
+pub mod ThinLemmas
+pub mod StepLemmas
+pub mod StackLemmas
+pub mod RequestLemmas
+pub mod ArrivalLemmas
+pub mod CountLemmas
+pub mod ObservingLemmas
 pub mod ReplayLemmas

@@ -3,6 +3,8 @@
 #![tactic(auto)]
 
 #[cfg(test)]
+mod assembler;
+#[cfg(test)]
 mod bench;
 #[cfg(test)]
 mod bit_logic_rows;
@@ -19,6 +21,8 @@ mod number_rows;
 #[cfg(test)]
 mod place_error_rows;
 #[cfg(test)]
+mod places;
+#[cfg(test)]
 mod pointer_rows;
 #[cfg(test)]
 mod program_rows;
@@ -26,3 +30,5 @@ mod program_rows;
 mod system_call_rows;
 #[cfg(test)]
 mod timing_rows;
+#[cfg(test)]
+mod words;

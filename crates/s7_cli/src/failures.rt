@@ -1,17 +1,15 @@
 ghost use Rattle.std.specs.Prelude.{◌≡◌};
 ghost use Rattle.s7_cli.specs.Answer.{code_of, refused_code};
-ghost use Rattle.s7_cli.specs.Faults.{failure_of_compiling, failure_of_history};
+ghost use Rattle.s7_cli.specs.Faults.{failure_of_history, failure_of_source};
 
-use compiler::CompileFault;
-use event_text::HistoryFault;
-use plc_base::Refusal;
+use crate::histories::HistoryFault;
+use plc_base::{Refusal, SourceFault};
 use std::alloc::AllocError;
 
 /// A file that a command reads.
 #[derive(Clone, Copy, Debug, PartialEq, Eq)]
 pub enum File {
     Source,
-    Symbols,
     History,
 }
 
@@ -42,20 +40,16 @@ impl From<AllocError> for Failure {
     }
 }
 
-impl From<CompileFault> for Failure {
-    ghost from_gives = { λ fault failure. failure ≡ failure_of_compiling fault };
+impl From<SourceFault> for Failure {
+    ghost from_gives = { λ fault failure. failure ≡ failure_of_source fault };
 
-    fn from(fault: CompileFault) -> Failure {
+    fn from(fault: SourceFault) -> Failure {
         match fault {
-            CompileFault::Symbols { refusal } => Failure::Refused {
-                file: File::Symbols,
-                refusal,
-            },
-            CompileFault::Source { refusal } => Failure::Refused {
+            SourceFault::Refused { refusal } => Failure::Refused {
                 file: File::Source,
                 refusal,
             },
-            CompileFault::NoMemory => Failure::NoMemory,
+            SourceFault::NoMemory => Failure::NoMemory,
         }
     }
 }
@@ -85,7 +79,7 @@ fn refused_code(file: File) -> u8
     ensures { result ≡ refused_code file }
 {
     match file {
-        File::Source | File::Symbols => 2,
+        File::Source => 2,
         File::History => 4,
     }
 }

@@ -1,4 +1,6 @@
 mod StageLemmas
 mod SourceLemmas
-mod RunLemmas
+mod Simulation
+mod Numbered
+mod Runs
 mod Suspended

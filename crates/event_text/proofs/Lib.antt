@@ -1,5 +1,0 @@
-pub mod WordLemmas
-pub mod LineLemmas
-pub mod NumberLemmas
-pub mod HistoryLemmas
-pub mod ValidLemmas
