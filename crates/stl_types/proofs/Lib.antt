@@ -1,3 +1,1 @@
-pub mod CallLemmas
 pub mod WalkLemmas
-pub mod ContextLemmas
