@@ -153,7 +153,7 @@ impl Layout {
     }
 
     /// The outermost component of this name.
-    pub(crate) fn outermost(&self, name: &[u8]) -> Option<Member>
+    pub fn outermost(&self, name: &[u8]) -> Option<Member>
         ensures value { result ≡ component 0 0 0 name.now self.now }
         ensures within { IfSome result (λ m. m.place < length self.now) }
     {

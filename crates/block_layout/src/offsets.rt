@@ -24,7 +24,8 @@ fn is_function_block(kind: BlockKind) -> bool
     matches!(kind, BlockKind::Fb)
 }
 
-fn width_of(kind: Simple) -> Width
+/// The width of an elementary type.
+pub fn width_of(kind: Simple) -> Width
     ensures { result ≡ width_of kind }
 {
     match kind {
@@ -35,8 +36,9 @@ fn width_of(kind: Simple) -> Width
     }
 }
 
-/// The place so many bits from the start of an area or a data block.
-fn placed(area: Area, number: u16, bits: u64, kind: Simple) -> Option<(Place, Width)>
+/// The place so many bits from the start of an area or a data block, and the width of a type there;
+/// none that is past the 65,536th byte.
+pub fn placed(area: Area, number: u16, bits: u64, kind: Simple) -> Option<(Place, Width)>
     ensures { result ≡ placed area number bits (Some kind) }
 {
     let byte = bits / 8;

@@ -27,7 +27,7 @@ use crate::walks::{Spot, Walk, is_used_up, layout_at, outermost, walk_from, walk
 use stl_ast::{PathStep, Simple};
 
 /// The block at this place in the source, where it breaks no rule as a whole.
-fn whole_at(layouts: &[BlockLayout], block: usize) -> Option<&BlockLayout>
+pub(crate) fn whole_at(layouts: &[BlockLayout], block: usize) -> Option<&BlockLayout>
     ensures { option_copied result ≡ whole_at layouts.now block }
 {
     let found = layouts.get(block)?;
@@ -100,7 +100,7 @@ pub(crate) fn walk_data(layouts: &[BlockLayout], block: usize, path: &[PathStep]
 }
 
 #[tactic(auto, unfolding(crate::specs::Members::component))]
-fn has_component(layouts: &[BlockLayout], block: usize, name: &[u8]) -> bool
+pub(crate) fn has_component(layouts: &[BlockLayout], block: usize, name: &[u8]) -> bool
     ensures { result ≡ is_some (component 0 0 0 name.now (cells_at layouts.now block false)) }
 {
     match layout_at(layouts, block, false) {

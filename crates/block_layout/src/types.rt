@@ -20,7 +20,7 @@ use stl_ast::{Block, BlockName};
 use stl_symbols::{Symbols, Target};
 
 /// The block that a name means: its number, or that of the symbol.
-pub(crate) fn named_block(symbols: &Symbols, name: &BlockName) -> Option<BlockId>
+pub fn named_block(symbols: &Symbols, name: &BlockName) -> Option<BlockId>
     ensures { result ≡ named_block symbols.now name.now }
 {
     match name {

@@ -1,17 +1,15 @@
 -- The code of a program follows the statements that it was made of.
-use Rattle.std.proofs.Common.{◌≡◌, ℕ, zero, suc, Bool, true, false, if◌then◌else◌, List, [], ◌∷◌, map, slice_get, Option, Some, None, option_map, option_and_then, refl, sym, ap, ◌∙◌}
+use Rattle.std.proofs.Common.{◌≡◌, ℕ, Bool, true, false, if◌then◌else◌, List, [], ◌∷◌, map, slice_get, Option, Some, None, option_map, option_and_then, refl, ap, ◌∙◌}
 use Rattle.std.specs.List.{AllByRecursion}
 use Rattle.plc_base.specs.declared.blocks.BlockId.{BlockId}
 use Rattle.flat_code.specs.Laws.{WordsHaveTheirCodes, JumpsHaveTheirKinds}
-use Rattle.flat_code.specs.Programs.{CodeBlock, DataBlock, NameEntry}
 use Rattle.image_file.specs.Readers.{block_of, same_id}
-use Rattle.machine.specs.Code.{Code, Fetched, Head}
-use Rattle.machine.specs.Flat.{statement_at, head_of, code_of, numbered_bytes}
-use Rattle.machine.specs.Moved.{Follows, moved_fetched, aimed_instr}
+use Rattle.machine.specs.Flat.{statement_at, head_of}
+use Rattle.machine.specs.Moved.{moved_fetched}
 use Rattle.stl_codegen.specs.Compiled.{Stated, StatedBlock, ops_in, offset_from, offset_of, compiled}
 use Rattle.flat_code.specs.Ops.{OpData}
 use Rattle.compiled_code.specs.Back.{aimed_statement}
-use Rattle.compiled_code.specs.Statements.{stated_at, numbered, statement_of, stated_head, stated_code, position_in, position, IsCompilable, program_with, ProgramsFollow}
+use Rattle.compiled_code.specs.Statements.{stated_at, numbered, statement_of, stated_head, position_in, position, IsCompilable, ProgramsFollow}
 use Rattle.compiled_code.proofs.Reading.{is_read_back}
 
 found_compiled : (id : BlockId) (bs : List StatedBlock) → block_of id (map compiled bs) ≡ option_map compiled (stated_at id bs)

@@ -1,3 +1,5 @@
 mod Runs
 mod Reading
 mod Following
+mod Instructions
+mod Verified

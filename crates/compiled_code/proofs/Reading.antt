@@ -1,39 +1,34 @@
 -- The statement at the offset of a statement is that statement.
-use Rattle.std.proofs.Common.{◌≡◌, ℕ, zero, suc, ◌+◌, ◌<◌, ◌≤◌, Bool, true, false, cond, eqb, if◌then◌else◌, List, [], ◌∷◌, ◌++◌, length, length-append, map, take, drop, slice_get, append_assoc, Option, Some, None, option_map, option_and_then, refl, sym, ap, subst, ◌∙◌, arith}
+use Rattle.std.proofs.Common.{◌≡◌, ℕ, zero, suc, ◌+◌, ◌<◌, ◌≤◌, Bool, true, false, if◌then◌else◌, List, [], ◌∷◌, ◌++◌, length, length-append, map, take, drop, slice_get, append_assoc, Option, Some, None, option_map, refl, sym, ap, subst, ◌∙◌, arith}
 use Rattle.std.proofs.lemmas.Bool.{eq-eqb, ne_eqb}
 use Rattle.std.proofs.Math.Seq.{take-length}
 use Rattle.std.proofs.lemmas.List.{length-map, take-append-drop, length-take-le}
-use Rattle.std.specs.List.{flat_map, AllByRecursion}
+use Rattle.std.specs.List.{AllByRecursion}
 use Rattle.plc_base.specs.declared.blocks.BlockKind.{BlockKind}
 use Rattle.plc_base.specs.declared.blocks.BlockKind.TheVariants as kinds
 use Rattle.flat_code.specs.Codes.{size}
 use Rattle.flat_code.specs.Instr.{Instr, Passing, Does, Jumps, JumpsByList, Calls, Returns}
-use Rattle.flat_code.specs.Kinds.{kind_of, jump_of}
 use Rattle.flat_code.specs.Laws.{WordsHaveTheirCodes, JumpsHaveTheirKinds}
-use Rattle.flat_code.specs.OpCodes.{code_of}
 use Rattle.flat_code.specs.Ops.{OpData}
 use Rattle.flat_code.specs.Placed.{op_placed, line_placed}
 use Rattle.flat_code.specs.Programs.{CodeBlock}
 use Rattle.flat_code.specs.Words.{word_of}
-use Rattle.flat_code.specs.declared.kinds.JumpWord.{JumpWord}
 use Rattle.flat_code.specs.declared.kinds.JumpWord.TheVariants as jump
 use Rattle.flat_code.specs.declared.operands.Operand.{Operand}
 use Rattle.flat_code.specs.declared.operands.Operand.TheVariants as operand
-use Rattle.flat_code.specs.declared.words.CallWord.{CallWord}
 use Rattle.flat_code.specs.declared.words.Word.{Word}
 use Rattle.flat_code.specs.declared.words.Word.TheVariants as word
-use Rattle.machine.specs.Code.{Fetched}
-use Rattle.machine.specs.Flat.{Run, run_at, run_with, with_op, most_ops, use_db_of, passings_of, list_of, listed_with, most_listed, is_jl, jump_instr, kind_called, instance_named, call_instr, instr_of, fetched_of, statement_at}
-use Rattle.stl_codegen.specs.Emitted.{ops_of, preparing, ending, opening, passing, jump_op, call_op, end_op, called_kind, instance_number}
+use Rattle.machine.specs.Flat.{Run, run_at, with_op, most_ops, use_db_of, passings_of, list_of, most_listed, kind_called, instance_named, instr_of, fetched_of, statement_at}
+use Rattle.stl_codegen.specs.Emitted.{ops_of, ending, opening, passing, jump_op, call_op, end_op, called_kind, instance_number}
 use Rattle.stl_codegen.specs.Compiled.{Stated, ops_in, offset_from, offset_of, aimed, aimed_op, placed_ops, code_in, lines_in}
 use Rattle.stl_codegen.specs.Instruction.{numbers_from}
 use Rattle.machine.specs.Moved.{aimed_instr}
 use Rattle.compiled_code.specs.Back.{aimed_statement, goes_on, is_target, is_called, IsInstance, is_ju, IsJu, IsList, IsCompiled, AreCompiled, IsReadBack}
-use Rattle.compiled_code.proofs.Runs.{op_long, total, total_append, op_behind, op_at_end, size_aimed, total_aimed, Parted, IsPreparing, IsStatement, AreStatements, flat, bytes_of, bytes_long, extent, total_flat, extent_append, flat_append, line_at, line_at_end, offset_is, offset_past}
+use Rattle.compiled_code.proofs.Runs.{total, total_append, op_behind, op_at_end, size_aimed, total_aimed, Parted, IsPreparing, IsStatement, AreStatements, flat, bytes_of, bytes_long, extent, total_flat, extent_append, flat_append, line_at, line_at_end, offset_is, offset_past}
 
 -- ---- the ops of a statement, in parts
 
-abbrev parted : Instr → Parted
+abbrev pub parted : Instr → Parted
 parted (Does use_db w o) = record { front = opening use_db; end = ending w o }
 parted (Jumps how target) = record { front = []; end = jump_op how target }
 parted (JumpsByList targets otherwise) = record { front = []; end = jump_op jump.Jl otherwise }
@@ -56,41 +51,41 @@ opening_prepares : (use_db : Option ℕ) → AllByRecursion IsPreparing (opening
 opening_prepares None = tt
 opening_prepares (Some number) = (refl, tt)
 
-is_statement : (i : Instr) → IsStatement (parted i)
+pub is_statement : (i : Instr) → IsStatement (parted i)
 is_statement (Does use_db w o) = record { front = opening_prepares use_db; end = refl }
 is_statement (Jumps how target) = record { front = tt; end = refl }
 is_statement (JumpsByList targets otherwise) = record { front = tt; end = refl }
 is_statement (Calls how block instance passings) = record { front = passing_prepares passings; end = refl }
 is_statement (Returns how) = record { front = tt; end = refl }
 
-abbrev parts : List Stated → List Parted
+abbrev pub parts : List Stated → List Parted
 parts [] = []
 parts (s ∷ ss) = parted s.instr ∷ parts ss
 
-ops_in_parts : (ss : List Stated) → ops_in ss ≡ flat (parts ss)
+pub ops_in_parts : (ss : List Stated) → ops_in ss ≡ flat (parts ss)
 ops_in_parts [] = refl
 ops_in_parts (s ∷ ss) =
     let p = parted s.instr in
     rw (ops_parted s.instr) (rw (ops_in_parts ss) (append_assoc p.front (p.end ∷ []) (flat (parts ss))))
 
-parts_append : (xs ys : List Stated) → parts (xs ++ ys) ≡ parts xs ++ parts ys
+pub parts_append : (xs ys : List Stated) → parts (xs ++ ys) ≡ parts xs ++ parts ys
 parts_append [] ys = refl
 parts_append (x ∷ xs) ys = rw (parts_append xs ys) refl
 
-parts_count : (ss : List Stated) → length (parts ss) ≡ length ss
+pub parts_count : (ss : List Stated) → length (parts ss) ≡ length ss
 parts_count [] = refl
 parts_count (s ∷ ss) = ap suc (parts_count ss)
 
-parts_are : (ss : List Stated) → AreStatements (parts ss)
+pub parts_are : (ss : List Stated) → AreStatements (parts ss)
 parts_are [] = tt
 parts_are (s ∷ ss) = (is_statement s.instr, parts_are ss)
 
 -- ---- with offsets as targets
 
-abbrev aimed_part : (ℕ → ℕ) → Parted → Parted
+abbrev pub aimed_part : (ℕ → ℕ) → Parted → Parted
 aimed_part f p = record { front = map (aimed_op f) p.front; end = aimed_op f p.end }
 
-abbrev aimed_parts : (ℕ → ℕ) → List Parted → List Parted
+abbrev pub aimed_parts : (ℕ → ℕ) → List Parted → List Parted
 aimed_parts f [] = []
 aimed_parts f (p ∷ ps) = aimed_part f p ∷ aimed_parts f ps
 
@@ -114,7 +109,7 @@ aimed_prepares : (f : ℕ → ℕ) (ops : List OpData) → AllByRecursion IsPrep
 aimed_prepares f [] h = tt
 aimed_prepares f (op ∷ ops) h = (h.0, aimed_prepares f ops h.1)
 
-aimed_is : (f : ℕ → ℕ) (p : Parted) → IsStatement p → IsStatement (aimed_part f p)
+pub aimed_is : (f : ℕ → ℕ) (p : Parted) → IsStatement p → IsStatement (aimed_part f p)
 aimed_is f p h = record { front = aimed_prepares f p.front h.front; end = h.end }
 
 aimed_are : (f : ℕ → ℕ) (ps : List Parted) → AreStatements ps → AreStatements (aimed_parts f ps)
@@ -209,7 +204,7 @@ passings_back : (f : ℕ → ℕ) (ps : List Passing) → passings_of (map (aime
 passings_back f [] = refl
 passings_back f (p ∷ ps) = ap (λ (z : List Passing). p ∷ z) (passings_back f ps)
 
-aimed_same : (f : ℕ → ℕ) (o : Operand) → is_target o ≡ false → aimed f o ≡ o
+pub aimed_same : (f : ℕ → ℕ) (o : Operand) → is_target o ≡ false → aimed f o ≡ o
 aimed_same f (operand.Jump kind target) h = absurd cc
 aimed_same f operand.Nothing h = refl
 aimed_same f (operand.Literal value) h = refl
@@ -320,14 +315,14 @@ unfolding list_of
 list_ends zero ops at = refl
 list_ends (suc most) ops at = rw (eq-eqb at at refl) refl
 
-abbrev the_code : (ℕ → ℕ) → List Stated → List OpData
+abbrev pub the_code : (ℕ → ℕ) → List Stated → List OpData
 the_code f ss = flat (aimed_parts f (parts ss))
 
 -- where the statements in front end
-abbrev ends_at : List Stated → ℕ
+abbrev pub ends_at : List Stated → ℕ
 ends_at ss = extent (parts ss)
 
-ends_append : (xs ys : List Stated) → ends_at (xs ++ ys) ≡ ends_at xs + ends_at ys
+pub ends_append : (xs ys : List Stated) → ends_at (xs ++ ys) ≡ ends_at xs + ends_at ys
 ends_append xs ys = ap extent (parts_append xs ys) ∙ extent_append (parts xs) (parts ys)
 
 -- a statement of one op, JU, at its place
@@ -424,7 +419,7 @@ list_of_jumps f (suc most) front (j ∷ js) rest jumps few at =
 
 -- ---- whole
 
-abbrev position : List Stated → ℕ → ℕ
+abbrev pub position : List Stated → ℕ → ℕ
 position ss n = offset_of (ops_in ss) n
 
 position_is : (front rest : List Stated) → position (front ++ rest) (length front) ≡ ends_at front
@@ -443,7 +438,7 @@ position_past ss n past =
     ap (λ (z : List OpData). offset_from 0 true z n) (ops_in_parts ss)
     ∙ offset_past 0 n (parts ss) (parts_are ss) (omega (arith, past, count)) ∙ omega arith
 
-the_code_is : (ss : List Stated) → code_in ss ≡ the_code (position ss) ss
+pub the_code_is : (ss : List Stated) → code_in ss ≡ the_code (position ss) ss
 unfolding placed_ops
 the_code_is ss = ap (λ (z : List OpData). map (aimed_op (position ss)) z) (ops_in_parts ss) ∙ aimed_flat (position ss) (parts ss)
 

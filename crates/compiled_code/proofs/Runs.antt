@@ -1,17 +1,13 @@
 -- Ops at their places: behind other ops, and statement by statement.
-use Rattle.std.proofs.Common.{◌≡◌, ℕ, zero, suc, ◌+◌, ◌<◌, ◌≤◌, Bool, true, false, cond, eqb, List, [], ◌∷◌, ◌++◌, length, map, take, drop, slice_get, append_assoc, Option, Some, None, refl, sym, ap, subst, ◌∙◌, arith}
-use Rattle.std.proofs.lemmas.Bool.{eqb-true, eqb-false, eq-eqb, ne_eqb}
-use Rattle.std.proofs.lemmas.List.{length-map}
-use Rattle.std.specs.Int.{w32, to_be_bytes}
-use Rattle.std.specs.List.{flat_map, AllByRecursion}
+use Rattle.std.proofs.Common.{◌≡◌, ℕ, zero, suc, ◌+◌, ◌<◌, ◌≤◌, Bool, true, false, eqb, List, [], ◌∷◌, ◌++◌, length, map, drop, slice_get, append_assoc, Some, None, refl, sym, ◌∙◌, arith}
+use Rattle.std.proofs.lemmas.Bool.{eq-eqb, ne_eqb}
+use Rattle.std.specs.List.{AllByRecursion}
 use Rattle.flat_code.specs.Codes.{size}
-use Rattle.flat_code.specs.Forms.{payload}
 use Rattle.flat_code.specs.Ops.{OpData, op_bytes}
 use Rattle.flat_code.specs.Placed.{op_placed, line_placed}
 use Rattle.flat_code.specs.declared.operands.Operand.{Operand}
 use Rattle.flat_code.specs.declared.operands.Operand.TheVariants as operand
-use Rattle.stl_codegen.specs.Emitted.{ops_of}
-use Rattle.stl_codegen.specs.Compiled.{Stated, ops_in, offset_from, offset_of, aimed, aimed_op, placed_ops}
+use Rattle.stl_codegen.specs.Compiled.{offset_from, aimed, aimed_op}
 
 pub op_long : (op : OpData) → 0 < size op
 unfolding size op_bytes
@@ -175,7 +171,7 @@ offset_behind at n (x ∷ front) op ys fs last =
     let moved : at + (size x + total front + size op) ≡ at + size x + (total front + size op) = omega arith in
     rw moved (rw fs.0 (offset_behind (at + size x) n front op ys fs.1 last))
 
-offset_next :
+pub offset_next :
     (at n : ℕ) (p : Parted) (ys : List OpData) → IsStatement p
     → offset_from at true (p.front ++ p.end ∷ ys) (suc n) ≡ offset_from (at + bytes_of p) true ys n
 unfolding size op_bytes

@@ -1,14 +1,12 @@
 -- The code of a block, read back: the statement at the offset of each is the statement that was
 -- compiled, with offsets as targets.
-use Rattle.std.specs.Prelude.{◌≡◌, ◌≤◌, ℕ, zero, suc, ◌+◌, Bool, true, false, List, [], ◌∷◌, length, map, take, drop, Option, Some, None, if◌then◌else◌}
+use Rattle.std.specs.Prelude.{◌≡◌, ◌≤◌, ℕ, suc, ◌+◌, Bool, true, false, List, [], ◌∷◌, length, take, Option, Some, None}
 use Rattle.std.specs.List.{slice_get, AllByRecursion}
 use Rattle.std.specs.Option.{option_map}
-use Rattle.plc_base.specs.declared.blocks.BlockId.{BlockId}
 use Rattle.plc_base.specs.declared.blocks.BlockKind.{BlockKind}
 use Rattle.plc_base.specs.declared.blocks.BlockKind.TheVariants as kinds
-use Rattle.flat_code.specs.Instr.{Instr, Passing, Does, Jumps, JumpsByList, Calls, Returns}
+use Rattle.flat_code.specs.Instr.{Instr, Does, Jumps, JumpsByList, Calls, Returns}
 use Rattle.flat_code.specs.Programs.{CodeBlock}
-use Rattle.flat_code.specs.declared.kinds.JumpWord.{JumpWord}
 use Rattle.flat_code.specs.declared.kinds.JumpWord.TheVariants as jump
 use Rattle.flat_code.specs.declared.operands.Operand.{Operand}
 use Rattle.flat_code.specs.declared.operands.Operand.TheVariants as operand
@@ -17,7 +15,7 @@ use Rattle.flat_code.specs.declared.words.Word.TheVariants as word
 use Rattle.machine.specs.Code.{Fetched}
 use Rattle.machine.specs.Flat.{statement_at, is_jl}
 use Rattle.machine.specs.Moved.{aimed_instr}
-use Rattle.stl_codegen.specs.Compiled.{Stated, ops_in, offset_of, code_in, lines_in}
+use Rattle.stl_codegen.specs.Compiled.{Stated, ops_in, offset_of}
 use Rattle.stl_codegen.specs.Instruction.{numbers_from}
 
 -- the statement of a number, at its offset

@@ -1,2 +1,3 @@
 pub mod Back
 pub mod Statements
+pub mod Verified

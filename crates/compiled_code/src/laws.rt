@@ -4,6 +4,7 @@ ghost use Rattle.flat_code.specs.Programs.{CodeBlock};
 ghost use Rattle.stl_codegen.specs.Compiled.{Stated, code_in, lines_in};
 ghost use Rattle.compiled_code.specs.Back.{AreCompiled, IsReadBack};
 ghost use Rattle.compiled_code.specs.Statements.{ProgramsFollow};
+ghost use Rattle.compiled_code.specs.Verified.{VerifiedIsCompilable};
 
 /// At the offset of each statement of a block stands the statement that was compiled, with offsets
 /// as its targets, and behind the last one none begins.
@@ -20,3 +21,9 @@ pub fn programs_follow()
 {
     flat_code::laws::one_number_each();
 }
+
+/// Of a source whose program verifies, whatever it is, code can be generated for the statements of
+/// each block.
+pub fn verified_is_compilable()
+    ensures { VerifiedIsCompilable }
+{}

@@ -1,53 +1,78 @@
 -- One more entry at the end of a history.
-use Rattle.std.proofs.Common.{◌≡◌, List, [], ◌∷◌, ◌++◌, refl, sym, ◌∙◌, ap}
+use Rattle.std.proofs.Common.{◌≡◌, List, [], ◌∷◌, ◌++◌, length, refl, sym, ap, subst, ◌∙◌}
+use Rattle.std.proofs.lemmas.List.{length-map}
+use Rattle.flat_code.specs.Loading.{Verifies}
+use Rattle.flat_code.specs.Programs.{Program}
+use Rattle.machine.specs.Code.{Code}
+use Rattle.machine.specs.Flat.{code_of}
 use Rattle.var_access.specs.declared.Entry.{Entry}
 use Rattle.var_access.specs.declared.What.{What}
-use Rattle.controller.specs.declared.observing.Observed.{Observed}
-use Rattle.controller.specs.Code.{Code}
-use Rattle.controller.specs.State.{State}
-use Rattle.controller.specs.Event.{state_after}
-use Rattle.var_access.specs.declared.Reply.TheVariants.{Done}
-use Rattle.controller.specs.Replay.{shown, Happened, happens, at_start, happened_from, happened, replay, ContinuesReplay}
+use Rattle.var_access.specs.Entry.{IsInRange}
+use Rattle.cpu.specs.Fitting.{EntriesKeepFit, IsFit, StartIsFit}
+use Rattle.cpu.specs.Replay.{ContinuesReplay, ContinuesSeen, CountsHistory, happens, last_seen, replay}
+use Rattle.cpu.specs.Shown.{Watched, changes, nothing_shown, shown, watched, watched_on}
+use Rattle.cpu.specs.Start.{start}
+use Rattle.cpu.specs.State.{State}
+use Rattle.cpu.specs.declared.Observed.{Observed}
+use Rattle.controller.specs.Replayed.{events}
 
-happened_from_next : (code : Code) (last : Happened) (es : List Entry) (e : Entry)
-    → happened_from code last (es ++ e ∷ []) ≡ happens code (happened_from code last es).state e.what
-happened_from_next code last [] e = refl
-happened_from_next code last (x ∷ es) e = happened_from_next code (happens code last.state x.what) es e
+-- ---- at the start
 
-pub continues : ContinuesReplay
-unfolding happened
-continues code es e = happened_from_next code (at_start code) es e
+pub starts : (code : Code) → start code ≡ replay code []
+unfolding replay
+starts code = refl
 
--- what an entry does in a state, part by part
-happens_state : (code : Code) (s : State) (what : What) → (happens code s what).state ≡ state_after code s what
-unfolding happens
-happens_state code s what = refl
+pub none_seen : (code : Code) → nothing_shown ≡ last_seen code []
+unfolding last_seen
+none_seen code = refl
 
--- the state after one more entry
-pub replay_next : (code : Code) (es : List Entry) (e : Entry) → replay code (es ++ e ∷ []) ≡ state_after code (replay code es) e.what
-replay_next code es e = ap (λ (h : Happened). h.state) (continues code es e) ∙ happens_state code (replay code es) e.what
+pub start_fits : (p : Program) (s : State) → StartIsFit → Verifies p → s ≡ start (code_of p) → IsFit p s
+start_fits p s fits h is = subst (IsFit p) (sym is) (fits p h)
 
--- what it answers and shows
-happens_reply : (code : Code) (s : State) (what : What) → (happens code s what).reply ≡ Done
-unfolding happens
-happens_reply code s what = refl
+-- ---- an entry more
 
-happens_seen : (code : Code) (s : State) (what : What) → (happens code s what).seen ≡ shown code s what (state_after code s what)
-unfolding happens
-happens_seen code s what = refl
+events_next : (history : List Entry) (e : Entry) → events (history ++ e ∷ []) ≡ events history ++ e.what ∷ []
+events_next [] e = refl
+events_next (first ∷ rest) e = ap (λ (more : List What). first.what ∷ more) (events_next rest e)
 
-pub reply_next : (code : Code) (es : List Entry) (e : Entry) → (happened code (es ++ e ∷ [])).reply ≡ Done
-reply_next code es e = ap (λ (h : Happened). h.reply) (continues code es e) ∙ happens_reply code (replay code es) e.what
+pub state_next : (code : Code) (history : List Entry) (e : Entry) (s t : State) → ContinuesReplay
+    → s ≡ replay code (events history) → t ≡ (happens code s e.what).state
+    → t ≡ replay code (events (history ++ e ∷ []))
+state_next code history e s t continues before after =
+    after
+    ∙ ap (λ (u : State). (happens code u e.what).state) before
+    ∙ sym (continues code (events history) e.what)
+    ∙ ap (λ (es : List What). replay code es) (sym (events_next history e))
 
-seen_after : (code : Code) (es : List Entry) (e : Entry)
-    → (happened code (es ++ e ∷ [])).seen ≡ shown code (replay code es) e.what (state_after code (replay code es) e.what)
-seen_after code es e = ap (λ (h : Happened). h.seen) (continues code es e) ∙ happens_seen code (replay code es) e.what
+pub seen_next : (code : Code) (history : List Entry) (e : Entry) (s : State) → ContinuesSeen
+    → s ≡ replay code (events history)
+    → (happens code s e.what).seen ≡ last_seen code (events (history ++ e ∷ []))
+seen_next code history e s continues before =
+    ap (λ (u : State). (happens code u e.what).seen) before
+    ∙ sym (continues code (events history) e.what)
+    ∙ ap (λ (es : List What). last_seen code es) (sym (events_next history e))
 
--- the same from a state that is the replay of the entries before
-pub state_next : (code : Code) (es : List Entry) (e : Entry) (s t : State) → s ≡ replay code es → t ≡ state_after code s e.what
-    → t ≡ replay code (es ++ e ∷ [])
-state_next code es e s t before after = rw (after, before) (sym (replay_next code es e))
+-- what it shows is what the outputs and the mode were compared for
+seen_is : (code : Code) (s : State) (what : What)
+    → changes s.world.memory.peripheral_outputs s.mode (happens code s what).state ≡ (happens code s what).seen
+unfolding happens shown
+seen_is code s what = refl
 
-pub seen_next : (code : Code) (es : List Entry) (e : Entry) (s t : State) (seen : Observed) → s ≡ replay code es
-    → t ≡ state_after code s e.what → seen ≡ shown code s e.what t → seen ≡ (happened code (es ++ e ∷ [])).seen
-seen_next code es e s t seen before after is = rw (is, after, before) (sym (seen_after code es e))
+pub observer_next : (code : Code) (s t : State) (what : What) (w w' : Watched) (seen : Observed)
+    → w ≡ watched s seen → w' ≡ watched_on w t → t ≡ (happens code s what).state
+    → w' ≡ watched t (happens code s what).seen
+observer_next code s t what w w' seen before looked after =
+    looked
+    ∙ ap (λ (v : Watched). watched_on v t) before
+    ∙ ap (λ (o : Observed). watched t o)
+    (ap (λ (u : State). changes s.world.memory.peripheral_outputs s.mode u) after ∙ seen_is code s what)
+
+pub fits_next : (p : Program) (s t : State) (what : What) → EntriesKeepFit → Verifies p → IsInRange what → IsFit p s
+    → t ≡ (happens (code_of p) s what).state → IsFit p t
+fits_next p s t what keeps h range fit after = subst (IsFit p) (sym after) (keeps p s what h range fit)
+
+-- the entries are as many as the history has
+pub count_is : (code : Code) (history : List Entry) (s : State) → CountsHistory → s ≡ replay code (events history)
+    → s.entries ≡ length history
+count_is code history s counts is =
+    ap (λ (u : State). u.entries) is ∙ counts code (events history) ∙ length-map history (λ (e : Entry). e.what)

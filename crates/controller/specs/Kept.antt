@@ -1,18 +1,27 @@
 -- What holds of the parts of a controller at all times.
-use Rattle.std.specs.Prelude.{◌≡◌, ◌+◌, ◌^◌, ◌<◌, ◌≤◌, IsTrue, vec_len, vec_capacity}
+use Rattle.std.specs.Prelude.{◌≡◌, ◌+◌, ◌^◌, ◌<◌, ◌≤◌, vec_len, vec_capacity}
+use Rattle.flat_code.specs.Loading.{Verifies}
+use Rattle.machine.specs.Flat.{code_of}
+use Rattle.cpu.specs.Fitting.{IsFit}
+use Rattle.cpu.specs.Replay.{last_seen, replay}
+use Rattle.cpu.specs.Shown.{watched}
+use Rattle.cpu.specs.Starting.{numbers_of}
+use Rattle.cpu.specs.Views.{state_of}
+use Rattle.controller.specs.Replayed.{events}
 use Rattle.controller.specs.declared.controllers.Controller.TheInside.{Inside}
-use Rattle.controller.specs.Processing.{state_of}
-use Rattle.controller.specs.Program.{is_thin}
-use Rattle.controller.specs.Replay.{happened, replay}
-use Rattle.controller.specs.ThinCode.{thin_code}
 
--- the state is the replay of the history, what was observed is what its last entry showed, the peripheral outputs are kept as they
--- stand after it, no more requests arrived than there are entries, and there is room for as many entries as are said
+-- the state is the replay of the history, and fits the program; what was shown is kept with what the
+-- next entry is compared with; the numbers of data blocks are those of the program, by rising number;
+-- and there is room for as many entries as are said
 pub record IsReplay (a : Inside) : Type 0 where
-  pub thin : IsTrue (is_thin a.program)
-  pub state : state_of a.cpu ≡ replay (thin_code a.program) a.history.items
-  pub seen : a.observed ≡ (happened (thin_code a.program) a.history.items).seen
-  pub shown : a.shown ≡ a.cpu.memory.peripheral_outputs
-  pub few : a.cpu.requests.arrivals ≤ vec_len a.history
+  pub verifies : Verifies a.program.program
+  pub state : state_of a.cpu ≡ replay (code_of a.program.program) (events a.history.items)
+  pub fit : IsFit a.program.program (state_of a.cpu)
+  pub observer :
+      a.observer
+      ≡ watched (state_of a.cpu) (last_seen (code_of a.program.program) (events a.history.items))
+  pub numbers :
+      a.numbers.items
+      ≡ numbers_of (code_of a.program.program).blocks
   pub room : vec_len a.history + a.spare ≤ vec_capacity a.history
   pub bounded : vec_len a.history + a.spare < 2 ^ 64

@@ -1,14 +1,13 @@
-ghost use Rattle.std.specs.Prelude.{◌≡◌, ℕ, ◌+◌, ◌-◌, ◌^◌, ◌<◌, ◌≤◌, ◌↔◌, [], ◌∷◌, ◌++◌, length, max, slice_get, IsTrue, IfOk, OnOk, OnErr, IsNone};
-ghost use Rattle.controller.specs.Program.{is_thin};
-ghost use Rattle.controller.specs.Replay.{happened, replay};
-ghost use Rattle.controller.specs.ThinCode.{thin_code};
+ghost use Rattle.std.specs.Prelude.{◌≡◌, ◌+◌, ◌-◌, ◌^◌, ◌<◌, ◌≤◌, ◌↔◌, [], ◌∷◌, ◌++◌, length, max, slice_get, is_some, IfOk, OnOk, OnErr, IsNone};
+ghost use Rattle.std.specs.Option.{option_copied, option_map};
+ghost use Rattle.std.specs.FinMap as finmap;
+ghost use Rattle.image_file.specs.Readers.{bytes_of};
+ghost use Rattle.controller.specs.Replayed.{data_blocks as blocks_after, next_happens, numbered as with_number, replayed, seen};
 ghost use Rattle.var_access.specs.Entry.{IsValid};
 
-use crate::observing::{Observed, changed_mode};
-use crate::processing::Cpu;
-use crate::programs::Thin;
+use cpu::{Observed, Observer, Parts, data_numbers};
+use image_file::Loaded;
 use plc_base::{Mode, NoMemory};
-use plc_mem::{Memory, PeripheralArea};
 use std::alloc::Global;
 use std::marker::Model;
 use var_access::{Entry, Reply};
@@ -18,13 +17,13 @@ use var_access::{Entry, Reply};
 /// room.
 #[derive(Drop)]
 pub struct Controller {
-    program: Thin,
-    cpu: Cpu,
+    program: Loaded,
+    cpu: Parts,
     history: Vec<Entry>,
     spare: u64,
-    observed: Observed,
-    /// The peripheral outputs after the last entry, with which the next one's are compared.
-    shown: PeripheralArea,
+    observer: Observer,
+    /// The numbers of the data blocks, which rise.
+    numbers: Vec<u16>,
 }
 
 impl Model for Controller {
@@ -34,33 +33,55 @@ impl Model for Controller {
 
     ghost use Rattle.controller.specs.Kept.{IsReplay};
 
-    ghost view = { λ a. record { program = a.program; history = a.history.items; spare = a.spare } };
+    ghost view = { λ a. record {
+      program = a.program.program;
+      history = a.history.items;
+      spare = a.spare;
+    } };
 
     ghost invariant = { IsReplay };
 }
 
+fn number_at(numbers: &[u16], place: usize) -> Option<u16>
+    ensures { result ≡ slice_get numbers.now place }
+{
+    numbers.get(place).copied()
+}
+
 impl Controller {
     /// A controller at its first start, with an empty history and room for no entry.
-    #[tactic(auto, unfolding(crate::specs::Replay::happened))]
-    pub fn new(alloc: Global, program: Thin) -> Result<Controller, NoMemory>
-        requires { IsTrue (is_thin program) }
-        ensures { IfOk result (λ c. c ≡ record { program = program; history = []; spare = 0 }) }
+    ///
+    /// # Errors
+    ///
+    /// `NoMemory` for want of memory.
+    pub fn new(alloc: Global, program: Loaded) -> Result<Controller, NoMemory>
+        ensures { IfOk result (λ c. c ≡ record {
+          program = program.program;
+          history = [];
+          spare = 0;
+        }) }
     {
-        let memory = Memory::new(alloc, &[])?;
-        let shown = *memory.outputs();
-        let cpu = Cpu::start(&program, memory);
+        program.law_of_verifying();
+        cpu::laws::what_runs_goes_on();
+        let cpu = Parts::start(alloc, &program)?;
+        let numbers = data_numbers(alloc, &program)?;
+        let observer = Observer::new(&cpu);
         Ok(Controller {
             program,
             cpu,
             history: Vec::new(alloc),
             spare: 0,
-            observed: Observed::nothing(),
-            shown,
+            observer,
+            numbers,
         })
     }
 
     /// Makes room for `n` further entries. It fails where there is no memory, and has changed
     /// nothing then.
+    ///
+    /// # Errors
+    ///
+    /// `NoMemory` for want of memory.
     pub fn reserve(&mut self, n: u64) -> Result<(), NoMemory>
         requires { length self.old.history + n < 2 ^ 64 }
         ensures ok { OnOk result (self.new ≡ record self.old { spare = max self.old.spare n }) }
@@ -74,7 +95,6 @@ impl Controller {
     }
 
     /// Makes one entry of the history, and answers what the entry answers. Takes no memory.
-    #[tactic(auto, using(crate::proofs::ReplayLemmas::reply_next))]
     pub fn apply(&mut self, e: Entry) -> Reply
         requires room { 1 ≤ self.old.spare }
         requires valid { IsValid e }
@@ -82,27 +102,26 @@ impl Controller {
           history = self.old.history ++ e ∷ [];
           spare = self.old.spare - 1;
         } }
-        ensures reply { result ≡ (happened (thin_code self.new.program) self.new.history).reply }
+        ensures reply { result ≡ (next_happens self.old e).reply }
+        ensures shown { seen self.new ≡ (next_happens self.old e).seen }
+        ensures state { replayed self.new ≡ (next_happens self.old e).state }
     {
-        let before = self.cpu.mode;
-        self.cpu.enter(&self.program, e.what);
-        self.observed.mode = changed_mode(before, self.cpu.mode);
-        self.observed.outputs.clear();
-        self.observed
-            .outputs
-            .add_changes(&self.shown, self.cpu.memory.outputs());
-        self.shown = *self.cpu.memory.outputs();
+        cpu::laws::continues_replay();
+        cpu::laws::counts_entries();
+        cpu::laws::what_runs_goes_on();
+        let reply = self.cpu.happen(&self.program, e.what);
+        self.observer.look(&self.cpu);
         let pushed = self.history.push(e);
         prove!(pushed.is_ok());
         self.spare -= 1;
-        Reply::Done
+        reply
     }
 
     /// What the last entry showed.
     pub fn observed(&self) -> &Observed
-        ensures { result.now ≡ (happened (thin_code self.now.program) self.now.history).seen }
+        ensures { result.now ≡ seen self.now }
     {
-        &self.observed
+        self.observer.seen()
     }
 
     /// How many entries the history has.
@@ -123,8 +142,40 @@ impl Controller {
 
     /// The operating mode after the whole history.
     pub fn mode(&self) -> Mode
-        ensures { result ≡ (replay (thin_code self.now.program) self.now.history).mode }
+        ensures { result ≡ (replayed self.now).mode }
     {
-        self.cpu.mode
+        self.cpu.mode()
+    }
+
+    /// The bytes of a data block after the whole history; none exactly where the program has no such
+    /// block.
+    pub fn db_bytes(&self, number: u16) -> Option<&[u8]>
+        ensures value { option_copied result
+            ≡ finmap.get (replayed self.now).world.memory.data_blocks number }
+        ensures loaded { is_some result ≡ is_some (bytes_of number self.now.program.data_blocks) }
+    {
+        self.cpu.db_bytes(number)
+    }
+
+    /// The number of a data block and its bytes after the whole history, by the block's place among
+    /// all by rising number, counted from 0; none from their count on.
+    pub fn data_block(&self, place: usize) -> Option<(u16, &[u8])>
+        ensures { option_map (λ b. (b.0, b.1.now)) result ≡ slice_get (blocks_after self.now) place }
+    {
+        match number_at(self.numbers.as_slice(), place) {
+            None => None,
+            Some(number) => self.numbered(number),
+        }
+    }
+
+    // A data block's number with its bytes.
+    fn numbered(&self, number: u16) -> Option<(u16, &[u8])>
+        ensures { option_map (λ b. (b.0, b.1.now)) result ≡ option_map (with_number number)
+            (finmap.get (replayed self.now).world.memory.data_blocks number) }
+    {
+        match self.cpu.db_bytes(number) {
+            None => None,
+            Some(bytes) => Some((number, bytes)),
+        }
     }
 }

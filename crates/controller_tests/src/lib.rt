@@ -1,5 +1,12 @@
-//! Tests of the public calls of the controller. The library itself is empty.
+//! Tests of the controller by its public calls: programs as text, histories, and what the entries
+//! show, worked out by hand. The library itself is empty.
 #![tactic(auto)]
 
 #[cfg(test)]
-mod replay_tests;
+mod bench;
+#[cfg(test)]
+mod error_rows;
+#[cfg(test)]
+mod interrupt_rows;
+#[cfg(test)]
+mod tick_rows;

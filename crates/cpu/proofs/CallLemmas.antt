@@ -77,7 +77,7 @@ time_tck_same : (s : Scheduler) (a : Activation) → Same a (time_tck s a).activ
 unfolding time_tck
 time_tck_same s a = (refl, refl)
 
-SameServed : Activation → Served → Type 0
+unfoldable pub SameServed : Activation → Served → Type 0
 SameServed a (Returns r) = Same a r.activation
 SameServed a (Passes sched b) = Same a b
 SameServed a (Stops cause) = Unit {0}
@@ -87,7 +87,7 @@ if_served : (test : Bool) (a : Activation) (x y : Served) → SameServed a x →
 if_served true a x y one other = one
 if_served false a x y one other = other
 
-served_same : (number : ℕ) (inputs : List ℕ) (s : Scheduler) (a : Activation)
+pub served_same : (number : ℕ) (inputs : List ℕ) (s : Scheduler) (a : Activation)
     → SameServed a (served number inputs s a)
 unfolding served SameServed
 served_same number inputs s a =
@@ -102,7 +102,7 @@ served_same number inputs s a =
     (if_served (number == 46) a (Stops 1) _ tt (time_tck_same s a))))))))
 
 -- nor does its result
-given_same : (to : Option Binding) (value : ℕ) (a b : Activation) (m : Areas) → Same a b
+pub given_same : (to : Option Binding) (value : ℕ) (a b : Activation) (m : Areas) → Same a b
     → Same a (result_given to value b m).activation
 given_same None value a b m same = same
 given_same (Some to) value a b m same = same

@@ -12,8 +12,8 @@ use Rattle.ob_sched.specs.Request.{best_of}
 use Rattle.ob_sched.specs.StartInformation.{start_info}
 use Rattle.ob_sched.specs.declared.requests.Pending.{Pending}
 use Rattle.ob_sched.specs.declared.start_infos.StartEvent.TheVariants.{Arrival}
-use Rattle.cpu.specs.declared.entries.What.{What}
-use Rattle.cpu.specs.declared.entries.What.TheVariants as what
+use Rattle.var_access.specs.declared.What.{What}
+use Rattle.var_access.specs.declared.What.TheVariants as what
 use Rattle.cpu.specs.Beginning.{ob_in, begun_above}
 use Rattle.cpu.specs.CyclePoint.{cycle_point, cycle_info, cycle_passed}
 use Rattle.cpu.specs.Errors.{failed, error_answered, error_in, is_synchronous, cause_inside}

@@ -26,8 +26,8 @@ use Rattle.ob_sched.specs.declared.start_infos.StartInfo.{StartInfo}
 use Rattle.sys_funcs.specs.Disabling.{refusal}
 use Rattle.sys_funcs.specs.Functions.{dis_airt, en_airt, dis_irt, en_irt, srt_dint, can_dint, time_tck, set_unless, with_delay}
 use Rattle.sys_funcs.specs.Returned.{Returned, returned, passed}
-use Rattle.cpu.specs.declared.entries.What.{What}
-use Rattle.cpu.specs.declared.entries.What.TheVariants as what
+use Rattle.var_access.specs.declared.What.{What}
+use Rattle.var_access.specs.declared.What.TheVariants as what
 use Rattle.cpu.specs.Beginning.{ob_block, ob_frame, told_from, ob_begun, ob_in, begun_above}
 use Rattle.cpu.specs.CyclePoint.{cycle_point, cycle_info, cycle_passed}
 use Rattle.cpu.specs.Errors.{copied_from, error_in, error_answered, failed, failure, is_synchronous, cause_inside}

@@ -1,9 +1,10 @@
 -- At most two activations stand in each of 24 classes.
-use Rattle.std.proofs.Common.{◌≡◌, ℕ, ◌+◌, ◌-◌, ◌*◌, ◌<◌, ◌≤◌, Bool, true, false, ◌||◌, ◌&&◌, IsTrue, List, [], ◌∷◌, length, refl, sym, subst, arith, if◌then◌else◌}
+use Rattle.std.proofs.Common.{◌≡◌, ℕ, ◌+◌, ◌-◌, ◌*◌, ◌<◌, ◌≤◌, Bool, true, false, ◌||◌, ◌&&◌, IsTrue, List, [], ◌∷◌, length, Option, refl, sym, subst, arith, if◌then◌else◌}
 use Rattle.std.specs.Prelude.{◌==◌, nat_le}
 use Rattle.std.proofs.lemmas.Bool.Decides.{nat_tests}
 use Rattle.plc_base.specs.declared.Mode.{Mode}
 use Rattle.plc_base.specs.declared.Mode.TheVariants.{Run, Startup, Stop}
+use Rattle.plc_base.specs.declared.Spot.{Spot}
 use Rattle.frames.specs.declared.Activation.{Activation}
 use Rattle.ob_sched.specs.OrganizationBlock.{class_in}
 use Rattle.cpu.specs.Errors.{is_synchronous}
@@ -109,3 +110,9 @@ startup_least class h = grind (arith, nat_tests)
 pub startup_class : (a : Activation) (below : List Activation) → IsStack Startup (a ∷ below)
     → 27 ≤ a.class
 startup_class a below stack = startup_least a.class (roomy Startup a below stack).class
+
+-- in STOP none stands
+pub no_stack : (cause : ℕ) (at : Option Spot) (a : Activation) (below : List Activation)
+    → IsStack (Stop cause at) (a ∷ below) → ⊥
+unfolding IsClass
+no_stack cause at a below stack = (roomy (Stop cause at) a below stack).class

@@ -25,13 +25,13 @@ some_head = record { local_len = 0; instance_len = 0; params = [] }
 abbrev some_of : (class ob : ℕ) → Activation
 some_of class ob = begun class ob (ob_frame ob some_head)
 
-not_empty : (mode : Mode) (a : Activation) (below : List Activation)
+pub not_empty : (mode : Mode) (a : Activation) (below : List Activation)
     → RunsInStartup mode (a ∷ below)
 not_empty Run a below = tt
 not_empty Startup a below = tt
 not_empty (Stop cause at) a below = tt
 
-stack_more : (mode : Mode) (class ob : ℕ) (a : Activation) (below : List Activation)
+pub stack_more : (mode : Mode) (class ob : ℕ) (a : Activation) (below : List Activation)
     → a.class ≡ class → a.ob ≡ ob → IsStack mode below → MayBegin mode class ob below
     → IsStack mode (a ∷ below)
 stack_more mode class ob a below class_is ob_is stack may = (

@@ -191,7 +191,7 @@ left_in_startup false Startup a [] not stands = absurd (no (sym not ∙ stands.s
     no : false ≡ true → ⊥
     no h = absurd cc
 
-ended_by : (test : Bool) (mode : Mode) (a : Activation) (below : List Activation)
+pub ended_by : (test : Bool) (mode : Mode) (a : Activation) (below : List Activation)
     → (a.ob == 100) ≡ test → IsStanding mode (a ∷ below)
     → IsStanding (if test then Run else mode) below
 ended_by true mode a below is standing =

@@ -3,8 +3,8 @@ use Rattle.std.specs.Prelude.{ℕ, ◌+◌, unwrap_or, if◌then◌else◌}
 use Rattle.plc_mem.specs.Peripherals.{with_input}
 use Rattle.machine.specs.Code.{Code}
 use Rattle.machine.specs.Statement.{World}
-use Rattle.cpu.specs.declared.entries.What.{What}
-use Rattle.cpu.specs.declared.entries.What.TheVariants.{Step, Input, Arrive, Tick}
+use Rattle.var_access.specs.declared.What.{What}
+use Rattle.var_access.specs.declared.What.TheVariants.{Step, Input, Arrive, Tick}
 use Rattle.cpu.specs.Requests.{arrived}
 use Rattle.cpu.specs.Settling.{settled}
 use Rattle.cpu.specs.State.{State, is_stop}

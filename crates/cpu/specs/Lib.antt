@@ -1,9 +1,10 @@
 pub mod Beginning
 pub mod CyclePoint
-pub mod Entry
 pub mod Errors
 pub mod Event
+pub mod Fitting
 pub mod Leaves
+pub mod MachineLaws
 pub mod Ready
 pub mod Replay
 pub mod Requests
@@ -12,6 +13,7 @@ pub mod Settling
 pub mod Shown
 pub mod Stack
 pub mod Start
+pub mod Starting
 pub mod State
 pub mod Stepping
 pub mod Stopping

@@ -3,7 +3,7 @@ use Rattle.std.specs.Prelude.{◌≡◌, ℕ, List, map}
 use Rattle.plc_base.specs.declared.BlockId.{BlockId}
 use Rattle.machine.specs.Code.{Code}
 use Rattle.machine.specs.Moved.{Follows, moved}
-use Rattle.cpu.specs.declared.entries.What.{What}
+use Rattle.var_access.specs.declared.What.{What}
 use Rattle.cpu.specs.Replay.{Happened, happens, replay}
 use Rattle.cpu.specs.State.{State}
 

@@ -1,19 +1,20 @@
 -- What an entry does, answers and shows, and what a history of entries comes to, over any program.
 use Rattle.std.specs.Prelude.{◌≡◌, ◌+◌, List, [], ◌∷◌, ◌++◌, length}
 use Rattle.machine.specs.Code.{Code}
-use Rattle.cpu.specs.declared.entries.Reply.{Reply}
-use Rattle.cpu.specs.declared.entries.Reply.TheVariants.{Done}
-use Rattle.cpu.specs.declared.entries.What.{What}
+use Rattle.var_access.specs.declared.Reply.{Reply}
+use Rattle.var_access.specs.declared.Reply.TheVariants.{Done}
+use Rattle.var_access.specs.declared.What.{What}
 use Rattle.cpu.specs.Event.{state_after}
-use Rattle.cpu.specs.Shown.{Shown, shown}
+use Rattle.cpu.specs.Shown.{nothing_shown, shown}
 use Rattle.cpu.specs.Start.{start}
 use Rattle.cpu.specs.State.{State}
+use Rattle.cpu.specs.declared.observing.Observed.{Observed}
 
 -- the state after an entry, the answer, and what was shown
 pub record Happened : Type 0 where
   pub state : State
   pub reply : Reply
-  pub seen : Shown
+  pub seen : Observed
 
 abbrev pub happened_to : Code → (before : State) → What → (after : State) → Happened
 happened_to code before what after = record {
@@ -35,11 +36,27 @@ run_from code s (what ∷ rest) = run_from code (happens code s what).state rest
 unfoldable pub replay : Code → List What → State
 replay code history = run_from code (start code) history
 
+-- what the last of these entries showed, from a state on; what was seen before where there is none
+abbrev pub seen_from : Code → State → (seen : Observed) → List What → Observed
+seen_from code s seen [] = seen
+seen_from code s seen (what ∷ rest) =
+    seen_from code (happens code s what).state (happens code s what).seen rest
+
+-- what the last entry of a history showed; before the first entry nothing is shown
+unfoldable pub last_seen : Code → List What → Observed
+last_seen code history = seen_from code (start code) nothing_shown history
+
 -- a history with one entry more: that entry happens in the state after the others
 abbrev pub ContinuesReplay : Type 0
 ContinuesReplay =
     (code : Code) (history : List What) (what : What)
     → replay code (history ++ what ∷ []) ≡ (happens code (replay code history) what).state
+
+-- and what it shows is what was seen last
+abbrev pub ContinuesSeen : Type 0
+ContinuesSeen =
+    (code : Code) (history : List What) (what : What)
+    → last_seen code (history ++ what ∷ []) ≡ (happens code (replay code history) what).seen
 
 -- each entry is counted
 abbrev pub CountsEntries : Type 0

@@ -1,13 +1,14 @@
 -- What an entry shows.
-use Rattle.std.specs.Prelude.{ℕ, ◌==◌, Bool, true, false, List, Option, Some, None, if◌then◌else◌}
+use Rattle.std.specs.Prelude.{ℕ, ◌==◌, Bool, true, false, List, [], Option, Some, None, if◌then◌else◌}
 use Rattle.std.specs.List.{filter_map, range_with_len}
 use Rattle.plc_base.specs.declared.Mode.{Mode}
 use Rattle.plc_base.specs.declared.Mode.TheVariants.{Run, Startup, Stop}
 use Rattle.plc_mem.specs.Areas.{PeripheralBytes}
 use Rattle.plc_mem.specs.Bits.{peripheral_byte}
 use Rattle.machine.specs.Code.{Code}
-use Rattle.cpu.specs.declared.entries.What.{What}
+use Rattle.var_access.specs.declared.What.{What}
 use Rattle.cpu.specs.State.{State}
+use Rattle.cpu.specs.declared.observing.Observed.{Observed}
 
 -- a byte that exists, with its new value, unless that is the old one
 abbrev pub if_changed : (byte : ℕ) (before after : Option ℕ) → Option (ℕ × ℕ)
@@ -37,15 +38,34 @@ is_same_mode before after = false
 abbrev pub changed_mode : (before after : Mode) → Option Mode
 changed_mode before after = if is_same_mode before after then None else Some after
 
--- the changed peripheral outputs, and the new mode
-pub record Shown : Type 0 where
-  pub outputs : List (ℕ × ℕ)
-  pub mode : Option Mode
+-- the changed peripheral outputs, and the new mode, between two moments
+abbrev pub changes : (outputs : PeripheralBytes) → Mode → (after : State) → Observed
+changes outputs mode after = record {
+  outputs = changed_outputs outputs after.world.memory.peripheral_outputs;
+  mode = changed_mode mode after.mode;
+}
+
+-- where nothing changes nothing is shown
+abbrev pub nothing_shown : Observed
+nothing_shown = record { outputs = []; mode = None }
 
 -- what an entry shows, by the program, the states before and after it, and the entry
-unfoldable pub shown : Code → (before : State) → What → (after : State) → Shown
-shown code before what after = record {
-  outputs = changed_outputs before.world.memory.peripheral_outputs
-      after.world.memory.peripheral_outputs;
-  mode = changed_mode before.mode after.mode;
+unfoldable pub shown : Code → (before : State) → What → (after : State) → Observed
+shown code before what after =
+    changes before.world.memory.peripheral_outputs before.mode after
+
+-- what is kept from one entry to the next: the peripheral outputs and the mode, and what was shown
+pub record Watched : Type 0 where
+  pub outputs : PeripheralBytes
+  pub mode : Mode
+  pub seen : Observed
+
+abbrev pub watched : State → (seen : Observed) → Watched
+watched s seen = record {
+  outputs = s.world.memory.peripheral_outputs;
+  mode = s.mode;
+  seen = seen;
 }
+
+abbrev pub watched_on : Watched → (after : State) → Watched
+watched_on w after = watched after (changes w.outputs w.mode after)

@@ -1,13 +1,16 @@
 //! Laws of histories and of activations: each function does nothing, and its contract is the law.
+ghost use Rattle.cpu.specs.Fitting.{EntriesKeepFit, FitIsReady, HistoriesAreFit, RestartKeepsFit, StartIsFit};
+ghost use Rattle.cpu.specs.MachineLaws.{MachineLaws};
 ghost use Rattle.cpu.specs.Moved.{EntriesMove, HistoriesMove};
-ghost use Rattle.cpu.specs.Replay.{ContinuesReplay, CountsEntries, CountsHistory};
+ghost use Rattle.cpu.specs.Replay.{ContinuesReplay, ContinuesSeen, CountsEntries, CountsHistory};
 ghost use Rattle.cpu.specs.Stack.{AtMost48};
 
 /// A history with one entry more continues the replay: the entry happens in the state after the
-/// others, over any program.
-#[tactic(auto, using(crate::proofs::ReplayLemmas::continues))]
+/// others, over any program, and what it shows is what was seen last.
+#[tactic(auto, using(crate::proofs::ReplayLemmas::continues, crate::proofs::ReplayLemmas::seen_continues))]
 pub fn continues_replay()
-    ensures { ContinuesReplay }
+    ensures state { ContinuesReplay }
+    ensures seen { ContinuesSeen }
 {}
 
 /// Each entry is counted, so the count is that of the history.
@@ -30,4 +33,29 @@ pub fn positions_move()
     ensures histories { HistoriesMove }
 {
     machine::laws::statements_move();
+}
+
+// What the machine gives the law below.
+fn what_the_machine_gives()
+    ensures { MachineLaws }
+{
+    machine::laws::what_fits_goes();
+    machine::laws::what_fits_lasts();
+    machine::laws::what_fits_stays();
+    machine::laws::blocks_begin();
+    machine::laws::what_fits_may_change();
+    machine::laws::results_fit();
+    machine::laws::memory_is_kept();
+}
+
+/// Of a program that verifies the running activation can always go on: so it is after the start,
+/// each valid entry and a warm restart keep it so, and so it is after each valid history.
+pub fn what_runs_goes_on()
+    ensures ready { FitIsReady }
+    ensures start { StartIsFit }
+    ensures entry { EntriesKeepFit }
+    ensures history { HistoriesAreFit }
+    ensures restart { RestartKeepsFit }
+{
+    what_the_machine_gives();
 }

@@ -4,18 +4,20 @@
 mod activations;
 mod beginning;
 mod diagnostics;
-mod entries;
 mod errors;
 pub mod laws;
+mod observing;
 mod parts;
 mod passing;
 mod running;
 mod serving;
 mod settling;
 mod spots;
+mod starting;
 mod stepping;
 mod stopping;
 
 pub use diagnostics::DiagRecord;
-pub use entries::{Reply, What};
+pub use observing::{Observed, Observer, Outputs};
 pub use parts::Parts;
+pub use starting::data_numbers;

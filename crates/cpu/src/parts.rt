@@ -1,3 +1,8 @@
+ghost use Rattle.std.specs.Prelude.{◌≡◌};
+ghost use Rattle.std.specs.Option.{option_copied};
+ghost use Rattle.std.specs.FinMap as finmap;
+ghost use Rattle.cpu.specs.Views.{state_of};
+
 use crate::activations::Activations;
 use crate::diagnostics::Diagnostics;
 use ob_sched::Sched;
@@ -17,4 +22,21 @@ pub struct Parts {
     pub(crate) first_cycle: bool,
     pub(crate) diagnostics: Diagnostics,
     pub(crate) entries: u64,
+}
+
+impl Parts {
+    /// The operating mode.
+    pub fn mode(&self) -> Mode
+        ensures { result ≡ (state_of self.now).mode }
+    {
+        self.mode
+    }
+
+    /// The bytes of a data block, if it is loaded.
+    pub fn db_bytes(&self, number: u16) -> Option<&[u8]>
+        ensures { option_copied result
+            ≡ finmap.get (state_of self.now).world.memory.data_blocks number }
+    {
+        self.memory.data_block(number)
+    }
 }

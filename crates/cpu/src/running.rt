@@ -1,6 +1,6 @@
 ghost use Rattle.std.specs.Prelude.{◌≡◌, ◌+◌, ◌<◌, ◌^◌, true, if◌then◌else◌};
 ghost use Rattle.machine.specs.Flat.{code_of};
-ghost use Rattle.cpu.specs.Entry.{IsInRange};
+ghost use Rattle.var_access.specs.Entry.{IsInRange};
 ghost use Rattle.cpu.specs.Event.{effect, input_set, state_after};
 ghost use Rattle.cpu.specs.Ready.{IsReady};
 ghost use Rattle.cpu.specs.Replay.{happens};
@@ -9,10 +9,10 @@ ghost use Rattle.cpu.specs.State.{is_stop as is_stop_of};
 ghost use Rattle.cpu.specs.Stepping.{stepped};
 ghost use Rattle.cpu.specs.Views.{state_of};
 
-use crate::entries::{Reply, What};
 use crate::parts::Parts;
 use crate::stopping::is_stop;
 use image_file::Loaded;
+use var_access::{Reply, What};
 
 impl Parts {
     // Another byte of the peripheral inputs.

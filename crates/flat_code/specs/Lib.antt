@@ -14,6 +14,7 @@ pub mod Layout
 pub mod Faults
 pub mod Codes
 pub mod Image
+pub mod Checking
 pub mod Placed
 pub mod Blocks
 pub mod Loading

@@ -1,10 +1,11 @@
 ghost use Rattle.std.specs.Prelude.{◌≡◌, ◌<◌, ◌∷◌, ◌++◌, OnOk, OnErr};
-ghost use Rattle.flat_code.specs.Forms.{area_code, width_code, crossing_code, form_of_operand, payload, passes};
+ghost use Rattle.flat_code.specs.Forms.{area_code, crossing_code, form_of_operand, payload, passes};
 ghost use Rattle.flat_code.specs.Ops.{op_bytes, code_byte};
 
 use crate::operands::{Operand, Passed};
 use crate::ops::Op;
-use plc_base::{Area, NoMemory, Width};
+use crate::record_numbers::width_number;
+use plc_base::{Area, NoMemory};
 
 fn code_of_area(area: Area) -> u8
     ensures { result ≡ area_code area }
@@ -17,17 +18,6 @@ fn code_of_area(area: Area) -> u8
         Area::Db => 132,
         Area::Di => 133,
         Area::L => 134,
-    }
-}
-
-fn code_of_width(width: Width) -> u8
-    ensures { result ≡ width_code width }
-{
-    match width {
-        Width::Bit => 1,
-        Width::Byte => 2,
-        Width::Word => 3,
-        Width::Dword => 4,
     }
 }
 
@@ -66,15 +56,7 @@ fn put(out: &mut Vec<u8>, first: u8, operand: &Operand) -> Result<(), NoMemory>
             bit,
         } => {
             let [a, b] = byte.to_be_bytes();
-            out.extend_from_slice(&[
-                first,
-                2,
-                code_of_area(area),
-                code_of_width(width),
-                a,
-                b,
-                bit,
-            ])
+            out.extend_from_slice(&[first, 2, code_of_area(area), width_number(width), a, b, bit])
         }
         Operand::ByMemory {
             area,
@@ -87,7 +69,7 @@ fn put(out: &mut Vec<u8>, first: u8, operand: &Operand) -> Result<(), NoMemory>
                 first,
                 3,
                 code_of_area(area),
-                code_of_width(width),
+                width_number(width),
                 code_of_area(from),
                 a,
                 b,
@@ -104,7 +86,7 @@ fn put(out: &mut Vec<u8>, first: u8, operand: &Operand) -> Result<(), NoMemory>
                 first,
                 4,
                 code_of_crossing(area),
-                code_of_width(width),
+                width_number(width),
                 register,
                 a,
                 b,
@@ -113,7 +95,7 @@ fn put(out: &mut Vec<u8>, first: u8, operand: &Operand) -> Result<(), NoMemory>
             ])
         }
         Operand::Parameter { index, width } => {
-            out.extend_from_slice(&[first, 5, index, code_of_width(width)])
+            out.extend_from_slice(&[first, 5, index, width_number(width)])
         }
         Operand::Numbered { kind, number } => {
             let [a, b] = number.to_be_bytes();
@@ -180,14 +162,14 @@ fn put_pass(out: &mut Vec<u8>, first: u8, index: u8, actual: Passed) -> Result<(
                 index,
                 2,
                 code_of_area(area),
-                code_of_width(width),
+                width_number(width),
                 a,
                 b,
                 bit,
             ])
         }
         Passed::Parameter { index: of, width } => {
-            out.extend_from_slice(&[first, 11, index, 5, of, code_of_width(width)])
+            out.extend_from_slice(&[first, 11, index, 5, of, width_number(width)])
         }
         Passed::InBlock {
             number,
@@ -206,7 +188,7 @@ fn put_pass(out: &mut Vec<u8>, first: u8, index: u8, actual: Passed) -> Result<(
                 c,
                 d,
                 code_of_area(area),
-                code_of_width(width),
+                width_number(width),
                 a,
                 b,
                 bit,

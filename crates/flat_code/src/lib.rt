@@ -4,7 +4,11 @@
 mod decoding;
 mod encoding;
 mod fields;
+mod fitting;
+mod good_blocks;
+mod good_data;
 mod image_fields;
+mod image_size;
 mod kinds;
 pub mod laws;
 mod names;
@@ -12,6 +16,7 @@ mod op_codes;
 mod operands;
 mod ops;
 mod programs;
+mod record_numbers;
 mod table;
 mod words;
 
@@ -19,10 +24,11 @@ pub use decoding::{BadOp, decode_op};
 pub use encoding::encode_op;
 pub use image_fields::{Field, OpenBracket, ParameterRecord};
 pub use kinds::{CONDITIONS, JUMPS, JumpWord, condition_of, flag_of, jump_of};
-pub use names::{NameEntry, Names, is_name_before, is_upper_case};
+pub use names::{NameEntry, Names, ends_blank, is_name_before, is_upper_case};
 pub use operands::{Operand, Passed};
 pub use ops::Op;
 pub use programs::{CodeBlock, DataBlock, Param, Program};
+pub use record_numbers::{area_number, kind_number, width_number};
 pub use table::{Takes, taken_by, taken_by_word};
 pub use words::{
     Adding, CallWord, Comparison, EndWord, Joined, Logic, Number, PointerWord, Shift, StartWord,

@@ -1,7 +1,7 @@
 ghost use Rattle.std.specs.Prelude.{◌≡◌};
 ghost use Rattle.std.specs.Cmp.Lexicographic.{slice_cmp};
 ghost use Rattle.std.specs.Ordering.{nat_cmp};
-ghost use Rattle.flat_code.specs.Faults.{is_before, is_upper};
+ghost use Rattle.flat_code.specs.Faults.{ends_blank, is_before, is_upper};
 ghost use Rattle.flat_code.specs.Names.{upper_case, IsNames, find as found_among};
 
 use plc_base::{Place, Width};
@@ -58,6 +58,17 @@ pub fn is_upper_case(name: &[u8]) -> bool
     ensures { result ≡ is_upper name.now }
 {
     name.iter().all(|byte: &u8| !byte.is_ascii_lowercase())
+}
+
+/// Whether the last byte of a name is a blank.
+pub fn ends_blank(name: &[u8]) -> bool
+    ensures { result ≡ ends_blank name.now }
+{
+    let mut blank = false;
+    for x in name {
+        blank = *x == 32;
+    }
+    blank
 }
 
 /// How a name in upper case compares with a name in any case.

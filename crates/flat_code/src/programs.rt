@@ -1,4 +1,10 @@
-use crate::names::Names;
+ghost use Rattle.std.specs.Prelude.{◌≡◌};
+ghost use Rattle.flat_code.specs.Checking.{good_counts, good_records, makes_program};
+
+use crate::good_blocks::are_good_blocks;
+use crate::good_data::{are_good_data_blocks, are_good_names};
+use crate::image_size::is_short;
+use crate::names::{NameEntry, Names};
 use crate::ops::Op;
 use arrayvec::ArrayVec;
 use plc_base::{BlockId, Width};
@@ -107,4 +113,77 @@ impl Model for Program {
       data_blocks = p.data_blocks.items;
       names = p.names;
     }) };
+}
+
+/// Whether the counts fit their fields.
+fn are_good_counts(code_blocks: usize, data_blocks: usize, names: usize) -> bool
+    ensures { result ≡ good_counts code_blocks data_blocks names }
+{
+    code_blocks < 65_536 && data_blocks <= 256 && names < 65_536
+}
+
+/// Whether no record has a fault.
+fn are_good_records(
+    code_blocks: &[CodeBlock],
+    data_blocks: &[DataBlock],
+    names: &[NameEntry],
+) -> bool
+    ensures { result ≡ good_records (record {
+      code_blocks = code_blocks.now;
+      data_blocks = data_blocks.now;
+      names = names.now;
+    }) }
+{
+    are_good_counts(code_blocks.len(), data_blocks.len(), names.len())
+        && are_good_blocks(code_blocks)
+        && are_good_data_blocks(data_blocks)
+        && are_good_names(names)
+}
+
+/// Whether these make a program.
+fn is_program(code_blocks: &[CodeBlock], data_blocks: &[DataBlock], names: &[NameEntry]) -> bool
+    ensures { result ≡ makes_program (record {
+      code_blocks = code_blocks.now;
+      data_blocks = data_blocks.now;
+      names = names.now;
+    }) }
+{
+    are_good_records(code_blocks, data_blocks, names) && is_short(code_blocks, data_blocks, names)
+}
+
+impl Program {
+    ghost use Rattle.std.specs.Prelude.{◌≡◌, IfSome, IfNone};
+    ghost use Rattle.flat_code.specs.Image.{IsProgram};
+
+    /// The program of these blocks and names. `None` where they are none: a number doesn't fit its
+    /// field of an image, a record has a fault 4, or the image has more than 8,388,608 bytes.
+    pub fn new(
+        code_blocks: Vec<CodeBlock>,
+        data_blocks: Vec<DataBlock>,
+        names: Vec<NameEntry>,
+    ) -> Option<Program>
+        ensures program { IfSome result (λ p. p ≡ record {
+          code_blocks = code_blocks.items;
+          data_blocks = data_blocks.items;
+          names = names.items;
+        }) }
+        ensures none { IfNone result (IsProgram (record {
+          code_blocks = code_blocks.items;
+          data_blocks = data_blocks.items;
+          names = names.items;
+        }) → ⊥) }
+    {
+        if !is_program(
+            code_blocks.as_slice(),
+            data_blocks.as_slice(),
+            names.as_slice(),
+        ) {
+            return None;
+        }
+        Some(Program {
+            code_blocks,
+            data_blocks,
+            names: Names::new(names),
+        })
+    }
 }

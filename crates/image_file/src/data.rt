@@ -1,6 +1,6 @@
 //! The data blocks and the names of an image.
 ghost use Rattle.std.specs.Prelude.{true, ◌≡◌, ◌+◌, ◌≤◌, ◌<◌, ◌^◌, length, [], OnOk, IfOk, vec_len};
-ghost use Rattle.flat_code.specs.Faults.{ends_blank, name_fault};
+ghost use Rattle.flat_code.specs.Faults.{name_fault};
 ghost use Rattle.flat_code.specs.Image.{instance_of_number, contents, data_block, plain_data_blocks, name_bytes, name_record, after_name};
 ghost use Rattle.flat_code.specs.Layout.{many};
 ghost use Rattle.image_file.specs.Running.{seen, run, place_of, log_of, name_values, Sees};
@@ -8,7 +8,7 @@ ghost use Rattle.image_file.specs.Running.{seen, run, place_of, log_of, name_val
 use crate::reader::Reader;
 use crate::records::NameRead;
 use crate::stops::{Ended, Stop};
-use flat_code::{DataBlock, is_name_before, is_upper_case};
+use flat_code::{DataBlock, ends_blank, is_name_before, is_upper_case};
 use std::alloc::Global;
 
 /// The function block of an instance, by its number plus 1, or 0.
@@ -19,17 +19,6 @@ fn instance_of(number: u16) -> Option<u16>
         0 => None,
         _ => Some(number - 1),
     }
-}
-
-/// Whether the last byte is a blank.
-fn ends_blank(name: &[u8]) -> bool
-    ensures { result ≡ ends_blank name.now }
-{
-    let mut blank = false;
-    for x in name {
-        blank = *x == 32;
-    }
-    blank
 }
 
 /// The code of the fault of a name behind another, if it has one.

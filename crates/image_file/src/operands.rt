@@ -1,7 +1,7 @@
 //! Operands that an op may not have.
 ghost use Rattle.std.specs.Prelude.{◌≡◌, ◌+◌, ◌<◌, ◌^◌, ◌||◌, ◌==◌, not, length, None};
 ghost use Rattle.std.specs.Option.{option_map};
-ghost use Rattle.flat_code.specs.Codes.{size, code_bytes};
+ghost use Rattle.flat_code.specs.Codes.{code_bytes};
 ghost use Rattle.flat_code.specs.Faults.{size_of_width};
 ghost use Rattle.flat_code.specs.Forms.{width_code};
 ghost use Rattle.flat_code.specs.Placed.{is_empty, ending};
@@ -9,20 +9,8 @@ ghost use Rattle.flat_code.specs.Blocks.{is_odd_bit, is_past_locals, is_bad_plac
 ghost use Rattle.image_file.specs.Judging.{around_of};
 
 use crate::surroundings::Surroundings;
-use flat_code::{Op, Operand, ParameterRecord, Passed, taken_by};
+use flat_code::{Op, Operand, ParameterRecord, Passed, taken_by, width_number};
 use plc_base::{Area, Width};
-
-/// A width as an image has it.
-pub(crate) fn width_number(width: Width) -> u8
-    ensures { result ≡ width_code width }
-{
-    match width {
-        Width::Bit => 1,
-        Width::Byte => 2,
-        Width::Word => 3,
-        Width::Dword => 4,
-    }
-}
 
 /// How many bytes a width takes; a bit stands in one.
 fn bytes_of(width: Width) -> u32
@@ -275,39 +263,6 @@ fn is_ju(op: &Op) -> bool
     }
 }
 
-/// How many bytes an op takes.
-#[tactic(auto, unfolding(flat_code::specs::Codes::size, flat_code::specs::Ops::op_bytes, flat_code::specs::Forms::direct, flat_code::specs::Forms::actual))]
-pub(crate) fn op_size(op: &Op) -> u32
-    ensures { result ≡ size op.now }
-{
-    match op.operand {
-        Operand::Nothing => 2,
-        Operand::OfStatus { .. } => 3,
-        Operand::Parameter { .. } | Operand::UseDb { .. } => 4,
-        Operand::Numbered { .. } | Operand::OpenBlock { .. } => 5,
-        Operand::Literal { .. } | Operand::NumberedBy { .. } | Operand::OpenBy { .. } => 6,
-        Operand::Direct { .. } | Operand::ByMemory { .. } => 7,
-        Operand::Jump { .. } | Operand::Called { .. } => 7,
-        Operand::ByRegister { .. } => 9,
-        Operand::Pass {
-            actual: Passed::Literal { .. },
-            ..
-        } => 8,
-        Operand::Pass {
-            actual: Passed::Direct { .. },
-            ..
-        } => 9,
-        Operand::Pass {
-            actual: Passed::Parameter { .. },
-            ..
-        } => 6,
-        Operand::Pass {
-            actual: Passed::InBlock { .. },
-            ..
-        } => 11,
-    }
-}
-
 /// Whether between an offset and a target stand at most 255 JU alone.
 pub(crate) fn leads(target: u32, from: u32, rest: &[Op]) -> bool
     requires { from + length (code_bytes rest.now) < 2 ^ 32 }
@@ -325,7 +280,7 @@ pub(crate) fn leads(target: u32, from: u32, rest: &[Op]) -> bool
         if !is_ju(op) {
             return false;
         }
-        at += op_size(op);
+        at += op.size();
         most -= 1;
     }
     at == target

@@ -16,12 +16,13 @@ use crate::faults::{LoadFault, VerifyFault};
 use crate::judging::lesser_if;
 use crate::loaded::Loaded;
 use crate::loading::lens_of;
-use crate::operands::{op_size, width_number};
 use crate::refusing::VerifyError;
 use crate::surroundings::{DataLens, SignatureRead, Signatures, Surroundings};
 use crate::verifying::judge_block;
-use crate::writing::{code_len, kind_number};
-use flat_code::{CodeBlock, DataBlock, Field, Op, Param, ParameterRecord, Program};
+use crate::writing::code_len;
+use flat_code::{
+    CodeBlock, DataBlock, Field, Op, Param, ParameterRecord, Program, kind_number, width_number,
+};
 use plc_base::NoMemory;
 use std::alloc::Global;
 
@@ -37,7 +38,7 @@ fn overlong(ops: &[Op]) -> Option<u32>
             return Some(at);
         }
         count = count_behind(op, count);
-        at += op_size(op);
+        at += op.size();
     }
     None
 }

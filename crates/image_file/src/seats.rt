@@ -5,7 +5,6 @@ ghost use Rattle.flat_code.specs.Codes.{code_bytes};
 ghost use Rattle.image_file.specs.Seats.{IsTableOf, starts_of, seats_of, op_at, line_at, IsSmall, IsSeated, nowhere};
 
 use crate::judging::is_last;
-use crate::operands::op_size;
 use flat_code::{CodeBlock, Op};
 use plc_base::NoMemory;
 use std::alloc::{AllocError, Global};
@@ -64,7 +63,7 @@ fn starts_of(alloc: Global, ops: &[Op]) -> Result<(Vec<u32>, u32), NoMemory>
     let mut at = 0;
     for op in ops {
         starts.push(at)?;
-        at += op_size(op);
+        at += op.size();
     }
     Ok((starts, at))
 }
@@ -96,7 +95,7 @@ fn seats_of(alloc: Global, ops: &[Op], lines: &[u32]) -> Result<Vec<Seat>, NoMem
     let mut begins = true;
     let mut rest = lines;
     for op in ops {
-        let next = at + op_size(op);
+        let next = at + op.size();
         seats.push(Seat {
             next,
             line: line_if(begins, rest),

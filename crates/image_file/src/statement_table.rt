@@ -5,7 +5,6 @@ ghost use Rattle.flat_code.specs.Codes.{code_bytes};
 ghost use Rattle.flat_code.specs.Placed.{few, spots, spot_at};
 
 use crate::judging::{Statement, few, is_last, open};
-use crate::operands::op_size;
 use crate::seats::{place_at, table_of};
 use flat_code::{Op, OpenBracket};
 use plc_base::NoMemory;
@@ -44,7 +43,7 @@ fn statement_list(alloc: Global, ops: &[Op]) -> Result<(Vec<Statement>, u32), No
     for op in ops {
         add_statement(&mut statements, begin, at, &stack)?;
         open(&mut stack, at, op)?;
-        at += op_size(op);
+        at += op.size();
         begin = is_last(op);
     }
     Ok((statements, at))

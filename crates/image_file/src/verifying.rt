@@ -15,7 +15,7 @@ use crate::judging::{
 };
 use crate::operands::{
     ending, is_bad_actual, is_bad_place, is_input, is_stray_pass, is_stray_use_db, lacks_own,
-    lacks_width, leads, op_size, own_parameter, writes,
+    lacks_width, leads, own_parameter, writes,
 };
 use crate::reader::lesser;
 use crate::statement_table::Statements;
@@ -83,7 +83,7 @@ fn jump_fault(statements: &Statements, op: &Op, place: &Place, kind: u8, target:
     requires { place.now.at + size op.now + length (code_bytes place.now.rest.now) < 2 ^ 32 }
     ensures { result ≡ jump_fault statements.now (placed_of op.now place.now) kind target }
 {
-    if kind == 1 && !leads(target, place.at + op_size(op), place.rest) {
+    if kind == 1 && !leads(target, place.at + op.size(), place.rest) {
         return Some(6);
     }
     let here = few(place.stack);
@@ -225,7 +225,7 @@ fn judge_ops(
         least = judge_op(around, statements, start, op, &place, least);
         open(&mut stack, at, op)?;
         prepare(&mut before, op)?;
-        at += op_size(op);
+        at += op.size();
     }
     Ok(judge_open(start, &stack, at, least))
 }

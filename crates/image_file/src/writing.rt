@@ -1,44 +1,18 @@
 //! The image of a program: its records one behind the other, and the header in front of them.
 ghost use Rattle.std.specs.Prelude.{◌≡◌, ◌++◌, ◌+◌, ◌≤◌, ◌<◌, false, [], map, length, All, IfOk, OnOk};
 ghost use Rattle.flat_code.specs.Codes.{code_bytes};
-ghost use Rattle.flat_code.specs.Image.{raw_of_block, head as head_layout, counts, front, front_of, raw_of_records, records_of, record_of_block, record_of_param, name_of_entry, number_of_kind, number_of_area, number_of_instance, front_size, parameter, same_state, line_field, line_after, code_block, after_block, data_block, after_data, name_record, after_name, body, image};
+ghost use Rattle.flat_code.specs.Image.{raw_of_block, head as head_layout, counts, front, front_of, raw_of_records, records_of, record_of_block, record_of_param, name_of_entry, number_of_instance, front_size, parameter, same_state, line_field, line_after, code_block, after_block, data_block, after_data, name_record, after_name, body, image};
 ghost use Rattle.flat_code.specs.Layout.{spell_many};
 ghost use Rattle.image_file.specs.Running.{head_values};
 ghost use Rattle.image_file.specs.Writing.{BlockFits, DataFits, NameFits, ProgramFits};
 
-use crate::operands::{op_size, width_number};
 use crate::records::HeadRead;
-use flat_code::{CodeBlock, DataBlock, NameEntry, Op, Param, Program, encode_op};
-use plc_base::{Area, BlockKind, NoMemory, Place};
+use flat_code::{
+    CodeBlock, DataBlock, NameEntry, Op, Param, Program, area_number, encode_op, kind_number,
+    width_number,
+};
+use plc_base::NoMemory;
 use std::alloc::Global;
-
-/// A block kind as an image has it.
-pub(crate) fn kind_number(kind: BlockKind) -> u8
-    ensures { result ≡ number_of_kind kind }
-{
-    match kind {
-        BlockKind::Ob => 1,
-        BlockKind::Fc => 2,
-        BlockKind::Fb => 3,
-        BlockKind::Sfc => 5,
-        _ => 0,
-    }
-}
-
-/// The area of a name's variable as an image has it.
-fn area_number(place: &Place) -> u8
-    ensures { result ≡ number_of_area place.now.number place.now.area }
-{
-    if place.number != 0 {
-        return 0;
-    }
-    match place.area {
-        Area::I => 129,
-        Area::Q => 130,
-        Area::M => 131,
-        _ => 0,
-    }
-}
 
 /// The number of the function block of an instance plus 1, or 0.
 fn instance_number(instance_of: Option<u16>) -> u16
@@ -58,7 +32,7 @@ pub(crate) fn code_len(ops: &[Op]) -> u32
 {
     let mut len = 0;
     for op in ops {
-        len += op_size(op);
+        len += op.size();
     }
     len
 }

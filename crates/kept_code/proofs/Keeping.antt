@@ -3,7 +3,7 @@ use Rattle.std.proofs.Common.{◌≡◌, ℕ, List, refl, ap, ◌∙◌}
 use Rattle.plc_base.specs.declared.BlockId.{BlockId}
 use Rattle.machine.specs.Code.{Code}
 use Rattle.machine.specs.Moved.{Follows}
-use Rattle.cpu.specs.declared.entries.What.{What}
+use Rattle.var_access.specs.declared.What.{What}
 use Rattle.cpu.specs.Moved.{moved_state, EntriesMove, HistoriesMove}
 use Rattle.cpu.specs.Replay.{Happened, happens, replay}
 use Rattle.cpu.specs.State.{State}

@@ -4,7 +4,7 @@ use Rattle.std.specs.List.{AllByRecursion}
 use Rattle.flat_code.specs.Programs.{DataBlock, NameEntry}
 use Rattle.machine.specs.Code.{Code}
 use Rattle.machine.specs.Flat.{code_of}
-use Rattle.cpu.specs.declared.entries.What.{What}
+use Rattle.var_access.specs.declared.What.{What}
 use Rattle.cpu.specs.Moved.{moved_state}
 use Rattle.cpu.specs.Replay.{happens, replay}
 use Rattle.stl_codegen.specs.Compiled.{StatedBlock}

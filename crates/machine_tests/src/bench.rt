@@ -10,8 +10,6 @@
 ghost use Rattle.std.specs.Prelude.{◌≡◌, ◌<◌, ◌^◌};
 ghost use Rattle.plc_base.specs.Widths.{bit_count};
 
-use crate::assembler::{Image, assembled, data_of, is_data_block};
-use crate::places::{area_of, decimal, in_named_block, spelled, width_of};
 use frames::{Activation, Binding, Bindings, Frame};
 use image_file::{Loaded, load};
 use machine::{Outcome, give_result, is_ready, statement};
@@ -21,6 +19,9 @@ use status_word::{Brackets, Regs, Status};
 use std::alloc::Global;
 use std::process::Abort;
 use std::test::Fail;
+use test_images::{
+    Image, area_of, assembled, data_of, decimal, in_named_block, is_data_block, spelled, width_of,
+};
 use timers_counters::{Counters, Timers};
 
 /// A program, what stands before, and what stands afterwards.

@@ -3,8 +3,6 @@
 #![tactic(auto)]
 
 #[cfg(test)]
-mod assembler;
-#[cfg(test)]
 mod bench;
 #[cfg(test)]
 mod bit_logic_rows;
@@ -21,8 +19,6 @@ mod number_rows;
 #[cfg(test)]
 mod place_error_rows;
 #[cfg(test)]
-mod places;
-#[cfg(test)]
 mod pointer_rows;
 #[cfg(test)]
 mod program_rows;
@@ -30,5 +26,3 @@ mod program_rows;
 mod system_call_rows;
 #[cfg(test)]
 mod timing_rows;
-#[cfg(test)]
-mod words;

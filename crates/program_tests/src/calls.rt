@@ -44,7 +44,7 @@ pub(crate) fn call<R: Threads + Wait + Sync>(
 #[test]
 fn runs_and_refusals(rt: HostRuntime) -> Result<(), Fail> {
     // source, history, status, text
-    let table: [(&[u8], &[u8], u8, &[u8]); 15] = [
+    let table: [(&[u8], &[u8], u8, &[u8]); 14] = [
         (RUNG, ONE_RUN, 0, b"@7 PQ 4 = 01\nEND 7 RUN\n"),
         (RUNG, b"in 0 01\nstep 5\n", 0, b"END 6 RUN\n"),
         (b"", b"step 2\n", 0, b"END 2 RUN\n"),
@@ -90,27 +90,21 @@ fn runs_and_refusals(rt: HostRuntime) -> Result<(), Fail> {
             0,
             b"@7 PQ 4 = 01\nEND 7 RUN\n",
         ),
-        // A history that isn't built; a statement outside of a block, whatever the history is; one that isn't built.
-        (RUNG, b"tick 1\n", 4, b"history refused: line 0 rule 99\n"),
+        // A line that is no entry; a statement outside of a block, whatever the history is.
+        (RUNG, b"tick 0\n", 4, b"history refused: line 0 rule 99\n"),
         (b"L 1;\n", ONE_RUN, 2, b"source refused: line 1 rule 11\n"),
         (
             b"L 1;\n",
-            b"tick 1\n",
+            b"tick 0\n",
             2,
             b"source refused: line 1 rule 11\n",
         ),
+        // The line of the operand that names nothing, before that of the label.
         (
-            b"ORGANIZATION_BLOCK OB 1\nBEGIN\nL 1;\nEND_ORGANIZATION_BLOCK",
+            b"ORGANIZATION_BLOCK OB 1\nBEGIN\nNOP 0;\nA \"nix\";\nSET;\nSET;\nSET;\nSET;\nJU nope;\nEND_ORGANIZATION_BLOCK\n",
             ONE_RUN,
             2,
-            b"source refused: line 3 rule 99\n",
-        ),
-        // Of two that aren't built, the history is judged only with a source that is.
-        (
-            b"ORGANIZATION_BLOCK OB 1\nBEGIN\nL 1;\nEND_ORGANIZATION_BLOCK",
-            b"tick 1\n",
-            2,
-            b"source refused: line 3 rule 99\n",
+            b"source refused: line 4 rule 20\n",
         ),
         (b"", b"", 0, b"END 0 RUN\n"),
     ];
@@ -124,8 +118,8 @@ fn runs_and_refusals(rt: HostRuntime) -> Result<(), Fail> {
     Ok(())
 }
 
-// What `check` answers: the rules of tokens come first, then those of clauses, then rule 99; of each
-// the first place in the text.
+// What `check` answers: the rules of tokens come first, then those of clauses, of each the first place
+// in the text; then those of blocks and statements together, the least line and rule.
 #[test]
 fn checks(rt: HostRuntime) -> Result<(), Fail> {
     // source, status, text
@@ -164,32 +158,33 @@ fn checks(rt: HostRuntime) -> Result<(), Fail> {
             2,
             b"source refused: line 2 rule 13\n",
         ),
-        // A label, a section, another block, and a second OB 1 aren't built.
+        // The eighth bracket; a jump out of brackets; a second OB 1; a rule of statements that comes
+        // before one of blocks.
         (
-            b"ORGANIZATION_BLOCK OB 1\nBEGIN\nSET;\nabcd: SET;\nEND_ORGANIZATION_BLOCK\n",
+            b"ORGANIZATION_BLOCK OB 1\nBEGIN\nA(;\nA(;\nA(;\nA(;\nA(;\nA(;\nA(;\nA(;\nA I 0.0;\n);\n);\n);\n);\n);\n);\n);\n);\n= Q 4.0;\nEND_ORGANIZATION_BLOCK\n",
             2,
-            b"source refused: line 4 rule 99\n",
+            b"source refused: line 10 rule 31\n",
         ),
         (
-            b"ORGANIZATION_BLOCK OB 1\nVAR_TEMP\nEND_VAR\nBEGIN\nEND_ORGANIZATION_BLOCK\n",
+            b"ORGANIZATION_BLOCK OB 1\nBEGIN\nA(;\nJU x;\n);\nx: NOP 0;\nEND_ORGANIZATION_BLOCK\n",
             2,
-            b"source refused: line 2 rule 99\n",
-        ),
-        (
-            b"ORGANIZATION_BLOCK OB 35\nBEGIN\nL 1;\nEND_ORGANIZATION_BLOCK\n",
-            2,
-            b"source refused: line 1 rule 99\n",
+            b"source refused: line 4 rule 33\n",
         ),
         (
             b"ORGANIZATION_BLOCK OB 1\nBEGIN\nEND_ORGANIZATION_BLOCK\nORGANIZATION_BLOCK OB 1\nBEGIN\nEND_ORGANIZATION_BLOCK\n",
             2,
-            b"source refused: line 4 rule 99\n",
+            b"source refused: line 4 rule 22\n",
         ),
-        // M has 256 bytes.
+        (
+            b"ORGANIZATION_BLOCK OB 1\nBEGIN\nL M 0.0;\nEND_ORGANIZATION_BLOCK\nORGANIZATION_BLOCK OB 1\nBEGIN\nEND_ORGANIZATION_BLOCK\n",
+            2,
+            b"source refused: line 3 rule 24\n",
+        ),
+        // A place beyond the memory is met only when it runs.
         (
             b"ORGANIZATION_BLOCK OB 40\nBEGIN\nA M 255.7;\nA M 256.0;\nEND_ORGANIZATION_BLOCK\n",
-            2,
-            b"source refused: line 4 rule 99\n",
+            0,
+            b"OK\n",
         ),
     ];
     for (source, status, text) in table {

@@ -3,8 +3,6 @@
 #![tactic(auto)]
 
 #[cfg(test)]
-mod built_tests;
-#[cfg(test)]
 mod calls;
 #[cfg(test)]
 mod edge_tests;
@@ -12,5 +10,9 @@ mod edge_tests;
 mod gate_tests;
 #[cfg(test)]
 mod outside_tests;
+#[cfg(test)]
+mod run_tests;
+#[cfg(test)]
+mod symbols_tests;
 #[cfg(test)]
 mod words_tests;

@@ -13,7 +13,8 @@ const RUN: &str = "@7 PQ 4 = 01\nEND 7 RUN\n";
 
 const OK: &str = "OK\n";
 
-/// Calls with these words over the files `source`, `history` and `--symbols`, which is a source too.
+/// Calls with these words over the files `source`, `history`, `none`, which is empty, and
+/// `--symbols`, which is a source too.
 fn is_told<R: Abort + Threads + Wait + Sync>(
     rt: &R,
     alloc: Global,
@@ -24,6 +25,7 @@ fn is_told<R: Abort + Threads + Wait + Sync>(
     for words in calls {
         let mut files = two_files(alloc, RUNG, ONE_RUN)?;
         files.put("--symbols", RUNG)?;
+        files.put("none", b"")?;
         let mut out = MemSink::new(alloc, 64);
         let code = call(rt, alloc, words, &mut files, &mut out)?;
         assert_eq!(rt; code, status, "{words:?}");
@@ -52,20 +54,21 @@ fn commands(rt: HostRuntime) -> Result<(), Fail> {
     Ok(())
 }
 
-// A word that begins with a hyphen is an option. There are two, each with a value and once at most,
-// and no command takes one yet. Help and the version are asked for elsewhere.
+// A word that begins with a hyphen is an option. There are two, each with a value and once at most;
+// `--steps` goes with neither command. Help and the version are asked for elsewhere.
 #[test]
 fn options(rt: HostRuntime) -> Result<(), Fail> {
-    let calls: [&[&str]; 14] = [
+    let calls: [&[&str]; 15] = [
         &["-x"],
         &["go", "source", "history", "-x"],
         &["--symbols"],
+        &["go", "source", "history", "--symbols"],
         &["go", "source", "history", "--steps"],
         &["--steps", "--", "go", "source", "history"],
         &["--steps", "5", "--steps", "6", "go", "source", "history"],
-        &["--symbols", "f", "go", "source", "history"],
-        &["go", "--symbols=f", "source", "history"],
-        &["go", "source", "history", "--symbols="],
+        &["--symbols", "none", "--symbols", "none", "check", "source"],
+        &["--symbols", "none", "go", "source"],
+        &["--steps", "5", "go", "source", "history"],
         &["check", "--steps", "5", "source"],
         &["--help"],
         &["go", "--help"],
@@ -73,6 +76,24 @@ fn options(rt: HostRuntime) -> Result<(), Fail> {
         &["--version", "go"],
     ];
     is_told(&rt, rt.alloc(), &calls, 1, REFUSED)
+}
+
+// The symbols file may stand anywhere, behind a blank or a `=`.
+#[test]
+fn symbols(rt: HostRuntime) -> Result<(), Fail> {
+    let runs: [&[&str]; 5] = [
+        &["--symbols", "none", "go", "source", "history"],
+        &["go", "--symbols", "none", "source", "history"],
+        &["go", "source", "--symbols=none", "history"],
+        &["go", "source", "history", "--symbols", "none"],
+        &["--symbols", "none", "--", "go", "source", "history"],
+    ];
+    is_told(&rt, rt.alloc(), &runs, 0, RUN)?;
+    let judged: [&[&str]; 2] = [
+        &["check", "source", "--symbols=none"],
+        &["--symbols", "none", "check", "source"],
+    ];
+    is_told(&rt, rt.alloc(), &judged, 0, OK)
 }
 
 // `--` ends the options and is no word of the rest: what stands behind it is the command, if none

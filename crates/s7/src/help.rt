@@ -24,26 +24,33 @@ Calls:
   s7 --help        write this text (also -h)
   s7 --version     write the version (also -V)
 
+Option of go and check, anywhere among the words:
+  --symbols FILE   the symbols of the source, as STEP 7 exports them
+
 Behind -- no word is an option, so a file may begin with a hyphen.
-No command takes an option yet (--symbols, --steps).
 
-Supported: the grammar of whole sources is checked. What runs is OB 1 and
-OB 40, each at most once, without declarations, labels or calls, with
-A, AN, O, = on bits of I, Q and M, bare O, SET, CLR and the empty statement.
-Not supported yet (rule 99): all other blocks and instructions, declarations,
-data, timers, counters, symbols, requests of operators, images of a program.
+Supported: organization blocks, functions, function blocks, data blocks and
+types of the whole-number subset of STL, nine system functions, interrupts,
+time and synchronous errors, timers and counters.
+Not supported yet: requests of operators (read, write, stop, restart, monitor,
+diag), images of a program.
 
-Lines of a history (numbers are decimal, hh is a byte in hexadecimal):
-  step         one step: one statement, or a cycle point
-  step N       N steps; a history has at most 1,000,000
-  in B hh      peripheral input byte B becomes hh; its bit 0 is I B.0
-  arrive 40    the hardware interrupt of OB 40
-  // ..        a comment; empty lines are skipped too
+Lines of a history (numbers are decimal, h is a hexadecimal digit):
+  step               one step: one statement, or a cycle point
+  step N             N steps; a history has at most 1,000,000
+  in B hh            peripheral input byte B becomes hh; its bit 0 is I B.0
+  arrive N           an interrupt requests OB N: 10 to 17 or 40 to 47
+  arrive N hhhhhhhh  the same with a value, which is 0 otherwise
+  tick N             N milliseconds pass, 1 to 60,000
+  // ..              a comment; empty lines are skipped too
 
 Lines of a run (N is the number of the entry, from 1):
-  @N PQ B = hh                 peripheral output byte B changed to hh
-  @N MODE STOP c AT place      the controller stopped, by cause c
-  END N RUN, END N STOP c      the mode after all N entries
+  @N PQ B = hh                   peripheral output byte B changed to hh
+  @N MODE RUN, @N MODE STARTUP   the mode changed
+  @N MODE STOP c AT place        the controller stopped, by cause c
+  END N RUN, END N STARTUP, END N STOP c
+                                 the mode after all N entries
+  DB n at hh..                   bytes of data block n from byte `at` on
 
 Rules of a source:
    1  no token begins here, or a byte that no source may hold
@@ -54,18 +61,56 @@ Rules of a source:
   11  a clause may not stand here
   12  a label is longer than four characters
   13  the source ends inside a block
-  99  not supported yet
+  20  a name or a component is unknown
+  21  a name is declared twice
+  22  a block stands twice
+  23  a block or a type is unknown
+  24  the width doesn't fit the instruction
+  25  the instruction takes no such operand
+  26  a label is unknown
+  27  a label stands twice
+  29  a bracket is closed that isn't open
+  30  a bracket is open at the block's end
+  31  the eighth bracket is open
+  32  a jump list isn't right
+  33  a jump leads out of brackets, or into them
+  34  a called block has no such parameter
+  35  a parameter is supplied twice
+  36  a parameter isn't supplied
+  37  an actual parameter doesn't fit
+  38  a data block is no instance of the function block
+  39  an input parameter of a function is written
+  40  a call needs parameters or a data block
+  41  an initial value doesn't fit
+  42  bounds of an array are wrong, or an index is outside
+  43  a type contains itself
+  44  a block has a number that isn't allowed
+  46  a system function isn't one of the nine
+  50  more than 1,024 bytes of local data
+  51  a data block, type or instance has more than 16,384 bytes
+  52  more than 60 parameters
+  53  more than 256 data blocks
+  54  data blocks have more than 2,097,152 bytes together
+  55  a block has more than 65,534 statements
+  56  types are nested deeper than 8
+  99  the source has no program that verifies (told as line 0)
+Rules of a symbols file:
+  14  a line isn't four fields
+  15  an address, type or name isn't right, or too many symbols
+  16  a name stands twice
 Rule of a history: 99, some line isn't as above (told as line 0).
 
 Exit status, and the line that is written in place of a result:
   0  done
   1  the words are no call as above      words refused
-  2  the source breaks a rule            source refused: line L rule R
+  2  the symbols break a rule            symbols refused: line L rule R
+     the source breaks a rule            source refused: line L rule R
   4  the history breaks a rule           history refused: line L rule R
   5  a file can't be read                read fault
   6  standard output failed
   7  memory ran out
   8  a file is too long                  too long: source (1,048,576 bytes)
+                                         too long: symbols (1,048,576 bytes)
                                          too long: history (4,194,304 bytes)
 
 Example:

@@ -10,55 +10,29 @@ use Rattle.s7_cli.specs.declared.failures.Failure.TheVariants.{WordsRefused, Rea
 use Rattle.s7_cli.specs.Answer.{Answer, Outcome, done, refused, read_fault, too_long}
 use Rattle.s7_cli.specs.Command.{Command, Input, inputs_of, outputs_of}
 use Rattle.s7_cli.specs.Ends.{Taking, taking, Answers, ChangesOutputs, WritesOutputs}
-use Rattle.s7_cli.specs.Inner.{OnlyReads, FileRead, RefusedBy, TextWritten, Comes}
+use Rattle.s7_cli.specs.Inner.{OnlyReads, FileRead, HasRead, StopsAmong, AllRead, RefusedBy, TextWritten, Comes}
 use Rattle.s7_cli.specs.Lines.{line_of}
 use Rattle.s7_cli.specs.Reading.{Disk, disk, Holds, HoldAll, StopsAt, Reads}
 use Rattle.s7_cli.specs.Says.{Says}
-use Rattle.s7_cli.proofs.ReadingLemmas.{reads-all, reads-behind, hold-more}
-
--- these input files were read, and since the start of the call nothing changed
-pub record HasRead (start now : FilesAt) (inputs : List Input) (contents : List (List ℕ)) : Type 0 where
-  pub same : Unchanged start now
-  pub hold : HoldAll start.contents inputs contents
+use Rattle.s7_cli.proofs.ReadingLemmas.{reads-all}
 
 pub unchanged : (at : FilesAt) → Unchanged at at
 unchanged at = record { contents = record { told = refl; at = λ name. refl }; reads = λ name. refl; writes = λ name. refl }
 
-pub read-none : (at : FilesAt) → HasRead at at [] []
-read-none at = record { same = unchanged at; hold = tt }
-
 agrees-before : (start now : Contents) (name bytes : List ℕ) → SameFiles start now → Agrees now name bytes → Agrees start name bytes
 agrees-before start now name bytes same agrees = λ told. sym (same.at name) ∙ agrees (same.told ∙ told)
 
--- one more file was read
-pub read-more : (start middle now : FilesAt) (inputs : List Input) (contents : List (List ℕ)) (i : Input) (bytes : List ℕ)
-    → HasRead start middle inputs contents → Unchanged middle now → Holds middle.contents i bytes
-    → HasRead start now (inputs ++ i ∷ []) (contents ++ bytes ∷ [])
-read-more start middle now inputs contents i bytes so_far same holds = record {
-  same = record {
-    contents = record {
-      told = same.contents.told ∙ so_far.same.contents.told;
-      at = λ name. same.contents.at name ∙ so_far.same.contents.at name;
-    };
-    reads = λ name. same.reads name ∙ so_far.same.reads name;
-    writes = λ name. same.writes name ∙ so_far.same.writes name;
-  };
-  hold = hold-more start.contents inputs contents i bytes so_far.hold (record {
-    agrees = agrees-before start.contents middle.contents i.name bytes so_far.same.contents holds.agrees;
-    within = holds.within;
-  });
-}
+held-before : (start now : Contents) (i : Input) (bytes : List ℕ) → SameFiles start now → Holds now i bytes → Holds start i bytes
+held-before start now i bytes same holds =
+    record { agrees = agrees-before start now i.name bytes same holds.agrees; within = holds.within }
 
--- the first file was read
-pub one-read : (start now : FilesAt) (i : Input) (bytes : List ℕ) → Unchanged start now × Holds start.contents i bytes
-    → HasRead start now (i ∷ []) (bytes ∷ [])
-one-read start now i bytes read = record { same = read.0; hold = (read.1, tt) }
-
--- and then a second one
-pub two-read : (start middle now : FilesAt) (i j : Input) (bytes more : List ℕ) → Unchanged start middle × Holds start.contents i bytes
-    → Unchanged middle now × Holds middle.contents j more → HasRead start now (i ∷ j ∷ []) (bytes ∷ more ∷ [])
-two-read start middle now i j bytes more first second =
-    read-more start middle now (i ∷ []) (bytes ∷ []) j more (one-read start middle i bytes first) second.0 second.1
+hold-before : (start now : Contents) (is : List Input) (contents : List (List ℕ)) → SameFiles start now → HoldAll now is contents
+    → HoldAll start is contents
+hold-before start now [] [] same hold = hold
+hold-before start now [] (bytes ∷ more) same hold = absurd hold
+hold-before start now (i ∷ is) [] same hold = absurd hold
+hold-before start now (i ∷ is) (bytes ∷ more) same hold =
+    (held-before start now i bytes same hold.0, hold-before start now is more same hold.1)
 
 pub never-fell : (before now : List ℕ → ℕ) → SameCounts before now → NeverFell before now
 never-fell before now same = λ name. omega (arith, same name)
@@ -103,48 +77,136 @@ wanting c d at only = record {
   writes = only.writes;
 }
 
-stopped : (c : Command) (start middle now : FilesAt) (at : SinkAt) (inputs rest : List Input) (i : Input) (contents : List (List ℕ)) (a : Answer)
-    → inputs_of c ≡ inputs ++ i ∷ rest → HasRead start middle inputs contents → StopsAt (disk middle now) i a
-    → Answers (Some c) (disk start now) a
-stopped c start middle now at inputs rest i contents a are so_far stops =
-    subst (λ (is : List Input). Reads (disk start now) is (Says c) a) (sym are)
-    (reads-behind (disk start now) inputs (i ∷ rest) contents (Says c) a so_far.hold
-    (inl (stops-since start middle now i a so_far.same stops)))
+stops-among-since : (start middle now : FilesAt) (is : List Input) (a : Answer) → Unchanged start middle → StopsAmong (disk middle now) is a
+    → StopsAmong (disk start now) is a
+stops-among-since start middle now [] a same stops = stops
+stops-among-since start middle now (i ∷ is) a same (inl stops) = inl (stops-since start middle now i a same stops)
+stops-among-since start middle now (i ∷ is) a same (inr (bytes, holds, stops)) =
+    inr (bytes, held-before start.contents middle.contents i bytes same.contents holds, stops-among-since start middle now is a same stops)
 
-not-read : {V : Type 0} (view : V → List ℕ) (c : Command) (start middle now : FilesAt) (at : SinkAt) (inputs rest : List Input) (i : Input)
-    (contents : List (List ℕ)) (failure : Failure) → inputs_of c ≡ inputs ++ i ∷ rest → HasRead start middle inputs contents
-    → FileRead view (disk middle now) i (Err failure) → Comes (Some c) (disk start now) (taking at at) (Err failure)
-not-read view c start middle now at inputs rest i contents ReadFault are so_far read =
-    let only = since start middle now so_far.same read.0 in record {
-      line = read_fault.text;
-      has_line = refl;
-      answers = stopped c start middle now at inputs rest i contents read_fault are so_far read.1;
-      sink = refl;
-      counts = only.reads;
-      only_reads = only;
-    }
-not-read view c start middle now at inputs rest i contents (TooLong file) are so_far (same, is_file, stops) =
-    let only = since start middle now so_far.same (only-reads middle now same) in record {
-      line = (too_long file).text;
-      has_line = refl;
-      answers = stopped c start middle now at inputs rest i contents (too_long file) are so_far stops;
-      sink = refl;
-      counts = λ name. same.reads name ∙ so_far.same.reads name;
-      only_reads = only;
-    }
-not-read view c start middle now at inputs rest i contents NoMemory are so_far read =
-    wanting (Some c) (disk start now) at (since start middle now so_far.same read)
-not-read view c start middle now at inputs rest i contents WordsRefused are so_far read = absurd read
-not-read view c start middle now at inputs rest i contents (Refused file refusal) are so_far read = absurd read
-not-read view c start middle now at inputs rest i contents WriteFault are so_far read = absurd read
+stops-behind : (d : Disk) (is js : List Input) (contents : List (List ℕ)) (a : Answer) → HoldAll d.before.contents is contents
+    → StopsAmong d js a → StopsAmong d (is ++ js) a
+stops-behind d [] js contents a hold stops = stops
+stops-behind d (i ∷ is) js [] a hold stops = absurd hold
+stops-behind d (i ∷ is) js (bytes ∷ more) a hold stops = inr (bytes, hold.0, stops-behind d is js more a hold.1 stops)
 
-pub comes-unread : {V : Type 0} (view : V → List ℕ) (c : Command) (start middle now : FilesAt) (at : SinkAt) (inputs rest : List Input) (i : Input)
-    (contents : List (List ℕ)) (failure : Failure) (came : Outcome) → inputs_of c ≡ inputs ++ i ∷ rest → came ≡ Err failure
-    → HasRead start middle inputs contents → FileRead view (disk middle now) i (Err failure)
-    → Comes (Some c) (disk start now) (taking at at) came
-comes-unread view c start middle now at inputs rest i contents failure came are is so_far read =
-    subst (λ (o : Outcome). Comes (Some c) (disk start now) (taking at at) o) (sym is)
-    (not-read view c start middle now at inputs rest i contents failure are so_far read)
+stops-reads : (d : Disk) (is rest : List Input) (says : List (List ℕ) → Answer → Type 0) (a : Answer) → StopsAmong d is a
+    → Reads d (is ++ rest) says a
+stops-reads d [] rest says a stops = absurd stops
+stops-reads d (i ∷ is) rest says a (inl stops) = inl stops
+stops-reads d (i ∷ is) rest says a (inr (bytes, holds, stops)) =
+    inr (bytes, holds, stops-reads d is rest (λ files. says (bytes ∷ files)) a stops)
+
+-- ---- files that are read one after the other
+
+hold-++ : (c : Contents) (is js : List Input) (contents more : List (List ℕ)) → HoldAll c is contents → HoldAll c js more
+    → HoldAll c (is ++ js) (contents ++ more)
+hold-++ c [] js [] more hold after = after
+hold-++ c [] js (bytes ∷ contents) more hold after = absurd hold
+hold-++ c (i ∷ is) js [] more hold after = absurd hold
+hold-++ c (i ∷ is) js (bytes ∷ contents) more hold after = (hold.0, hold-++ c is js contents more hold.1 after)
+
+-- what a file that is read shows
+pub file-read : {V : Type 0} (view : V → List ℕ) (start now : FilesAt) (i : Input) (v : V) → FileRead view (disk start now) i (Ok v)
+    → HasRead start now (i ∷ []) (view v ∷ [])
+file-read view start now i v (same, holds) = record { same = same; hold = (holds, tt) }
+
+-- files were read, and then more of them
+pub read-then : (start middle now : FilesAt) (is js : List Input) (contents more : List (List ℕ)) → HasRead start middle is contents
+    → HasRead middle now js more → HasRead start now (is ++ js) (contents ++ more)
+read-then start middle now is js contents more first second = record {
+  same = record {
+    contents = record {
+      told = second.same.contents.told ∙ first.same.contents.told;
+      at = λ name. second.same.contents.at name ∙ first.same.contents.at name;
+    };
+    reads = λ name. second.same.reads name ∙ first.same.reads name;
+    writes = λ name. second.same.writes name ∙ first.same.writes name;
+  };
+  hold = hold-++ start.contents is js contents more first.hold
+      (hold-before start.contents middle.contents js more first.same.contents second.hold);
+}
+
+-- one isn't read
+file-fails : {V W : Type 0} (view : V → List ℕ) (views : W → List (List ℕ)) (d : Disk) (i : Input) (failure : Failure)
+    → FileRead view d i (Err failure) → AllRead views d (i ∷ []) (Err failure)
+file-fails view views d i ReadFault (only, stops) = (only, inl stops)
+file-fails view views d i (TooLong file) (same, is_file, stops) = (same, inl stops)
+file-fails view views d i NoMemory only = only
+file-fails view views d i WordsRefused read = absurd read
+file-fails view views d i (Refused file refusal) read = absurd read
+file-fails view views d i WriteFault read = absurd read
+
+pub file-unread : {V W : Type 0} (view : V → List ℕ) (views : W → List (List ℕ)) (d : Disk) (i : Input) (failure : Failure) (r : Result W Failure)
+    → r ≡ Err failure → FileRead view d i (Err failure) → AllRead views d (i ∷ []) r
+file-unread {V} {W} view views d i failure r is read =
+    subst (λ (q : Result W Failure). AllRead views d (i ∷ []) q) (sym is) (file-fails view views d i failure read)
+
+fails-then : {V W : Type 0} (view : V → List (List ℕ)) (views : W → List (List ℕ)) (start middle now : FilesAt) (is js : List Input)
+    (contents : List (List ℕ)) (failure : Failure) → HasRead start middle is contents → AllRead view (disk middle now) js (Err failure)
+    → AllRead views (disk start now) (is ++ js) (Err failure)
+fails-then view views start middle now is js contents ReadFault first (only, stops) = (
+  since start middle now first.same only,
+  stops-behind (disk start now) is js contents read_fault first.hold (stops-among-since start middle now js read_fault first.same stops),
+)
+fails-then view views start middle now is js contents (TooLong file) first (same, stops) = (
+  record {
+    contents = record {
+      told = same.contents.told ∙ first.same.contents.told;
+      at = λ name. same.contents.at name ∙ first.same.contents.at name;
+    };
+    reads = λ name. same.reads name ∙ first.same.reads name;
+    writes = λ name. same.writes name ∙ first.same.writes name;
+  },
+  stops-behind (disk start now) is js contents (too_long file) first.hold (stops-among-since start middle now js (too_long file) first.same stops),
+)
+fails-then view views start middle now is js contents NoMemory first only = since start middle now first.same only
+fails-then view views start middle now is js contents WordsRefused first read = absurd read
+fails-then view views start middle now is js contents (Refused file refusal) first read = absurd read
+fails-then view views start middle now is js contents WriteFault first read = absurd read
+
+-- files were read, and then one isn't
+pub unread-then : {V W : Type 0} (view : V → List (List ℕ)) (views : W → List (List ℕ)) (start middle now : FilesAt) (is js : List Input)
+    (contents : List (List ℕ)) (failure : Failure) (r : Result W Failure) → r ≡ Err failure → HasRead start middle is contents
+    → AllRead view (disk middle now) js (Err failure) → AllRead views (disk start now) (is ++ js) r
+unread-then {V} {W} view views start middle now is js contents failure r equal first read =
+    subst (λ (q : Result W Failure). AllRead views (disk start now) (is ++ js) q) (sym equal)
+    (fails-then view views start middle now is js contents failure first read)
+
+-- ---- a command whose files aren't all read
+
+not-read : {V : Type 0} (view : V → List (List ℕ)) (c : Command) (start now : FilesAt) (at : SinkAt) (is rest : List Input)
+    (failure : Failure) → inputs_of c ≡ is ++ rest → AllRead view (disk start now) is (Err failure)
+    → Comes (Some c) (disk start now) (taking at at) (Err failure)
+not-read view c start now at is rest ReadFault are (only, stops) = record {
+  line = read_fault.text;
+  has_line = refl;
+  answers = subst (λ (inputs : List Input). Reads (disk start now) inputs (Says c) read_fault) (sym are)
+      (stops-reads (disk start now) is rest (Says c) read_fault stops);
+  sink = refl;
+  counts = only.reads;
+  only_reads = only;
+}
+not-read view c start now at is rest (TooLong file) are (same, stops) = record {
+  line = (too_long file).text;
+  has_line = refl;
+  answers = subst (λ (inputs : List Input). Reads (disk start now) inputs (Says c) (too_long file)) (sym are)
+      (stops-reads (disk start now) is rest (Says c) (too_long file) stops);
+  sink = refl;
+  counts = same.reads;
+  only_reads = only-reads start now same;
+}
+not-read view c start now at is rest NoMemory are only = wanting (Some c) (disk start now) at only
+not-read view c start now at is rest WordsRefused are read = absurd read
+not-read view c start now at is rest (Refused file refusal) are read = absurd read
+not-read view c start now at is rest WriteFault are read = absurd read
+
+pub comes-unread : {V : Type 0} (view : V → List (List ℕ)) (c : Command) (start now : FilesAt) (at : SinkAt) (is rest : List Input)
+    (failure : Failure) (came : Outcome) → inputs_of c ≡ is ++ rest → came ≡ Err failure
+    → AllRead view (disk start now) is (Err failure) → Comes (Some c) (disk start now) (taking at at) came
+comes-unread view c start now at is rest failure came are equal read =
+    subst (λ (o : Outcome). Comes (Some c) (disk start now) (taking at at) o) (sym equal)
+    (not-read view c start now at is rest failure are read)
 
 -- ---- what the files hold is refused
 
@@ -165,13 +227,22 @@ refuses V c start now at contents ReadFault read said = absurd said
 refuses V c start now at contents (TooLong file) read said = absurd said
 refuses V c start now at contents WriteFault read said = absurd said
 
-pub comes-refused : (V : Type 0) (c : Command) (start now : FilesAt) (at : SinkAt) (contents judged : List (List ℕ)) (failure : Failure) (came : Outcome)
-    → came ≡ Err failure → HasRead start now (inputs_of c) contents → judged ≡ contents → RefusedBy {V = V} (Says c judged) (Err failure)
+allowed : (V : Type 0) (said says : Answer → Type 0) (failure : Failure) → ((a : Answer) → said a → says a)
+    → RefusedBy {V = V} said (Err failure) → RefusedBy {V = V} says (Err failure)
+allowed V said says (Refused file refusal) each told = each (refused file refusal) told
+allowed V said says NoMemory each told = tt
+allowed V said says WordsRefused each told = told
+allowed V said says ReadFault each told = told
+allowed V said says (TooLong file) each told = told
+allowed V said says WriteFault each told = told
+
+pub comes-refused : (V : Type 0) (c : Command) (start now : FilesAt) (at : SinkAt) (contents : List (List ℕ)) (said : Answer → Type 0)
+    (failure : Failure) (came : Outcome) → came ≡ Err failure → HasRead start now (inputs_of c) contents
+    → ((a : Answer) → said a → Says c contents a) → RefusedBy {V = V} said (Err failure)
     → Comes (Some c) (disk start now) (taking at at) came
-comes-refused V c start now at contents judged failure came is read same said =
-    subst (λ (o : Outcome). Comes (Some c) (disk start now) (taking at at) o) (sym is)
-    (refuses V c start now at contents failure read
-    (subst (λ (l : List (List ℕ)). RefusedBy {V = V} (Says c l) (Err failure)) same said))
+comes-refused V c start now at contents said failure came equal read each told =
+    subst (λ (o : Outcome). Comes (Some c) (disk start now) (taking at at) o) (sym equal)
+    (refuses V c start now at contents failure read (allowed V said (Says c contents) failure each told))
 
 -- ---- the result was written, or a front of it
 
@@ -217,10 +288,10 @@ writes c start now s text (Err ReadFault) same none answers took = absurd took
 writes c start now s text (Err (TooLong file)) same none answers took = absurd took
 writes c start now s text (Err (Refused file refusal)) same none answers took = absurd took
 
-pub comes-written : (c : Command) (start now : FilesAt) (s : Taking) (contents : List (List ℕ)) (text written : List ℕ) (came : Outcome)
-    → outputs_of c ≡ [] → HasRead start now (inputs_of c) contents → Says c contents (done text) → written ≡ text
-    → TextWritten written s came → Comes (Some c) (disk start now) s came
-comes-written c start now s contents text written came none read said is took =
+pub comes-written : (c : Command) (start now : FilesAt) (s : Taking) (contents : List (List ℕ)) (text : List ℕ) (came : Outcome)
+    → outputs_of c ≡ [] → HasRead start now (inputs_of c) contents → Says c contents (done text)
+    → TextWritten text s came → Comes (Some c) (disk start now) s came
+comes-written c start now s contents text came none read said took =
     writes c start now s text came read.same none
     (reads-all (disk start now) (inputs_of c) contents (Says c) (done text) read.hold said)
-    (subst (λ (t : List ℕ). TextWritten t s came) is took)
+    took

@@ -1,16 +1,8 @@
-pub mod RunLemmas
-pub mod TextLemmas
-pub mod ListLemmas
-pub mod BuiltLemmas
-pub mod WordLemmas
-pub mod LineLemmas
-pub mod HistoryLemmas
 pub mod ReadingLemmas
 pub mod SaysLemmas
+pub mod RunLemmas
 pub mod ComesLemmas
 pub mod FinishLemmas
 pub mod TableLemmas
-pub mod SourceLemmas
-pub mod ValidLemmas
 pub mod MatchLemmas
 pub mod PlainLemmas

@@ -21,23 +21,6 @@ reads-all d (i ∷ is) [] says a hold said = absurd hold
 reads-all d (i ∷ is) (bytes ∷ more) says a hold said =
     inr (bytes, hold.0, reads-all d is more (λ files. says (bytes ∷ files)) a hold.1 said)
 
--- the reading goes on behind files that were read
-pub reads-behind : (d : Disk) (is more : List Input) (contents : List (List ℕ)) (says : Saying) (a : Answer)
-    → HoldAll d.before.contents is contents → Reads d more (λ files. says (contents ++ files)) a → Reads d (is ++ more) says a
-reads-behind d [] more [] says a hold reads = reads
-reads-behind d [] more (bytes ∷ rest) says a hold reads = absurd hold
-reads-behind d (i ∷ is) more [] says a hold reads = absurd hold
-reads-behind d (i ∷ is) more (bytes ∷ rest) says a hold reads =
-    inr (bytes, hold.0, reads-behind d is more rest (λ files. says (bytes ∷ files)) a hold.1 reads)
-
--- one more file was read
-pub hold-more : (c : Contents) (is : List Input) (contents : List (List ℕ)) (i : Input) (bytes : List ℕ) → HoldAll c is contents → Holds c i bytes
-    → HoldAll c (is ++ i ∷ []) (contents ++ bytes ∷ [])
-hold-more c [] [] i bytes hold holds = (holds, tt)
-hold-more c [] (b ∷ more) i bytes hold holds = absurd hold
-hold-more c (j ∷ is) [] i bytes hold holds = absurd hold
-hold-more c (j ∷ is) (b ∷ more) i bytes hold holds = (hold.0, hold-more c is more i bytes hold.1 holds)
-
 -- ---- over files that tell what they hold
 
 -- a read on the way failed, or the answer is one that the files allow

@@ -5,7 +5,7 @@ use Rattle.plc_io.specs.Contents.{SameFiles}
 use Rattle.plc_io.specs.Counts.{Rose}
 use Rattle.plc_io.specs.Taken.{Took}
 use Rattle.s7_cli.specs.declared.failures.File.{File}
-use Rattle.s7_cli.specs.declared.failures.File.TheVariants.{Source, History}
+use Rattle.s7_cli.specs.declared.failures.File.TheVariants.{Source, Symbols, History}
 use Rattle.s7_cli.specs.declared.failures.Failure.{Failure}
 use Rattle.s7_cli.specs.declared.failures.Failure.TheVariants.{WordsRefused, ReadFault, TooLong, Refused, WriteFault, NoMemory}
 use Rattle.s7_cli.specs.Answer.{Answer, Outcome, done, refused, read_fault, too_long, words_refused, refused_code, code_of}
@@ -89,6 +89,7 @@ rows-done c d s k is = record {
 refused-status : (file : File) (refusal : Refusal)
     → (code_of (Err (Refused file refusal)) ≡ 2) ⊎ (code_of (Err (Refused file refusal)) ≡ 4) ⊎ (code_of (Err (Refused file refusal)) ≡ 8)
 refused-status Source refusal = inl refl
+refused-status Symbols refusal = inl refl
 refused-status History refusal = inr (inl refl)
 
 rows-verdict : (c : Option Command) (d : Disk) (s : Taking) (k : Command) (a : Answer) → c ≡ Some k → IsVerdict a

@@ -2,7 +2,7 @@
 use Rattle.std.specs.Prelude.{ℕ, List, Result, Ok, Err}
 use Rattle.plc_base.specs.declared.refusals.Refusal.{Refusal}
 use Rattle.s7_cli.specs.declared.failures.File.{File}
-use Rattle.s7_cli.specs.declared.failures.File.TheVariants.{Source, History}
+use Rattle.s7_cli.specs.declared.failures.File.TheVariants.{Source, Symbols, History}
 use Rattle.s7_cli.specs.declared.failures.Failure.{Failure}
 use Rattle.s7_cli.specs.declared.failures.Failure.TheVariants.{WordsRefused, ReadFault, TooLong, Refused, WriteFault, NoMemory}
 use Rattle.s7_cli.specs.Lines.{words_refused_text, read_fault_text, too_long_text, refusal_text}
@@ -39,6 +39,7 @@ words_refused = record { outcome = Err WordsRefused; text = words_refused_text }
 -- the status of a refused file
 abbrev pub refused_code : File → ℕ
 refused_code Source = 2
+refused_code Symbols = 2
 refused_code History = 4
 
 -- the exit status

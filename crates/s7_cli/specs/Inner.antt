@@ -1,5 +1,5 @@
 -- What the inner calls of a command tell, from the moment at which the command began.
-use Rattle.std.specs.Prelude.{◌≡◌, ◌≤◌, ℕ, List, Option, Some, None, Result, Ok, Err}
+use Rattle.std.specs.Prelude.{◌≡◌, ◌≤◌, ◌⊎◌, ℕ, List, [], ◌∷◌, Option, Some, None, Result, Ok, Err}
 use Rattle.plc_io.specs.Contents.{SameFiles}
 use Rattle.plc_io.specs.Counts.{Rose, SameCounts, NeverFell}
 use Rattle.plc_io.specs.FileCalls.{Unchanged}
@@ -11,7 +11,7 @@ use Rattle.s7_cli.specs.Answer.{Answer, Outcome, refused, too_long, read_fault}
 use Rattle.s7_cli.specs.Command.{Command, Input}
 use Rattle.s7_cli.specs.Ends.{Taking, Answers, CountsReads, IsSaid, IsWriteFault, IsNoMemory}
 use Rattle.s7_cli.specs.Lines.{line_of}
-use Rattle.s7_cli.specs.Reading.{Disk, Holds, StopsAt}
+use Rattle.s7_cli.specs.Reading.{Disk, Holds, HoldAll, StopsAt}
 
 -- a reading has ended, and only counts of failed reads may have changed
 pub record OnlyReads (d : Disk) : Type 0 where
@@ -26,6 +26,28 @@ FileRead view d i (Err ReadFault) = OnlyReads d × StopsAt d i read_fault
 FileRead view d i (Err (TooLong file)) = Unchanged d.before d.after × (file ≡ i.file) × StopsAt d i (too_long file)
 FileRead view d i (Err NoMemory) = OnlyReads d
 FileRead view d i (Err failure) = ⊥
+
+-- these input files were read, and nothing changed
+pub record HasRead (before after : FilesAt) (inputs : List Input) (contents : List (List ℕ)) : Type 0 where
+  pub same : Unchanged before after
+  pub hold : HoldAll before.contents inputs contents
+
+-- the reading of files, one after the other, ends at one of them
+abbrev pub StopsAmong : Disk → List Input → Answer → Type 0
+StopsAmong d [] answer = ⊥
+StopsAmong d (i ∷ is) answer =
+    StopsAt d i answer
+    ⊎ ((bytes : List ℕ) × Holds d.before.contents i bytes × StopsAmong d is answer)
+
+-- the reading of input files, one after the other
+abbrev pub AllRead :
+    {V : Type 0} (view : V → List (List ℕ)) → Disk → List Input → Result V Failure → Type 0
+AllRead view d is (Ok v) = HasRead d.before d.after is (view v)
+AllRead view d is (Err ReadFault) = OnlyReads d × StopsAmong d is read_fault
+AllRead view d is (Err (TooLong file)) =
+    Unchanged d.before d.after × StopsAmong d is (too_long file)
+AllRead view d is (Err NoMemory) = OnlyReads d
+AllRead view d is (Err failure) = ⊥
 
 -- what files hold was refused, where it was: this is said of it
 abbrev pub RefusedBy : {V : Type 0} → (Answer → Type 0) → Result V Failure → Type 0

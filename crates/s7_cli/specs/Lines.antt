@@ -2,13 +2,14 @@
 use Rattle.std.specs.Prelude.{ℕ, List, ◌++◌, codes, decimal, Option, Some, None}
 use Rattle.plc_base.specs.declared.refusals.Refusal.{Refusal}
 use Rattle.s7_cli.specs.declared.failures.File.{File}
-use Rattle.s7_cli.specs.declared.failures.File.TheVariants.{Source, History}
+use Rattle.s7_cli.specs.declared.failures.File.TheVariants.{Source, Symbols, History}
 use Rattle.s7_cli.specs.declared.failures.Failure.{Failure}
 use Rattle.s7_cli.specs.declared.failures.Failure.TheVariants.{WordsRefused, ReadFault, TooLong, Refused, WriteFault, NoMemory}
 
 -- the word for a file
 unfoldable pub file_text : File → List ℕ
 file_text Source = codes "source"
+file_text Symbols = codes "symbols"
 file_text History = codes "history"
 
 -- the words of the call are refused

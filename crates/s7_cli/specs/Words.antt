@@ -1,6 +1,6 @@
 -- The words of a call, and the command that they ask for. How a command line is read is clap's: its `fault_of` has what is wrong with
 -- the words (also a request for help), and its `matches_of` what each argument found, of which `first_of` and `all_of` give the words.
-use Rattle.std.specs.Prelude.{◌≡◌, ◌==◌, ℕ, Bool, true, not, List, [], ◌∷◌, Option, Some, None, codes, bytes_eq, option_and_then, unwrap_or, if◌then◌else◌}
+use Rattle.std.specs.Prelude.{◌≡◌, ◌==◌, ℕ, Bool, true, not, List, [], ◌∷◌, Option, Some, None, codes, bytes_eq, option_and_then, option_map, unwrap_or, if◌then◌else◌}
 use Rattle.std.specs.List.{list_all}
 use Rattle.clap.specs.Lexer.{usize_max}
 use Rattle.clap.specs.Simple.{on_top}
@@ -35,10 +35,13 @@ s7_alone = on_top (λ s. record s { no_binary_name = true }) (new_app (codes "s7
 abbrev pub the_line : App
 the_line = with_rule (with_rule (with_rule (with_rule s7_alone command_rule) files_rule) symbols_rule) steps_rule
 
--- the command that a word, files and options ask for; no option is built yet
-abbrev pub asked_for : (command : List ℕ) → (files : List (List ℕ)) → (symbols steps : Option (List ℕ)) → Option Command
-asked_for command (source ∷ history ∷ []) None None = if bytes_eq command (codes "go") then Some (Go source history) else None
-asked_for command (source ∷ []) None None = if bytes_eq command (codes "check") then Some (Check source) else None
+-- the command that a word, files and options ask for; `--steps` goes with none of them
+abbrev pub asked_for :
+    (command : List ℕ) (files : List (List ℕ)) (symbols steps : Option (List ℕ)) → Option Command
+asked_for command (source ∷ history ∷ []) symbols None =
+    if bytes_eq command (codes "go") then Some (Go source symbols history) else None
+asked_for command (source ∷ []) symbols None =
+    if bytes_eq command (codes "check") then Some (Check source symbols) else None
 asked_for command files symbols steps = None
 
 -- the command that what was found of the four asks for
@@ -54,8 +57,8 @@ command_of words = if is_empty (fault_of the_line words) then asked_by (matches_
 
 -- the command that was read
 abbrev pub command_value : Asked → Command
-command_value (asked.Go source history) = Go source.now history.now
-command_value (asked.Check source) = Check source.now
+command_value (asked.Go source symbols history) = Go source.now (option_map (λ s. s.now) symbols) history.now
+command_value (asked.Check source symbols) = Check source.now (option_map (λ s. s.now) symbols)
 
 -- a word that can be no option: it doesn't begin with a hyphen (45)
 abbrev pub is_plain_word : List ℕ → Bool
@@ -64,8 +67,8 @@ is_plain_word (first ∷ rest) = not (first == 45)
 
 -- how such words are read: by their first and their count
 abbrev pub plain_command : List (List ℕ) → Option Command
-plain_command (command ∷ source ∷ history ∷ []) = if bytes_eq command (codes "go") then Some (Go source history) else None
-plain_command (command ∷ source ∷ []) = if bytes_eq command (codes "check") then Some (Check source) else None
+plain_command (command ∷ source ∷ history ∷ []) = if bytes_eq command (codes "go") then Some (Go source None history) else None
+plain_command (command ∷ source ∷ []) = if bytes_eq command (codes "check") then Some (Check source None) else None
 plain_command words = None
 
 -- words without a hyphen at their front are read so

@@ -1,38 +1,40 @@
-ghost use Rattle.std.specs.Prelude.{◌≡◌, Some, None};
+ghost use Rattle.std.specs.Prelude.{Some};
+ghost use Rattle.std.specs.Option.{option_map};
 ghost use Rattle.s7_cli.specs.Command.{Check};
 ghost use Rattle.s7_cli.specs.Ends.{Ended, taking};
 ghost use Rattle.s7_cli.specs.Inner.{Comes};
 ghost use Rattle.s7_cli.specs.Reading.{disk};
 ghost use Rattle.s7_cli.specs.StatusTable.{StatusTable};
 
-use crate::failures::{Failure, File, Status};
-use crate::files::read_file;
+use crate::failures::{Failure, Status};
+use crate::files::read_program;
 use crate::finish::{end_command, write_text};
-use crate::judging::judge_source;
+use crate::judging::judge_program;
 use plc_io::{Files, Sink};
 use std::alloc::Global;
 
 /// What `check` writes for a source that is accepted.
 const OK_LINE: &[u8] = b"OK\n";
 
-/// Reads a source, judges it, and writes `OK`.
+/// Reads a source with its symbols, judges it, and writes `OK`.
 fn check<F: Files, K: Sink>(
     alloc: Global,
     src: &str,
+    symbols: Option<&str>,
     files: &mut F,
     out: &mut K,
 ) -> Result<(), Failure>
     ensures { let files_went = disk (F.shown files.old) (F.shown files.new) in
-        Comes (Some (Check src.now)) files_went
+        Comes (Some (Check src.now (option_map (λ s. s.now) symbols.entry))) files_went
         (taking (K.shown out.old) (K.shown out.new)) result }
 {
-    let source = read_file(alloc, files, File::Source, src)?;
-    judge_source(alloc, &source)?;
+    let text = read_program(alloc, files, src, symbols)?;
+    judge_program(alloc, &text)?;
     write_text(out, OK_LINE)
 }
 
-/// Judges the source in the file `src`, and writes `OK`, or the line of a refusal. There is no file
-/// of symbols yet.
+/// Judges the source in the file `src`, with the symbols in the file `symbols` if there is one, and
+/// writes `OK`, or the line of a refusal.
 pub fn cmd_check<F: Files, K: Sink>(
     alloc: Global,
     src: &str,
@@ -40,13 +42,14 @@ pub fn cmd_check<F: Files, K: Sink>(
     files: &mut F,
     out: &mut K,
 ) -> Status
-    requires { symbols ≡ None }
     ensures ends { let went = disk (F.shown files.old) (F.shown files.new) in
-        Ended (Some (Check src.now)) went (taking (K.shown out.old) (K.shown out.new)) result.code }
+        Ended (Some (Check src.now (option_map (λ s. s.now) symbols.entry))) went
+        (taking (K.shown out.old) (K.shown out.new)) result.code }
     ensures table { let went = disk (F.shown files.old) (F.shown files.new) in
         let took = taking (K.shown out.old) (K.shown out.new) in
-        StatusTable (Some (Check src.now)) went took result.code }
+        StatusTable (Some (Check src.now (option_map (λ s. s.now) symbols.entry))) went took
+        result.code }
 {
-    let came = check(alloc, src, files, out);
+    let came = check(alloc, src, symbols, files, out);
     end_command(out, came)
 }

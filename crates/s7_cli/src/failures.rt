@@ -1,15 +1,17 @@
 ghost use Rattle.std.specs.Prelude.{◌≡◌};
 ghost use Rattle.s7_cli.specs.Answer.{code_of, refused_code};
-ghost use Rattle.s7_cli.specs.Faults.{failure_of_history, failure_of_source};
+ghost use Rattle.s7_cli.specs.Faults.{failure_of_compiling, failure_of_history};
 
-use crate::histories::HistoryFault;
-use plc_base::{Refusal, SourceFault};
+use compiler::CompileFault;
+use event_text::HistoryFault;
+use plc_base::Refusal;
 use std::alloc::AllocError;
 
 /// A file that a command reads.
 #[derive(Clone, Copy, Debug, PartialEq, Eq)]
 pub enum File {
     Source,
+    Symbols,
     History,
 }
 
@@ -40,16 +42,20 @@ impl From<AllocError> for Failure {
     }
 }
 
-impl From<SourceFault> for Failure {
-    ghost from_gives = { λ fault failure. failure ≡ failure_of_source fault };
+impl From<CompileFault> for Failure {
+    ghost from_gives = { λ fault failure. failure ≡ failure_of_compiling fault };
 
-    fn from(fault: SourceFault) -> Failure {
+    fn from(fault: CompileFault) -> Failure {
         match fault {
-            SourceFault::Refused { refusal } => Failure::Refused {
+            CompileFault::Symbols { refusal } => Failure::Refused {
+                file: File::Symbols,
+                refusal,
+            },
+            CompileFault::Source { refusal } => Failure::Refused {
                 file: File::Source,
                 refusal,
             },
-            SourceFault::NoMemory => Failure::NoMemory,
+            CompileFault::NoMemory => Failure::NoMemory,
         }
     }
 }
@@ -79,7 +85,7 @@ fn refused_code(file: File) -> u8
     ensures { result ≡ refused_code file }
 {
     match file {
-        File::Source => 2,
+        File::Source | File::Symbols => 2,
         File::History => 4,
     }
 }

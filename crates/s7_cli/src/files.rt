@@ -1,7 +1,9 @@
-ghost use Rattle.std.specs.Prelude.{◌≡◌};
-ghost use Rattle.s7_cli.specs.Command.{Input, limit_of};
-ghost use Rattle.s7_cli.specs.Inner.{FileRead};
+ghost use Rattle.std.specs.Prelude.{◌≡◌, option_to_list};
+ghost use Rattle.std.specs.Option.{option_map};
+ghost use Rattle.s7_cli.specs.Command.{Input, limit_of, program_inputs, symbols_inputs};
+ghost use Rattle.s7_cli.specs.Inner.{AllRead, FileRead};
 ghost use Rattle.s7_cli.specs.Reading.{disk};
+ghost use Rattle.s7_cli.specs.Texts.{contents_of, symbols_of};
 
 use crate::failures::{Failure, File};
 use plc_io::{Files, IoFault, read_to_limit};
@@ -10,8 +12,32 @@ use std::alloc::Global;
 /// The most bytes of a source.
 const SOURCE_LIMIT: usize = 1_048_576;
 
+/// The most bytes of a symbols file.
+const SYMBOLS_LIMIT: usize = 1_048_576;
+
 /// The most bytes of a history.
 const HISTORY_LIMIT: usize = 4_194_304;
+
+/// What the files of a program hold.
+#[derive(Drop)]
+pub struct ProgramText {
+    /// The source.
+    pub source: Vec<u8>,
+    /// The symbols file, if there is one.
+    pub symbols: Option<Vec<u8>>,
+}
+
+impl ProgramText {
+    /// The bytes of the symbols file, if there is one.
+    pub fn symbols(&self) -> Option<&[u8]>
+        ensures { option_map (λ s. s.now) result ≡ symbols_of self.now }
+    {
+        match &self.symbols {
+            Some(bytes) => Some(bytes.as_slice()),
+            None => None,
+        }
+    }
+}
 
 /// The most bytes that a file may hold.
 fn limit_of(file: File) -> usize
@@ -19,6 +45,7 @@ fn limit_of(file: File) -> usize
 {
     match file {
         File::Source => SOURCE_LIMIT,
+        File::Symbols => SYMBOLS_LIMIT,
         File::History => HISTORY_LIMIT,
     }
 }
@@ -40,4 +67,35 @@ pub fn read_file<F: Files>(
         Err(IoFault::Failed) => Err(Failure::ReadFault),
         Err(IoFault::NoMemory) => Err(Failure::NoMemory),
     }
+}
+
+/// Reads the symbols file whole, if there is one.
+fn read_symbols_file<F: Files>(
+    alloc: Global,
+    files: &mut F,
+    symbols: Option<&str>,
+) -> Result<Option<Vec<u8>>, Failure>
+    ensures { AllRead (λ o. option_to_list (option_map (λ v. v.items) o))
+        (disk (F.shown files.old) (F.shown files.new))
+        (symbols_inputs (option_map (λ s. s.now) symbols.entry)) result }
+{
+    match symbols {
+        Some(name) => Ok(Some(read_file(alloc, files, File::Symbols, name)?)),
+        None => Ok(None),
+    }
+}
+
+/// Reads a source whole, and then its symbols file, if there is one.
+pub fn read_program<F: Files>(
+    alloc: Global,
+    files: &mut F,
+    source: &str,
+    symbols: Option<&str>,
+) -> Result<ProgramText, Failure>
+    ensures { AllRead contents_of (disk (F.shown files.old) (F.shown files.new))
+        (program_inputs source.now (option_map (λ s. s.now) symbols.entry)) result }
+{
+    let source = read_file(alloc, files, File::Source, source)?;
+    let symbols = read_symbols_file(alloc, files, symbols)?;
+    Ok(ProgramText { source, symbols })
 }

@@ -1,5 +1,6 @@
-ghost use Rattle.std.specs.Prelude.{Option};
+ghost use Rattle.std.specs.Prelude.{ℕ, List, Option};
 ghost use Rattle.plc_io.specs.Moments.{SinkAt};
+ghost use Rattle.plc_io.specs.Taken.{Wrote};
 ghost use Rattle.s7_cli.specs.Command.{Command};
 ghost use Rattle.s7_cli.specs.Ends.{Ended, Ends, taking};
 ghost use Rattle.s7_cli.specs.Inner.{Comes, LineWritten, TextWritten};
@@ -11,15 +12,23 @@ use crate::failures::{Failure, Status};
 use crate::texts::failure_line;
 use plc_io::{IoFault, Sink, push_all};
 
-/// Writes a whole text.
-pub fn write_text<K: Sink>(out: &mut K, text: &[u8]) -> Result<(), Failure>
-    ensures { TextWritten text.now (taking (K.shown out.old) (K.shown out.new)) result }
+/// How a command came out whose text was written so.
+pub fn written(outcome: Result<(), IoFault>) -> Result<(), Failure>
+    ensures { (before after : SinkAt) (text : List ℕ)
+        → Wrote before after text outcome → TextWritten text (taking before after) result }
 {
-    match push_all(out, text) {
+    match outcome {
         Ok(()) => Ok(()),
         Err(IoFault::Failed) => Err(Failure::WriteFault),
         Err(IoFault::NoMemory) => Err(Failure::NoMemory),
     }
+}
+
+/// Writes a whole text.
+pub fn write_text<K: Sink>(out: &mut K, text: &[u8]) -> Result<(), Failure>
+    ensures { TextWritten text.now (taking (K.shown out.old) (K.shown out.new)) result }
+{
+    written(push_all(out, text))
 }
 
 /// Writes the line of a failure, if it has one, and answers the failure, or that of the writing.

@@ -1,4 +1,5 @@
-ghost use Rattle.std.specs.Prelude.{◌≡◌, Some, None};
+ghost use Rattle.std.specs.Prelude.{Some};
+ghost use Rattle.std.specs.Option.{option_map};
 ghost use Rattle.s7_cli.specs.Command.{Go};
 ghost use Rattle.s7_cli.specs.Ends.{Ended, taking};
 ghost use Rattle.s7_cli.specs.Inner.{Comes};
@@ -6,36 +7,37 @@ ghost use Rattle.s7_cli.specs.Reading.{disk};
 ghost use Rattle.s7_cli.specs.StatusTable.{StatusTable};
 
 use crate::failures::{Failure, File, Status};
-use crate::files::read_file;
-use crate::finish::end_command;
+use crate::files::{read_file, read_program};
+use crate::finish::{end_command, written};
 use crate::judging::judge;
-use crate::running::run;
-use controller::law_of_replay;
 use plc_io::{Files, Sink};
+use run_text::replay_text;
 use std::alloc::Global;
 
-/// Reads a source and a history, judges both, and writes the run.
+/// Reads a source with its symbols and a history, judges all, and writes the run.
 fn go<F: Files, K: Sink>(
     alloc: Global,
     src: &str,
     hist: &str,
+    symbols: Option<&str>,
     files: &mut F,
     out: &mut K,
 ) -> Result<(), Failure>
     ensures { let went = disk (F.shown files.old) (F.shown files.new) in
         let took = taking (K.shown out.old) (K.shown out.new) in
-        Comes (Some (Go src.now hist.now)) went took result }
+        Comes (Some (Go src.now (option_map (λ s. s.now) symbols.entry) hist.now)) went took
+        result }
 {
-    let source = read_file(alloc, files, File::Source, src)?;
+    let text = read_program(alloc, files, src, symbols)?;
     let history = read_file(alloc, files, File::History, hist)?;
-    let (program, entries) = judge(alloc, &source, &history)?;
+    let (program, entries) = judge(alloc, &text, &history)?;
     // programs that no history tells apart have one text
-    law_of_replay();
-    run(alloc, program, &entries, out)
+    cpu::laws::continues_replay();
+    written(replay_text(alloc, program, &entries, out))
 }
 
-/// Runs the source in the file `src` along the history in the file `hist`, and writes the text of
-/// the run, or the line of a refusal. There is no file of symbols yet.
+/// Runs the source in the file `src`, with the symbols in the file `symbols` if there is one, along
+/// the history in the file `hist`, and writes the text of the run, or the line of a refusal.
 pub fn cmd_go<F: Files, K: Sink>(
     alloc: Global,
     src: &str,
@@ -44,14 +46,15 @@ pub fn cmd_go<F: Files, K: Sink>(
     files: &mut F,
     out: &mut K,
 ) -> Status
-    requires { symbols ≡ None }
     ensures ends { let went = disk (F.shown files.old) (F.shown files.new) in
         let took = taking (K.shown out.old) (K.shown out.new) in
-        Ended (Some (Go src.now hist.now)) went took result.code }
+        Ended (Some (Go src.now (option_map (λ s. s.now) symbols.entry) hist.now)) went took
+        result.code }
     ensures table { let went = disk (F.shown files.old) (F.shown files.new) in
         let took = taking (K.shown out.old) (K.shown out.new) in
-        StatusTable (Some (Go src.now hist.now)) went took result.code }
+        StatusTable (Some (Go src.now (option_map (λ s. s.now) symbols.entry) hist.now)) went took
+        result.code }
 {
-    let came = go(alloc, src, hist, files, out);
+    let came = go(alloc, src, hist, symbols, files, out);
     end_command(out, came)
 }

@@ -15,13 +15,14 @@ use std::sync::Wait;
 use std::thread::Threads;
 
 /// Does what the words of a call ask for, without the program's name: `go SRC HIST` runs a source
-/// along a history, `check SRC` judges a source. The status is that of the text that `out` took:
+/// along a history, `check SRC` judges a source; `--symbols FILE` gives either of them a file of
+/// symbols. The status is that of the text that `out` took:
 ///
 /// | Status | When |
 /// |---|---|
 /// | 0 | done |
 /// | 1 | the words are refused |
-/// | 2 | the source is refused |
+/// | 2 | the symbols or the source are refused |
 /// | 4 | the history is refused |
 /// | 5 | a file can't be read |
 /// | 6 | the sink couldn't be written |
@@ -43,8 +44,16 @@ pub fn s7_main<R: Threads + Wait + Sync, F: Files, K: Sink, G: Gate + Sync>(
         StatusTable (command_of (map string_bytes words.now)) went took result.code }
 {
     match read_words(alloc, words) {
-        Ok(Some(Asked::Go { source, history })) => cmd_go(alloc, source, history, None, files, out),
-        Ok(Some(Asked::Check { source })) => cmd_check(alloc, source, None, files, out),
+        Ok(
+            Some(
+                Asked::Go {
+                    source,
+                    symbols,
+                    history,
+                },
+            ),
+        ) => cmd_go(alloc, source, history, symbols, files, out),
+        Ok(Some(Asked::Check { source, symbols })) => cmd_check(alloc, source, symbols, files, out),
         Ok(None) => end_command(out, Err(Failure::WordsRefused)),
         Err(_) => end_command(out, Err(Failure::NoMemory)),
     }

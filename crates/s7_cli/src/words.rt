@@ -10,10 +10,17 @@ use std::alloc::{AllocError, Global};
 /// What the words of a call ask for.
 #[derive(Clone, Copy)]
 pub enum Asked<'a> {
-    /// Run a source along a history.
-    Go { source: &'a str, history: &'a str },
-    /// Judge a source.
-    Check { source: &'a str },
+    /// Run a source, with its symbols, along a history.
+    Go {
+        source: &'a str,
+        symbols: Option<&'a str>,
+        history: &'a str,
+    },
+    /// Judge a source, with its symbols.
+    Check {
+        source: &'a str,
+        symbols: Option<&'a str>,
+    },
 }
 
 /// The command line, for words without the program's name.
@@ -54,16 +61,20 @@ fn find_matches<'a>(alloc: Global, words: &'a [String]) -> Result<ArgMatches<'a>
 fn asked_for<'a>(
     command: &str,
     files: &[&'a str],
-    symbols: Option<&str>,
+    symbols: Option<&'a str>,
     steps: Option<&str>,
 ) -> Option<Asked<'a>>
     ensures { option_map command_value result ≡
         asked_for command.now (map (λ file. file.now) files.now)
         (option_map (λ s. s.now) symbols.entry) (option_map (λ s. s.now) steps.entry) }
 {
-    match (files, symbols, steps) {
-        ([source, history], None, None) if command == "go" => Some(Asked::Go { source, history }),
-        ([source], None, None) if command == "check" => Some(Asked::Check { source }),
+    match (files, steps) {
+        ([source, history], None) if command == "go" => Some(Asked::Go {
+            source,
+            symbols,
+            history,
+        }),
+        ([source], None) if command == "check" => Some(Asked::Check { source, symbols }),
         _ => None,
     }
 }
@@ -92,8 +103,8 @@ fn refusal<'a>(error: &Error) -> Result<Option<Asked<'a>>, AllocError>
     }
 }
 
-/// Reads the words, without the program's name: `go SRC HIST` or `check SRC`. Any others are
-/// refused. Fails where memory is wanting.
+/// Reads the words, without the program's name: `go SRC HIST` or `check SRC`, each with
+/// `--symbols FILE` anywhere, or without. Any others are refused. Fails where memory is wanting.
 pub fn read_words(alloc: Global, words: &[String]) -> Result<Option<Asked<'_>>, AllocError>
     ensures { IfOk result
         (λ asked. option_map command_value asked ≡ command_of (map string_bytes words.now)) }

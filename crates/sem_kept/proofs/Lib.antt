@@ -1,6 +1,4 @@
 mod StageLemmas
 mod SourceLemmas
-mod Simulation
-mod Numbered
-mod Runs
+mod RunLemmas
 mod Suspended

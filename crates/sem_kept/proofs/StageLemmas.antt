@@ -1,6 +1,6 @@
 -- Stages with one outcome at most have one in turn.
 use Rattle.std.proofs.Common.{◌≡◌, ◌∙◌, ap, subst, ℕ, Result, Ok, Err, inl, inr}
-use Rattle.plc_base.specs.declared.Refusal.{Refusal}
+use Rattle.plc_base.specs.declared.refusals.Refusal.{Refusal}
 use Rattle.sem_kept.specs.Stages.{InTurn, HasOneOutcome, HasOutcome}
 
 -- a refusal is its line and its rule

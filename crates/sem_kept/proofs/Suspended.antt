@@ -1,170 +1,337 @@
 -- A suspended activation is the same after each entry, unless STOP ends it.
-use Rattle.std.proofs.Common.{◌≡◌, refl, sym, ◌∙◌, ap, subst, ℕ, zero, suc, ◌+◌, ◌-◌, ◌<◌, ◌≤◌, List, [], ◌∷◌, ◌++◌, length, take, Option, Some, None, Bool, true, false, cond, nat_eq, get_or, arith}
+use Rattle.std.proofs.Common.{◌≡◌, refl, sym, ◌∙◌, ap, subst, ℕ, zero, suc, ◌+◌, ◌-◌, ◌<◌, ◌≤◌, List, [], ◌∷◌, ◌++◌, length, take, Option, Some, None, Bool, true, false, cond, if◌then◌else◌, nat_eq, get_or, arith}
+use Rattle.std.proofs.lemmas.Bool.{ne_eqb}
 use Rattle.std.proofs.lemmas.List.{take_more}
-use Rattle.var_access.specs.declared.Entry.{Entry}
+use Rattle.plc_base.specs.declared.Spot.{Spot}
+use Rattle.frames.specs.declared.Activation.{Activation}
+use Rattle.frames.specs.declared.bindings.Binding.{Binding}
+use Rattle.machine.specs.Code.{Code}
+use Rattle.machine.specs.Flat.{code_of}
+use Rattle.machine.specs.Statement.{Step, Went, Ended, SyncError, SysCall, Stop, Stuck, statement}
+use Rattle.ob_sched.specs.Course.{Course, requested}
+use Rattle.ob_sched.specs.Millisecond.{begun, ticked}
+use Rattle.ob_sched.specs.OrganizationBlock.{class_in}
+use Rattle.ob_sched.specs.StartInformation.{start_info}
+use Rattle.ob_sched.specs.declared.start_infos.StartEvent.TheVariants.{Arrival}
+use Rattle.ob_sched.specs.Request.{best_of}
+use Rattle.ob_sched.specs.declared.requests.Pending.{Pending}
 use Rattle.var_access.specs.declared.What.{What}
-use Rattle.var_access.specs.declared.What.TheVariants.{Step, Input, Arrive}
-use Rattle.controller.specs.Code.{Code}
-use Rattle.controller.specs.Frames.{Activation, fresh_activation}
-use Rattle.controller.specs.Statement.{Outcome, Went, Ended, Failed, Stuck, statement}
-use Rattle.controller.specs.declared.Arrival.{Arrival}
-use Rattle.controller.specs.declared.Arrival.TheVariants.{Queued, Dropped, NotLoaded, Full}
-use Rattle.controller.specs.declared.Request.{Request}
-use Rattle.controller.specs.declared.StartInformation.{StartInformation}
-use Rattle.controller.specs.Request.{class_in, best_of}
-use Rattle.controller.specs.State.{State, is_stop}
-use Rattle.controller.specs.Event.{may_start, started, request_taken, best_started, settled, after_statement, stepped_on, stepped, arrival, after_arrival, arrived, effect, state_after}
-use Rattle.controller.specs.Replay.{Happened, happens, replay, ContinuesReplay}
-use Rattle.sem_kept.specs.Resumption.{after, standing, IsSuspended, Resumes}
+use Rattle.var_access.specs.declared.What.TheVariants as entry
+use Rattle.cpu.specs.Beginning.{ob_in, begun_above}
+use Rattle.cpu.specs.Errors.{is_synchronous, cause_inside, error_in, error_answered, failed}
+use Rattle.cpu.specs.Event.{counted, effect, state_after}
+use Rattle.cpu.specs.Replay.{happens, replay, ContinuesReplay}
+use Rattle.cpu.specs.Requests.{stopped_if, course_taken, arrived}
+use Rattle.cpu.specs.Serving.{Served, Returns, Passes, Stops, served, result_given, after_service}
+use Rattle.cpu.specs.Settling.{may_start, request_taken, request_started, best_started, settled}
+use Rattle.cpu.specs.State.{State, is_stop, diagnosed, each_diagnosed}
+use Rattle.cpu.specs.Stepping.{with_activations, run_starts, ob_ended, after_statement, stepped_on, stepped}
+use Rattle.cpu.specs.Stopping.{spot_of, halted_at, halted}
+use Rattle.cpu.specs.Ticking.{timers_moved, active, time_passed}
+use Rattle.sem_kept.specs.Resumption.{after, standing, IsSuspended, Resumes, SourcesResume, ImagesResume}
+
+-- the activation at this place is there, and is the same
+record Keeps (before later : List Activation) (place : ℕ) : Type 0 where
+  there : place < length later
+  same : standing later place ≡ standing before place
 
 -- one more activation on top changes nothing below it
-standing-∷ : (a : Activation) (acts : List Activation) (place : ℕ) → place < length acts → standing (a ∷ acts) place ≡ standing acts place
+standing-∷ : (a : Activation) (acts : List Activation) (place : ℕ) → place < length acts
+    → standing (a ∷ acts) place ≡ standing acts place
 standing-∷ a acts place below =
-    let differs : nat_eq place (length acts) ≡ false = grind arith in
+    let differs : nat_eq place (length acts) ≡ false = ne_eqb place (length acts) (λ e. omega (arith, e, below)) in
     ap (λ (b : Bool). cond b (Some a) (standing acts place)) differs
 
--- the activation at this place is there, and is the same, in a list
-abbrev Keeps : (before after : List Activation) → ℕ → Type 0
-Keeps before after place = (place < length after) × (standing after place ≡ standing before place)
+stays : (acts : List Activation) (place : ℕ) → place < length acts → Keeps acts acts place
+stays acts place there = record { there = there; same = refl }
 
-best_started-keeps : (s : State) (o : Option (Request × List Request)) (place : ℕ) → place < length s.activations
-    → Keeps s.activations (best_started s o).activations place
-best_started-keeps s None place below = (below, refl)
-best_started-keeps s (Some (best, others)) place below = by_start (may_start (class_in s.mode best.ob) s.activations)
+pushed : (a : Activation) (acts : List Activation) (place : ℕ) → place < length acts
+    → Keeps acts (a ∷ acts) place
+pushed a acts place there = record { there = omega arith; same = standing-∷ a acts place there }
+
+fallen : (a : Activation) (below : List Activation) (place : ℕ) → place < length below
+    → Keeps (a ∷ below) below place
+fallen a below place there =
+    record { there = there; same = sym (standing-∷ a below place there) }
+
+replaced : (a b : Activation) (below : List Activation) (place : ℕ) → place < length below
+    → Keeps (a ∷ below) (b ∷ below) place
+replaced a b below place there = record {
+  there = omega arith;
+  same = standing-∷ b below place there ∙ sym (standing-∷ a below place there);
+}
+
+then_keeps : (first second third : List Activation) (place : ℕ)
+    → Keeps first second place → Keeps second third place → Keeps first third place
+then_keeps first second third place h k = record { there = k.there; same = k.same ∙ h.same }
+
+-- ---- settling
+
+begun_keeps : (o : Option Activation) (s : State) (place : ℕ) → place < length s.activations
+    → Keeps s.activations (begun_above o s).activations place
+begun_keeps None s place there = stays s.activations place there
+begun_keeps (Some a) s place there = pushed a s.activations place there
+
+begun_mode : (o : Option Activation) (s : State) → (begun_above o s).mode ≡ s.mode
+begun_mode None s = refl
+begun_mode (Some a) s = refl
+
+best_keeps : (code : Code) (o : Option Pending) (s : State) (place : ℕ)
+    → place < length s.activations
+    → Keeps s.activations (best_started code o s).activations place
+best_keeps code None s place there = stays s.activations place there
+best_keeps code (Some best) s place there = by (may_start best.class s.activations)
   where
-    by_start : (b : Bool) → Keeps s.activations (cond b (started (request_taken s others) best.ob) s).activations place
-    by_start true = (omega arith, standing-∷ (fresh_activation best.ob (class_in s.mode best.ob)) s.activations place below)
-    by_start false = (below, refl)
+    by : (b : Bool)
+        → Keeps s.activations (if b then request_started code best s else s).activations place
+    by true = begun_keeps (ob_in code best.class best.ob best.info) (request_taken s) place there
+    by false = stays s.activations place there
 
-settled-keeps : (s : State) (place : ℕ) → place < length s.activations → Keeps s.activations (settled s).activations place
-settled-keeps s place below = by_mode (is_stop s.mode)
+best_mode : (code : Code) (o : Option Pending) (s : State) → (best_started code o s).mode ≡ s.mode
+best_mode code None s = refl
+best_mode code (Some best) s = by (may_start best.class s.activations)
   where
-    by_mode : (b : Bool) → Keeps s.activations (cond b s (best_started s (best_of s.mode s.requests.pending))).activations place
-    by_mode true = (below, refl)
-    by_mode false = best_started-keeps s (best_of s.mode s.requests.pending) place below
+    by : (b : Bool) → (if b then request_started code best s else s).mode ≡ s.mode
+    by true = begun_mode (ob_in code best.class best.ob best.info) (request_taken s)
+    by false = refl
 
-best_started-mode : (s : State) (o : Option (Request × List Request)) → (best_started s o).mode ≡ s.mode
-best_started-mode s None = refl
-best_started-mode s (Some (best, others)) = by_start (may_start (class_in s.mode best.ob) s.activations)
+settled_keeps : (code : Code) (s : State) (place : ℕ) → place < length s.activations
+    → Keeps s.activations (settled code s).activations place
+unfolding settled
+settled_keeps code s place there = by (is_stop s.mode)
   where
-    by_start : (b : Bool) → (cond b (started (request_taken s others) best.ob) s).mode ≡ s.mode
-    by_start true = refl
-    by_start false = refl
+    by : (b : Bool) → Keeps s.activations
+        (if b then s else best_started code (best_of s.mode s.sched.pending) s).activations place
+    by true = stays s.activations place there
+    by false = best_keeps code (best_of s.mode s.sched.pending) s place there
 
-settled-mode : (s : State) → (settled s).mode ≡ s.mode
-settled-mode s = by_mode (is_stop s.mode)
+settled_mode : (code : Code) (s : State) → (settled code s).mode ≡ s.mode
+unfolding settled
+settled_mode code s = by (is_stop s.mode)
   where
-    by_mode : (b : Bool) → (cond b s (best_started s (best_of s.mode s.requests.pending))).mode ≡ s.mode
-    by_mode true = refl
-    by_mode false = best_started-mode s (best_of s.mode s.requests.pending)
+    by : (b : Bool)
+        → (if b then s else best_started code (best_of s.mode s.sched.pending) s).mode ≡ s.mode
+    by true = refl
+    by false = best_mode code (best_of s.mode s.sched.pending) s
 
-after_statement-keeps : (c : Code) (s : State) (a : Activation) (below : List Activation) (o : Outcome) (place : ℕ)
-    → s.activations ≡ a ∷ below → place < length below → is_stop (after_statement c s below o).mode ≡ false
-    → Keeps (a ∷ below) (after_statement c s below o).activations place
-after_statement-keeps c s a below (Went memory b) place were inside goes_on =
-    (omega arith, standing-∷ b below place inside ∙ sym (standing-∷ a below place inside))
-after_statement-keeps c s a below Ended place were inside goes_on = (inside, sym (standing-∷ a below place inside))
-after_statement-keeps c s a below (Failed error b) place were inside goes_on = cc
-after_statement-keeps c s a below Stuck place were inside goes_on =
-    subst (λ (acts : List Activation). Keeps (a ∷ below) acts place) (sym were) (omega arith, refl)
+-- ---- a statement
 
-stepped_on-keeps : (c : Code) (s : State) (acts : List Activation) (place : ℕ)
-    → s.activations ≡ acts → place + 1 < length acts → is_stop (stepped_on c s acts).mode ≡ false
-    → Keeps acts (stepped_on c s acts).activations place
-stepped_on-keeps c s [] place were inside goes_on = absurd (omega arith)
-stepped_on-keeps c s (a ∷ below) place were inside goes_on =
-    after_statement-keeps c s a below (statement c s.memory a) place were (omega arith) goes_on
+answered_keeps : (old : Activation) (o : Option Activation) (error : ℕ) (at : Option Spot)
+    (a : Activation) (below : List Activation) (s : State) (place : ℕ)
+    → place < length below → is_stop (error_answered o error at a below s).mode ≡ false
+    → Keeps (old ∷ below) (error_answered o error at a below s).activations place
+answered_keeps old None error at a below s place there on = absurd cc
+answered_keeps old (Some fresh) error at a below s place there on =
+    then_keeps (old ∷ below) (a ∷ below) (fresh ∷ a ∷ below) place
+    (replaced old a below place there) (pushed fresh (a ∷ below) place (omega (arith, there)))
 
-stepped-keeps : (c : Code) (s : State) (place : ℕ)
-    → place + 1 < length s.activations → is_stop (stepped c s).mode ≡ false → Keeps s.activations (stepped c s).activations place
+failed_keeps : (code : Code) (old : Activation) (error : ℕ) (at : Option Spot) (a : Activation)
+    (below : List Activation) (s : State) (place : ℕ)
+    → place < length below → is_stop (failed code error at a below s).mode ≡ false
+    → Keeps (old ∷ below) (failed code error at a below s).activations place
+unfolding failed
+failed_keeps code old error at a below s place there on = by (is_synchronous a.ob) on
+  where
+    stops : State
+    stops = halted_at at cause_inside (diagnosed 4 error s)
+
+    answered : State
+    answered = error_answered (error_in code error at a) error at a below (diagnosed 4 error s)
+
+    by : (b : Bool) → is_stop (if b then stops else answered).mode ≡ false
+        → Keeps (old ∷ below) (if b then stops else answered).activations place
+    by true on = absurd cc
+    by false on =
+        answered_keeps old (error_in code error at a) error at a below (diagnosed 4 error s) place
+        there on
+
+serves_keeps : (old : Activation) (at : Option Spot) (r : Served) (to : Option Binding)
+    (below : List Activation) (s : State) (place : ℕ)
+    → place < length below → is_stop (after_service at r to below s).mode ≡ false
+    → Keeps (old ∷ below) (after_service at r to below s).activations place
+serves_keeps old at (Returns r) to below s place there on =
+    replaced old (result_given to r.value r.activation s.world.memory).activation below place there
+serves_keeps old at (Passes sched a) to below s place there on = replaced old a below place there
+serves_keeps old at (Stops cause) to below s place there on = absurd cc
+
+ended_same : (ob : ℕ) (s : State) → (ob_ended ob s).activations ≡ s.activations
+ended_same ob s = by (nat_eq ob 100)
+  where
+    by : (b : Bool) → (if b then run_starts s else s).activations ≡ s.activations
+    by true = refl
+    by false = refl
+
+statement_keeps : (code : Code) (old : Activation) (step : Step) (ob : ℕ) (at : Option Spot)
+    (below : List Activation) (s : State) (place : ℕ)
+    → s.activations ≡ old ∷ below → place < length below
+    → is_stop (after_statement code step ob at below s).mode ≡ false
+    → Keeps (old ∷ below) (after_statement code step ob at below s).activations place
+statement_keeps code old (Went a w) ob at below s place were there on =
+    replaced old a below place there
+statement_keeps code old (Ended regs w) ob at below s place were there on =
+    subst (λ (acts : List Activation). Keeps (old ∷ below) acts place)
+    (sym (ended_same ob (with_activations w below s))) (fallen old below place there)
+statement_keeps code old (SyncError error a) ob at below s place were there on =
+    failed_keeps code old error at a below s place there on
+statement_keeps code old (SysCall number given a) ob at below s place were there on =
+    serves_keeps old at (served number given.inputs s.sched a) given.result below s place there on
+statement_keeps code old (Stop cause) ob at below s place were there on = absurd cc
+statement_keeps code old Stuck ob at below s place were there on =
+    subst (λ (acts : List Activation). Keeps (old ∷ below) acts place) (sym were)
+    (stays (old ∷ below) place (omega (arith, there)))
+
+stepped_on_keeps : (code : Code) (acts : List Activation) (s : State) (place : ℕ)
+    → s.activations ≡ acts → place + 1 < length acts
+    → is_stop (stepped_on code acts s).mode ≡ false
+    → Keeps acts (stepped_on code acts s).activations place
+stepped_on_keeps code [] s place were there on = absurd (omega (arith, there))
+stepped_on_keeps code (a ∷ below) s place were there on =
+    statement_keeps code a (statement code a s.world) a.ob (spot_of code a.running.frame) below s
+    place were (omega (arith, there)) on
+
+stepped_keeps : (code : Code) (s : State) (place : ℕ) → place + 1 < length s.activations
+    → is_stop (stepped code s).mode ≡ false
+    → Keeps s.activations (stepped code s).activations place
 unfolding stepped
-stepped-keeps c s place inside goes_on = stepped_on-keeps c s s.activations place refl inside goes_on
+stepped_keeps code s place there on =
+    stepped_on_keeps code s.activations s place refl there on
 
-after_arrival-keeps : (c : Code) (s : State) (ob : ℕ) (information : StartInformation) (a : Arrival) (place : ℕ)
-    → place + 1 < length s.activations → is_stop (after_arrival c s ob information a).mode ≡ false
-    → Keeps s.activations (after_arrival c s ob information a).activations place
-after_arrival-keeps c s ob information Queued place inside goes_on = (omega arith, refl)
-after_arrival-keeps c s ob information Dropped place inside goes_on = (omega arith, refl)
-after_arrival-keeps c s ob information NotLoaded place inside goes_on = cc
-after_arrival-keeps c s ob information Full place inside goes_on = cc
+-- ---- requests and time
 
-arrived-keeps : (c : Code) (s : State) (ob : ℕ) (information : StartInformation) (place : ℕ)
-    → place + 1 < length s.activations → is_stop (arrived c s ob information).mode ≡ false
-    → Keeps s.activations (arrived c s ob information).activations place
+each_same : (records : List (ℕ × ℕ)) (s : State)
+    → (each_diagnosed records s).activations ≡ s.activations
+each_same [] s = refl
+each_same (one ∷ rest) s = each_same rest (diagnosed one.0 one.1 s)
+
+stopped_keeps : (code : Code) (cause : Option ℕ) (s : State) (place : ℕ)
+    → place < length s.activations → is_stop (stopped_if code cause s).mode ≡ false
+    → Keeps s.activations (stopped_if code cause s).activations place
+unfolding halted
+stopped_keeps code None s place there on = stays s.activations place there
+stopped_keeps code (Some cause) s place there on = absurd cc
+
+course_keeps : (code : Code) (c : Course) (s : State) (place : ℕ)
+    → place < length s.activations → is_stop (course_taken code c s).mode ≡ false
+    → Keeps s.activations (course_taken code c s).activations place
+course_keeps code c s place there on =
+    let recorded : State = each_diagnosed c.passed.records.items (record s { sched = c.sched }) in
+    let same : recorded.activations ≡ s.activations =
+    each_same c.passed.records.items (record s { sched = c.sched }) in
+    subst (λ (acts : List Activation). Keeps acts (course_taken code c s).activations place) same
+    (stopped_keeps code c.passed.stop recorded place
+    (subst (λ (acts : List Activation). place < length acts) (sym same) there) on)
+
+arrived_keeps : (code : Code) (ob value : ℕ) (s : State) (place : ℕ)
+    → place < length s.activations → is_stop (arrived code ob value s).mode ≡ false
+    → Keeps s.activations (arrived code ob value s).activations place
 unfolding arrived
-arrived-keeps c s ob information place inside goes_on =
-    after_arrival-keeps c s ob information (arrival c s ob) place inside goes_on
+arrived_keeps code ob value s place there on = by (is_stop s.mode) on
+  where
+    course : Course
+    course = requested s.mode ob (start_info (Arrival ob value) (class_in s.mode ob)) (begun s.sched)
 
-if_stop-keeps : (s t : State) (place : ℕ) (b : Bool)
-    → place + 1 < length s.activations → (is_stop t.mode ≡ false → Keeps s.activations t.activations place)
-    → is_stop (cond b s t).mode ≡ false → Keeps s.activations (cond b s t).activations place
-if_stop-keeps s t place true inside keeps goes_on = (omega arith, refl)
-if_stop-keeps s t place false inside keeps goes_on = keeps goes_on
+    by : (b : Bool) → is_stop (if b then s else course_taken code course s).mode ≡ false
+        → Keeps s.activations (if b then s else course_taken code course s).activations place
+    by true on = stays s.activations place there
+    by false on = course_keeps code course s place there on
 
-effect-keeps : (c : Code) (s : State) (e : What) (place : ℕ)
-    → place + 1 < length s.activations → is_stop (effect c s e).mode ≡ false → Keeps s.activations (effect c s e).activations place
-effect-keeps c s Step place inside goes_on =
-    if_stop-keeps s (stepped c s) place (is_stop s.mode) inside (stepped-keeps c s place inside) goes_on
-effect-keeps c s (Input byte value) place inside goes_on = (omega arith, refl)
-effect-keeps c s (Arrive ob value) place inside goes_on = arrived-keeps c s ob (record { value = value }) place inside goes_on
+time_keeps : (code : Code) (ms : ℕ) (s : State) (place : ℕ)
+    → place < length s.activations → is_stop (time_passed code ms s).mode ≡ false
+    → Keeps s.activations (time_passed code ms s).activations place
+unfolding time_passed
+time_keeps code ms s place there on =
+    course_keeps code course (record s { world = timers_moved course.passed.ms s.world }) place there on
+  where
+    course : Course
+    course = ticked s.mode (active s.activations) ms s.sched
 
-state_after-keeps : (c : Code) (s : State) (e : What) (place : ℕ)
-    → place + 1 < length s.activations → is_stop (state_after c s e).mode ≡ false
-    → standing (state_after c s e).activations place ≡ standing s.activations place
+-- ---- entries
+
+effect_keeps : (code : Code) (w : What) (s : State) (place : ℕ)
+    → place + 1 < length s.activations → is_stop (effect code w s).mode ≡ false
+    → Keeps s.activations (effect code w s).activations place
+effect_keeps code entry.Step s place there on = by (is_stop s.mode) on
+  where
+    by : (b : Bool) → is_stop (if b then s else stepped code s).mode ≡ false
+        → Keeps s.activations (if b then s else stepped code s).activations place
+    by true on = stays s.activations place (omega (arith, there))
+    by false on = stepped_keeps code s place there on
+effect_keeps code (entry.Input byte value) s place there on =
+    stays s.activations place (omega (arith, there))
+effect_keeps code (entry.Arrive ob value) s place there on =
+    arrived_keeps code ob value s place (omega (arith, there)) on
+effect_keeps code (entry.Tick ms) s place there on =
+    time_keeps code ms s place (omega (arith, there)) on
+
+state_keeps : (code : Code) (w : What) (s : State) (place : ℕ)
+    → place + 1 < length s.activations → is_stop (state_after code w s).mode ≡ false
+    → standing (state_after code w s).activations place ≡ standing s.activations place
 unfolding state_after
-state_after-keeps c s e place inside goes_on =
-    let on : is_stop (effect c s e).mode ≡ false = sym (ap is_stop (settled-mode (effect c s e))) ∙ goes_on in
-    let kept : Keeps s.activations (effect c s e).activations place = effect-keeps c s e place inside on in
-    (settled-keeps (effect c s e) place kept.0).1 ∙ kept.1
+state_keeps code w s place there on =
+    let next : State = effect code w (counted s) in
+    let goes_on : is_stop next.mode ≡ false = sym (ap is_stop (settled_mode code next)) ∙ on in
+    let kept : Keeps s.activations next.activations place =
+    effect_keeps code w (counted s) place there goes_on in
+    (settled_keeps code next place kept.there).same ∙ kept.same
+
+-- ---- histories
 
 -- a replay of one more entry
-replay-++ : ContinuesReplay → (c : Code) (es : List Entry) (e : Entry) → replay c (es ++ e ∷ []) ≡ state_after c (replay c es) e.what
+replay_more : ContinuesReplay → (code : Code) (history : List What) (w : What)
+    → replay code (history ++ w ∷ []) ≡ state_after code w (replay code history)
 unfolding happens
-replay-++ continues c es e = ap (λ (h : Happened). h.state) (continues c es e)
-
--- some entry
-abbrev some_entry : Entry
-some_entry = record { who = 1; what = Step }
+replay_more continues code history w = continues code history w
 
 -- the state after one more of the entries
-after-suc : ContinuesReplay → (c : Code) (es : List Entry) (k : ℕ) → k < length es
-    → after c es (k + 1) ≡ state_after c (after c es k) (get_or es k some_entry).what
-after-suc continues c es k inside =
-    ap (λ (fs : List Entry). replay c fs) (take_more es k some_entry inside)
-    ∙ replay-++ continues c (take k es) (get_or es k some_entry)
+after_one : ContinuesReplay → (code : Code) (history : List What) (k : ℕ) → k < length history
+    → after code history (k + 1)
+    ≡ state_after code (get_or history k entry.Step) (after code history k)
+after_one continues code history k inside =
+    ap (replay code) (take_more history k entry.Step inside)
+    ∙ replay_more continues code (take k history) (get_or history k entry.Step)
 
-same_next : ContinuesReplay → (c : Code) (es : List Entry) (place k : ℕ) → k < length es
-    → place + 1 < length (after c es k).activations → is_stop (after c es (k + 1)).mode ≡ false
-    → standing (after c es (k + 1)).activations place ≡ standing (after c es k).activations place
-same_next continues c es place k inside suspended goes_on =
-    let e : What = (get_or es k some_entry).what in
-    let next : after c es (k + 1) ≡ state_after c (after c es k) e = after-suc continues c es k inside in
-    let on : is_stop (state_after c (after c es k) e).mode ≡ false =
-    sym (ap (λ (s : State). is_stop s.mode) next) ∙ goes_on in
-    ap (λ (s : State). standing s.activations place) next ∙ state_after-keeps c (after c es k) e place suspended on
+same_next : ContinuesReplay → (code : Code) (history : List What) (place k : ℕ)
+    → k < length history → place + 1 < length (after code history k).activations
+    → is_stop (after code history (k + 1)).mode ≡ false
+    → standing (after code history (k + 1)).activations place
+    ≡ standing (after code history k).activations place
+same_next continues code history place k inside suspended goes_on =
+    let w : What = get_or history k entry.Step in
+    let next : after code history (k + 1) ≡ state_after code w (after code history k)
+    = after_one continues code history k inside in
+    let on : is_stop (state_after code w (after code history k)).mode ≡ false
+    = sym (ap (λ (s : State). is_stop s.mode) next) ∙ goes_on in
+    ap (λ (s : State). standing s.activations place) next
+    ∙ state_keeps code w (after code history k) place suspended on
 
-same_after : ContinuesReplay → (c : Code) (es : List Entry) (place first last : ℕ) → IsSuspended c es place first last
-    → (j : ℕ) → first + j ≤ last
-    → standing (after c es (first + j)).activations place ≡ standing (after c es first).activations place
-same_after continues c es place first last is zero within =
-    let e : first + zero ≡ first = omega arith in ap (λ (k : ℕ). standing (after c es k).activations place) e
-same_after continues c es place first last is (suc j) within =
+same_after : ContinuesReplay → (code : Code) (history : List What) (place first last : ℕ)
+    → IsSuspended code history place first last → (j : ℕ) → first + j ≤ last
+    → standing (after code history (first + j)).activations place
+    ≡ standing (after code history first).activations place
+same_after continues code history place first last is zero within =
+    let e : first + zero ≡ first = omega arith in
+    ap (λ (k : ℕ). standing (after code history k).activations place) e
+same_after continues code history place first last is (suc j) within =
     let e : first + suc j ≡ first + j + 1 = omega arith in
-    let final : last ≤ length es = is.within in
-    ap (λ (k : ℕ). standing (after c es k).activations place) e
-    ∙ same_next
-    continues
-    c
-    es
-    place
-    (first + j)
-    (omega arith)
+    let final : last ≤ length history = is.within in
+    ap (λ (k : ℕ). standing (after code history k).activations place) e
+    ∙ same_next continues code history place (first + j) (omega arith)
     (is.suspended (first + j) (omega arith) (omega arith))
     (is.goes_on (first + j + 1) (omega arith) (omega arith))
-    ∙ same_after continues c es place first last is j (omega arith)
+    ∙ same_after continues code history place first last is j (omega arith)
 
 -- the law of resumption, over any program
-pub resumes : ContinuesReplay → (c : Code) (es : List Entry) (place first last : ℕ) → IsSuspended c es place first last → Resumes c es place first last
-resumes continues c es place first last is k from to =
+resumes : ContinuesReplay → (code : Code) (history : List What) (place first last : ℕ)
+    → IsSuspended code history place first last → Resumes code history place first last
+resumes continues code history place first last is k from to =
     let e : first + (k - first) ≡ k = omega arith in
-    ap (λ (n : ℕ). standing (after c es n).activations place) (sym e) ∙ same_after continues c es place first last is (k - first) (omega arith)
+    ap (λ (n : ℕ). standing (after code history n).activations place) (sym e)
+    ∙ same_after continues code history place first last is (k - first) (omega arith)
+
+pub sources_resume : ContinuesReplay → SourcesResume
+sources_resume continues source symbols code history place first last means is =
+    resumes continues code history place first last is
+
+pub images_resume : ContinuesReplay → ImagesResume
+images_resume continues l history place first last is =
+    resumes continues (code_of l.program) history place first last is

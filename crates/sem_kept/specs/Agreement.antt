@@ -1,17 +1,24 @@
--- Two programs that can't be told apart by any history.
-use Rattle.std.specs.Prelude.{◌≡◌, ℕ, List, Option}
-use Rattle.var_access.specs.declared.Entry.{Entry}
-use Rattle.controller.specs.Code.{Code}
-use Rattle.controller.specs.Replay.{happened, replay}
-use Rattle.sem_kept.specs.Meaning.{MeansCode}
+-- A code that no history tells from what a source means.
+use Rattle.std.specs.Prelude.{◌≡◌, ℕ, List, Option, None, Ok}
+use Rattle.machine.specs.Code.{Code}
+use Rattle.machine.specs.Flat.{code_of}
+use Rattle.stl_ast.specs.declared.blocks.Tree.{Tree}
+use Rattle.stl_lexer.specs.declared.kinds.Token.{Token}
+use Rattle.stl_symbols.specs.Least.{least}
+use Rattle.stl_symbols.specs.Symbol.{Symbol}
+use Rattle.kept_code.specs.Kept.{IsKept}
+use Rattle.sem_kept.specs.Meaning.{HasSymbols, HasTokens, HasTree, refusals_of, program_in, IsRunnable, MeansCode}
 
--- after each history the same mode with cause and place and the same memory; from its last entry the same reply and observations
-pub record Agree (c d : Code) : Type 0 where
-  pub mode : (es : List Entry) → (replay c es).mode ≡ (replay d es).mode
-  pub memory : (es : List Entry) → (replay c es).memory ≡ (replay d es).memory
-  pub reply : (es : List Entry) → (happened c es).reply ≡ (happened d es).reply
-  pub seen : (es : List Entry) → (happened c es).seen ≡ (happened d es).seen
+-- the source with these symbols means a code, and no history tells it from the one that runs
+abbrev pub RunsAs : (source : List ℕ) (symbols : Option (List ℕ)) → (running : Code) → Type 0
+RunsAs source symbols running =
+    (code : Code) × MeansCode source symbols code × IsKept code running
 
--- the source with these symbols means a program that no history tells from this one
-abbrev pub RunsAs : (source : List ℕ) (symbols : Option (List ℕ)) → Code → Type 0
-RunsAs source symbols running = (code : Code) × MeansCode source symbols code × Agree code running
+-- the program of a source that breaks no rule runs as the source means
+abbrev pub ProgramsRun : Type 0
+ProgramsRun =
+    (source : List ℕ) (symbols : Option (List ℕ)) (list : List Symbol) (tokens : List Token)
+    (tree : Tree)
+    → HasSymbols symbols (Ok list) → HasTokens source (Ok tokens) → HasTree source tokens (Ok tree)
+    → least (refusals_of list tree) ≡ None → IsRunnable (program_in list tree)
+    → RunsAs source symbols (code_of (program_in list tree))

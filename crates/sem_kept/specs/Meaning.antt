@@ -1,15 +1,30 @@
--- What a source means: a program by its statements, or a refusal.
-use Rattle.std.specs.Prelude.{ℕ, ◌≡◌, ◌⊎◌, List, Option, Some, None, Result, Ok, Err}
-use Rattle.plc_base.specs.declared.Refusal.{Refusal}
-use Rattle.stl_lexer.specs.declared.Token.{Token}
+-- What a source with its symbols means: the code of its statements, or a refusal.
+use Rattle.std.specs.Prelude.{ℕ, ◌≡◌, ◌⊎◌, List, [], ◌++◌, Option, Some, None, Result, Ok, Err}
+use Rattle.plc_base.specs.declared.refusals.Refusal.{Refusal}
+use Rattle.flat_code.specs.Image.{IsProgram}
+use Rattle.flat_code.specs.Loading.{Verifies}
+use Rattle.flat_code.specs.Programs.{Program}
+use Rattle.machine.specs.Code.{Code}
+use Rattle.stl_ast.specs.declared.blocks.Tree.{Tree}
+use Rattle.stl_lexer.specs.declared.kinds.Token.{Token}
 use Rattle.stl_lexer.specs.Tokens.{AreTokens, IsViolation as BreaksTokenRule}
-use Rattle.stl_ast.specs.declared.Tree.{Tree}
 use Rattle.stl_parser.specs.Source.{IsTree, IsViolation as BreaksClauseRule}
-use Rattle.controller.specs.declared.ThinOb.{ThinOb}
-use Rattle.controller.specs.Code.{Code}
+use Rattle.stl_symbols.specs.Least.{least}
+use Rattle.stl_symbols.specs.Symbol.{Symbol}
+use Rattle.stl_symbols.specs.Symbols.{symbols_of}
+use Rattle.block_layout.specs.Layouts.{layouts_of}
+use Rattle.block_layout.specs.Table.{layout_refusals}
+use Rattle.stl_types.specs.Table.{statement_refusals}
+use Rattle.stl_codegen.specs.Generated.{code_blocks_of, data_blocks_of, program_of}
+use Rattle.compiled_code.specs.Statements.{stated_code}
 use Rattle.sem_kept.specs.Stages.{InTurn}
-use Rattle.sem_kept.specs.Built.{program_of}
-use Rattle.sem_kept.specs.Tree.{tree_code}
+
+-- ---- stages
+
+-- the symbols of a symbols file, or its refusal; without a file there are none
+abbrev pub HasSymbols : Option (List ℕ) → Result (List Symbol) Refusal → Type 0
+HasSymbols None outcome = outcome ≡ Ok []
+HasSymbols (Some bytes) outcome = outcome ≡ symbols_of bytes
 
 -- the tokens of a source, or its first token that breaks a rule
 abbrev pub HasTokens : List ℕ → Result (List Token) Refusal → Type 0
@@ -21,47 +36,99 @@ abbrev pub HasTree : (source : List ℕ) → List Token → Result Tree Refusal 
 HasTree source tokens (Ok tree) = IsTree source tokens tree
 HasTree source tokens (Err refusal) = BreaksClauseRule source tokens refusal.line refusal.rule
 
--- a clause that isn't built is refused with rule 99
-abbrev pub built_code : Result (List ThinOb) ℕ → Result Code Refusal
-built_code (Ok program) = Ok (tree_code program)
-built_code (Err line) = Err (record { line = line; rule = 99 })
+-- what a tree breaks of the rules on layout and of those on statements
+abbrev pub refusals_of : List Symbol → Tree → List Refusal
+refusals_of symbols tree =
+    layout_refusals tree symbols ++ statement_refusals tree symbols (layouts_of tree symbols)
 
--- the statements of a tree by their numbers, or its first clause that isn't built
-abbrev pub HasCode : Tree → Result Code Refusal → Type 0
-HasCode tree outcome = outcome ≡ built_code (program_of tree)
+-- a tree that breaks none of them, or the least by line, then rule
+abbrev pub sound_by : Tree → Option Refusal → Result Tree Refusal
+sound_by tree None = Ok tree
+sound_by tree (Some refusal) = Err refusal
 
--- a source is judged by its tokens, its clauses, and what is built; there is no file of symbols yet
-unfoldable pub IsJudged : (source : List ℕ) (symbols : Option (List ℕ)) → Result Code Refusal → Type 0
-IsJudged source None outcome = InTurn HasTokens (InTurn (HasTree source) HasCode) source outcome
-IsJudged source (Some symbols) outcome = ⊥
+abbrev pub IsSound : List Symbol → Tree → Result Tree Refusal → Type 0
+IsSound symbols tree outcome = outcome ≡ sound_by tree (least (refusals_of symbols tree))
 
--- this source with these symbols means this program
+-- the program of a tree
+abbrev pub program_in : List Symbol → Tree → Program
+program_in symbols tree = program_of tree symbols (layouts_of tree symbols)
+
+-- its statements, by their numbers in each block
+abbrev pub code_in : List Symbol → Tree → Code
+code_in symbols tree =
+    stated_code (code_blocks_of tree symbols (layouts_of tree symbols))
+    (data_blocks_of tree symbols (layouts_of tree symbols))
+
+-- a program has an image and verifies
+pub record IsRunnable (p : Program) : Type 0 where
+  pub is : IsProgram p
+  pub verifies : Verifies p
+
+-- a source without a program that runs is refused as a whole: by line 0, rule 99
+abbrev pub without_program : Refusal
+without_program = record { line = 0; rule = 99 }
+
+-- the statements of a tree, where its program runs
+abbrev pub HasCode : List Symbol → Tree → Result Code Refusal → Type 0
+HasCode symbols tree (Ok code) =
+    IsRunnable (program_in symbols tree) × (code ≡ code_in symbols tree)
+HasCode symbols tree (Err refusal) =
+    (IsRunnable (program_in symbols tree) → ⊥) × (refusal ≡ without_program)
+
+-- ---- in turn
+
+-- a source with these symbols is judged by its tokens, its clauses, its layout together with its
+-- statements, and its program
+abbrev pub IsJudgedWith : (source : List ℕ) → List Symbol → Result Code Refusal → Type 0
+IsJudgedWith source symbols outcome =
+    InTurn HasTokens (InTurn (HasTree source) (InTurn (IsSound symbols) (HasCode symbols)))
+    source outcome
+
+-- a refusal is that of the symbols file or that of the source
+pub data Refused : Type 0 where
+  InSymbols : (refusal : Refusal) → Refused
+  InSource : (refusal : Refusal) → Refused
+
+-- the symbols are judged first, and then the source with them
+unfoldable pub IsJudged :
+    (source : List ℕ) (symbols : Option (List ℕ)) → Result Code Refused → Type 0
+IsJudged source symbols (Ok code) =
+    (list : List Symbol) × HasSymbols symbols (Ok list) × IsJudgedWith source list (Ok code)
+IsJudged source symbols (Err (InSymbols refusal)) = HasSymbols symbols (Err refusal)
+IsJudged source symbols (Err (InSource refusal)) =
+    (list : List Symbol) × HasSymbols symbols (Ok list) × IsJudgedWith source list (Err refusal)
+
+-- this source with these symbols means this code
 abbrev pub MeansCode : (source : List ℕ) (symbols : Option (List ℕ)) → Code → Type 0
 MeansCode source symbols code = IsJudged source symbols (Ok code)
 
--- this source with these symbols is refused by this line and rule
-abbrev pub IsRefusedSource : (source : List ℕ) (symbols : Option (List ℕ)) → Refusal → Type 0
-IsRefusedSource source symbols refusal = IsJudged source symbols (Err refusal)
+-- this source with these symbols is refused so
+abbrev pub IsRefusedSource : (source : List ℕ) (symbols : Option (List ℕ)) → Refused → Type 0
+IsRefusedSource source symbols refused = IsJudged source symbols (Err refused)
 
--- a source means one program at most
+-- ---- laws
+
+-- a source means one code at most
 abbrev pub IsMeaningUnique : Type 0
 IsMeaningUnique =
-    (source : List ℕ) (symbols : Option (List ℕ)) (c d : Code) → MeansCode source symbols c → MeansCode source symbols d → c ≡ d
+    (source : List ℕ) (symbols : Option (List ℕ)) (c d : Code)
+    → MeansCode source symbols c → MeansCode source symbols d → c ≡ d
 
 -- none where it is refused
 abbrev pub ExcludesRefusal : Type 0
 ExcludesRefusal =
-    (source : List ℕ) (symbols : Option (List ℕ)) (code : Code) (refusal : Refusal) → MeansCode source symbols code
-    → IsRefusedSource source symbols refusal → ⊥
+    (source : List ℕ) (symbols : Option (List ℕ)) (code : Code) (refused : Refused)
+    → MeansCode source symbols code → IsRefusedSource source symbols refused → ⊥
 
 -- and it is refused in one way at most
 abbrev pub IsRefusalUnique : Type 0
 IsRefusalUnique =
-    (source : List ℕ) (symbols : Option (List ℕ)) (r s : Refusal) → IsRefusedSource source symbols r
-    → IsRefusedSource source symbols s → r ≡ s
+    (source : List ℕ) (symbols : Option (List ℕ)) (r s : Refused)
+    → IsRefusedSource source symbols r → IsRefusedSource source symbols s → r ≡ s
 
--- each source without a file of symbols means a program or is refused
+-- each source means a code or is refused
 abbrev pub IsTotal : Type 0
 IsTotal =
-    (source : List ℕ) →
-    ((code : Code) × MeansCode source None code) ⊎ ((refusal : Refusal) × IsRefusedSource source None refusal)
+    (source : List ℕ) (symbols : Option (List ℕ))
+    → ((code : Code) × MeansCode source symbols code)
+    ⊎ ((refused : Refused) × IsRefusedSource source symbols refused)

@@ -1,5 +1,5 @@
 -- The program of a source that breaks no rule.
-use Rattle.std.specs.Prelude.{ℕ, suc, ◌+◌, ◌/◌, ◌%◌, nat_eq, nat_lt, Bool, true, false, ◌&&◌, ◌||◌, List, [], ◌∷◌, ◌++◌, map, flat_map, Option, Some, None, if◌then◌else◌, slice_get}
+use Rattle.std.specs.Prelude.{ℕ, suc, ◌+◌, ◌/◌, ◌%◌, Bool, true, false, ◌&&◌, ◌||◌, List, [], ◌∷◌, ◌++◌, map, flat_map, Option, Some, None, if◌then◌else◌, slice_get}
 use Rattle.std.specs.Option.{option_and_then}
 use Rattle.plc_base.specs.declared.blocks.BlockId.{BlockId}
 use Rattle.plc_base.specs.declared.blocks.BlockKind.{BlockKind}
@@ -7,7 +7,6 @@ use Rattle.plc_base.specs.declared.blocks.BlockKind.TheVariants as kinds
 use Rattle.plc_base.specs.declared.places.Area.{Area}
 use Rattle.plc_base.specs.declared.places.Area.TheVariants as area
 use Rattle.plc_base.specs.declared.places.Width.{Width}
-use Rattle.flat_code.specs.Faults.{is_before}
 use Rattle.flat_code.specs.Instr.{Returns}
 use Rattle.flat_code.specs.Names.{upper_case}
 use Rattle.flat_code.specs.Programs.{DataBlock, NameEntry, Program}
@@ -38,6 +37,7 @@ use Rattle.stl_types.specs.Context.{Context}
 use Rattle.stl_ast.specs.Blocks.{is_parameter}
 use Rattle.stl_codegen.specs.Compiled.{Stated, StatedBlock, compiled}
 use Rattle.stl_codegen.specs.Instruction.{instruction, in_order}
+use Rattle.stl_codegen.specs.Order.{is_code_before, is_data_before, is_name_before, sorted}
 
 -- ---- statements
 
@@ -137,34 +137,6 @@ each_block of c [] ls = []
 each_block of c (b ∷ bs) [] = []
 each_block of c (b ∷ bs) (l ∷ ls) =
     of c b l ++ each_block of (record c { block = suc c.block }) bs ls
-
--- ---- in order
-
--- kinds in the order of an image: organization blocks, functions, function blocks
-abbrev pub rank : BlockKind → ℕ
-rank kinds.Ob = 1
-rank kinds.Fc = 2
-rank _ = 3
-
-abbrev pub is_code_before : StatedBlock → StatedBlock → Bool
-is_code_before a b =
-    nat_lt (rank a.id.kind) (rank b.id.kind)
-    || nat_eq (rank a.id.kind) (rank b.id.kind) && nat_lt a.id.number b.id.number
-
-abbrev pub is_data_before : DataBlock → DataBlock → Bool
-is_data_before a b = nat_lt a.number b.number
-
-abbrev pub is_name_before : NameEntry → NameEntry → Bool
-is_name_before a b = is_before a.name b.name
-
--- in front of the first one that comes behind it
-abbrev pub inserted : {A : Type 0} → (A → A → Bool) → A → List A → List A
-inserted before x [] = x ∷ []
-inserted before x (y ∷ ys) = if before x y then x ∷ y ∷ ys else y ∷ inserted before x ys
-
-unfoldable pub sorted : {A : Type 0} → (A → A → Bool) → List A → List A
-sorted before [] = []
-sorted before (x ∷ xs) = inserted before x (sorted before xs)
 
 -- ---- names
 

@@ -4,4 +4,8 @@ pub mod Passed
 pub mod Instruction
 pub mod Emitted
 pub mod Compiled
+pub mod Order
+pub mod Places
 pub mod Generated
+pub mod Fitting
+pub mod Bodies

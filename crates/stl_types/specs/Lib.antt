@@ -15,5 +15,6 @@ pub mod Landings
 pub mod Parameters
 pub mod Actuals
 pub mod Calls
+pub mod Joined
 pub mod Table
 pub mod Resolved

@@ -17,7 +17,7 @@ use crate::views::{Side, View};
 use plc_base::Width;
 use stl_ast::{PartKind, Simple};
 
-fn is_input_section(section: PartKind) -> bool
+pub(crate) fn is_input_section(section: PartKind) -> bool
     ensures { result ≡ is_input_section section }
 {
     matches!(section, PartKind::Input)

@@ -20,7 +20,7 @@ use std::alloc::{AllocError, Global};
 use stl_ast::{Actual, Mnemonic, Statement};
 use stl_symbols::{Names, broken_if, lesser, try_least_of};
 
-fn is_named(upper: &[u8], formal: &Formal) -> bool
+pub(crate) fn is_named(upper: &[u8], formal: &Formal) -> bool
     ensures { result ≡ bytes_eq upper.now formal.now.name }
 {
     upper == formal.name.as_bytes()

@@ -4,18 +4,31 @@
 
 mod actuals;
 mod brackets;
+mod call_walks;
+mod callees;
 mod calls;
+mod checking;
 mod constants;
 mod forms;
+mod instances;
 mod kinds;
 mod labels;
 mod landings;
 mod lists;
+mod misfits;
 mod operands;
 mod parameters;
+mod resolving;
+mod scopes;
+mod seeing;
+mod system_functions;
+mod unknown;
+mod variables;
 mod views;
 
 pub use brackets::Bracket;
+pub use checking::{Checked, check};
 pub use forms::Form;
-pub use parameters::Formal;
+pub use parameters::{Callee, Formal};
+pub use scopes::Scope;
 pub use views::{Register, Seen, Side, View};

@@ -12,10 +12,10 @@ pub struct Formal {
 
 /// A block that is called, with its parameters; `place` is that of a block of the source.
 #[derive(Drop)]
-pub(crate) struct Callee {
-    pub(crate) id: BlockId,
-    pub(crate) place: Option<usize>,
-    pub(crate) formals: Vec<Formal>,
+pub struct Callee {
+    pub id: BlockId,
+    pub place: Option<usize>,
+    pub formals: Vec<Formal>,
 }
 
 impl Model for Callee {

@@ -13,6 +13,8 @@ pub enum What {
     /// An interrupt arrives that requests an organization block, with a value for its start
     /// information.
     Arrive { ob: u16, value: u32 },
+    /// Milliseconds pass.
+    Tick { ms: u32 },
 }
 
 /// One entry of a history: the worker that makes it, from 1, and what happens.
@@ -30,7 +32,7 @@ pub enum Reply {
 
 impl Entry {
     /// Whether the entry's numbers are in their ranges: a worker from 1 on, an input byte that
-    /// exists, an organization block that an interrupt may request.
+    /// exists, an organization block that an interrupt may request, 1 to 60,000 milliseconds.
     pub fn is_valid(&self) -> bool
         ensures { IsTrue result ↔ IsValid self.now }
     {
@@ -39,6 +41,7 @@ impl Entry {
                 What::Step => true,
                 What::Input { byte, .. } => Area::P.has_byte(byte),
                 What::Arrive { ob, .. } => (10..18).contains(&ob) || (40..48).contains(&ob),
+                What::Tick { ms } => (1..=60_000).contains(&ms),
             }
     }
 }

@@ -5,12 +5,12 @@ use Rattle.image_file.proofs.SeatLemmas.{seats_next, seats_done}
 use Rattle.image_file.proofs.seats.seats_of.Goals as goal
 
 pub overflow_add-next : goal.overflow_add-next
-overflow_add-next c = omega (arith, c.op_size.ensures, c.requires, here_fits c.loop-op.at c.loop-op.op-index _ c.args.ops.now c.op-item.result c.loop-op-test.true c.op-item.is c.loop-op.invariant.left)
+overflow_add-next c = omega (arith, c.size.ensures.size, c.requires, here_fits c.loop-op.at c.loop-op.op-index _ c.args.ops.now c.op-item.result c.loop-op-test.true c.op-item.is c.loop-op.invariant.left)
 
 pub loop-op-preserved : goal.loop-op-preserved
 loop-op-preserved c =
-    let size_is = ap (λ k. c.loop-op.at + k) c.op_size.ensures in
-    let end = c.loop-op.at + c.op_size.result in
+    let size_is = ap (λ k. c.loop-op.at + k) c.size.ensures.size in
+    let end = c.loop-op.at + c.size.result in
     let left_lines = c.lines_behind-rest.result.now in
     record {
       all = ap (λ (b : Bool). c.push.new.self.items ++ seats_of end b (drop (c.loop-op.op-index + 1) c.args.ops.now) left_lines) c.is_last-begins.ensures

@@ -13,19 +13,19 @@ judge_op-least-requires-clause-room c =
     omega (arith, c.requires.room, ap (λ (z : List OpData). length (code_bytes z)) c.ops_from.ensures, room_here c.loop-i.at c.loop-i.i _ c.args.ops.now c.index-ops-i.result c.loop-i-test.true c.index-ops-i.is c.loop-i.invariant.left)
 
 pub overflow_add-at : goal.overflow_add-at
-overflow_add-at c = omega (arith, c.op_size-at.ensures, c.requires.room, here_fits c.loop-i.at c.loop-i.i _ c.args.ops.now c.index-ops-i.result c.loop-i-test.true c.index-ops-i.is c.loop-i.invariant.left)
+overflow_add-at c = omega (arith, c.size-at.ensures.size, c.requires.room, here_fits c.loop-i.at c.loop-i.i _ c.args.ops.now c.index-ops-i.result c.loop-i-test.true c.index-ops-i.is c.loop-i.invariant.left)
 
 pub loop-i-preserved : goal.loop-i-preserved
 loop-i-preserved c =
     let op = c.index-ops-i.result in
-    let size_is = ap (λ (k : ℕ). c.loop-i.at + k) c.op_size-at.ensures in
+    let size_is = ap (λ (k : ℕ). c.loop-i.at + k) c.size-at.ensures.size in
     record {
-      faults = faults_next (around_of c.args.around.now) c.args.statements.now c.args.start c.loop-i.at c.loop-i.i c.loop-i.stack.items c.open.new.stack.items c.loop-i.before.items c.prepare.new.before.items c.args.ops.now op c.loop-i.least c.judge_op-least.result (c.loop-i.at + c.op_size-at.result) c.loop-i-test.true c.index-ops-i.is
+      faults = faults_next (around_of c.args.around.now) c.args.statements.now c.args.start c.loop-i.at c.loop-i.i c.loop-i.stack.items c.open.new.stack.items c.loop-i.before.items c.prepare.new.before.items c.args.ops.now op c.loop-i.least c.judge_op-least.result (c.loop-i.at + c.size-at.result) c.loop-i-test.true c.index-ops-i.is
           (c.judge_op-least.ensures ∙ same_place (around_of c.args.around.now) _ c.args.statements.now c.args.start c.loop-i.at _ c.loop-i.stack.items _ c.loop-i.before.items op _ (drop (c.loop-i.i + 1) c.args.ops.now) c.loop-i.least refl c.deref.ensures.value c.deref-in-loop-i.ensures.value c.ops_from.ensures)
           size_is c.in_ok-open.ensures c.in_ok-prepare.ensures ∙ c.loop-i.invariant.faults;
-      open_ones = open_next c.loop-i.at c.loop-i.i (c.loop-i.at + c.op_size-at.result) c.loop-i.stack.items c.open.new.stack.items c.args.ops.now op c.loop-i-test.true c.index-ops-i.is size_is c.in_ok-open.ensures ∙ c.loop-i.invariant.open_ones;
+      open_ones = open_next c.loop-i.at c.loop-i.i (c.loop-i.at + c.size-at.result) c.loop-i.stack.items c.open.new.stack.items c.args.ops.now op c.loop-i-test.true c.index-ops-i.is size_is c.in_ok-open.ensures ∙ c.loop-i.invariant.open_ones;
       left = left_next c.loop-i.at c.loop-i.i _ _ c.args.ops.now op c.loop-i-test.true c.index-ops-i.is size_is c.loop-i.invariant.left;
-      within = up_to_next c.loop-i.at (c.loop-i.at + c.op_size-at.result) op.code c.loop-i.stack.items c.open.new.stack.items (omega arith) c.in_ok-open.ensures c.loop-i.invariant.within;
+      within = up_to_next c.loop-i.at (c.loop-i.at + c.size-at.result) op.code c.loop-i.stack.items c.open.new.stack.items (omega arith) c.in_ok-open.ensures c.loop-i.invariant.within;
     }
 
 pub returns : goal.returns

@@ -1,36 +1,46 @@
-use Rattle.std.proofs.Common.{ap, refl, ◌∙◌, subst, List, [], ◌∷◌, ℕ, Vec, Global, None, Ok, Err}
+use Rattle.std.proofs.Common.{ap, refl, sym, ◌∙◌, List, [], ℕ, Option, Ok, Err, append-nil}
+use Rattle.std.specs.Option.{option_map}
 use Rattle.std.proofs.lemmas.Result.{err_from_is_err_and}
-use Rattle.controller.specs.declared.ThinOb.{ThinOb}
-use Rattle.controller.specs.ThinCode.{thin_code}
-use Rattle.sem_kept.specs.Agreement.{RunsAs}
-use Rattle.s7_cli.specs.Command.{Check}
+use Rattle.plc_io.specs.Contents.{Contents}
+use Rattle.image_file.specs.Loaded.{LoadedProgram}
+use Rattle.s7_cli.specs.Answer.{Answer}
+use Rattle.s7_cli.specs.Command.{Check, Input, program_inputs}
 use Rattle.s7_cli.specs.Lines.{ok_line}
-use Rattle.s7_cli.proofs.ComesLemmas.{comes-unread, comes-refused, comes-written, read-none, one-read}
+use Rattle.s7_cli.specs.Says.{CheckSays}
+use Rattle.s7_cli.specs.Texts.{contents_of, symbols_of}
+use Rattle.s7_cli.proofs.ComesLemmas.{comes-unread, comes-refused, comes-written}
+use Rattle.s7_cli.proofs.SaysLemmas.{check-said, within}
 use Rattle.s7_cli.proofs.checking.check.Goals as goal
 
-pub returns-in_err-source : goal.returns-in_err-source
-returns-in_err-source g c =
+pub returns-in_err-text : goal.returns-in_err-text
+returns-in_err-text g c =
     let fault = err_from_is_err_and c.from_residual.result c.from_residual.ensures.1 in
-    comes-unread (λ (v : Vec ℕ Global). v.items) (Check _) _ _ _ _ [] [] _ [] _ _ refl (fault.1 ∙ ap Err fault.2) (read-none _) c.in_err-source.ensures
+    let symbols : Option (List ℕ) = option_map (λ s. s.now) c.args.symbols in
+    let inputs : List Input = program_inputs c.args.src.now symbols in
+    comes-unread contents_of (Check c.args.src.now symbols) _ _ _ inputs [] _ _ (sym (append-nil inputs)) (fault.1 ∙ ap Err fault.2) c.in_err-text.ensures
 
-pub judge_source-requires : goal.judge_source-requires
-judge_source-requires g c = rw c.deref.ensures.value c.in_ok-source.ensures.1.within
+pub judge_program-requires : goal.judge_program-requires
+judge_program-requires g c =
+    within (g.F.Files.shown c.args.files.now).contents c.args.src.now (option_map (λ s. s.now) c.args.symbols) c.in_ok-text.text c.in_ok-text.ensures.hold
 
-pub returns-in_err-judge_source : goal.returns-in_err-judge_source
-returns-in_err-judge_source g c =
-    let fault = err_from_is_err_and c.from_residual-in_err-judge_source.result c.from_residual-in_err-judge_source.ensures.1 in
-    comes-refused (List ThinOb) (Check _) _ _ _ _ _ _ _ (fault.1 ∙ ap Err fault.2)
-    (one-read _ _ _ c.in_ok-source.source.items c.in_ok-source.ensures)
-    (ap (λ (b : List ℕ). b ∷ []) c.deref.ensures.value)
-    c.in_err-judge_source.ensures.refused
+pub returns-in_err-judge_program : goal.returns-in_err-judge_program
+returns-in_err-judge_program g c =
+    let fault = err_from_is_err_and c.from_residual-in_err-judge_program.result c.from_residual-in_err-judge_program.ensures.1 in
+    let symbols : Option (List ℕ) = option_map (λ s. s.now) c.args.symbols in
+    let contents : Contents = (g.F.Files.shown c.args.files.now).contents in
+    let text = c.in_ok-text.text in
+    comes-refused LoadedProgram (Check c.args.src.now symbols) _ _ _ (contents_of text)
+    (CheckSays text.source.items (symbols_of text)) _ _ (fault.1 ∙ ap Err fault.2) c.in_ok-text.ensures
+    (λ (a : Answer) said. check-said contents c.args.src.now symbols text.source.items (symbols_of text) a c.in_ok-text.ensures.hold.1 said)
+    c.in_err-judge_program.ensures.refused
 
 pub returns : goal.returns
 unfolding ok_line
 returns g c =
-    let running = thin_code c.in_ok-judge_source.field-0 in
-    let runs = subst (λ (b : List ℕ). RunsAs b None running) c.deref.ensures.value c.in_ok-judge_source.ensures.runs in
-    comes-written (Check _) _ _ _ _ ok_line _ _ refl
-    (one-read _ _ _ c.in_ok-source.source.items c.in_ok-source.ensures)
-    (Ok runs.0, runs.1, refl)
-    refl
+    let symbols : Option (List ℕ) = option_map (λ s. s.now) c.args.symbols in
+    let contents : Contents = (g.F.Files.shown c.args.files.now).contents in
+    let text = c.in_ok-text.text in
+    let runs = c.in_ok-judge_program.ensures.runs in
+    comes-written (Check c.args.src.now symbols) _ _ _ (contents_of text) ok_line _ refl c.in_ok-text.ensures
+    (check-said contents c.args.src.now symbols text.source.items (symbols_of text) _ c.in_ok-text.ensures.hold.1 (Ok runs.0, runs.1, refl))
     c.write_text.ensures

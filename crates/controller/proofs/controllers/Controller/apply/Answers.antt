@@ -1,45 +1,46 @@
-use Rattle.std.proofs.Common.{rules, arith, ◌≡◌, sym, ◌∙◌, ap, List, ◌++◌, ◌∷◌, [], ℕ, ◌+◌, vec_len, Option}
+use Rattle.std.proofs.Common.{rules, ◌≡◌, ◌++◌, ◌∷◌, [], List, ap, sym, ◌∙◌}
+use Rattle.flat_code.specs.Programs.{Program}
+use Rattle.machine.specs.Code.{Code}
+use Rattle.machine.specs.Flat.{code_of}
 use Rattle.var_access.specs.declared.Entry.{Entry}
-use Rattle.plc_mem.specs.Areas.{PeripheralBytes}
-use Rattle.controller.specs.ChangedOutputs.{changed_outputs}
-use Rattle.controller.specs.Code.{Code}
-use Rattle.controller.specs.State.{State}
-use Rattle.controller.specs.Event.{state_after}
-use Rattle.plc_base.specs.declared.Mode.{Mode}
-use Rattle.controller.specs.declared.observing.Observed.{Observed}
-use Rattle.controller.specs.Replay.{nothing_shown, happened, replay}
-use Rattle.controller.specs.Processing.{state_of}
-use Rattle.controller.specs.ThinCode.{thin_code}
-use Rattle.controller.proofs.ReplayLemmas.{state_next, seen_next}
-use Rattle.controller.proofs.CountLemmas.{arrivals_rise}
+use Rattle.cpu.specs.Replay.{happens, last_seen, replay}
+use Rattle.cpu.specs.Shown.{watched}
+use Rattle.cpu.specs.State.{State}
+use Rattle.cpu.specs.Views.{state_of}
+use Rattle.cpu.specs.declared.Observed.{Observed}
+use Rattle.controller.specs.Replayed.{events}
+use Rattle.controller.proofs.ReplayLemmas.{fits_next, observer_next, seen_next, state_next}
 use Rattle.controller.proofs.controllers.Controller.apply.Goals as goal
+
+pub happen-reply-requires-clause-ready : goal.happen-reply-requires-clause-ready
+happen-reply-requires-clause-ready c =
+    c.what_runs_goes_on.ensures.ready c.self.inside.program.program (state_of c.self.inside.cpu)
+    c.self.invariant.verifies c.self.invariant.fit
 
 pub invariant_of-self : goal.invariant_of-self
 invariant_of-self c =
-    let code : Code = thin_code c.self.inside.program in
+    let p : Program = c.self.inside.program.program in
+    let code : Code = code_of p in
+    let history : List Entry = c.self.inside.history.items in
     let s : State = state_of c.self.inside.cpu in
-    let t : State = state_of c.enter.new.self in
-    let items : c.push-pushed.new.self.items ≡ c.self.inside.history.items ++ c.args.e ∷ [] = search rules in
-    let len : vec_len c.push-pushed.new.self ≡ vec_len c.self.inside.history + 1 = search rules in
-    let outputs : c.add_changes.new.self ≡ changed_outputs s.memory.peripheral_outputs t.memory.peripheral_outputs =
-    c.add_changes.ensures
-    ∙ ap (λ (old : PeripheralBytes). changed_outputs old c.outputs.result.now) c.self.invariant.shown
-    ∙ ap (λ (new : PeripheralBytes). changed_outputs s.memory.peripheral_outputs new) c.outputs.ensures in
-    let seen : List (ℕ × ℕ) → Option Mode → Observed = λ o m. record nothing_shown { outputs = o; mode = m } in
-    let count : t.requests.arrivals ≡ (state_after code s c.args.e.what).requests.arrivals =
-    ap (λ (u : State). u.requests.arrivals) c.enter.ensures in
+    let t : State = state_of c.happen-reply.new.self in
+    let items : c.push-pushed.new.self.items ≡ history ++ c.args.e ∷ [] = search rules in
+    let seen : (happens code s c.args.e.what).seen ≡ last_seen code (events c.push-pushed.new.self.items) =
+    seen_next code history c.args.e s c.continues_replay.ensures.seen c.self.invariant.state
+    ∙ ap (λ (es : List Entry). last_seen code (events es)) (sym items) in
     record {
-      thin = c.self.invariant.thin;
+      verifies = c.self.invariant.verifies;
       state =
-          state_next code c.self.inside.history.items c.args.e s t c.self.invariant.state c.enter.ensures
-          ∙ ap (λ (es : List Entry). replay code es) (sym items);
-      seen =
-          seen_next code c.self.inside.history.items c.args.e s t _ c.self.invariant.state c.enter.ensures
-          (ap (λ (o : List (ℕ × ℕ)). seen o c.changed_mode-self-inside.result) outputs
-          ∙ ap (λ (m : Option Mode). seen (changed_outputs s.memory.peripheral_outputs t.memory.peripheral_outputs) m) c.changed_mode-self-inside.ensures)
-          ∙ ap (λ (es : List Entry). (happened code es).seen) (sym items);
-      shown = c.outputs-2.ensures;
-      few = omega (arith, count, len, arrivals_rise code s c.args.e.what, c.self.invariant.few);
+          state_next code history c.args.e s t c.continues_replay.ensures.state c.self.invariant.state c.happen-reply.ensures.state
+          ∙ ap (λ (es : List Entry). replay code (events es)) (sym items);
+      fit =
+          fits_next p s t c.args.e.what c.what_runs_goes_on.ensures.entry c.self.invariant.verifies c.requires.valid.1
+          c.self.invariant.fit c.happen-reply.ensures.state;
+      observer =
+          observer_next code s t c.args.e.what c.self.inside.observer c.look.new.self _ c.self.invariant.observer
+          c.look.ensures c.happen-reply.ensures.state
+          ∙ ap (λ (o : Observed). watched t o) seen;
+      numbers = c.self.invariant.numbers;
       room = search rules;
       bounded = search rules;
     }

@@ -1,6 +1,33 @@
-use Rattle.std.specs.List.{IsDistinct}
+use Rattle.std.proofs.Common.{rules, ◌≡◌, List, [], ap, sym, ◌∙◌}
+use Rattle.flat_code.specs.Programs.{Program}
+use Rattle.machine.specs.Code.{Code}
+use Rattle.machine.specs.Flat.{code_of}
+use Rattle.var_access.specs.declared.Entry.{Entry}
+use Rattle.cpu.specs.Replay.{last_seen, replay}
+use Rattle.cpu.specs.Shown.{nothing_shown, watched}
+use Rattle.cpu.specs.Start.{start}
+use Rattle.cpu.specs.State.{State}
+use Rattle.cpu.specs.Views.{state_of}
+use Rattle.cpu.specs.declared.Observed.{Observed}
+use Rattle.controller.specs.Replayed.{events}
+use Rattle.controller.proofs.ReplayLemmas.{none_seen, start_fits, starts}
 use Rattle.controller.proofs.controllers.Controller.new.Goals as goal
 
-pub new-requires : goal.new-requires
-unfolding IsDistinct
-new-requires c = tt
+pub invariant_of-result : goal.invariant_of-result
+invariant_of-result c =
+    let p : Program = c.args.program.program in
+    let code : Code = code_of p in
+    let s : State = state_of c.in_ok-cpu.cpu in
+    let started : s ≡ start code = c.in_ok-cpu.ensures in
+    let items : c.new.result.items ≡ [] = c.new.ensures.items in
+    let seen : nothing_shown ≡ last_seen code (events c.new.result.items) =
+    none_seen code ∙ ap (λ (es : List Entry). last_seen code (events es)) (sym items) in
+    record {
+      verifies = c.law_of_verifying.ensures;
+      state = started ∙ starts code ∙ ap (λ (es : List Entry). replay code (events es)) (sym items);
+      fit = start_fits p s c.what_runs_goes_on.ensures.start c.law_of_verifying.ensures started;
+      observer = c.new-observer.ensures ∙ ap (λ (o : Observed). watched s o) seen;
+      numbers = c.in_ok-numbers.ensures;
+      room = search rules;
+      bounded = search rules;
+    }

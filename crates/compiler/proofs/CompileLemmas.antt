@@ -1,0 +1,215 @@
+-- What the stages of compiling find, joined.
+use Rattle.std.proofs.Common.{◌≡◌, Bool, true, false, if◌then◌else◌, refl, sym, ap, subst, ◌∙◌, ℕ, List, [], ◌++◌, Option, Some, None, Result, Ok, Err, ◌⊎◌, inl, inr}
+use Rattle.std.specs.Option.{unwrap_or}
+use Rattle.plc_base.specs.declared.refusals.Refusal.{Refusal}
+use Rattle.plc_base.specs.declared.refusals.SourceFault.{SourceFault}
+use Rattle.plc_base.specs.declared.refusals.SourceFault.TheVariants as found
+use Rattle.flat_code.specs.Image.{IsProgram}
+use Rattle.flat_code.specs.Programs.{Program}
+use Rattle.image_file.specs.Laws.{VerifiesOrHasFault}
+use Rattle.image_file.specs.Loaded.{LoadedProgram}
+use Rattle.image_file.specs.Verifying.{IsFaultOf}
+use Rattle.image_file.specs.declared.faults.VerifyFault.{VerifyFault}
+use Rattle.machine.specs.Flat.{code_of}
+use Rattle.stl_ast.specs.declared.blocks.Tree.{Tree}
+use Rattle.stl_lexer.specs.declared.kinds.Token.{Token}
+use Rattle.stl_lexer.specs.Tokens.{AreTokens, IsRefused as AreNoTokens}
+use Rattle.stl_parser.specs.Source.{IsRefusedBy as IsRefusedTree}
+use Rattle.stl_symbols.specs.Least.{least, lesser, is_before}
+use Rattle.stl_symbols.specs.Symbol.{Symbol}
+use Rattle.stl_symbols.specs.Symbols.{symbols_of, with_lines, Reads}
+use Rattle.stl_symbols.proofs.LeastLemmas.{least-append}
+use Rattle.block_layout.specs.Layouts.{layouts_of}
+use Rattle.block_layout.specs.Table.{layout_refusals}
+use Rattle.block_layout.specs.declared.blocks.BlockLayout.{BlockLayout}
+use Rattle.stl_types.specs.Table.{statement_refusals, Checks}
+use Rattle.stl_codegen.specs.Generated.{program_of}
+use Rattle.sem_kept.specs.Agreement.{ProgramsRun, RunsAs}
+use Rattle.sem_kept.specs.Stages.{InTurn}
+use Rattle.sem_kept.specs.Meaning.{HasSymbols, HasTokens, HasTree, refusals_of, sound_by, IsSound, program_in, IsRunnable, without_program, HasCode, IsJudgedWith, InSymbols, InSource, IsJudged}
+use Rattle.compiler.specs.Compiling.{RefusesBy, Finds, fault_in_symbols, fault_in_source, IsRefusedBy, IsStopped, Lays, IsMadeOf, Makes}
+
+-- an empty symbols file has no symbols
+pub empty_file : symbols_of [] ≡ Ok []
+unfolding symbols_of with_lines
+empty_file = refl
+
+-- the lesser of a refusal and another is one
+one_of : (before : Bool) (r s : Refusal)
+    → (if before then Some s else Some r) ≡ Some (unwrap_or (if before then Some s else Some r) r)
+one_of true r s = refl
+one_of false r s = refl
+
+lesser_is : (r : Refusal) (other : Option Refusal)
+    → lesser (Some r) other ≡ Some (unwrap_or (lesser (Some r) other) r)
+unfolding lesser
+lesser_is r None = refl
+lesser_is r (Some s) = one_of (is_before s r) r s
+
+both : (symbols : List Symbol) (tree : Tree) (a b : Option Refusal)
+    → least (layout_refusals tree symbols) ≡ a
+    → least (statement_refusals tree symbols (layouts_of tree symbols)) ≡ b
+    → least (refusals_of symbols tree) ≡ lesser a b
+both symbols tree a b at_a at_b =
+    least-append (layout_refusals tree symbols)
+    (statement_refusals tree symbols (layouts_of tree symbols))
+    ∙ ap (λ (z : Option Refusal). lesser z (least (statement_refusals tree symbols (layouts_of tree symbols)))) at_a
+    ∙ ap (λ (z : Option Refusal). lesser a z) at_b
+
+pub refused_so : (symbols : List Symbol) (tree : Tree) (layouts : List BlockLayout) (r : Refusal)
+    (other : Option Refusal)
+    → least (layout_refusals tree symbols) ≡ Some r → layouts ≡ layouts_of tree symbols
+    → other ≡ least (statement_refusals tree symbols layouts)
+    → IsSound symbols tree (Err (unwrap_or (lesser (Some r) other) r))
+refused_so symbols tree layouts r other here laid there =
+    sym (ap (sound_by tree)
+    (both symbols tree (Some r) other here
+    (ap (λ (z : List BlockLayout). least (statement_refusals tree symbols z)) (sym laid) ∙ sym there)
+    ∙ lesser_is r other))
+
+pub sound_both : (symbols : List Symbol) (tree : Tree) (layouts : List BlockLayout)
+    → least (layout_refusals tree symbols) ≡ None → layouts ≡ layouts_of tree symbols
+    → least (statement_refusals tree symbols layouts) ≡ None
+    → least (refusals_of symbols tree) ≡ None
+unfolding lesser
+sound_both symbols tree layouts here laid there =
+    both symbols tree None None here
+    (ap (λ (z : List BlockLayout). least (statement_refusals tree symbols z)) (sym laid) ∙ there)
+
+pub refused_by_statements : (symbols : List Symbol) (tree : Tree) (layouts : List BlockLayout)
+    (r : Refusal)
+    → least (layout_refusals tree symbols) ≡ None → layouts ≡ layouts_of tree symbols
+    → least (statement_refusals tree symbols layouts) ≡ Some r
+    → InTurn (IsSound symbols) (HasCode symbols) tree (Err r)
+unfolding lesser
+refused_by_statements symbols tree layouts r here laid there =
+    inl (sym (ap (sound_by tree)
+    (both symbols tree None (Some r) here
+    (ap (λ (z : List BlockLayout). least (statement_refusals tree symbols z)) (sym laid) ∙ there))))
+
+pub refused_program : (symbols : List Symbol) (tree : Tree) (r : Refusal)
+    → least (refusals_of symbols tree) ≡ None
+    → (IsRunnable (program_in symbols tree) → ⊥) → r ≡ without_program
+    → InTurn (IsSound symbols) (HasCode symbols) tree (Err r)
+refused_program symbols tree r sound stops is =
+    inr (tree, ap (sound_by tree) (sym sound), (stops, is))
+
+-- ---- what a stage finds
+
+pub without_file : (r : Result (List Symbol) SourceFault) → Reads (symbols_of []) r
+    → Finds (HasSymbols None) r
+without_file (Ok list) e = sym e ∙ empty_file
+without_file (Err (found.Refused refusal)) e = sym e ∙ empty_file
+without_file (Err found.NoMemory) e = tt
+
+pub with_file : (bytes : List ℕ) (r : Result (List Symbol) SourceFault)
+    → Reads (symbols_of bytes) r → Finds (HasSymbols (Some bytes)) r
+with_file bytes (Ok list) e = sym e
+with_file bytes (Err (found.Refused refusal)) e = sym e
+with_file bytes (Err found.NoMemory) e = tt
+
+pub tree_refused : (source : List ℕ) (tokens : List Token) (fault : SourceFault)
+    → AreTokens source tokens → IsRefusedTree source tokens fault
+    → Finds (InTurn HasTokens (HasTree source) source) (Err fault)
+tree_refused source tokens (found.Refused refusal) are refused = inr (tokens, are, refused)
+tree_refused source tokens found.NoMemory are refused = tt
+
+pub tokens_refused : (source : List ℕ) (fault : SourceFault) → AreNoTokens source fault
+    → Finds (InTurn HasTokens (HasTree source) source) (Err fault)
+tokens_refused source (found.Refused refusal) refused = inl refused
+tokens_refused source found.NoMemory refused = tt
+
+-- ---- whole
+
+pub symbols_refused : (source : List ℕ) (symbols : Option (List ℕ)) (fault : SourceFault)
+    → Finds (HasSymbols symbols) (Err fault) → RefusesBy source symbols (fault_in_symbols fault)
+unfolding IsJudged
+symbols_refused source symbols (found.Refused refusal) h = h
+symbols_refused source symbols found.NoMemory h = tt
+
+with_tree : (source : List ℕ) (symbols : List Symbol) (refusal : Refusal)
+    → InTurn HasTokens (HasTree source) source (Err refusal)
+    → IsJudgedWith source symbols (Err refusal)
+with_tree source symbols refusal (inl refused) = inl refused
+with_tree source symbols refusal (inr (tokens, are, refused)) = inr (tokens, are, inl refused)
+
+pub tree_fault : (source : List ℕ) (symbols : Option (List ℕ)) (list : List Symbol)
+    (fault : SourceFault)
+    → HasSymbols symbols (Ok list)
+    → Finds (InTurn HasTokens (HasTree source) source) (Err fault)
+    → RefusesBy source symbols (fault_in_source fault)
+unfolding IsJudged
+tree_fault source symbols list (found.Refused refusal) has h =
+    (list, has, with_tree source list refusal h)
+tree_fault source symbols list found.NoMemory has h = tt
+
+pub program_fault : (source : List ℕ) (symbols : Option (List ℕ)) (list : List Symbol)
+    (tree : Tree) (fault : SourceFault)
+    → HasSymbols symbols (Ok list)
+    → InTurn HasTokens (HasTree source) source (Ok tree) → IsRefusedBy list tree fault
+    → RefusesBy source symbols (fault_in_source fault)
+unfolding IsJudged
+program_fault source symbols list tree (found.Refused refusal) has (tokens, are, is) h =
+    (list, has, inr (tokens, are, inr (tree, is, h)))
+program_fault source symbols list tree found.NoMemory has at h = tt
+
+pub program_runs : ProgramsRun → (source : List ℕ) (symbols : Option (List ℕ))
+    (list : List Symbol) (tree : Tree) (l : LoadedProgram)
+    → HasSymbols symbols (Ok list)
+    → InTurn HasTokens (HasTree source) source (Ok tree) → IsMadeOf list tree l
+    → RunsAs source symbols (code_of l.program)
+program_runs law source symbols list tree l has (tokens, are, is) made =
+    subst (λ (p : Program). RunsAs source symbols (code_of p)) (sym made.is)
+    (law source symbols list tokens tree has are is made.sound made.runs)
+
+-- ---- the program
+
+pub stops : (list : List Symbol) (tree : Tree) (p : Program) (fault : SourceFault)
+    → least (refusals_of list tree) ≡ None → p ≡ program_in list tree → IsStopped p fault
+    → IsRefusedBy list tree fault
+stops list tree p (found.Refused refusal) sound is h =
+    refused_program list tree refusal sound
+    (λ runs. h.0 (subst IsRunnable (sym is) runs)) h.1
+stops list tree p found.NoMemory sound is h = tt
+
+pub made_of : (list : List Symbol) (tree : Tree) (p : Program) (l : LoadedProgram)
+    → least (refusals_of list tree) ≡ None → p ≡ program_in list tree
+    → IsRunnable p × (l.program ≡ p) → IsMadeOf list tree l
+made_of list tree p l sound is h = record {
+  sound = sound;
+  runs = subst IsRunnable is h.0;
+  is = h.1 ∙ is;
+}
+
+pub laid_fault : (list : List Symbol) (tree : Tree) (fault : SourceFault)
+    → Lays list tree (Err fault) → IsRefusedBy list tree fault
+laid_fault list tree (found.Refused refusal) h = inl h
+laid_fault list tree found.NoMemory h = tt
+
+pub checked_fault : (list : List Symbol) (tree checked : Tree) (layouts : List BlockLayout)
+    (fault : SourceFault)
+    → least (layout_refusals tree list) ≡ None → layouts ≡ layouts_of tree list
+    → Checks (least (statement_refusals tree list layouts)) checked (Err fault)
+    → IsRefusedBy list tree fault
+checked_fault list tree checked layouts (found.Refused refusal) here laid h =
+    refused_by_statements list tree layouts refusal here laid h
+checked_fault list tree checked layouts found.NoMemory here laid h = tt
+
+-- a tree without image doesn't run
+pub without_image : (list : List Symbol) (tree t : Tree) (layouts : List BlockLayout)
+    → least (layout_refusals tree list) ≡ None → layouts ≡ layouts_of tree list
+    → least (statement_refusals tree list layouts) ≡ None → t ≡ tree
+    → (IsProgram (program_of t list layouts) → ⊥)
+    → InTurn (IsSound list) (HasCode list) tree (Err without_program)
+without_image list tree t layouts here laid there same none =
+    refused_program list tree without_program (sound_both list tree layouts here laid there)
+    (λ runs. none (subst IsProgram (sym is) runs.is)) refl
+  where
+    is : program_of t list layouts ≡ program_in list tree
+    is = ap (λ (x : Tree). program_of x list layouts) same
+        ∙ ap (λ (z : List BlockLayout). program_of tree list z) laid
+
+-- a program with a fault doesn't run
+pub fault_stops : (p : Program) (f : VerifyFault) → VerifiesOrHasFault → IsProgram p
+    → IsFaultOf p f → IsRunnable p → ⊥
+fault_stops p f law is fault runs = (law p is).1 runs.verifies f fault

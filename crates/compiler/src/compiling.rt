@@ -1,0 +1,207 @@
+ghost use Rattle.std.specs.Prelude.{◌≡◌, ◌≤◌, length, IfOk, IfErr};
+ghost use Rattle.std.specs.Option.{option_map, IfSome};
+ghost use Rattle.machine.specs.Flat.{code_of};
+ghost use Rattle.flat_code.specs.Image.{IsProgram};
+ghost use Rattle.stl_symbols.specs.Symbols.{symbols_limit};
+ghost use Rattle.stl_symbols.specs.Least.{least};
+ghost use Rattle.stl_lexer.specs.Limits.{source_limit};
+ghost use Rattle.stl_types.specs.Table.{statement_refusals};
+ghost use Rattle.block_layout.specs.Layouts.{layouts_of};
+ghost use Rattle.block_layout.specs.Table.{layout_refusals};
+ghost use Rattle.sem_kept.specs.Agreement.{RunsAs};
+ghost use Rattle.sem_kept.specs.Meaning.{
+  HasSymbols,
+  HasTokens,
+  HasTree,
+  IsRunnable,
+  IsSound,
+  program_in,
+  refusals_of,
+};
+ghost use Rattle.plc_base.specs.declared.refusals.SourceFault.TheVariants.{NoMemory};
+ghost use Rattle.sem_kept.specs.Stages.{InTurn};
+ghost use Rattle.compiler.specs.Compiling.{RefusesBy, Finds, IsRefusedBy, IsStopped, Lays, Makes};
+
+use crate::faults::{CompileFault, in_source, in_symbols};
+use block_layout::{Layouts, lay_out, lay_out_sound};
+use flat_code::Program;
+use image_file::{Loaded, VerifyError, verify};
+use plc_base::{Refusal, SourceFault};
+use std::alloc::Global;
+use stl_ast::Tree;
+use stl_codegen::generate;
+use stl_lexer::lex;
+use stl_parser::parse;
+use stl_symbols::{Symbols, lesser, read_symbols};
+use stl_types::check;
+
+/// A source that has no image or doesn't verify is refused as a whole.
+const WITHOUT_PROGRAM: SourceFault = SourceFault::Refused {
+    refusal: Refusal { line: 0, rule: 99 },
+};
+
+/// The symbols of a symbols file. Without a file there are none, as in an empty one.
+fn symbols_of(alloc: Global, symbols: Option<&[u8]>) -> Result<Symbols, SourceFault>
+    requires { IfSome symbols (λ s. length s.now ≤ symbols_limit) }
+    ensures { Finds (HasSymbols (option_map (λ s. s.now) symbols.entry)) result }
+{
+    match symbols {
+        None => read_symbols(alloc, &[]),
+        Some(bytes) => {
+            let list = read_symbols(alloc, bytes)?;
+            Ok(list)
+        }
+    }
+}
+
+/// The tree of a source.
+fn tree_of(alloc: Global, source: &[u8]) -> Result<Tree, SourceFault>
+    requires { length source.now ≤ source_limit }
+    ensures { Finds (InTurn HasTokens (HasTree source.now) source.now) result }
+{
+    let tokens = lex(alloc, source)?;
+    let tree = parse(alloc, &tokens)?;
+    Ok(tree)
+}
+
+/// The least rule on statements that a tree breaks, if it breaks one.
+fn refusal_of_statements(
+    alloc: Global,
+    tree: &Tree,
+    symbols: &Symbols,
+    layouts: &Layouts,
+) -> Result<Option<Refusal>, SourceFault>
+    ensures found { IfOk result (λ r.
+        r ≡ least (statement_refusals tree.now symbols.now layouts.now)) }
+    ensures memory { IfErr result (λ e. e ≡ NoMemory) }
+{
+    match check(alloc, tree, symbols, layouts) {
+        Ok(_checked) => Ok(None),
+        Err(SourceFault::Refused { refusal }) => Ok(Some(refusal)),
+        Err(SourceFault::NoMemory) => Err(SourceFault::NoMemory),
+    }
+}
+
+/// The least refusal of a tree that breaks a rule on its layout. The statements are judged with all
+/// that breaks none.
+fn least_refusal(
+    alloc: Global,
+    tree: &Tree,
+    symbols: &Symbols,
+    refusal: Refusal,
+) -> Result<Refusal, SourceFault>
+    requires { least (layout_refusals tree.now symbols.now) ≡ Some refusal }
+    ensures found { IfOk result (λ r. IsSound symbols.now tree.now (Err r)) }
+    ensures memory { IfErr result (λ e. e ≡ NoMemory) }
+{
+    let layouts = lay_out_sound(alloc, tree, symbols)?;
+    let other = refusal_of_statements(alloc, tree, symbols, &layouts)?;
+    Ok(lesser(Some(refusal), other).unwrap_or(refusal))
+}
+
+/// The layouts of a tree that breaks no rule on them.
+fn layouts_of(alloc: Global, tree: &Tree, symbols: &Symbols) -> Result<Layouts, SourceFault>
+    ensures { Lays symbols.now tree.now result }
+{
+    match lay_out(alloc, tree, symbols) {
+        Ok(layouts) => Ok(layouts),
+        Err(SourceFault::Refused { refusal }) => {
+            let least = least_refusal(alloc, tree, symbols, refusal)?;
+            Err(SourceFault::Refused { refusal: least })
+        }
+        Err(SourceFault::NoMemory) => Err(SourceFault::NoMemory),
+    }
+}
+
+/// The program of a tree, which breaks no rule on its layout.
+fn program_of(
+    alloc: Global,
+    tree: &Tree,
+    symbols: &Symbols,
+    layouts: &Layouts,
+) -> Result<Program, SourceFault>
+    requires right { least (layout_refusals tree.now symbols.now) ≡ None }
+    requires layouts { layouts.now ≡ layouts_of tree.now symbols.now }
+    ensures sound { IfOk result (λ p. least (refusals_of symbols.now tree.now) ≡ None) }
+    ensures program { IfOk result (λ p. p ≡ program_in symbols.now tree.now) }
+    ensures refused { IfErr result (IsRefusedBy symbols.now tree.now) }
+{
+    let checked = match check(alloc, tree, symbols, layouts) {
+        Ok(checked) => checked,
+        Err(fault) => return Err(fault),
+    };
+    let made = generate(alloc, &checked, layouts, symbols)?;
+    match made {
+        Some(program) => Ok(program),
+        None => Err(WITHOUT_PROGRAM),
+    }
+}
+
+/// Nothing is done. The contract says that a program has an image.
+fn law_of_images(program: &Program)
+    ensures { IsProgram program.now }
+{
+    let _ = &program.code_blocks;
+}
+
+/// A program that is verified.
+fn loaded(alloc: Global, program: Program) -> Result<Loaded, SourceFault>
+    ensures runs { IfOk result (λ l. IsRunnable program × (l.program ≡ program)) }
+    ensures refused { IfErr result (IsStopped program) }
+{
+    law_of_images(&program);
+    image_file::laws::verified_or_refused();
+    match verify(alloc, program) {
+        Ok(loaded) => {
+            loaded.law_of_verifying();
+            Ok(loaded)
+        }
+        Err(VerifyError::Fault { fault: _ }) => Err(WITHOUT_PROGRAM),
+        Err(VerifyError::NoMemory) => Err(SourceFault::NoMemory),
+    }
+}
+
+/// The loaded program of a tree.
+fn program_in(alloc: Global, tree: &Tree, symbols: &Symbols) -> Result<Loaded, SourceFault>
+    ensures { Makes symbols.now tree.now result }
+{
+    let layouts = layouts_of(alloc, tree, symbols)?;
+    let program = program_of(alloc, tree, symbols, &layouts)?;
+    let loaded = loaded(alloc, program)?;
+    Ok(loaded)
+}
+
+/// Compiles a source of at most 1,048,576 bytes with its symbols file, which has at most as many,
+/// into a loaded program that runs as it means. The symbols are judged first, then the tokens of
+/// the source, its clauses, and its layout together with its statements.
+///
+/// # Errors
+///
+/// `Symbols` or `Source` with the refusal exactly where the symbols file or the source with these
+/// symbols is refused; or `NoMemory`.
+pub fn compiled(
+    alloc: Global,
+    source: &[u8],
+    symbols: Option<&[u8]>,
+) -> Result<Loaded, CompileFault>
+    requires source { length source.now ≤ source_limit }
+    requires symbols { IfSome symbols (λ s. length s.now ≤ symbols_limit) }
+    ensures ok { IfOk result (λ l.
+        RunsAs source.now (option_map (λ s. s.now) symbols.entry) (code_of l.program)) }
+    ensures refused { IfErr result
+        (RefusesBy source.now (option_map (λ s. s.now) symbols.entry)) }
+{
+    sem_kept::laws::programs_run();
+    let list = match symbols_of(alloc, symbols) {
+        Ok(list) => list,
+        Err(fault) => return Err(in_symbols(fault)),
+    };
+    let tree = match tree_of(alloc, source) {
+        Ok(tree) => tree,
+        Err(fault) => return Err(in_source(fault)),
+    };
+    match program_in(alloc, &tree, &list) {
+        Ok(loaded) => Ok(loaded),
+        Err(fault) => Err(in_source(fault)),
+    }
+}

@@ -1,0 +1,8 @@
+//! Sources and their symbols files into programs that run as they mean.
+#![tactic(auto)]
+
+mod compiling;
+mod faults;
+
+pub use compiling::compiled;
+pub use faults::CompileFault;

@@ -1,0 +1,34 @@
+-- What a controller's program and history come to.
+use Rattle.std.specs.Prelude.{ℕ, List, map}
+use Rattle.std.specs.FinMap as finmap
+use Rattle.machine.specs.Flat.{code_of}
+use Rattle.var_access.specs.declared.Entry.{Entry}
+use Rattle.var_access.specs.declared.What.{What}
+use Rattle.cpu.specs.Replay.{Happened, happens, last_seen, replay}
+use Rattle.cpu.specs.State.{State}
+use Rattle.cpu.specs.declared.Observed.{Observed}
+use Rattle.controller.specs.Recorded.{Recorded}
+
+-- what the entries of a history do, whoever makes them
+abbrev pub events : List Entry → List What
+events history = map (λ (e : Entry). e.what) history
+
+-- the state of the CPU after all entries
+abbrev pub replayed : Recorded → State
+replayed r = replay (code_of r.program) (events r.history)
+
+-- what a further entry does then
+abbrev pub next_happens : Recorded → Entry → Happened
+next_happens r e = happens (code_of r.program) (replayed r) e.what
+
+-- what the last entry showed; nothing before the first one
+abbrev pub seen : Recorded → Observed
+seen r = last_seen (code_of r.program) (events r.history)
+
+-- the loaded data blocks by rising number, with their bytes after all entries
+abbrev pub data_blocks : Recorded → List (ℕ × List ℕ)
+data_blocks r = finmap.entries (replayed r).world.memory.data_blocks
+
+-- a number with its bytes
+abbrev pub numbered : (number : ℕ) → (bytes : List ℕ) → ℕ × List ℕ
+numbered number bytes = (number, bytes)

@@ -1,0 +1,175 @@
+//! A program that runs along a history, and tables of such runs.
+//!
+//! A row has a program (as `test_images` spells it), a history and the text of its run. A history's
+//! lines, between bars, are `step n`, `in b hh`, `arrive ob` and `tick n`. The text has a line for each peripheral
+//! output byte that an entry changed (`@4 PQ 5 = 01`), one for each mode that it began, one at the
+//! end, and then one for each data block. Lines of statements are counted in each block from 1.
+ghost use Rattle.std.specs.Prelude.{◌≡◌, ◌≤◌, ◌<◌, ◌^◌, length, IfOk};
+ghost use Rattle.var_access.specs.Entry.{IsValid};
+
+use controller::{Controller, Observed};
+use image_file::{Loaded, load};
+use plc_base::{BlockKind, Mode, Spot};
+use std::alloc::{AllocError, Global};
+use std::process::Abort;
+use std::test::Fail;
+use test_images::assembled;
+use var_access::{Entry, Reply, What};
+
+/// A program, a history, and the text of its run.
+pub(crate) type Row = (&'static str, &'static str, &'static str);
+
+type Written = Result<(), AllocError>;
+
+/// The most steps that a line of a history makes.
+const MOST_STEPS: u32 = 1000;
+
+fn number(word: Option<&str>) -> u32 {
+    u32::from_str_radix(word.unwrap_or(""), 10).unwrap_or(0)
+}
+
+fn short_number(word: Option<&str>) -> u16 {
+    u16::from_str_radix(word.unwrap_or(""), 10).unwrap_or(0)
+}
+
+fn byte(word: Option<&str>) -> u8 {
+    u8::from_str_radix(word.unwrap_or(""), 16).unwrap_or(0)
+}
+
+/// What a line of a history does, and how often.
+fn line_of(line: &str) -> (What, u32) {
+    let mut words = line.split_ascii_whitespace();
+    let name = words.next().unwrap_or("");
+    let first = words.next();
+    match name {
+        "in" => (
+            What::Input {
+                byte: short_number(first),
+                value: byte(words.next()),
+            },
+            1,
+        ),
+        "arrive" => (
+            What::Arrive {
+                ob: short_number(first),
+                value: 0,
+            },
+            1,
+        ),
+        "tick" => (What::Tick { ms: number(first) }, 1),
+        _ => (What::Step, number(first).min(MOST_STEPS)),
+    }
+}
+
+fn hexadecimal(alloc: Global, out: &mut String, byte: u8) -> Written {
+    out.push_str(format!(in alloc; "{byte:02X}")?.as_str())
+}
+
+fn kind_name(kind: BlockKind) -> &'static str {
+    match kind {
+        BlockKind::Ob => "OB",
+        BlockKind::Fc => "FC",
+        _ => "FB",
+    }
+}
+
+fn write_spot(alloc: Global, out: &mut String, at: Option<Spot>) -> Written {
+    match at {
+        None => out.push_str(" AT NONE"),
+        Some(at) => {
+            let kind = kind_name(at.block.kind);
+            let text = format!(in alloc; " AT {kind} {} LINE {}", at.block.number, at.line)?;
+            out.push_str(text.as_str())
+        }
+    }
+}
+
+fn write_mode(alloc: Global, out: &mut String, mode: Mode) -> Written {
+    match mode {
+        Mode::Run => out.push_str("RUN"),
+        Mode::Startup => out.push_str("STARTUP"),
+        Mode::Stop { cause, .. } => out.push_str(format!(in alloc; "STOP {cause}")?.as_str()),
+    }
+}
+
+fn write_observed(alloc: Global, out: &mut String, n: u64, seen: &Observed) -> Written {
+    for (byte, value) in seen.outputs.as_slice() {
+        out.push_str(format!(in alloc; "@{n} PQ {byte} = ")?.as_str())?;
+        hexadecimal(alloc, out, *value)?;
+        out.push_str(" | ")?;
+    }
+    if let Some(mode) = seen.mode {
+        out.push_str(format!(in alloc; "@{n} MODE ")?.as_str())?;
+        write_mode(alloc, out, mode)?;
+        if let Mode::Stop { at, .. } = mode {
+            write_spot(alloc, out, at)?;
+        }
+        out.push_str(" | ")?;
+    }
+    Ok(())
+}
+
+fn write_end(alloc: Global, out: &mut String, controller: &Controller) -> Written {
+    out.push_str(format!(in alloc; "END {} ", controller.history_len())?.as_str())?;
+    write_mode(alloc, out, controller.mode())?;
+    for place in 0..256 {
+        let Some((number, bytes)) = controller.data_block(place) else {
+            break;
+        };
+        out.push_str(format!(in alloc; " | DB {number} ")?.as_str())?;
+        for byte in bytes {
+            hexadecimal(alloc, out, *byte)?;
+        }
+    }
+    Ok(())
+}
+
+/// Applies the entries of a line.
+fn apply(
+    alloc: Global,
+    rt: &impl Abort,
+    controller: &mut Controller,
+    out: &mut String,
+    line: &str,
+) -> Result<(), Fail> {
+    let (what, count) = line_of(line);
+    for _ in 0..count {
+        let entry = Entry { who: 1, what };
+        assert!(rt; entry.is_valid(), "{line}");
+        assert!(rt; controller.history_len() < MOST_ENTRIES);
+        controller.reserve(1)?;
+        assert!(rt; controller.apply(entry) == Reply::Done);
+        write_observed(alloc, out, controller.history_len(), controller.observed())?;
+    }
+    Ok(())
+}
+
+/// The most entries of a run.
+const MOST_ENTRIES: u64 = 100_000;
+
+fn loaded(alloc: Global, program: &str) -> Result<Loaded, Fail> {
+    let image = assembled(alloc, program)?;
+    match load(alloc, image.bytes.as_slice()) {
+        Ok(loaded) => Ok(loaded),
+        Err(_) => Err(Fail::new("the program isn't read")),
+    }
+}
+
+fn run_text(alloc: Global, rt: &impl Abort, program: &str, history: &str) -> Result<String, Fail> {
+    let mut controller = Controller::new(alloc, loaded(alloc, program)?)?;
+    let mut out = String::new(alloc);
+    for line in history.split('|') {
+        apply(alloc, rt, &mut controller, &mut out, line)?;
+    }
+    write_end(alloc, &mut out, &controller)?;
+    Ok(out)
+}
+
+/// Each row's text is that of its run.
+pub(crate) fn all_hold(rt: &impl Abort, alloc: Global, rows: &[Row]) -> Result<(), Fail> {
+    for (program, history, text) in rows {
+        let shown = run_text(alloc, rt, program, history)?;
+        assert_eq!(rt; shown.as_str(), *text, "{program}: {history}");
+    }
+    Ok(())
+}

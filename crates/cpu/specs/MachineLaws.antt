@@ -1,0 +1,48 @@
+-- What the machine gives the laws of histories: its laws of activations that fit, together.
+use Rattle.std.specs.Prelude.{◌≡◌, ℕ, ◌≤◌, Some}
+use Rattle.plc_mem.specs.Areas.{Areas}
+use Rattle.plc_mem.specs.Fresh.{fresh}
+use Rattle.plc_mem.specs.Peripherals.{with_input, outputs_cleared}
+use Rattle.plc_mem.specs.Refresh.{refreshed}
+use Rattle.status_word.specs.declared.Regs.{Regs}
+use Rattle.frames.specs.Activations.{begun, with_local_byte}
+use Rattle.frames.specs.declared.Activation.{Activation}
+use Rattle.frames.specs.declared.bindings.Binding.{Binding}
+use Rattle.flat_code.specs.Loading.{Verifies}
+use Rattle.flat_code.specs.Programs.{Program}
+use Rattle.machine.specs.Code.{Head}
+use Rattle.machine.specs.Fitting.{IsMemoryOf, SameSizes}
+use Rattle.machine.specs.Flat.{code_of}
+use Rattle.machine.specs.Lasting.{FitsProgram, GoesOn, IsReady, Lasts, first_frame, ob_block}
+use Rattle.machine.specs.Results.{GivesResult}
+use Rattle.machine.specs.Statement.{World, statement}
+
+-- of the activations of a program that verifies, and of its memory
+pub record MachineLaws : Type 0 where
+  pub goes : (p : Program) (m : Areas) (a : Activation)
+      → Verifies p → FitsProgram p m a → IsReady p a
+  pub lasts : (p : Program) (a : Activation) (w : World)
+      → Verifies p → FitsProgram p w.memory a → Lasts p w (statement (code_of p) a w)
+  pub stays : (p : Program) (m n : Areas) (a : Activation)
+      → SameSizes m n → FitsProgram p m a → FitsProgram p n a
+  pub begins : (p : Program) (m : Areas) (class ob : ℕ) (h : Head)
+      → Verifies p → IsMemoryOf (code_of p) m → (code_of p).head (ob_block ob) ≡ Some h
+      → FitsProgram p m (begun class ob (first_frame ob h.local_len))
+  pub room : (p : Program) (ob : ℕ) (h : Head)
+      → Verifies p → (code_of p).head (ob_block ob) ≡ Some h → h.local_len ≤ 1024
+  pub registers : (p : Program) (m : Areas) (a : Activation) (r : Regs)
+      → FitsProgram p m a
+      → FitsProgram p m (record a { running = record a.running { regs = r } })
+  pub delay : (p : Program) (m : Areas) (a : Activation) (n : ℕ)
+      → FitsProgram p m a → FitsProgram p m (record a { delay = n })
+  pub local_byte : (p : Program) (m : Areas) (a b : Activation) (frame byte value : ℕ)
+      → with_local_byte frame byte value a ≡ Some b → FitsProgram p m a → FitsProgram p m b
+  pub result : (p : Program) (m n : Areas) (a b : Activation) (to : Binding) (value : ℕ)
+      → Verifies p → FitsProgram p m a → GivesResult to value a b m n → GoesOn p m n b
+  pub first : (p : Program) → IsMemoryOf (code_of p) (fresh (code_of p).blocks)
+  pub inputs : (m n : Areas) (byte value : ℕ)
+      → with_input m byte value ≡ Some n → SameSizes m n
+  pub clears : (p : Program) (m : Areas)
+      → IsMemoryOf (code_of p) m → SameSizes m (outputs_cleared m)
+  pub refreshes : (p : Program) (m : Areas)
+      → IsMemoryOf (code_of p) m → SameSizes m (refreshed m)

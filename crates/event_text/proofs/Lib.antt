@@ -1,0 +1,5 @@
+pub mod WordLemmas
+pub mod LineLemmas
+pub mod NumberLemmas
+pub mod HistoryLemmas
+pub mod ValidLemmas

@@ -1,0 +1,59 @@
+-- The records of a program judged one behind the other, and how many bytes they take in its image.
+use Rattle.std.specs.Prelude.{ℕ, ◌+◌, ◌*◌, nat_le, nat_lt, Bool, true, false, ◌&&◌, List, [], ◌∷◌, length, map, sum_by}
+use Rattle.flat_code.specs.Codes.{code_bytes}
+use Rattle.flat_code.specs.Image.{after_block, after_data, after_name, code_block, data_block, line_after, line_field, name_of_entry, name_record, parameter, record_of_block, record_of_param, same_state}
+use Rattle.flat_code.specs.Layout.{Layout}
+use Rattle.flat_code.specs.Programs.{CodeBlock, DataBlock, NameEntry, Program}
+use Rattle.flat_code.specs.declared.programs.Param.{Param}
+
+-- values one behind the other, each judged by what came before it
+abbrev pub all_good : {S A : Type 0} → (S → Layout A) → (S → A → S) → S → List A → Bool
+all_good l next s [] = true
+all_good l next s (x ∷ xs) = (l s).good x && all_good l next (next s x) xs
+
+-- the parameters of a block of a kind with so many instance bytes
+abbrev pub good_params : (kind instance : ℕ) → List Param → Bool
+good_params kind instance ps =
+    all_good (λ s. parameter kind instance) same_state 0 (map record_of_param ps)
+
+abbrev pub good_lines : List ℕ → Bool
+good_lines lines = all_good (line_field false) line_after 0 lines
+
+abbrev pub good_blocks : ℕ × ℕ → List CodeBlock → Bool
+good_blocks before bs = all_good (code_block false) after_block before (map record_of_block bs)
+
+abbrev pub good_datas : ℕ × ℕ → List DataBlock → Bool
+good_datas before ds = all_good data_block after_data before ds
+
+abbrev pub good_names : List ℕ → List NameEntry → Bool
+good_names before es = all_good name_record after_name before (map name_of_entry es)
+
+-- how many code blocks, data blocks and names there may be
+abbrev pub good_counts : (codes datas names : ℕ) → Bool
+good_counts codes datas names = nat_lt codes 65536 && nat_le datas 256 && nat_lt names 65536
+
+abbrev pub good_records : Program → Bool
+good_records p =
+    good_counts (length p.code_blocks) (length p.data_blocks) (length p.names)
+    && (good_blocks (0, 0) p.code_blocks
+    && (good_datas (0, 0) p.data_blocks && good_names [] p.names))
+
+-- the bytes of records
+abbrev pub block_size : CodeBlock → ℕ
+block_size b = 16 + 6 * length b.params + length (code_bytes b.code) + 4 * length b.lines
+
+abbrev pub data_size : DataBlock → ℕ
+data_size d = 8 + length d.bytes
+
+abbrev pub name_size : NameEntry → ℕ
+name_size e = 6 + length e.name
+
+-- header and counts take 20 bytes
+abbrev pub image_size : Program → ℕ
+image_size p =
+    20 + sum_by block_size p.code_blocks + sum_by data_size p.data_blocks
+    + sum_by name_size p.names
+
+-- whether it is a program
+abbrev pub makes_program : Program → Bool
+makes_program p = good_records p && nat_le (image_size p) 8388608

@@ -1,0 +1,134 @@
+//! Whether operands can be written in their forms.
+ghost use Rattle.std.specs.Prelude.{◌≡◌, ◌&&◌};
+ghost use Rattle.flat_code.specs.Coding.{u8, u16, u32, within};
+ghost use Rattle.flat_code.specs.Forms.{actual_fits, callable, crossing, memory_area, payload_fits, pointer_area};
+
+use crate::operands::{Operand, Passed};
+use plc_base::Area;
+
+/// A number fits a field of its own size.
+fn fits_u8(number: u8) -> bool
+    ensures { result ≡ u8.fits number }
+{
+    number <= u8::MAX
+}
+
+fn fits_u16(number: u16) -> bool
+    ensures { result ≡ u16.fits number }
+{
+    number <= u16::MAX
+}
+
+fn fits_u32(number: u32) -> bool
+    ensures { result ≡ u32.fits number }
+{
+    number <= u32::MAX
+}
+
+fn is_one_or_two(number: u8) -> bool
+    ensures { result ≡ (within 1 2).fits number }
+{
+    1 <= number && number <= 2
+}
+
+/// Whether a byte and a bit are those of a place.
+fn is_place(byte: u16, bit: u8) -> bool
+    ensures { result ≡ (u16.fits byte && (within 0 7).fits bit) }
+{
+    fits_u16(byte) && bit <= 7
+}
+
+/// Whether a pointer may stand at the place.
+fn is_pointer(area: Area, byte: u16) -> bool
+    ensures { result ≡ (pointer_area.fits area && u16.fits byte) }
+{
+    matches!(area, Area::M | Area::Db | Area::Di | Area::L) && fits_u16(byte)
+}
+
+fn is_in_memory(area: Area) -> bool
+    ensures { result ≡ memory_area.fits area }
+{
+    !matches!(area, Area::P)
+}
+
+/// Whether an offset to an address register may have the area.
+fn crosses(area: Option<Area>) -> bool
+    ensures { result ≡ crossing.fits area }
+{
+    match area {
+        None => true,
+        Some(area) => is_in_memory(area),
+    }
+}
+
+fn is_callable(kind: u8) -> bool
+    ensures { result ≡ callable.fits kind }
+{
+    kind == 2 || kind == 3 || kind == 5
+}
+
+impl Passed {
+    /// Whether every field is one that the form has.
+    #[tactic(auto, unfolding(crate::specs::Forms::direct))]
+    fn fits(self) -> bool
+        ensures { result ≡ actual_fits self }
+    {
+        match self {
+            Passed::Literal { value } => fits_u32(value),
+            Passed::Direct { byte, bit, .. } => is_place(byte, bit),
+            Passed::Parameter { index, .. } => fits_u8(index),
+            Passed::InBlock {
+                number,
+                byte,
+                bit,
+                ..
+            } => fits_u16(number) && is_place(byte, bit),
+        }
+    }
+}
+
+impl Operand {
+    /// Whether every field is one that the form has.
+    #[tactic(auto, unfolding(crate::specs::Forms::direct, crate::specs::Forms::actual))]
+    pub fn fits(self) -> bool
+        ensures { result ≡ payload_fits self }
+    {
+        match self {
+            Operand::Nothing => true,
+            Operand::Literal { value } => fits_u32(value),
+            Operand::Direct { byte, bit, .. } => is_place(byte, bit),
+            Operand::ByMemory {
+                area,
+                from,
+                byte,
+                ..
+            } => is_in_memory(area) && is_pointer(from, byte),
+            Operand::ByRegister {
+                area,
+                register,
+                bits,
+                ..
+            } => crosses(area) && is_one_or_two(register) && fits_u32(bits),
+            Operand::Parameter { index, .. } => fits_u8(index),
+            Operand::Numbered { kind, number } => is_one_or_two(kind) && fits_u16(number),
+            Operand::NumberedBy { kind, from, byte } => {
+                is_one_or_two(kind) && is_pointer(from, byte)
+            }
+            Operand::Jump { kind, target } => kind <= 17 && fits_u32(target),
+            Operand::OfStatus { condition } => 1 <= condition && condition <= 10,
+            Operand::UseDb { number } => fits_u16(number),
+            Operand::Pass { index, actual } => fits_u8(index) && actual.fits(),
+            Operand::Called {
+                kind,
+                number,
+                instance,
+            } => is_callable(kind) && fits_u16(number) && fits_u16(instance),
+            Operand::OpenBlock { register, number } => is_one_or_two(register) && fits_u16(number),
+            Operand::OpenBy {
+                register,
+                from,
+                byte,
+            } => is_one_or_two(register) && is_pointer(from, byte),
+        }
+    }
+}

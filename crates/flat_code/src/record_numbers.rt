@@ -1,0 +1,46 @@
+//! Kinds, areas and widths as an image has them.
+ghost use Rattle.std.specs.Prelude.{◌≡◌};
+ghost use Rattle.flat_code.specs.Forms.{width_code};
+ghost use Rattle.flat_code.specs.Image.{number_of_area, number_of_kind};
+
+use plc_base::{Area, BlockKind, Place, Width};
+
+/// A width as an image has it: 1 bit, 2 byte, 3 word, 4 double word.
+pub fn width_number(width: Width) -> u8
+    ensures { result ≡ width_code width }
+{
+    match width {
+        Width::Bit => 1,
+        Width::Byte => 2,
+        Width::Word => 3,
+        Width::Dword => 4,
+    }
+}
+
+/// A block kind as an image has it: 1 OB, 2 FC, 3 FB, 5 SFC; 0 for the others.
+pub fn kind_number(kind: BlockKind) -> u8
+    ensures { result ≡ number_of_kind kind }
+{
+    match kind {
+        BlockKind::Ob => 1,
+        BlockKind::Fc => 2,
+        BlockKind::Fb => 3,
+        BlockKind::Sfc => 5,
+        _ => 0,
+    }
+}
+
+/// The area of a name's variable as an image has it: 0x81 I, 0x82 Q, 0x83 M; 0 for the others.
+pub fn area_number(place: &Place) -> u8
+    ensures { result ≡ number_of_area place.now.number place.now.area }
+{
+    if place.number != 0 {
+        return 0;
+    }
+    match place.area {
+        Area::I => 129,
+        Area::Q => 130,
+        Area::M => 131,
+        _ => 0,
+    }
+}

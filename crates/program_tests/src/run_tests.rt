@@ -1,0 +1,203 @@
+//! Whole runs of the language: what `go` writes of a source along a history, worked out by hand.
+use crate::calls::{call, two_files};
+use plc_io::MemSink;
+use std::alloc::Global;
+use std::process::Abort;
+use std::sync::Wait;
+use std::test::Fail;
+use std::thread::Threads;
+
+/// A source, a history, and the text of the run.
+type Run = (&'static str, &'static str, &'static str);
+
+/// Runs each source along its history, with status 0.
+fn are_run<R: Abort + Threads + Wait + Sync>(
+    rt: &R,
+    alloc: Global,
+    runs: &[Run],
+) -> Result<(), Fail> {
+    for (source, history, text) in runs {
+        let mut files = two_files(alloc, source.as_bytes(), history.as_bytes())?;
+        let mut out = MemSink::new(alloc, 1000);
+        let code = call(
+            rt,
+            alloc,
+            &["go", "source", "history"],
+            &mut files,
+            &mut out,
+        )?;
+        assert_eq!(rt; out.taken.as_slice(), text.as_bytes(), "{source}");
+        assert_eq!(rt; code, 0, "{source}");
+    }
+    Ok(())
+}
+
+/// Initial bytes of data blocks, and what `BEGIN` sets.
+static DATA_BLOCKS: [Run; 4] = [
+    (
+        "DATA_BLOCK DB 1 STRUCT a : BOOL; b : BOOL := TRUE; c : BYTE := B#16#5; d : INT := 7; e : BOOL := TRUE; END_STRUCT; BEGIN END_DATA_BLOCK",
+        "",
+        "END 0 RUN\nDB 1 0 020500070100\n",
+    ),
+    (
+        "DATA_BLOCK DB 1 STRUCT a : ARRAY [0..7] OF BYTE := 3 (B#16#1), B#16#2, 4 (B#16#0); END_STRUCT; BEGIN a[7] := B#16#9; END_DATA_BLOCK",
+        "",
+        "END 0 RUN\nDB 1 0 0101010200000009\n",
+    ),
+    // By rising number, 32 bytes in a line, and what is left in the last one.
+    (
+        "DATA_BLOCK DB 9 STRUCT a : ARRAY [0..32] OF BYTE := 33 (B#16#A7); END_STRUCT; BEGIN END_DATA_BLOCK DATA_BLOCK DB 2 STRUCT a : ARRAY [0..31] OF BYTE; END_STRUCT; BEGIN END_DATA_BLOCK",
+        "",
+        "END 0 RUN\nDB 2 0 0000000000000000000000000000000000000000000000000000000000000000\nDB 9 0 A7A7A7A7A7A7A7A7A7A7A7A7A7A7A7A7A7A7A7A7A7A7A7A7A7A7A7A7A7A7A7A7\nDB 9 32 A700\n",
+    ),
+    // A block that isn't opened: OB 121 isn't loaded.
+    (
+        "DATA_BLOCK DB 10 STRUCT a : ARRAY [0..9] OF BYTE; END_STRUCT; BEGIN END_DATA_BLOCK\nORGANIZATION_BLOCK OB 1\nBEGIN\nOPN DB 10;\nL DBW 100;\nT MW 0;\nEND_ORGANIZATION_BLOCK\n",
+        "step 3\n",
+        "@3 MODE STOP 3 AT OB 1 LINE 5\nEND 3 STOP 3\nDB 10 0 00000000000000000000\n",
+    ),
+];
+
+#[test]
+fn data_blocks(rt: HostRuntime) -> Result<(), Fail> {
+    are_run(&rt, rt.alloc(), &DATA_BLOCKS)
+}
+
+/// Numbers, jumps, local data, brackets and timers in OB 1, and interrupts.
+static STATEMENTS: [Run; 9] = [
+    (
+        "ORGANIZATION_BLOCK OB 1\nBEGIN\nL 32767;\nL 1;\n+I;\nT QW 4;\nEND_ORGANIZATION_BLOCK\n",
+        "step 7\n",
+        "@7 PQ 4 = 80\nEND 7 RUN\n",
+    ),
+    (
+        "ORGANIZATION_BLOCK OB 1\nBEGIN\nL 5;\nT QW 12;\nEND_ORGANIZATION_BLOCK\nORGANIZATION_BLOCK OB 40\nBEGIN\nL 99;\nT QW 10;\nEND_ORGANIZATION_BLOCK\n",
+        "step 2\narrive 40\nstep 6\n",
+        "@9 PQ 11 = 63\n@9 PQ 13 = 05\nEND 9 RUN\n",
+    ),
+    (
+        "ORGANIZATION_BLOCK OB 40\nBEGIN\nL LB 1;\nT PQB 300;\nEND_ORGANIZATION_BLOCK\n",
+        "arrive 40\nstep 2\n",
+        "@3 PQ 300 = 41\nEND 3 RUN\n",
+    ),
+    // The value of an arrival stands in bytes 8 to 11 of the start information.
+    (
+        "ORGANIZATION_BLOCK OB 17\nBEGIN\nL LD 8;\nT PQD 256;\nEND_ORGANIZATION_BLOCK\n",
+        "arrive 17 00A0f001\nstep 2\n",
+        "@3 PQ 257 = A0\n@3 PQ 258 = F0\n@3 PQ 259 = 01\nEND 3 RUN\n",
+    ),
+    // Seven brackets, one in the other.
+    (
+        "ORGANIZATION_BLOCK OB 1\nBEGIN\nA(;\nA(;\nA(;\nA(;\nA(;\nA(;\nA(;\nA I 0.0;\n);\n);\n);\n);\n);\n);\n);\n= Q 4.0;\nEND_ORGANIZATION_BLOCK\n",
+        "in 0 01\nstep 19\n",
+        "@20 PQ 4 = 01\nEND 20 RUN\n",
+    ),
+    // An on-delay of 50 ms is over after 50 ms, and not after 49.
+    (
+        "ORGANIZATION_BLOCK OB 1\nBEGIN\nA I 0.0;\nL S5T#50MS;\nSD T 1;\nA T 1;\n= Q 4.0;\nEND_ORGANIZATION_BLOCK\n",
+        "in 0 01\nstep 7\ntick 50\nstep 8\n",
+        "@17 PQ 4 = 01\nEND 17 RUN\n",
+    ),
+    (
+        "ORGANIZATION_BLOCK OB 1\nBEGIN\nA I 0.0;\nL S5T#50MS;\nSD T 1;\nA T 1;\n= Q 4.0;\nEND_ORGANIZATION_BLOCK\n",
+        "in 0 01\nstep 7\ntick 49\nstep 8\n",
+        "END 17 RUN\n",
+    ),
+    // An OB 1 as STEP 7 writes it; start code 16#01 in the first cycle.
+    (
+        "ORGANIZATION_BLOCK OB 1\nTITLE = \"Main Program Sweep (Cycle)\"\nVERSION : 0.1\nVAR_TEMP\nOB1_EV_CLASS : BYTE ; //Bits 0-3 = 1\nOB1_SCAN_1 : BYTE ;\nOB1_PRIORITY : BYTE ;\nOB1_OB_NUMBR : BYTE ;\nOB1_RESERVED_1 : BYTE ;\nOB1_RESERVED_2 : BYTE ;\nOB1_PREV_CYCLE : INT ;\nOB1_MIN_CYCLE : INT ;\nOB1_MAX_CYCLE : INT ;\nOB1_DATE_TIME : DATE_AND_TIME ;\nEND_VAR\nBEGIN\nNETWORK\nTITLE =\nL #OB1_SCAN_1;\nT QB 4;\nEND_ORGANIZATION_BLOCK\n",
+        "step 5\n",
+        "@5 PQ 4 = 01\nEND 5 RUN\n",
+    ),
+    // A label, a jump over a statement, and a bit of memory.
+    (
+        "ORGANIZATION_BLOCK OB 1\nBEGIN\nSET;\nJU over;\nCLR;\nover: = M 1.0;\nA M 1.0;\n= Q 0.7;\nEND_ORGANIZATION_BLOCK\n",
+        "step 8\n",
+        "@8 PQ 0 = 80\nEND 8 RUN\n",
+    ),
+];
+
+#[test]
+fn statements(rt: HostRuntime) -> Result<(), Fail> {
+    are_run(&rt, rt.alloc(), &STATEMENTS)
+}
+
+/// Functions, function blocks and their data blocks, and nesting that is too deep.
+static CALLS: [Run; 4] = [
+    (
+        "FUNCTION_BLOCK FB 1\nVAR_INPUT a : INT; END_VAR\nVAR_OUTPUT b : INT; END_VAR\nBEGIN\nL #a; L 1; +I; T #b;\nEND_FUNCTION_BLOCK\nDATA_BLOCK DB 5 FB 1 BEGIN END_DATA_BLOCK\nORGANIZATION_BLOCK OB 1\nBEGIN\nCALL FB 1, DB 5 (a := IW 0, b := QW 4);\nEND_ORGANIZATION_BLOCK\n",
+        "in 1 09\nstep 9\n",
+        "@10 PQ 5 = 0A\nEND 10 RUN\nDB 5 0 0009000A\n",
+    ),
+    (
+        "FUNCTION_BLOCK FB 1\nVAR_INPUT a : INT; END_VAR\nVAR_OUTPUT b : INT; END_VAR\nBEGIN\nL #a; L 1; +I; T #b;\nEND_FUNCTION_BLOCK\nDATA_BLOCK DB 5 FB 1 BEGIN END_DATA_BLOCK\nORGANIZATION_BLOCK OB 1\nBEGIN\nCALL FB 1, DB 5 (a := IW 0, b := QW 4);\nEND_ORGANIZATION_BLOCK\n",
+        "in 1 09\nstep 5\n",
+        "END 6 RUN\nDB 5 0 00090000\n",
+    ),
+    // The seventeenth block of a chain.
+    (
+        "FUNCTION FC 1 : VOID\nBEGIN\nCALL FC 1;\nEND_FUNCTION\nORGANIZATION_BLOCK OB 1\nBEGIN\nCALL FC 1;\nEND_ORGANIZATION_BLOCK\n",
+        "step 17\n",
+        "@17 MODE STOP 6 AT FC 1 LINE 3\nEND 17 STOP 6\n",
+    ),
+    // The local data of OB 1 and of two calls don't fit.
+    (
+        "FUNCTION FC 1 : VOID\nVAR_TEMP x : ARRAY [0..299] OF WORD; END_VAR\nBEGIN\nCALL FC 1;\nEND_FUNCTION\nORGANIZATION_BLOCK OB 1\nBEGIN\nCALL FC 1;\nEND_ORGANIZATION_BLOCK\n",
+        "step 3\n",
+        "@3 MODE STOP 7 AT FC 1 LINE 4\nEND 3 STOP 7\n",
+    ),
+];
+
+#[test]
+fn calls_of_blocks(rt: HostRuntime) -> Result<(), Fail> {
+    are_run(&rt, rt.alloc(), &CALLS)
+}
+
+/// Startup, time and error organization blocks, and system functions.
+static ORGANIZATION_BLOCKS: [Run; 7] = [
+    // 151 ms without a cycle point: OB 80 isn't loaded.
+    (
+        "",
+        "tick 150\ntick 1\n",
+        "@2 MODE STOP 9 AT NONE\nEND 2 STOP 9\n",
+    ),
+    // With OB 80 the first excess starts it, and the second stops.
+    (
+        "ORGANIZATION_BLOCK OB 80\nBEGIN\nNOP 0;\nEND_ORGANIZATION_BLOCK\n",
+        "tick 151\ntick 151\n",
+        "@2 MODE STOP 10 AT OB 80 LINE 3\nEND 2 STOP 10\n",
+    ),
+    // OB 40 waits while interrupts are disabled.
+    (
+        "ORGANIZATION_BLOCK OB 1\nBEGIN\nCALL SFC 41 (RET_VAL := QW 20);\nCALL SFC 41 (RET_VAL := QW 22);\nCALL SFC 42 (RET_VAL := QW 24);\nCALL SFC 42 (RET_VAL := QW 26);\nEND_ORGANIZATION_BLOCK\nORGANIZATION_BLOCK OB 40\nBEGIN\nL 7;\nT QB 30;\nEND_ORGANIZATION_BLOCK\n",
+        "step 3\narrive 40\nstep 7\n",
+        "@11 PQ 21 = 01\n@11 PQ 23 = 02\n@11 PQ 25 = 01\n@11 PQ 30 = 07\nEND 11 RUN\n",
+    ),
+    // OB 121 handles the access to a byte that isn't there.
+    (
+        "DATA_BLOCK DB 10 STRUCT a : INT; END_STRUCT; BEGIN END_DATA_BLOCK\nORGANIZATION_BLOCK OB 1\nBEGIN\nOPN DB 10;\nL DBW 100;\nT QW 4;\nEND_ORGANIZATION_BLOCK\nORGANIZATION_BLOCK OB 121\nBEGIN\nL 1;\nT QB 9;\nEND_ORGANIZATION_BLOCK\n",
+        "step 9\n",
+        "@9 PQ 9 = 01\nEND 9 RUN\nDB 10 0 0000\n",
+    ),
+    (
+        "DATA_BLOCK DB 10 STRUCT a : ARRAY [0..9] OF BYTE; END_STRUCT; BEGIN END_DATA_BLOCK\nORGANIZATION_BLOCK OB 1\nBEGIN\nOPN DB 10;\nL DBW 100;\nT MW 0;\nEND_ORGANIZATION_BLOCK\nORGANIZATION_BLOCK OB 121\nBEGIN\nL 1;\nT MB 9;\nEND_ORGANIZATION_BLOCK\n",
+        "step 7\n",
+        "END 7 RUN\nDB 10 0 00000000000000000000\n",
+    ),
+    // The mode is STARTUP from the start on, and RUN with the end of OB 100.
+    (
+        "ORGANIZATION_BLOCK OB 100\nBEGIN\nL 1;\nT MB 20;\nEND_ORGANIZATION_BLOCK\n",
+        "step 3\n",
+        "@3 MODE RUN\nEND 3 RUN\n",
+    ),
+    (
+        "ORGANIZATION_BLOCK OB 100\nBEGIN\nL 1;\nT MB 20;\nEND_ORGANIZATION_BLOCK\n",
+        "step 2\n",
+        "END 2 STARTUP\n",
+    ),
+];
+
+#[test]
+fn organization_blocks(rt: HostRuntime) -> Result<(), Fail> {
+    are_run(&rt, rt.alloc(), &ORGANIZATION_BLOCKS)
+}

@@ -1,0 +1,11 @@
+//! Tests of the rules of statements. The library itself is empty.
+#![tactic(auto)]
+
+#[cfg(test)]
+mod body_tests;
+#[cfg(test)]
+mod call_tests;
+#[cfg(test)]
+mod calls;
+#[cfg(test)]
+mod source_tests;

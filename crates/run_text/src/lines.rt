@@ -1,0 +1,64 @@
+use arrayvec::ArrayVec;
+use itoa::Buffer;
+use std::marker::Model;
+
+/// The most bytes of a line. No line of a fixed form is longer.
+pub const LINE_LIMIT: usize = 256;
+
+/// The most bytes that one number takes in a line.
+const NUMBER_LIMIT: usize = 40;
+
+/// One line of text, kept without memory from an allocator.
+#[derive(Drop)]
+pub struct Line {
+    bytes: ArrayVec<u8, LINE_LIMIT>,
+}
+
+impl Model for Line {
+    ghost use Rattle.std.specs.Prelude.{ℕ, List};
+
+    ghost Value = { List ℕ };
+
+    ghost view = { λ l. l.bytes.items };
+}
+
+impl Line {
+    ghost use Rattle.std.specs.Prelude.{◌≡◌, ◌+◌, ◌≤◌, [], ◌++◌, length, decimal};
+
+    /// An empty line.
+    pub fn new() -> Line
+        ensures { result ≡ [] }
+    {
+        Line {
+            bytes: ArrayVec::new(),
+        }
+    }
+
+    /// The bytes of the line, its line end with them.
+    pub fn as_slice(&self) -> &[u8]
+        ensures { result.now ≡ self.now }
+    {
+        self.bytes.as_slice()
+    }
+
+    /// Appends these bytes.
+    pub fn add(&mut self, bytes: &[u8])
+        requires { length self.old + length bytes.now ≤ LINE_LIMIT }
+        ensures value { self.new ≡ self.old ++ bytes.now }
+        ensures len { length self.new ≡ length self.old + length bytes.now }
+    {
+        for byte in bytes {
+            self.bytes.push(*byte);
+        }
+    }
+
+    /// Appends a number in decimal digits.
+    pub fn add_number(&mut self, number: u64)
+        requires { length self.old + NUMBER_LIMIT ≤ LINE_LIMIT }
+        ensures value { self.new ≡ self.old ++ decimal number }
+        ensures len { length self.new ≤ length self.old + NUMBER_LIMIT }
+    {
+        let mut digits = Buffer::new();
+        self.add(digits.format(number).as_bytes());
+    }
+}

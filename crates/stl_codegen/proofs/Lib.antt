@@ -1,0 +1,10 @@
+pub mod OpLemmas
+pub mod AppendLemmas
+pub mod TargetLemmas
+pub mod PassingLemmas
+pub mod FitLemmas
+pub mod BlockLemmas
+pub mod ParamLemmas
+pub mod OrderLemmas
+pub mod PlaceLemmas
+pub mod ProgramLemmas

@@ -1,0 +1,48 @@
+-- What a CALL passes, one parameter after the other.
+use Rattle.std.proofs.Common.{◌≡◌, ℕ, suc, ◌+◌, ◌<◌, ◌≤◌, Bool, true, false, List, [], ◌∷◌, ◌++◌, length, drop, get_or, refl, sym, ap, ◌∙◌, add-one}
+use Rattle.std.proofs.Math.ListN.{drop_of_length-le}
+use Rattle.std.proofs.lemmas.List.{drop_more}
+use Rattle.std.proofs.lemmas.Map.Text.{is_eq-slice_cmp}
+use Rattle.std.proofs.lemmas.Slice.Eq.{bytes_eq-Decides}
+use Rattle.std.specs.Bool.{Decides}
+use Rattle.std.specs.Cmp.Lexicographic.{slice_cmp}
+use Rattle.std.specs.Ordering.{is_eq, nat_cmp}
+use Rattle.std.specs.Str.{bytes_eq}
+use Rattle.flat_code.specs.Instr.{Passing}
+use Rattle.flat_code.specs.Ops.{OpData}
+use Rattle.flat_code.specs.declared.operands.Operand.TheVariants as operand
+use Rattle.flat_code.specs.declared.words.Word.TheVariants as word
+use Rattle.stl_ast.specs.declared.statements.Actual.{Actual}
+use Rattle.stl_symbols.specs.Folding.{folded}
+use Rattle.stl_types.specs.Context.{Context}
+use Rattle.stl_types.specs.declared.parameters.Formal.{Formal}
+use Rattle.stl_codegen.specs.Emitted.{passing, preparing}
+use Rattle.stl_codegen.specs.Passed.{passed_actual, passings_from, supplied}
+
+passing_both : (xs ys : List Passing) → passing (xs ++ ys) ≡ passing xs ++ passing ys
+passing_both [] ys = refl
+passing_both (x ∷ xs) ys = ap (λ (l : List OpData). preparing word.Pass (operand.Pass x.index x.actual) ∷ l) (passing_both xs ys)
+
+pub passings_turn : (c : Context) (actuals : List Actual) (formals : List Formal) (i : ℕ) (f : Formal) → i < length formals → f ≡ get_or formals i f →
+    passing (passings_from c actuals i (drop i formals)) ≡ passing (passed_actual c i (supplied actuals f)) ++ passing (passings_from c actuals (i + 1) (drop (i + 1) formals))
+passings_turn c actuals formals i f within is =
+    let rest : List Formal = drop (i + 1) formals in
+    ap (λ (l : List Formal). passing (passings_from c actuals i l)) (drop_more formals i f within ∙ ap (λ (y : Formal). y ∷ rest) (sym is))
+    ∙ passing_both (passed_actual c i (supplied actuals f)) (passings_from c actuals (suc i) rest)
+    ∙ ap (λ (k : ℕ). passing (passed_actual c i (supplied actuals f)) ++ passing (passings_from c actuals k rest)) (sym (add-one i))
+
+pub passings_end : (c : Context) (actuals : List Actual) (formals : List Formal) (i : ℕ) → length formals ≤ i → passing (passings_from c actuals i (drop i formals)) ≡ []
+passings_end c actuals formals i over = ap (λ (l : List Formal). passing (passings_from c actuals i l)) (drop_of_length-le formals over)
+
+-- two names in either order
+swapped : (xs ys : List ℕ) → bytes_eq xs ys ≡ bytes_eq ys xs
+swapped xs ys = by (bytes_eq xs ys) (bytes_eq ys xs) (bytes_eq-Decides xs ys) (bytes_eq-Decides ys xs)
+  where
+    by : (a b : Bool) → Decides a (xs ≡ ys) → Decides b (ys ≡ xs) → a ≡ b
+    by true true h k = refl
+    by true false h k = let e : false ≡ true = k.1 (sym (h.0 refl)) in absurd cc
+    by false true h k = let e : false ≡ true = h.1 (sym (k.0 refl)) in absurd cc
+    by false false h k = refl
+
+pub same_by_order : (name upper : List ℕ) → is_eq (slice_cmp nat_cmp upper (folded name)) ≡ bytes_eq (folded name) upper
+same_by_order name upper = is_eq-slice_cmp upper (folded name) ∙ swapped upper (folded name)

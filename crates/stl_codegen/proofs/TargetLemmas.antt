@@ -1,0 +1,49 @@
+-- The number of the first statement of a label, by the labels and the numbers of their statements.
+use Rattle.std.proofs.Common.{◌≡◌, ℕ, suc, ◌+◌, Bool, true, false, cond, List, [], ◌∷◌, ◌++◌, Option, Some, None, option_map, refl, sym, ap, ◌∙◌, arith}
+use Rattle.std.specs.List.{slice_get}
+use Rattle.std.specs.Str.{bytes_eq}
+use Rattle.stl_ast.specs.declared.statements.Statement.{Statement}
+use Rattle.stl_symbols.specs.Names.{place_of}
+use Rattle.stl_types.specs.Labels.{label_of, labels_of}
+use Rattle.stl_types.specs.Lists.{has_label}
+use Rattle.stl_codegen.specs.Bodies.{AreTargets, count_of, number_here, numbers_of, or_0}
+use Rattle.stl_codegen.specs.Instruction.{counted, target_in}
+
+-- the number at a place; with no place, how many there are
+abbrev pub target_by : (numbers : List ℕ) (count : ℕ) → Option ℕ → ℕ
+target_by numbers count None = count
+target_by numbers count (Some place) = or_0 (slice_get numbers place)
+
+moved : (n count : ℕ) (numbers : List ℕ) (place : Option ℕ) → target_by (n ∷ numbers) count (option_map (λ k. suc k) place) ≡ target_by numbers count place
+moved n count numbers None = refl
+moved n count numbers (Some place) = refl
+
+labelled : (n here behind : ℕ) (numbers : List ℕ) (count : ℕ) (place : Option ℕ) (same : Bool) → n + (here + behind) ≡ target_by numbers count place →
+    n + cond same 0 (here + behind) ≡ target_by (n ∷ numbers) count (cond same (Some 0) (option_map (λ k. suc k) place))
+labelled n here behind numbers count place true h = omega arith
+labelled n here behind numbers count place false h = h ∙ sym (moved n count numbers place)
+
+placed : (name : List ℕ) (n : ℕ) (body : List Statement) → n + target_in name body ≡ target_by (numbers_of n body) (n + count_of body) (place_of name (labels_of body))
+unfolding target_in
+placed name n [] = refl
+placed name n (s ∷ ss) =
+    let first : n + (counted s + target_in name ss) ≡ (n + counted s) + target_in name ss = omega arith in
+    let last : (n + counted s) + count_of ss ≡ n + (counted s + count_of ss) = omega arith in
+    step s.label (first ∙ placed name (n + counted s) ss ∙ ap (λ (k : ℕ). target_by (numbers_of (n + counted s) ss) k (place_of name (labels_of ss))) last)
+  where
+    step : (label : Option (List ℕ)) →
+        n + (counted s + target_in name ss) ≡ target_by (numbers_of (n + counted s) ss) (n + (counted s + count_of ss)) (place_of name (labels_of ss)) →
+        n + cond (has_label name label) 0 (counted s + target_in name ss) ≡ target_by (number_here n label ++ numbers_of (n + counted s) ss) (n + (counted s + count_of ss)) (place_of name (label_of label ++ labels_of ss))
+    step None h = h
+    step (Some label) h = labelled n (counted s) (target_in name ss) (numbers_of (n + counted s) ss) (n + (counted s + count_of ss)) (place_of name (labels_of ss)) (bytes_eq name label) h
+
+pub target_placed : (name : List ℕ) (body : List Statement) (labels : List (List ℕ)) (numbers : List ℕ) (count : ℕ) → AreTargets body labels numbers count →
+    target_in name body ≡ target_by numbers count (place_of name labels)
+target_placed name body labels numbers count are =
+    let first : target_in name body ≡ 0 + target_in name body = omega arith in
+    let last : 0 + count_of body ≡ count = omega (arith, are.count) in
+    first
+    ∙ placed name 0 body
+    ∙ ap (λ (k : ℕ). target_by (numbers_of 0 body) k (place_of name (labels_of body))) last
+    ∙ ap (λ (l : List ℕ). target_by l count (place_of name (labels_of body))) (sym are.numbers)
+    ∙ ap (λ (l : List (List ℕ)). target_by numbers count (place_of name l)) (sym are.labels)

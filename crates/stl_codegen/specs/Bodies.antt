@@ -1,0 +1,57 @@
+-- The statements of a body one behind the other: what each adds to the code, and the numbers of those
+-- that have labels.
+use Rattle.std.specs.Prelude.{◌≡◌, ℕ, ◌+◌, List, [], ◌∷◌, ◌++◌, Option, Some, None, if◌then◌else◌}
+use Rattle.std.specs.List.{flat_map}
+use Rattle.flat_code.specs.Ops.{OpData}
+use Rattle.flat_code.specs.declared.words.EndWord.TheVariants as ends
+use Rattle.stl_ast.specs.Statements.{is_empty}
+use Rattle.stl_ast.specs.declared.blocks.Block.{Block}
+use Rattle.stl_ast.specs.declared.mnemonics.Mnemonic.{Mnemonic}
+use Rattle.stl_ast.specs.declared.statements.Statement.{Statement}
+use Rattle.stl_types.specs.Context.{Context}
+use Rattle.stl_types.specs.Labels.{labels_of}
+use Rattle.stl_codegen.specs.Emitted.{end_op, ops_of}
+use Rattle.stl_codegen.specs.Instruction.{counted, instruction}
+
+-- what a statement adds to the code; its number has no part in it
+unfoldable pub ops_here : Context → List Statement → Statement → List OpData
+ops_here c body s = if is_empty s.code then [] else ops_of (instruction c body 0 s)
+
+-- what a body adds, and its END clause
+abbrev pub body_ops : Context → Block → List OpData
+body_ops c b = flat_map (λ s. ops_here c b.body s) b.body ++ end_op ends.Be ∷ []
+
+-- its lines
+abbrev pub line_here : Statement → List ℕ
+line_here s = if is_empty s.code then [] else s.line ∷ []
+
+abbrev pub body_lines : Block → List ℕ
+body_lines b = flat_map line_here b.body ++ b.end_line ∷ []
+
+-- how many statements these are, empty ones left out
+abbrev pub counted_by : Mnemonic → ℕ
+counted_by code = if is_empty code then 0 else 1
+
+abbrev pub count_of : List Statement → ℕ
+count_of [] = 0
+count_of (s ∷ ss) = counted s + count_of ss
+
+-- the number of the statement of each label, of statements from a number on
+abbrev pub number_here : (n : ℕ) → Option (List ℕ) → List ℕ
+number_here n None = []
+number_here n (Some label) = n ∷ []
+
+abbrev pub numbers_of : (n : ℕ) → List Statement → List ℕ
+numbers_of n [] = []
+numbers_of n (s ∷ ss) = number_here n s.label ++ numbers_of (n + counted s) ss
+
+abbrev pub or_0 : Option ℕ → ℕ
+or_0 None = 0
+or_0 (Some n) = n
+
+-- the labels of a body with these numbers, and how many statements it has
+pub record AreTargets (body : List Statement) (names : List (List ℕ)) (places : List ℕ) (total : ℕ)
+    : Type 0 where
+  pub labels : names ≡ labels_of body
+  pub numbers : places ≡ numbers_of 0 body
+  pub count : total ≡ count_of body

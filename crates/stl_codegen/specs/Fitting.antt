@@ -1,0 +1,57 @@
+-- Why code has no image: an op that the table of ops hasn't, or a number that doesn't fit its field.
+use Rattle.std.specs.Prelude.{◌≡◌, ◌<◌, ◌≤◌, ◌++◌, ℕ, true, false, List, map, length, Option, Some, None}
+use Rattle.std.specs.List.{AllByRecursion}
+use Rattle.flat_code.specs.Codes.{are_ops}
+use Rattle.flat_code.specs.Forms.{payload_fits}
+use Rattle.flat_code.specs.Ops.{OpData}
+use Rattle.flat_code.specs.Programs.{CodeBlock}
+use Rattle.flat_code.specs.declared.operands.Operand.{Operand}
+use Rattle.flat_code.specs.declared.operands.Operand.TheVariants as operand
+use Rattle.flat_code.specs.declared.programs.Param.{Param}
+use Rattle.stl_codegen.specs.Compiled.{aimed_op}
+
+-- an operand that isn't a jump's: it is the same in its place
+abbrev pub IsStill : Operand → Type 0
+IsStill (operand.Jump kind target) = ⊥
+IsStill _ = Unit {0}
+
+-- an operand that no op has
+pub record IsNoOperand (o : Operand) : Type 0 where
+  pub still : IsStill o
+  pub never : payload_fits o ≡ false
+
+-- not all of these are ops of the table, whatever targets they get
+pub record HasNoOp (ops : List OpData) : Type 0 where
+  pub never : (f : ℕ → ℕ) → are_ops (map (aimed_op f) ops) ≡ false
+
+-- ops that come behind others, or of which one is no op of the table
+abbrev pub Appended : (old new ops : List OpData) → Option (Unit {0}) → Type 0
+Appended old new ops (Some done) = new ≡ old ++ ops
+Appended old new ops None = HasNoOp ops
+
+-- items that come behind others, or of which one doesn't fit
+abbrev pub Added : {A : Type 0} → (A → Type 0) → (old new items : List A) → Option (Unit {0})
+    → Type 0
+Added fits old new items (Some done) = new ≡ old ++ items
+Added fits old new items None = AllByRecursion fits items → ⊥
+
+-- a parameter's place fits its field
+abbrev pub ParamFits : Param → Type 0
+ParamFits p = p.byte < 65536
+
+-- so do so many parameters
+pub record ParamsFit (params : List Param) : Type 0 where
+  pub count : length params ≤ 60
+  pub places : AllByRecursion ParamFits params
+
+-- the ops of a block are ops of the table, and so many lines fit its head
+pub record CodeFits (code : List OpData) (lines : List ℕ) : Type 0 where
+  pub ops : are_ops code ≡ true
+  pub count : length lines < 65536
+
+-- all of a code block fits
+pub record BlockFits (b : CodeBlock) : Type 0 where
+  pub local_len : b.local_len < 65536
+  pub instance_len : b.instance_len < 65536
+  pub params : ParamsFit b.params
+  pub code : CodeFits b.code b.lines

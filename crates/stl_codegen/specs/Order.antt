@@ -1,0 +1,42 @@
+-- The order of the records of an image.
+use Rattle.std.specs.Prelude.{ℕ, nat_eq, nat_lt, Bool, ◌&&◌, ◌||◌, List, [], ◌∷◌, if◌then◌else◌}
+use Rattle.plc_base.specs.declared.blocks.BlockId.{BlockId}
+use Rattle.plc_base.specs.declared.blocks.BlockKind.{BlockKind}
+use Rattle.plc_base.specs.declared.blocks.BlockKind.TheVariants as kinds
+use Rattle.flat_code.specs.Faults.{is_before}
+use Rattle.flat_code.specs.Programs.{CodeBlock, DataBlock, NameEntry}
+use Rattle.stl_codegen.specs.Compiled.{StatedBlock}
+
+-- kinds in the order of an image: organization blocks, functions, function blocks
+abbrev pub rank : BlockKind → ℕ
+rank kinds.Ob = 1
+rank kinds.Fc = 2
+rank _ = 3
+
+abbrev pub is_id_before : BlockId → BlockId → Bool
+is_id_before a b =
+    nat_lt (rank a.kind) (rank b.kind) || nat_eq (rank a.kind) (rank b.kind) && nat_lt a.number b.number
+
+-- code blocks by kind and number, as statements and as ops
+abbrev pub is_code_before : StatedBlock → StatedBlock → Bool
+is_code_before a b = is_id_before a.id b.id
+
+abbrev pub is_block_before : CodeBlock → CodeBlock → Bool
+is_block_before a b = is_id_before a.id b.id
+
+-- data blocks by number, names by their bytes
+abbrev pub is_data_before : DataBlock → DataBlock → Bool
+is_data_before a b = nat_lt a.number b.number
+
+abbrev pub is_name_before : NameEntry → NameEntry → Bool
+is_name_before a b = is_before a.name b.name
+
+-- a record behind those that come before it
+abbrev pub inserted : {A : Type 0} → (A → A → Bool) → A → List A → List A
+inserted before x [] = x ∷ []
+inserted before x (y ∷ ys) = if before y x then y ∷ inserted before x ys else x ∷ y ∷ ys
+
+-- in order; two that are alike stay as they stood
+unfoldable pub sorted : {A : Type 0} → (A → A → Bool) → List A → List A
+sorted before [] = []
+sorted before (x ∷ xs) = inserted before x (sorted before xs)

@@ -1,0 +1,201 @@
+ghost use Rattle.std.specs.Prelude.{◌≡◌, ◌<◌, ◌≤◌, ◌++◌, [], ◌∷◌, IfOk, length};
+ghost use Rattle.std.specs.List.{flat_map, slice_get};
+ghost use Rattle.stl_ast.specs.Statements.{is_empty};
+ghost use Rattle.stl_types.specs.Labels.{label_of};
+ghost use Rattle.stl_codegen.specs.Bodies.{
+  AreTargets,
+  body_lines,
+  count_of,
+  counted_by,
+  line_here,
+  number_here,
+  ops_here,
+  or_0,
+};
+ghost use Rattle.stl_codegen.specs.Fitting.{Appended};
+ghost use Rattle.stl_codegen.specs.Instruction.{target_in, target_of};
+
+use crate::instructions::{append_jump_to, append_resolved};
+use crate::words::jump_of;
+use flat_code::Op;
+use std::alloc::{AllocError, Global};
+use std::marker::Model;
+use stl_ast::{Block, Mnemonic, Name, Operand, Statement};
+use stl_symbols::Names;
+use stl_types::Scope;
+
+pub(crate) fn is_empty(code: Mnemonic) -> bool
+    ensures { result ≡ is_empty code }
+{
+    matches!(code, Mnemonic::Empty)
+}
+
+/// Adds the line of a statement.
+fn add_line(lines: &mut Vec<u32>, statement: &Statement) -> Result<(), AllocError>
+    ensures { IfOk result (λ _. lines.new.items ≡ lines.old.items ++ line_here statement.now) }
+{
+    if is_empty(statement.code) {
+        return Ok(());
+    }
+    lines.push(statement.line)?;
+    Ok(())
+}
+
+/// The lines of the statements of a body, and that of its END clause.
+pub(crate) fn lines_of(alloc: Global, block: &Block) -> Result<Vec<u32>, AllocError>
+    ensures { IfOk result (λ lines. lines.items ≡ body_lines block.now) }
+{
+    let mut lines = Vec::new(alloc);
+    for statement in block.body.as_slice() {
+        add_line(&mut lines, statement)?;
+    }
+    lines.push(block.end_line)?;
+    Ok(lines)
+}
+
+/// The statements of a body, with the number of the statement of each label. Contracts see the
+/// statements.
+#[derive(Drop)]
+pub(crate) struct Body<'a> {
+    statements: &'a [Statement],
+    labels: Names,
+    numbers: Vec<u32>,
+    count: u32,
+}
+
+impl<'a> Model for Body<'a> {
+    ghost use Rattle.std.specs.Prelude.{List};
+    ghost use Rattle.stl_ast.specs.declared.statements.Statement.{Statement};
+    ghost use Rattle.stl_codegen.specs.Bodies.{AreTargets};
+
+    ghost Value = { List Statement };
+
+    ghost view = { λ b. b.statements.now };
+
+    ghost invariant = { λ b. AreTargets b.statements.now b.labels b.numbers.items b.count };
+}
+
+/// 0 for an empty statement, which has no number, and 1 for every other.
+fn counted(code: Mnemonic) -> u32
+    ensures { result ≡ counted_by code }
+{
+    if is_empty(code) { 0 } else { 1 }
+}
+
+/// Adds a label with the number of its statement.
+fn add_target(
+    labels: &mut Names,
+    numbers: &mut Vec<u32>,
+    alloc: Global,
+    number: u32,
+    label: &Option<Name>,
+) -> Result<(), AllocError>
+    ensures labels { IfOk result (λ _. labels.new ≡ labels.old ++ label_of label.now) }
+    ensures numbers { IfOk result (λ _. numbers.new.items
+        ≡ numbers.old.items ++ number_here number label.now) }
+{
+    match label {
+        None => Ok(()),
+        Some(name) => {
+            labels.add(alloc, name.as_bytes())?;
+            numbers.push(number)?;
+            Ok(())
+        }
+    }
+}
+
+fn number_at(numbers: &[u32], place: usize) -> u32
+    ensures { result ≡ or_0 (slice_get numbers.now place) }
+{
+    if place < numbers.len() {
+        numbers[place]
+    } else {
+        0
+    }
+}
+
+impl<'a> Body<'a> {
+    /// These statements.
+    pub(crate) fn new(alloc: Global, statements: &'a [Statement]) -> Result<Self, AllocError>
+        requires { count_of statements.now < 65536 }
+        ensures { IfOk result (λ body. body ≡ statements.now) }
+    {
+        let mut labels = Names::new(alloc);
+        let mut numbers = Vec::new(alloc);
+        let mut count: u32 = 0;
+        for statement in statements {
+            add_target(&mut labels, &mut numbers, alloc, count, &statement.label)?;
+            count += counted(statement.code);
+        }
+        Ok(Body {
+            statements,
+            labels,
+            numbers,
+            count,
+        })
+    }
+
+    /// The number of the first statement that has a label; how many statements there are where none
+    /// has it.
+    #[tactic(auto, using(crate::proofs::TargetLemmas::target_placed))]
+    fn target(&self, label: &[u8]) -> u32
+        ensures { result ≡ target_in label.now self.now }
+    {
+        match self.labels.place(label) {
+            None => self.count,
+            Some(place) => number_at(self.numbers.as_slice(), place),
+        }
+    }
+
+    /// The number of the statement at which a jump goes on.
+    fn target_of(&self, operand: &Operand) -> u32
+        ensures { result ≡ target_of self.now operand.now }
+    {
+        match operand {
+            Operand::Label { name } => self.target(name.as_bytes()),
+            _ => 0,
+        }
+    }
+
+    /// Appends the ops of one of the statements.
+    #[tactic(auto, unfolding(crate::specs::Bodies::ops_here, crate::specs::Instruction::instruction))]
+    fn append_statement(
+        &self,
+        alloc: Global,
+        ops: &mut Vec<Op>,
+        scope: &Scope,
+        statement: &Statement,
+    ) -> Result<Option<()>, AllocError>
+        ensures { IfOk result (λ done. Appended ops.old.items ops.new.items
+            (ops_here scope.now self.now statement.now) done) }
+    {
+        if is_empty(statement.code) {
+            return Ok(Some(()));
+        }
+        match jump_of(statement.code) {
+            Some(how) => append_jump_to(ops, how, self.target_of(&statement.operand)),
+            None => {
+                let view = scope.resolved(alloc, statement)?;
+                append_resolved(alloc, ops, scope, statement, view)
+            }
+        }
+    }
+
+    /// Appends the ops of all statements.
+    pub(crate) fn append_to(
+        &self,
+        alloc: Global,
+        ops: &mut Vec<Op>,
+        scope: &Scope,
+    ) -> Result<Option<()>, AllocError>
+        ensures { IfOk result (λ done. Appended ops.old.items ops.new.items
+            (flat_map (λ s. ops_here scope.now self.now s) self.now) done) }
+    {
+        for statement in self.statements {
+            let Some(_) = self.append_statement(alloc, ops, scope, statement)? else {
+                return Ok(None);
+            };
+        }
+        Ok(Some(()))
+    }
+}

@@ -1,0 +1,148 @@
+ghost use Rattle.std.specs.Prelude.{◌≡◌, ◌≤◌, IfOk, IfSome, Some, map};
+ghost use Rattle.std.specs.List.{AllByRecursion};
+ghost use Rattle.std.specs.Option.{IfNone};
+ghost use Rattle.block_layout.specs.Blocks.{is_code};
+ghost use Rattle.stl_codegen.specs.Compiled.{compiled};
+ghost use Rattle.stl_codegen.specs.Fitting.{Added, BlockFits};
+ghost use Rattle.stl_codegen.specs.Generated.{
+  code_block,
+  code_block_of,
+  each_block,
+  instance_len,
+};
+
+use crate::codes::{Code, code_of};
+use crate::params::params_of;
+use block_layout::BlockLayout;
+use flat_code::CodeBlock;
+use plc_base::{BlockId, BlockKind};
+use std::alloc::{AllocError, Global};
+use stl_ast::Block;
+use stl_types::Scope;
+
+/// A length in bytes, where it fits its field.
+fn field(bytes: u64) -> Option<u16>
+    ensures value { IfSome result (λ n. n ≡ bytes) }
+    ensures long { IfNone result (65536 ≤ bytes) }
+{
+    if bytes <= 65_535 {
+        Some(bytes as u16)
+    } else {
+        None
+    }
+}
+
+fn instance_len(block: &Block, layout: &BlockLayout) -> u64
+    ensures { result ≡ instance_len block.now layout.now }
+{
+    if matches!(block.kind, BlockKind::Fb) {
+        layout.length
+    } else {
+        0
+    }
+}
+
+/// A code block. `None` where one of its numbers doesn't fit its field, or an op isn't one of the
+/// table.
+fn code_block(
+    alloc: Global,
+    scope: &Scope,
+    block: &Block,
+    layout: &BlockLayout,
+    id: BlockId,
+) -> Result<Option<CodeBlock>, AllocError>
+    ensures value { IfOk result (λ made. IfSome made (λ b. b
+        ≡ compiled (code_block scope.now block.now layout.now id))) }
+    ensures none { IfOk result (λ made. IfNone made
+        (BlockFits (compiled (code_block scope.now block.now layout.now id)) → ⊥)) }
+{
+    let Some(local_len) = field(layout.local_len) else {
+        return Ok(None);
+    };
+    let Some(instance_len) = field(instance_len(block, layout)) else {
+        return Ok(None);
+    };
+    let Some(params) = params_of(alloc, block, layout)? else {
+        return Ok(None);
+    };
+    let Some(Code { ops, lines }) = code_of(alloc, scope, block)? else {
+        return Ok(None);
+    };
+    Ok(Some(CodeBlock {
+        id,
+        local_len,
+        instance_len,
+        params,
+        code: ops,
+        lines,
+    }))
+}
+
+fn is_code(kind: BlockKind) -> bool
+    ensures { result ≡ is_code kind }
+{
+    matches!(kind, BlockKind::Ob | BlockKind::Fc | BlockKind::Fb)
+}
+
+/// Adds the code block that a block of the source is, if it is one.
+fn add_known(
+    alloc: Global,
+    made: &mut Vec<CodeBlock>,
+    scope: &Scope,
+    block: &Block,
+    layout: &BlockLayout,
+    id: BlockId,
+) -> Result<Option<()>, AllocError>
+    ensures { IfOk result (λ done. Added BlockFits made.old.items made.new.items
+        (map compiled (code_block_of scope.now block.now layout.now (Some id))) done) }
+{
+    if !is_code(id.kind) {
+        return Ok(Some(()));
+    }
+    let Some(one) = code_block(alloc, scope, block, layout, id)? else {
+        return Ok(None);
+    };
+    made.push(one)?;
+    Ok(Some(()))
+}
+
+fn add_code_block(
+    alloc: Global,
+    made: &mut Vec<CodeBlock>,
+    scope: &Scope,
+    block: &Block,
+    layout: &BlockLayout,
+) -> Result<Option<()>, AllocError>
+    ensures { IfOk result (λ done. Added BlockFits made.old.items made.new.items
+        (map compiled (code_block_of scope.now block.now layout.now layout.now.id)) done) }
+{
+    match layout.id {
+        None => Ok(Some(())),
+        Some(id) => add_known(alloc, made, scope, block, layout, id),
+    }
+}
+
+/// The code blocks of a source, in its order. `None` where one of them doesn't fit.
+pub(crate) fn code_blocks(
+    alloc: Global,
+    scope: &Scope,
+    blocks: &[Block],
+    layouts: &[BlockLayout],
+) -> Result<Option<Vec<CodeBlock>>, AllocError>
+    ensures value { IfOk result (λ made. IfSome made (λ list. list.items
+        ≡ map compiled (each_block (λ c b l. code_block_of c b l l.id)
+        (record scope.now { block = 0 }) blocks.now layouts.now))) }
+    ensures none { IfOk result (λ made. IfNone made
+        (AllByRecursion BlockFits (map compiled (each_block (λ c b l. code_block_of c b l l.id)
+        (record scope.now { block = 0 }) blocks.now layouts.now)) → ⊥)) }
+{
+    let mut made = Vec::new(alloc);
+    for place in 0..blocks.len().min(layouts.len()) {
+        let here = scope.at(place);
+        let added = add_code_block(alloc, &mut made, &here, &blocks[place], &layouts[place])?;
+        let Some(_) = added else {
+            return Ok(None);
+        };
+    }
+    Ok(Some(made))
+}

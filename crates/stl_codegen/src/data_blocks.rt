@@ -1,0 +1,119 @@
+ghost use Rattle.std.specs.Prelude.{◌≡◌, ◌++◌, IfOk, Some};
+ghost use Rattle.block_layout.specs.declared.blocks.Shape.TheVariants as shapes;
+ghost use Rattle.stl_codegen.specs.Generated.{
+  data_block,
+  data_block_of,
+  each_block,
+  function_block_number,
+  instance_in,
+};
+
+use block_layout::{BlockLayout, Shape};
+use flat_code::DataBlock;
+use plc_base::{BlockId, BlockKind};
+use std::alloc::{AllocError, Global};
+use stl_ast::Block;
+use stl_types::Scope;
+
+/// The number of a function block.
+fn function_block_number(id: Option<BlockId>) -> Option<u16>
+    ensures { result ≡ function_block_number id }
+{
+    match id {
+        None => None,
+        Some(id) => {
+            if matches!(id.kind, BlockKind::Fb) {
+                Some(id.number)
+            } else {
+                None
+            }
+        }
+    }
+}
+
+fn function_block_at(layouts: &[BlockLayout], place: usize) -> Option<u16>
+    ensures { result ≡ instance_in layouts.now (shapes.Of place) }
+{
+    if place < layouts.len() {
+        function_block_number(layouts[place].id)
+    } else {
+        None
+    }
+}
+
+/// The function block whose instance a data block is.
+fn instance_of(layouts: &[BlockLayout], shape: Shape) -> Option<u16>
+    ensures { result ≡ instance_in layouts.now shape }
+{
+    match shape {
+        Shape::Of { block } => function_block_at(layouts, block),
+        _ => None,
+    }
+}
+
+/// A data block with its initial bytes.
+fn data_block(
+    alloc: Global,
+    scope: &Scope,
+    layout: &BlockLayout,
+    id: BlockId,
+) -> Result<DataBlock, AllocError>
+    ensures { IfOk result (λ made. made ≡ data_block scope.now layout.now id) }
+{
+    let layouts = scope.layouts();
+    Ok(DataBlock {
+        number: id.number,
+        instance_of: instance_of(layouts.list(), layout.shape),
+        bytes: layouts.initial_bytes(alloc, scope.tree(), scope.block())?,
+    })
+}
+
+/// Adds the data block that a block of the source is, if it is one.
+fn add_known(
+    alloc: Global,
+    made: &mut Vec<DataBlock>,
+    scope: &Scope,
+    layout: &BlockLayout,
+    id: BlockId,
+) -> Result<(), AllocError>
+    ensures { IfOk result (λ _. made.new.items
+        ≡ made.old.items ++ data_block_of scope.now layout.now (Some id)) }
+{
+    if matches!(id.kind, BlockKind::Db) {
+        made.push(data_block(alloc, scope, layout, id)?)?;
+    }
+    Ok(())
+}
+
+fn add_data_block(
+    alloc: Global,
+    made: &mut Vec<DataBlock>,
+    scope: &Scope,
+    layout: &BlockLayout,
+) -> Result<(), AllocError>
+    ensures { IfOk result (λ _. made.new.items
+        ≡ made.old.items ++ data_block_of scope.now layout.now layout.now.id) }
+{
+    match layout.id {
+        None => Ok(()),
+        Some(id) => add_known(alloc, made, scope, layout, id),
+    }
+}
+
+/// The data blocks of a source, in its order.
+pub(crate) fn data_blocks(
+    alloc: Global,
+    scope: &Scope,
+    blocks: &[Block],
+    layouts: &[BlockLayout],
+) -> Result<Vec<DataBlock>, AllocError>
+    ensures { IfOk result (λ made. made.items ≡ each_block (λ c b l. data_block_of c l l.id)
+        (record scope.now { block = 0 }) blocks.now layouts.now) }
+{
+    let mut made = Vec::new(alloc);
+    for place in 0..blocks.len().min(layouts.len()) {
+        let here = scope.at(place);
+        add_data_block(alloc, &mut made, &here, &layouts[place])?;
+    }
+    Ok(made)
+}

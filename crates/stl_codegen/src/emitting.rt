@@ -1,0 +1,149 @@
+ghost use Rattle.std.specs.Prelude.{◌≡◌, IfOk, false, true, [], ◌∷◌};
+ghost use Rattle.flat_code.specs.OpCodes.{code_of};
+ghost use Rattle.flat_code.specs.Ops.{op_of};
+ghost use Rattle.flat_code.specs.declared.operands.Operand.TheVariants as operands;
+ghost use Rattle.flat_code.specs.declared.operands.Passed.TheVariants as passed;
+ghost use Rattle.flat_code.specs.declared.words.Word.TheVariants as words;
+ghost use Rattle.stl_codegen.specs.Emitted.{
+  call_op,
+  called_kind,
+  end_op,
+  instance_number,
+  jump_op,
+  opening,
+  preparing,
+};
+ghost use Rattle.stl_codegen.specs.Fitting.{Appended, IsStill};
+
+use crate::operands::index_byte;
+use flat_code::{CallWord, EndWord, JumpWord, Op, Operand, Passed, Word};
+use plc_base::{BlockId, BlockKind, Width};
+use std::alloc::AllocError;
+
+/// Appends an op, unless the word doesn't take the operand.
+#[tactic(auto, using(crate::proofs::OpLemmas::not_taken))]
+pub(crate) fn append(
+    ops: &mut Vec<Op>,
+    word: Word,
+    last: bool,
+    operand: Operand,
+) -> Result<Option<()>, AllocError>
+    requires { IsStill operand }
+    ensures { IfOk result (λ done. Appended ops.old.items ops.new.items
+        (op_of (code_of word) last operand ∷ []) done) }
+{
+    let Some(op) = Op::taken(word, last, operand) else {
+        return Ok(None);
+    };
+    ops.push(op)?;
+    Ok(Some(()))
+}
+
+/// Appends the op that opens a data block before the statement does its work.
+pub(crate) fn append_opening(
+    ops: &mut Vec<Op>,
+    block: Option<u16>,
+) -> Result<Option<()>, AllocError>
+    ensures { IfOk result (λ done. Appended ops.old.items ops.new.items (opening block) done) }
+{
+    match block {
+        None => Ok(Some(())),
+        Some(number) => append(ops, Word::UseDb, false, Operand::UseDb { number }),
+    }
+}
+
+/// Appends the op that passes something for the parameter of an index.
+#[tactic(auto, using(crate::proofs::OpLemmas::no_operand, crate::proofs::OpLemmas::far_passing))]
+pub(crate) fn append_passing(
+    ops: &mut Vec<Op>,
+    index: usize,
+    actual: Passed,
+) -> Result<Option<()>, AllocError>
+    ensures { IfOk result (λ done. Appended ops.old.items ops.new.items
+        (preparing words.Pass (operands.Pass index actual) ∷ []) done) }
+{
+    let Some(index) = index_byte(index) else {
+        return Ok(None);
+    };
+    append(ops, Word::Pass, false, Operand::Pass { index, actual })
+}
+
+/// Appends the op that passes a parameter of the function that calls, by its index there.
+#[tactic(auto, using(crate::proofs::OpLemmas::no_operand, crate::proofs::OpLemmas::far_passed))]
+pub(crate) fn append_passed_parameter(
+    ops: &mut Vec<Op>,
+    index: usize,
+    own: usize,
+    width: Width,
+) -> Result<Option<()>, AllocError>
+    ensures { IfOk result (λ done. Appended ops.old.items ops.new.items
+        (preparing words.Pass (operands.Pass index (passed.Parameter own width)) ∷ []) done) }
+{
+    let Some(own) = index_byte(own) else {
+        return Ok(None);
+    };
+    append_passing(ops, index, Passed::Parameter { index: own, width })
+}
+
+/// Appends a jump to the statement of a number.
+#[tactic(auto, using(crate::proofs::OpLemmas::jumps))]
+pub(crate) fn append_jump(
+    ops: &mut Vec<Op>,
+    how: JumpWord,
+    target: u32,
+) -> Result<Option<()>, AllocError>
+    ensures { IfOk result (λ done. Appended ops.old.items ops.new.items
+        (jump_op how target ∷ []) done) }
+{
+    let operand = Operand::Jump {
+        kind: how.kind(),
+        target,
+    };
+    ops.push(Op::new(Word::Jump, true, operand))?;
+    Ok(Some(()))
+}
+
+fn called_kind(kind: BlockKind) -> u8
+    ensures { result ≡ called_kind kind }
+{
+    match kind {
+        BlockKind::Fc => 2,
+        BlockKind::Fb => 3,
+        _ => 5,
+    }
+}
+
+/// 0 stands for no instance.
+fn instance_number(instance: Option<u16>) -> u16
+    ensures { result ≡ instance_number instance }
+{
+    match instance {
+        None => 0,
+        Some(number) => number,
+    }
+}
+
+/// Appends the call of a block.
+pub(crate) fn append_call(
+    ops: &mut Vec<Op>,
+    how: CallWord,
+    block: BlockId,
+    instance: Option<u16>,
+) -> Result<Option<()>, AllocError>
+    ensures { IfOk result (λ done. Appended ops.old.items ops.new.items
+        (call_op how block instance ∷ []) done) }
+{
+    let operand = Operand::Called {
+        kind: called_kind(block.kind),
+        number: block.number,
+        instance: instance_number(instance),
+    };
+    append(ops, Word::Call(how), true, operand)
+}
+
+/// Appends the end of a block.
+pub(crate) fn append_end(ops: &mut Vec<Op>, how: EndWord) -> Result<Option<()>, AllocError>
+    ensures { IfOk result (λ done. Appended ops.old.items ops.new.items (end_op how ∷ []) done) }
+{
+    append(ops, Word::End(how), true, Operand::Nothing)
+}

@@ -1,0 +1,233 @@
+ghost use Rattle.std.specs.Prelude.{◌≡◌, IfOk, zero, Some, None, drop, take, ◌++◌};
+ghost use Rattle.std.specs.Option.{option_copied};
+ghost use Rattle.stl_types.specs.Parameters.{callee_of};
+ghost use Rattle.stl_types.specs.declared.views.View.TheVariants as views;
+ghost use Rattle.flat_code.specs.Instr.{Calls, Does};
+ghost use Rattle.stl_codegen.specs.Emitted.{ops_of, passing};
+ghost use Rattle.stl_codegen.specs.Fitting.{Appended};
+ghost use Rattle.stl_codegen.specs.Instruction.{
+  block_at,
+  call_instr,
+  end_instr,
+  filler,
+  in_order,
+  jump_instr,
+  passings_to,
+  resolved_instr,
+  return_last,
+  view_instr,
+};
+ghost use Rattle.stl_codegen.specs.Operands.{opened_by, operand_of};
+ghost use Rattle.stl_codegen.specs.Words.{call_of, end_of, word_of};
+
+use crate::emitting::{append, append_call, append_end, append_jump, append_opening};
+use crate::operands::{opened_by, operand_of};
+use crate::passings::append_passings;
+use crate::words::{call_of, end_of, word_of};
+use flat_code::{CallWord, JumpWord, Op, Operand, Word};
+use plc_base::BlockId;
+use std::alloc::{AllocError, Global};
+use stl_ast::{Block, Simple, Statement};
+use stl_types::{Callee, Scope, View};
+
+/// Appends a jump, also one by list: its list are the jumps behind it.
+#[tactic(auto, using(crate::proofs::OpLemmas::jump_ops))]
+pub(crate) fn append_jump_to(
+    ops: &mut Vec<Op>,
+    how: JumpWord,
+    target: u32,
+) -> Result<Option<()>, AllocError>
+    ensures { IfOk result (λ done. Appended ops.old.items ops.new.items
+        (ops_of (jump_instr how 0 target)) done) }
+{
+    append_jump(ops, how, target)
+}
+
+/// Appends NOP 0, for a statement that doesn't name what its instruction takes.
+#[tactic(auto, unfolding(crate::specs::Emitted::ops_of))]
+fn append_filler(ops: &mut Vec<Op>) -> Result<Option<()>, AllocError>
+    ensures { IfOk result (λ done. Appended ops.old.items ops.new.items (ops_of filler) done) }
+{
+    append(ops, Word::Nop, true, Operand::Literal { value: 0 })
+}
+
+/// Appends an instruction that goes on to the next statement, and the op that opens a data block
+/// before it.
+#[tactic(auto, unfolding(crate::specs::Emitted::ops_of), using(crate::proofs::AppendLemmas::front_has_none, crate::proofs::AppendLemmas::back_has_none, crate::proofs::AppendLemmas::appended_then, crate::proofs::OpLemmas::no_operand))]
+fn append_word(
+    ops: &mut Vec<Op>,
+    statement: &Statement,
+    view: View,
+) -> Result<Option<()>, AllocError>
+    ensures { IfOk result (λ done. Appended ops.old.items ops.new.items
+        (ops_of (Does (opened_by view) (word_of statement.now.code statement.now.operand view)
+        (operand_of statement.now.operand view))) done) }
+{
+    let Some(_) = append_opening(ops, opened_by(view))? else {
+        return Ok(None);
+    };
+    let Some(operand) = operand_of(&statement.operand, view) else {
+        return Ok(None);
+    };
+    let word = word_of(statement.code, &statement.operand, view);
+    append(ops, word, true, operand)
+}
+
+/// The list with its first item behind the others.
+fn first_last<T>(list: Vec<T>) -> Vec<T>
+    ensures { result.items ≡ drop 1 list.items ++ take 1 list.items }
+{
+    let mut list = list;
+    if !list.is_empty() {
+        list.rotate_left(1);
+    }
+    list
+}
+
+/// The parameters of a block by their index in a call; the return value of a function is the last.
+pub(crate) fn in_order<T>(block: Option<&Block>, params: Vec<T>) -> Vec<T>
+    ensures { result.items ≡ in_order (option_copied block.entry) params.items }
+{
+    match block {
+        None => params,
+        Some(block) => return_last(block.result, params),
+    }
+}
+
+fn return_last<T>(kind: Option<Simple>, params: Vec<T>) -> Vec<T>
+    ensures { result.items ≡ return_last kind params.items }
+{
+    match kind {
+        None => params,
+        Some(_) => first_last(params),
+    }
+}
+
+/// The block of the source at a place.
+fn block_at<'a>(scope: &Scope<'a>, place: Option<usize>) -> Option<&'a Block>
+    ensures { option_copied result ≡ block_at scope.now.blocks place }
+{
+    let blocks = scope.tree().blocks.as_slice();
+    let place = place?;
+    if place < blocks.len() {
+        Some(&blocks[place])
+    } else {
+        None
+    }
+}
+
+/// Appends what a CALL passes for the parameters of the block that is called.
+fn append_arguments(
+    alloc: Global,
+    ops: &mut Vec<Op>,
+    scope: &Scope,
+    statement: &Statement,
+    callee: Option<Callee>,
+) -> Result<Option<()>, AllocError>
+    ensures { IfOk result (λ done. Appended ops.old.items ops.new.items
+        (passing (passings_to scope.now statement.now callee)) done) }
+{
+    match callee {
+        None => Ok(Some(())),
+        Some(Callee { place, formals, .. }) => {
+            let formals = in_order(block_at(scope, place), formals);
+            append_passings(
+                alloc,
+                ops,
+                scope,
+                statement.actuals.as_slice(),
+                formals.as_slice(),
+            )
+        }
+    }
+}
+
+/// Appends the call of a block, with what it passes.
+#[tactic(auto, unfolding(crate::specs::Emitted::ops_of), using(crate::proofs::AppendLemmas::front_has_none, crate::proofs::AppendLemmas::appended_then))]
+fn append_called(
+    alloc: Global,
+    ops: &mut Vec<Op>,
+    scope: &Scope,
+    statement: &Statement,
+    how: CallWord,
+    block: BlockId,
+    instance: Option<u16>,
+) -> Result<Option<()>, AllocError>
+    ensures { IfOk result (λ done. Appended ops.old.items ops.new.items
+        (ops_of (Calls how block instance (passings_to scope.now statement.now
+        (callee_of scope.now statement.now.operand)))) done) }
+{
+    let callee = scope.callee(alloc, &statement.operand)?;
+    let Some(_) = append_arguments(alloc, ops, scope, statement, callee)? else {
+        return Ok(None);
+    };
+    append_call(ops, how, block, instance)
+}
+
+fn append_call_by(
+    alloc: Global,
+    ops: &mut Vec<Op>,
+    scope: &Scope,
+    statement: &Statement,
+    how: CallWord,
+    view: View,
+) -> Result<Option<()>, AllocError>
+    ensures { IfOk result (λ done. Appended ops.old.items ops.new.items
+        (ops_of (call_instr scope.now statement.now how view)) done) }
+{
+    match view {
+        View::Called { block, instance } => {
+            append_called(alloc, ops, scope, statement, how, block, instance)
+        }
+        _ => append_filler(ops),
+    }
+}
+
+/// Appends an instruction that is no call.
+#[tactic(auto, unfolding(crate::specs::Emitted::ops_of))]
+fn append_plain(
+    ops: &mut Vec<Op>,
+    statement: &Statement,
+    view: View,
+) -> Result<Option<()>, AllocError>
+    ensures { IfOk result (λ done. Appended ops.old.items ops.new.items
+        (ops_of (end_instr statement.now view (end_of statement.now.code))) done) }
+{
+    match end_of(statement.code) {
+        None => append_word(ops, statement, view),
+        Some(how) => append_end(ops, how),
+    }
+}
+
+fn append_by_view(
+    alloc: Global,
+    ops: &mut Vec<Op>,
+    scope: &Scope,
+    statement: &Statement,
+    view: View,
+) -> Result<Option<()>, AllocError>
+    ensures { IfOk result (λ done. Appended ops.old.items ops.new.items
+        (ops_of (view_instr scope.now statement.now view (call_of statement.now.code))) done) }
+{
+    match call_of(statement.code) {
+        None => append_plain(ops, statement, view),
+        Some(how) => append_call_by(alloc, ops, scope, statement, how, view),
+    }
+}
+
+/// Appends the instruction of a statement that is no jump, by what its operand names.
+pub(crate) fn append_resolved(
+    alloc: Global,
+    ops: &mut Vec<Op>,
+    scope: &Scope,
+    statement: &Statement,
+    view: Option<View>,
+) -> Result<Option<()>, AllocError>
+    ensures { IfOk result (λ done. Appended ops.old.items ops.new.items
+        (ops_of (resolved_instr scope.now statement.now view)) done) }
+{
+    match view {
+        None => append_filler(ops),
+        Some(view) => append_by_view(alloc, ops, scope, statement, view),
+    }
+}

@@ -1,0 +1,207 @@
+ghost use Rattle.std.specs.Prelude.{◌≡◌, ◌≤◌, IfSome};
+ghost use Rattle.std.specs.Option.{IfNone};
+ghost use Rattle.plc_base.specs.Pointer.{area_number};
+ghost use Rattle.stl_codegen.specs.Fitting.{IsNoOperand, IsStill};
+ghost use Rattle.stl_codegen.specs.Operands.{
+  constant_bits,
+  direct,
+  is_in_named_block,
+  numbered_operand,
+  opened_by,
+  opened_by_place,
+  operand_of,
+  pointer_bits,
+  register_operand,
+};
+
+use block_layout::{bits_of, width_of};
+use flat_code::{Operand as FlatOperand, condition_of};
+use plc_base::{Area, Place, Width};
+use stl_ast::{Numbered, Operand};
+use stl_types::{Register, View};
+
+/// Whether a place stands in a data block that is named, which the statement opens first.
+pub(crate) fn is_in_named_block(place: Place) -> bool
+    ensures { result ≡ is_in_named_block place }
+{
+    matches!(place.area, Area::Db) && place.number != 0
+}
+
+fn opened_by_place(place: Place) -> Option<u16>
+    ensures { result ≡ opened_by_place place }
+{
+    if is_in_named_block(place) {
+        Some(place.number)
+    } else {
+        None
+    }
+}
+
+/// The data block that a statement opens first.
+pub(crate) fn opened_by(view: View) -> Option<u16>
+    ensures { result ≡ opened_by view }
+{
+    match view {
+        View::Direct { place, .. } => opened_by_place(place),
+        _ => None,
+    }
+}
+
+fn direct(place: Place, width: Width) -> FlatOperand
+    ensures { result ≡ direct place width }
+{
+    FlatOperand::Direct {
+        area: place.area,
+        width,
+        byte: place.byte,
+        bit: place.bit,
+    }
+}
+
+fn area_number(area: Area) -> u32
+    ensures value { result ≡ area_number area }
+    ensures below { result ≤ 6 }
+{
+    match area {
+        Area::P => 0,
+        Area::I => 1,
+        Area::Q => 2,
+        Area::M => 3,
+        Area::Db => 4,
+        Area::Di => 5,
+        Area::L => 6,
+    }
+}
+
+/// The bits of a pointer constant, by its area where it has one.
+fn pointer_bits(area: Option<Area>, byte: u16, bit: u8) -> u32
+    ensures { result ≡ pointer_bits area byte bit }
+{
+    let within = 8 * byte as u32 + bit as u32;
+    match area {
+        None => within,
+        Some(area) => 0x8000_0000 + 0x0100_0000 * area_number(area) + within,
+    }
+}
+
+/// The bits of a constant.
+pub(crate) fn constant_bits(operand: &Operand) -> u32
+    ensures { result ≡ constant_bits operand.now }
+{
+    match operand {
+        Operand::Constant { value } => bits_of(value),
+        _ => 0,
+    }
+}
+
+fn register_operand(register: Register) -> FlatOperand
+    ensures { result ≡ register_operand register }
+{
+    match register {
+        Register::Dblg => FlatOperand::Literal { value: 0 },
+        Register::Dbno => FlatOperand::Literal { value: 1 },
+        Register::Dilg => FlatOperand::Literal { value: 2 },
+        Register::Dino => FlatOperand::Literal { value: 3 },
+        _ => FlatOperand::Nothing,
+    }
+}
+
+fn numbered_operand(what: Numbered, from: Area, byte: u16) -> FlatOperand
+    ensures { result ≡ numbered_operand what from byte }
+{
+    match what {
+        Numbered::Timer => FlatOperand::NumberedBy {
+            kind: 1,
+            from,
+            byte,
+        },
+        Numbered::Counter => FlatOperand::NumberedBy {
+            kind: 2,
+            from,
+            byte,
+        },
+        Numbered::Db => FlatOperand::OpenBy {
+            register: 1,
+            from,
+            byte,
+        },
+        Numbered::Di => FlatOperand::OpenBy {
+            register: 2,
+            from,
+            byte,
+        },
+    }
+}
+
+/// An index of a parameter in an op, which has a byte for it.
+pub(crate) fn index_byte(index: usize) -> Option<u8>
+    ensures value { IfSome result (λ byte. byte ≡ index) }
+    ensures large { IfNone result (256 ≤ index) }
+{
+    if index <= 255 {
+        Some(index as u8)
+    } else {
+        None
+    }
+}
+
+/// The operand of an instruction that goes on to the next statement. `None` where it is a parameter
+/// of so high an index that no op has it.
+#[tactic(auto, unfolding(crate::specs::Operands::operand_of))]
+pub(crate) fn operand_of(operand: &Operand, view: View) -> Option<FlatOperand>
+    ensures value { IfSome result (λ o. o ≡ operand_of operand.now view) }
+    ensures still { IfSome result (λ o. IsStill o) }
+    ensures none { IfNone result (IsNoOperand (operand_of operand.now view)) }
+{
+    match view {
+        View::Direct { place, width, .. } => Some(direct(place, width)),
+        View::Parameter {
+            index,
+            declared,
+            ..
+        } => Some(FlatOperand::Parameter {
+            index: index_byte(index)?,
+            width: width_of(declared),
+        }),
+        View::ByMemory {
+            area,
+            width,
+            from,
+            byte,
+        } => Some(FlatOperand::ByMemory {
+            area,
+            width,
+            from,
+            byte,
+        }),
+        View::ByRegister {
+            area,
+            width,
+            register,
+            bits,
+        } => Some(FlatOperand::ByRegister {
+            area,
+            width,
+            register,
+            bits,
+        }),
+        View::Timer { number } => Some(FlatOperand::Numbered { kind: 1, number }),
+        View::Counter { number } => Some(FlatOperand::Numbered { kind: 2, number }),
+        View::NumberBy { what, from, byte } => Some(numbered_operand(what, from, byte)),
+        View::Constant => Some(FlatOperand::Literal {
+            value: constant_bits(operand),
+        }),
+        View::Pointer { area, byte, bit } => Some(FlatOperand::Literal {
+            value: pointer_bits(area, byte, bit),
+        }),
+        View::OfStatus { flag } => Some(FlatOperand::OfStatus {
+            condition: condition_of(flag),
+        }),
+        View::Register { which } => Some(register_operand(which)),
+        View::OpenBlock { di, number } => Some(FlatOperand::OpenBlock {
+            register: if di { 2 } else { 1 },
+            number,
+        }),
+        _ => Some(FlatOperand::Nothing),
+    }
+}

@@ -1,0 +1,191 @@
+ghost use Rattle.std.specs.Prelude.{
+  ◌≡◌,
+  ◌≤◌,
+  ◌/◌,
+  ◌++◌,
+  [],
+  ◌∷◌,
+  IfOk,
+  IfSome,
+  length,
+};
+ghost use Rattle.std.specs.Option.{IfNone};
+ghost use Rattle.std.specs.List.{AllByRecursion, flat_map};
+ghost use Rattle.block_layout.specs.Blocks.{is_function_block};
+ghost use Rattle.block_layout.specs.Offsets.{width_of};
+ghost use Rattle.stl_ast.specs.Blocks.{is_parameter};
+ghost use Rattle.stl_codegen.specs.Fitting.{Added, ParamFits, ParamsFit};
+ghost use Rattle.stl_codegen.specs.Generated.{
+  offset_named,
+  param,
+  param_bits,
+  param_here,
+  param_of,
+  params_of,
+  section_number,
+};
+
+use crate::instructions::in_order;
+use arrayvec::ArrayVec;
+use block_layout::{BlockLayout, Cell, Element, Layout, Member, width_of};
+use flat_code::Param;
+use plc_base::{BlockKind, Width};
+use std::alloc::{AllocError, Global};
+use stl_ast::{Block, PartKind, Simple};
+
+/// The number of a section in an image.
+fn section_number(section: PartKind) -> u8
+    ensures { result ≡ section_number section }
+{
+    match section {
+        PartKind::Input => 1,
+        PartKind::Output => 2,
+        _ => 3,
+    }
+}
+
+fn is_parameter(section: PartKind) -> bool
+    ensures { result ≡ is_parameter section }
+{
+    matches!(
+        section,
+        PartKind::Input | PartKind::Output | PartKind::InOut
+    )
+}
+
+pub(crate) fn is_function_block(kind: BlockKind) -> bool
+    ensures { result ≡ is_function_block kind }
+{
+    matches!(kind, BlockKind::Fb)
+}
+
+/// A parameter that begins so many bits from the start; `None` where its byte doesn't fit its field.
+fn param(section: u8, width: Width, bits: u64) -> Option<Param>
+    ensures value { IfSome result (λ p. p ≡ param section width bits) }
+    ensures far { IfNone result (65536 ≤ bits / 8) }
+{
+    let byte = bits / 8;
+    if byte > 65_535 {
+        return None;
+    }
+    Some(Param {
+        section,
+        width,
+        byte: byte as u16,
+        bit: (bits % 8) as u8,
+    })
+}
+
+fn offset_named(member: Option<Member>) -> u64
+    ensures { result ≡ offset_named member }
+{
+    match member {
+        None => 0,
+        Some(member) => member.offset,
+    }
+}
+
+/// Where a parameter begins: that of a function block has its place in the instance.
+fn param_bits(in_instance: bool, components: &Layout, cell: &Cell) -> u64
+    ensures { result ≡ param_bits in_instance components.now cell.now }
+{
+    if in_instance {
+        offset_named(components.outermost(cell.name.as_bytes()))
+    } else {
+        0
+    }
+}
+
+/// Adds a parameter of an elementary type; `None` where its place doesn't fit its field.
+#[tactic(auto, using(crate::proofs::FitLemmas::far_param))]
+fn add_plain(
+    params: &mut Vec<Param>,
+    in_instance: bool,
+    components: &Layout,
+    cell: &Cell,
+    kind: Simple,
+) -> Result<Option<()>, AllocError>
+    ensures { IfOk result (λ done. Added ParamFits params.old.items params.new.items
+        (param (section_number cell.now.section) (width_of kind)
+        (param_bits in_instance components.now cell.now) ∷ []) done) }
+{
+    let bits = param_bits(in_instance, components, cell);
+    let Some(param) = param(section_number(cell.section), width_of(kind), bits) else {
+        return Ok(None);
+    };
+    params.push(param)?;
+    Ok(Some(()))
+}
+
+/// Adds the parameter that a component is, if it is one.
+fn add_param(
+    params: &mut Vec<Param>,
+    in_instance: bool,
+    components: &Layout,
+    cell: &Cell,
+) -> Result<Option<()>, AllocError>
+    ensures { IfOk result (λ done. Added ParamFits params.old.items params.new.items
+        (param_here in_instance components.now cell.now) done) }
+{
+    if !is_parameter(cell.section) {
+        return Ok(Some(()));
+    }
+    match cell.of {
+        Element::Plain { kind } => add_plain(params, in_instance, components, cell, kind),
+        _ => Ok(Some(())),
+    }
+}
+
+/// The parameters among the components of a block, in the order of their declaration.
+fn declared_params(
+    alloc: Global,
+    in_instance: bool,
+    components: &Layout,
+) -> Result<Option<Vec<Param>>, AllocError>
+    ensures value { IfOk result (λ made. IfSome made (λ params. params.items
+        ≡ flat_map (λ c. param_here in_instance components.now c) components.now)) }
+    ensures none { IfOk result (λ made. IfNone made
+        (AllByRecursion ParamFits (flat_map (λ c. param_here in_instance components.now c) components.now)
+        → ⊥)) }
+{
+    let mut params = Vec::new(alloc);
+    for cell in components.cells() {
+        let Some(_) = add_param(&mut params, in_instance, components, cell)? else {
+            return Ok(None);
+        };
+    }
+    Ok(Some(params))
+}
+
+/// At most 60 parameters.
+fn short(params: &[Param]) -> Option<ArrayVec<Param, 60>>
+    ensures value { IfSome result (λ short. short.items ≡ params.now) }
+    ensures long { IfNone result (61 ≤ length params.now) }
+{
+    let mut short = ArrayVec::new();
+    for param in params {
+        if short.try_push(*param).is_err() {
+            return None;
+        }
+    }
+    Some(short)
+}
+
+/// The parameters of a block by their index in a call. `None` where they are too many, or one of
+/// their places doesn't fit its field.
+pub(crate) fn params_of(
+    alloc: Global,
+    block: &Block,
+    layout: &BlockLayout,
+) -> Result<Option<ArrayVec<Param, 60>>, AllocError>
+    ensures value { IfOk result (λ made. IfSome made (λ params. params.items
+        ≡ params_of block.now layout.now)) }
+    ensures none { IfOk result (λ made. IfNone made (ParamsFit (params_of block.now layout.now) → ⊥)) }
+{
+    let in_instance = is_function_block(block.kind);
+    let Some(params) = declared_params(alloc, in_instance, &layout.components)? else {
+        return Ok(None);
+    };
+    let params = in_order(Some(block), params);
+    Ok(short(params.as_slice()))
+}

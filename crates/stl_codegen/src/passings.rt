@@ -1,0 +1,164 @@
+ghost use Rattle.std.specs.Prelude.{◌≡◌, IfOk, [], ◌∷◌, find};
+ghost use Rattle.std.specs.Cmp.Lexicographic.{slice_cmp};
+ghost use Rattle.std.specs.Option.{option_copied};
+ghost use Rattle.std.specs.Ordering.{nat_cmp};
+ghost use Rattle.std.specs.Str.{bytes_eq};
+ghost use Rattle.stl_symbols.specs.Folding.{folded};
+ghost use Rattle.stl_types.specs.Seen.{seen};
+ghost use Rattle.stl_codegen.specs.Emitted.{passing};
+ghost use Rattle.stl_codegen.specs.Fitting.{Appended};
+ghost use Rattle.stl_codegen.specs.Passed.{
+  passed_actual,
+  passed_place,
+  passed_seen,
+  passed_view,
+  passings_from,
+  supplied,
+  with_index,
+};
+
+use crate::emitting::{append_passed_parameter, append_passing};
+use crate::operands::{constant_bits, is_in_named_block};
+use block_layout::width_of;
+use flat_code::{Op, Passed};
+use plc_base::{Place, Width};
+use std::alloc::{AllocError, Global};
+use std::cmp::Ordering;
+use stl_ast::{Actual, Operand};
+use stl_types::{Formal, Scope, Seen, View};
+
+fn passed_place(place: Place, width: Width) -> Passed
+    ensures { result ≡ passed_place place width }
+{
+    if is_in_named_block(place) {
+        Passed::InBlock {
+            number: place.number,
+            area: place.area,
+            width,
+            byte: place.byte,
+            bit: place.bit,
+        }
+    } else {
+        Passed::Direct {
+            area: place.area,
+            width,
+            byte: place.byte,
+            bit: place.bit,
+        }
+    }
+}
+
+/// Appends what a CALL passes for the parameter of an index, by what the operand names.
+fn append_view(
+    ops: &mut Vec<Op>,
+    index: usize,
+    operand: &Operand,
+    view: View,
+) -> Result<Option<()>, AllocError>
+    ensures { IfOk result (λ done. Appended ops.old.items ops.new.items
+        (passing (with_index index (passed_view operand.now view))) done) }
+{
+    match view {
+        View::Direct { place, width, .. } => {
+            append_passing(ops, index, passed_place(place, width))
+        }
+        View::Parameter {
+            index: own,
+            declared,
+            ..
+        } => append_passed_parameter(ops, index, own, width_of(declared)),
+        View::Constant => append_passing(
+            ops,
+            index,
+            Passed::Literal {
+                value: constant_bits(operand),
+            },
+        ),
+        _ => Ok(Some(())),
+    }
+}
+
+fn append_seen(
+    ops: &mut Vec<Op>,
+    index: usize,
+    operand: &Operand,
+    seen: Seen,
+) -> Result<Option<()>, AllocError>
+    ensures { IfOk result (λ done. Appended ops.old.items ops.new.items
+        (passing (with_index index (passed_seen operand.now seen))) done) }
+{
+    match seen {
+        Seen::Sees { view } => append_view(ops, index, operand, view),
+        Seen::Unknown | Seen::Rests => Ok(Some(())),
+    }
+}
+
+/// How a name in upper case compares with a name in any case.
+fn order_of(upper: &[u8], name: &[u8]) -> Ordering
+    ensures { result ≡ slice_cmp nat_cmp upper.now (folded name.now) }
+{
+    upper
+        .iter()
+        .copied()
+        .cmp(name.iter().map(|byte: &u8| byte.to_ascii_uppercase()))
+}
+
+/// Whether a name is this one in upper case.
+#[tactic(auto, using(crate::proofs::PassingLemmas::same_by_order))]
+fn is_folded(name: &[u8], upper: &[u8]) -> bool
+    ensures { result ≡ bytes_eq (folded name.now) upper.now }
+{
+    order_of(upper, name).is_eq()
+}
+
+fn is_for(actual: &Actual, formal: &Formal) -> bool
+    ensures { result ≡ bytes_eq (folded actual.now.name) formal.now.name }
+{
+    is_folded(actual.name.as_bytes(), formal.name.as_bytes())
+}
+
+/// The actual parameter that is supplied for a parameter.
+fn supplied<'s>(actuals: &'s [Actual], formal: &Formal) -> Option<&'s Actual>
+    ensures { option_copied result ≡ supplied actuals.now formal.now }
+{
+    actuals.iter().find(|a| is_for(a, formal))
+}
+
+fn append_actual(
+    alloc: Global,
+    ops: &mut Vec<Op>,
+    scope: &Scope,
+    index: usize,
+    actual: Option<&Actual>,
+) -> Result<Option<()>, AllocError>
+    ensures { IfOk result (λ done. Appended ops.old.items ops.new.items
+        (passing (passed_actual scope.now index (option_copied actual.entry))) done) }
+{
+    match actual {
+        None => Ok(Some(())),
+        Some(actual) => {
+            let seen = scope.seen(alloc, &actual.value)?;
+            append_seen(ops, index, &actual.value, seen)
+        }
+    }
+}
+
+/// Appends what a CALL passes for these parameters, in their order.
+pub(crate) fn append_passings(
+    alloc: Global,
+    ops: &mut Vec<Op>,
+    scope: &Scope,
+    actuals: &[Actual],
+    formals: &[Formal],
+) -> Result<Option<()>, AllocError>
+    ensures { IfOk result (λ done. Appended ops.old.items ops.new.items
+        (passing (passings_from scope.now actuals.now 0 formals.now)) done) }
+{
+    for index in 0..formals.len() {
+        let actual = supplied(actuals, &formals[index]);
+        let Some(_) = append_actual(alloc, ops, scope, index, actual)? else {
+            return Ok(None);
+        };
+    }
+    Ok(Some(()))
+}

@@ -1,0 +1,103 @@
+ghost use Rattle.std.specs.Prelude.{◌≡◌, ◌++◌, IfOk};
+ghost use Rattle.std.specs.List.{flat_map};
+ghost use Rattle.stl_symbols.specs.Least.{least};
+ghost use Rattle.stl_types.specs.Bodies.{first_context};
+ghost use Rattle.stl_types.specs.Joined.{broken_call, broken_statement, rules_of_calls};
+ghost use Rattle.stl_types.specs.Calls.{by_callee};
+
+use crate::calls::{lacks_actual, least_supplied_twice, least_unnamed};
+use crate::instances::{calls_unknown, has_wrong_instance, is_bare_call};
+use crate::misfits::{least_date, least_misfit};
+use crate::parameters::Callee;
+use crate::scopes::Scope;
+use block_layout::Layouts;
+use plc_base::Refusal;
+use std::alloc::{AllocError, Global};
+use stl_ast::{Statement, Tree};
+use stl_symbols::{Symbols, broken_if, lesser, try_least_of};
+
+/// The least refusal of a call, by the block that is called.
+fn least_in_call(
+    scope: &Scope,
+    alloc: Global,
+    callee: &Callee,
+    statement: &Statement,
+) -> Result<Option<Refusal>, AllocError>
+    ensures { IfOk result (λ found. found
+        ≡ least (broken_call scope.now callee.now statement.now)) }
+{
+    let formals = callee.formals.as_slice();
+    let actuals = statement.actuals.as_slice();
+    let unnamed = least_unnamed(formals, alloc, actuals)?;
+    let twice = least_supplied_twice(formals, alloc, actuals)?;
+    let lacks = lacks_actual(callee, alloc, statement)?;
+    let missing = broken_if(lacks, statement.line, 36);
+    let misfit = least_misfit(scope, alloc, formals, actuals)?;
+    let wrong = has_wrong_instance(scope, callee, &statement.operand);
+    let instance = broken_if(wrong, statement.line, 38);
+    let bare = broken_if(is_bare_call(callee, statement), statement.line, 40);
+    let by_actuals = lesser(lesser(lesser(unnamed, twice), missing), misfit);
+    Ok(lesser(lesser(by_actuals, instance), bare))
+}
+
+/// The least refusal of a statement by the block that it calls, if it calls one.
+fn least_by_callee(
+    scope: &Scope,
+    alloc: Global,
+    statement: &Statement,
+    callee: &Option<Callee>,
+) -> Result<Option<Refusal>, AllocError>
+    ensures { IfOk result (λ found. found
+        ≡ least (by_callee (broken_call scope.now) statement.now callee.now)) }
+{
+    match callee {
+        None => Ok(None),
+        Some(callee) => least_in_call(scope, alloc, callee, statement),
+    }
+}
+
+fn least_in_statement(
+    scope: &Scope,
+    alloc: Global,
+    statement: &Statement,
+) -> Result<Option<Refusal>, AllocError>
+    ensures { IfOk result (λ found. found ≡ least (broken_statement scope.now statement.now)) }
+{
+    let callee = scope.callee(alloc, &statement.operand)?;
+    let by_callee = least_by_callee(scope, alloc, statement, &callee)?;
+    let unknown = broken_if(calls_unknown(scope, &statement.operand), statement.line, 46);
+    let date = least_date(scope, alloc, statement.actuals.as_slice())?;
+    Ok(lesser(lesser(by_callee, unknown), date))
+}
+
+fn least_in_body(
+    scope: &Scope,
+    alloc: Global,
+    body: &[Statement],
+) -> Result<Option<Refusal>, AllocError>
+    ensures { IfOk result (λ found. found
+        ≡ least (flat_map (broken_statement scope.now) body.now)) }
+{
+    try_least_of(body, |s: &Statement| least_in_statement(scope, alloc, s))
+}
+
+/// The least refusal by the rules of calls: 24 of actuals, 34 to 38, 40 and 46.
+#[tactic(auto, using(crate::proofs::CallLemmas::rules_joined))]
+pub(crate) fn least_wrong_call(
+    alloc: Global,
+    symbols: &Symbols,
+    tree: &Tree,
+    layouts: &Layouts,
+) -> Result<Option<Refusal>, AllocError>
+    ensures { IfOk result (λ found. found ≡ least (rules_of_calls
+        (first_context symbols.now layouts.now tree.now.blocks) tree.now.blocks)) }
+{
+    let first = Scope::new(symbols, tree, layouts);
+    let blocks = tree.blocks.as_slice();
+    let mut found = None;
+    for block in 0..blocks.len() {
+        let one = least_in_body(&first.at(block), alloc, blocks[block].body.as_slice())?;
+        found = lesser(found, one);
+    }
+    Ok(found)
+}

@@ -1,0 +1,135 @@
+ghost use Rattle.std.specs.Prelude.{◌≡◌, IfOk, find};
+ghost use Rattle.std.specs.List.{flat_map};
+ghost use Rattle.std.specs.Option.{option_copied};
+ghost use Rattle.std.specs.Str.{bytes_eq};
+ghost use Rattle.stl_symbols.specs.Least.{broken_if, least};
+ghost use Rattle.stl_types.specs.Actuals.{fits_operand, fits_seen, formal_named};
+ghost use Rattle.stl_types.specs.Calls.{misfits, sees_date};
+ghost use Rattle.stl_types.specs.Kinds.{is_date};
+ghost use Rattle.stl_types.specs.Seen.{seen};
+
+use crate::actuals::{fits_view, is_input_section};
+use crate::calls::is_named;
+use crate::parameters::Formal;
+use crate::scopes::Scope;
+use crate::views::{Seen, View};
+use block_layout::fits;
+use plc_base::Refusal;
+use std::alloc::{AllocError, Global};
+use stl_ast::{Actual, Operand};
+use stl_symbols::{broken_if, try_least_of};
+
+/// The parameter of this name, in upper case.
+fn formal_named<'f>(formals: &'f [Formal], upper: &[u8]) -> Option<&'f Formal>
+    ensures { option_copied result ≡ find (λ f. bytes_eq upper.now f.name) formals.now }
+{
+    formals.iter().find(|f| is_named(upper, f))
+}
+
+/// An operand that isn't there or isn't judged breaks no further rule.
+fn fits_seen(formal: &Formal, seen: Seen) -> bool
+    ensures { result ≡ fits_seen formal.now seen }
+{
+    match seen {
+        Seen::Sees { view } => fits_view(formal, view),
+        Seen::Unknown | Seen::Rests => true,
+    }
+}
+
+/// Whether the value of an actual fits a parameter.
+#[tactic(auto, unfolding(crate::specs::Actuals::fits_operand))]
+fn fits_operand(
+    scope: &Scope,
+    alloc: Global,
+    formal: &Formal,
+    operand: &Operand,
+) -> Result<bool, AllocError>
+    ensures { IfOk result (λ fit. fit ≡ fits_operand scope.now formal.now operand.now) }
+{
+    match operand {
+        Operand::Constant { value } => {
+            Ok(is_input_section(formal.section) && fits(value, formal.kind))
+        }
+        _ => Ok(fits_seen(formal, scope.seen(alloc, operand)?)),
+    }
+}
+
+fn misfits(
+    scope: &Scope,
+    alloc: Global,
+    formals: &[Formal],
+    actual: &Actual,
+) -> Result<bool, AllocError>
+    ensures { IfOk result (λ wrong. wrong
+        ≡ misfits scope.now actual.now (formal_named formals.now actual.now.name)) }
+{
+    let upper = actual.name.as_bytes().to_ascii_uppercase(alloc)?;
+    match formal_named(formals, upper.as_slice()) {
+        None => Ok(false),
+        Some(formal) => Ok(!fits_operand(scope, alloc, formal, &actual.value)?),
+    }
+}
+
+fn misfit_here(
+    scope: &Scope,
+    alloc: Global,
+    formals: &[Formal],
+    actual: &Actual,
+) -> Result<Option<Refusal>, AllocError>
+    ensures { IfOk result (λ found. found
+        ≡ least (broken_if
+        (misfits scope.now actual.now (formal_named formals.now actual.now.name))
+        actual.now.line 37)) }
+{
+    let wrong = misfits(scope, alloc, formals, actual)?;
+    Ok(broken_if(wrong, actual.line, 37))
+}
+
+/// The least refusal of a call by rule 37, of its actuals.
+pub(crate) fn least_misfit(
+    scope: &Scope,
+    alloc: Global,
+    formals: &[Formal],
+    actuals: &[Actual],
+) -> Result<Option<Refusal>, AllocError>
+    ensures { IfOk result (λ found. found ≡ least (flat_map
+        (λ a. broken_if (misfits scope.now a (formal_named formals.now a.name)) a.line 37)
+        actuals.now)) }
+{
+    try_least_of(actuals, |a: &Actual| misfit_here(scope, alloc, formals, a))
+}
+
+fn is_date(view: View) -> bool
+    ensures { result ≡ is_date view }
+{
+    matches!(view, View::Date)
+}
+
+fn sees_date(seen: Seen) -> bool
+    ensures { result ≡ sees_date seen }
+{
+    match seen {
+        Seen::Sees { view } => is_date(view),
+        _ => false,
+    }
+}
+
+fn date_here(scope: &Scope, alloc: Global, actual: &Actual) -> Result<Option<Refusal>, AllocError>
+    ensures { IfOk result (λ found. found
+        ≡ least (broken_if (sees_date (seen scope.now actual.now.value)) actual.now.line 24)) }
+{
+    let date = sees_date(scope.seen(alloc, &actual.value)?);
+    Ok(broken_if(date, actual.line, 24))
+}
+
+/// The least refusal of a statement by rule 24, of its actuals.
+pub(crate) fn least_date(
+    scope: &Scope,
+    alloc: Global,
+    actuals: &[Actual],
+) -> Result<Option<Refusal>, AllocError>
+    ensures { IfOk result (λ found. found ≡ least (flat_map
+        (λ a. broken_if (sees_date (seen scope.now a.value)) a.line 24) actuals.now)) }
+{
+    try_least_of(actuals, |a: &Actual| date_here(scope, alloc, a))
+}

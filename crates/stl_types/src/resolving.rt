@@ -1,0 +1,158 @@
+ghost use Rattle.std.specs.Prelude.{◌≡◌, IfOk};
+ghost use Rattle.stl_symbols.specs.Least.{least};
+ghost use Rattle.stl_types.specs.Bodies.{first_context, in_contexts};
+ghost use Rattle.stl_types.specs.Context.{Context};
+ghost use Rattle.stl_types.specs.Operands.{
+  at_line,
+  operand_rule,
+  operands_24,
+  rule_seen,
+  rules_24_25_39,
+  statement_rule,
+};
+ghost use Rattle.stl_types.specs.Resolved.{resolved, seen_view};
+ghost use Rattle.stl_types.specs.Seen.{seen};
+
+use crate::constants::takes_constant;
+use crate::forms::{Form, form_of};
+use crate::operands::rule_of;
+use crate::scopes::Scope;
+use crate::views::{Seen, View};
+use block_layout::Layouts;
+use plc_base::Refusal;
+use std::alloc::{AllocError, Global};
+use stl_ast::{Block, Operand, Statement, Tree};
+use stl_symbols::{Symbols, lesser, try_least_of};
+
+/// The rule that an instruction breaks by what its operand comes to.
+fn rule_seen(form: Form, seen: Seen) -> Option<u16>
+    ensures { result ≡ rule_seen form seen }
+{
+    match seen {
+        Seen::Sees { view } => rule_of(form, view),
+        _ => None,
+    }
+}
+
+/// The rule that an instruction breaks by its operand, which comes to `found`.
+fn operand_rule(form: Form, operand: &Operand, found: Seen) -> Option<u16>
+    ensures { (c : Context) → found ≡ seen c operand.now → result ≡ operand_rule c form operand.now }
+{
+    match operand {
+        Operand::Constant { value } => {
+            if takes_constant(form, value) {
+                None
+            } else {
+                Some(25)
+            }
+        }
+        _ => rule_seen(form, found),
+    }
+}
+
+/// What is seen, if something is.
+fn seen_view(seen: Seen) -> Option<View>
+    ensures { result ≡ seen_view seen }
+{
+    match seen {
+        Seen::Sees { view } => Some(view),
+        _ => None,
+    }
+}
+
+#[tactic(auto, unfolding(stl_symbols::specs::Least::lesser))]
+fn at_line(line: u32, rule: Option<u16>) -> Option<Refusal>
+    ensures { result ≡ least (at_line line rule) }
+{
+    match rule {
+        None => None,
+        Some(rule) => Some(Refusal { line, rule }),
+    }
+}
+
+impl<'a> Scope<'a> {
+    /// What the operand of a statement names; none where its instruction doesn't take it, or where it
+    /// can't be resolved.
+    ///
+    /// # Errors
+    ///
+    /// Want of memory.
+    #[tactic(auto, unfolding(crate::specs::Resolved::resolved))]
+    pub fn resolved(&self, alloc: Global, statement: &Statement) -> Result<Option<View>, AllocError>
+        ensures { IfOk result (λ v. v ≡ resolved self.now statement.now) }
+    {
+        let seen = self.seen(alloc, &statement.operand)?;
+        let rule = operand_rule(form_of(statement.code), &statement.operand, seen);
+        if rule.is_none() {
+            Ok(seen_view(seen))
+        } else {
+            Ok(None)
+        }
+    }
+}
+
+/// The rule that a statement breaks by its operand.
+fn statement_rule(
+    scope: &Scope,
+    alloc: Global,
+    statement: &Statement,
+) -> Result<Option<u16>, AllocError>
+    ensures { IfOk result (λ rule. rule ≡ statement_rule scope.now statement.now) }
+{
+    let seen = scope.seen(alloc, &statement.operand)?;
+    Ok(operand_rule(form_of(statement.code), &statement.operand, seen))
+}
+
+fn wrong_operand(
+    scope: &Scope,
+    alloc: Global,
+    statement: &Statement,
+) -> Result<Option<Refusal>, AllocError>
+    ensures { IfOk result (λ found. found
+        ≡ least (at_line statement.now.line (statement_rule scope.now statement.now))) }
+{
+    let rule = statement_rule(scope, alloc, statement)?;
+    Ok(at_line(statement.line, rule))
+}
+
+fn wrong_in_body(
+    scope: &Scope,
+    alloc: Global,
+    body: &[Statement],
+) -> Result<Option<Refusal>, AllocError>
+    ensures { IfOk result (λ found. found ≡ least (operands_24 scope.now body.now)) }
+{
+    try_least_of(body, |s: &Statement| wrong_operand(scope, alloc, s))
+}
+
+fn wrong_in_blocks(
+    scope: &Scope,
+    alloc: Global,
+    blocks: &[Block],
+) -> Result<Option<Refusal>, AllocError>
+    ensures { IfOk result (λ found. found
+        ≡ least (in_contexts operands_24 (record scope.now { block = 0 }) blocks.now)) }
+{
+    let mut found = None;
+    for block in 0..blocks.len() {
+        let here = scope.at(block);
+        let one = wrong_in_body(&here, alloc, blocks[block].body.as_slice())?;
+        found = lesser(found, one);
+    }
+    Ok(found)
+}
+
+/// The least refusal by rules 24, 25 and 39 of the operands of statements.
+#[tactic(auto, unfolding(crate::specs::Operands::rules_24_25_39))]
+pub(crate) fn least_wrong_operand(
+    alloc: Global,
+    symbols: &Symbols,
+    tree: &Tree,
+    layouts: &Layouts,
+) -> Result<Option<Refusal>, AllocError>
+    ensures { IfOk result (λ found. found ≡ least (rules_24_25_39
+        (first_context symbols.now layouts.now tree.now.blocks) tree.now.blocks)) }
+{
+    let first = Scope::new(symbols, tree, layouts);
+    wrong_in_blocks(&first, alloc, tree.blocks.as_slice())
+}

@@ -1,0 +1,329 @@
+ghost use Rattle.std.specs.Prelude.{◌≡◌, IfOk};
+ghost use Rattle.std.specs.Str.{bytes_eq};
+ghost use Rattle.stl_symbols.specs.Symbol.{symbol_named};
+ghost use Rattle.block_layout.specs.Blocks.{is_system_function, named_block};
+ghost use Rattle.stl_types.specs.Addresses.{address, address_in, area_left, area_of, side_of};
+ghost use Rattle.stl_types.specs.Context.{data_number};
+ghost use Rattle.stl_types.specs.Seen.{
+  called_seen,
+  direct_seen,
+  instance_number,
+  opened_seen,
+  path_seen,
+  register_of,
+  seen,
+  symbol_seen,
+  target_view,
+  whole_block,
+};
+ghost use Rattle.stl_types.specs.declared.views.Seen.TheVariants.{Sees};
+ghost use Rattle.stl_types.specs.declared.views.View.TheVariants as view;
+
+use crate::scopes::Scope;
+use crate::views::{Register, Seen, Side, View};
+use block_layout::{Path, named_block};
+use plc_base::{Area, BlockId, BlockKind, Place, Width};
+use std::alloc::{AllocError, Global};
+use stl_ast::{BlockName, Letters, Name, Operand, PathHead, PathStep};
+use stl_symbols::Target;
+
+fn area_of(letters: Letters) -> Area
+    ensures { result ≡ area_of letters }
+{
+    match letters {
+        Letters::I => Area::I,
+        Letters::Q => Area::Q,
+        Letters::M => Area::M,
+        Letters::Db => Area::Db,
+        Letters::Di => Area::Di,
+        Letters::L => Area::L,
+        Letters::Pi | Letters::Pq => Area::P,
+    }
+}
+
+fn side_of(letters: Letters) -> Side
+    ensures { result ≡ side_of letters }
+{
+    match letters {
+        Letters::Pi => Side::Inputs,
+        Letters::Pq => Side::Outputs,
+        _ => Side::Both,
+    }
+}
+
+/// The area of a pointer, where it has one.
+fn area_left(letters: Option<Letters>) -> Option<Area>
+    ensures { result ≡ area_left letters }
+{
+    match letters {
+        None => None,
+        Some(letters) => Some(area_of(letters)),
+    }
+}
+
+/// An address; `number` is that of the data block before it, else 0.
+fn address(number: u16, letters: Letters, width: Width, byte: u16, bit: u8) -> View
+    ensures { result ≡ address number letters width byte bit }
+{
+    View::Direct {
+        place: Place {
+            area: area_of(letters),
+            number,
+            byte,
+            bit,
+        },
+        width,
+        side: side_of(letters),
+        declared: None,
+    }
+}
+
+fn address_in(number: Option<u16>, letters: Letters, width: Width, byte: u16, bit: u8) -> Seen
+    ensures { result ≡ address_in number letters width byte bit }
+{
+    match number {
+        None => Seen::Rests,
+        Some(number) => Seen::Sees {
+            view: address(number, letters, width, byte, bit),
+        },
+    }
+}
+
+/// What a symbol stands for.
+fn target_view(target: Target) -> View
+    ensures { result ≡ target_view target }
+{
+    match target {
+        Target::Variable { place, width } => View::Direct {
+            place,
+            width,
+            side: Side::Both,
+            declared: None,
+        },
+        Target::Timer { number } => View::Timer { number },
+        Target::Counter { number } => View::Counter { number },
+        Target::Block { .. } => View::Block,
+    }
+}
+
+fn is_word(upper: &[u8], word: &[u8]) -> bool
+    ensures { result ≡ bytes_eq upper.now word.now }
+{
+    upper == word
+}
+
+/// A register by its word.
+fn register_of(alloc: Global, name: &Name) -> Result<Register, AllocError>
+    ensures { IfOk result (λ r. r ≡ register_of name.now) }
+{
+    let upper = name.as_bytes().to_ascii_uppercase(alloc)?;
+    let upper = upper.as_slice();
+    if is_word(upper, b"STW") {
+        return Ok(Register::Stw);
+    }
+    if is_word(upper, b"DBLG") {
+        return Ok(Register::Dblg);
+    }
+    if is_word(upper, b"DBNO") {
+        return Ok(Register::Dbno);
+    }
+    if is_word(upper, b"DILG") {
+        return Ok(Register::Dilg);
+    }
+    if is_word(upper, b"DINO") {
+        return Ok(Register::Dino);
+    }
+    Ok(Register::Ar2)
+}
+
+fn sees(view: View) -> Seen
+    ensures { result ≡ Sees view }
+{
+    Seen::Sees { view }
+}
+
+fn register_seen(alloc: Global, name: &Name) -> Result<Seen, AllocError>
+    ensures { IfOk result (λ s. s ≡ Sees (view.Register (register_of name.now))) }
+{
+    let which = register_of(alloc, name)?;
+    Ok(sees(View::Register { which }))
+}
+
+/// A data block that is opened, by its number.
+fn opened_seen(di: bool, number: Option<u16>) -> Seen
+    ensures { result ≡ opened_seen di number }
+{
+    match number {
+        None => Seen::Rests,
+        Some(number) => Seen::Sees {
+            view: View::OpenBlock { di, number },
+        },
+    }
+}
+
+fn is_system_function(kind: BlockKind) -> bool
+    ensures { result ≡ is_system_function kind }
+{
+    matches!(kind, BlockKind::Sfc)
+}
+
+impl<'a> Scope<'a> {
+    /// A quoted name that is the whole operand.
+    fn symbol_seen(&self, name: &Name) -> Seen
+        ensures { result ≡ symbol_seen (symbol_named name.now self.now.symbols) }
+    {
+        match self.symbols().lookup(name.as_bytes()) {
+            None => Seen::Unknown,
+            Some(target) => Seen::Sees {
+                view: target_view(target),
+            },
+        }
+    }
+
+    /// A path: into the block's own variables, into a data block, or a symbol.
+    fn path_seen(
+        &self,
+        alloc: Global,
+        head: &PathHead,
+        steps: &[PathStep],
+    ) -> Result<Seen, AllocError>
+        ensures { IfOk result (λ s. s ≡ path_seen self.now head.now steps.now) }
+    {
+        match head {
+            PathHead::Local { name } => {
+                let upper = name.as_bytes().to_ascii_uppercase(alloc)?;
+                let path = Path::new(alloc, steps)?;
+                Ok(self.own_variable(upper.as_slice(), &path))
+            }
+            PathHead::InBlock { name } => {
+                let path = Path::new(alloc, steps)?;
+                Ok(self.data_variable(name, &path))
+            }
+            PathHead::Symbol { name } => Ok(self.symbol_seen(name)),
+        }
+    }
+
+    /// An address, also behind a data block.
+    fn direct_seen(
+        &self,
+        block: &Option<BlockName>,
+        letters: Letters,
+        width: Width,
+        byte: u16,
+        bit: u8,
+    ) -> Seen
+        ensures { result ≡ direct_seen self.now block.now letters width byte bit }
+    {
+        match block {
+            None => Seen::Sees {
+                view: address(0, letters, width, byte, bit),
+            },
+            Some(name) => address_in(self.data_number(name), letters, width, byte, bit),
+        }
+    }
+
+    /// A called block, where it breaks no rule itself.
+    fn whole_block(&self, id: Option<BlockId>) -> Option<BlockId>
+        ensures { result ≡ whole_block self.now id }
+    {
+        let id = id?;
+        if is_system_function(id.kind) {
+            return Some(id);
+        }
+        match self.whole_place(id) {
+            None => None,
+            Some(_) => Some(id),
+        }
+    }
+
+    /// A called block, with the number of its instance.
+    fn called_seen(&self, id: Option<BlockId>, instance: &Option<BlockName>) -> Seen
+        ensures { result ≡ called_seen id instance.now (instance_number self.now instance.now) }
+    {
+        let Some(block) = id else {
+            return Seen::Rests;
+        };
+        let Some(name) = instance else {
+            return Seen::Sees {
+                view: View::Called {
+                    block,
+                    instance: None,
+                },
+            };
+        };
+        match self.data_number(name) {
+            None => Seen::Rests,
+            Some(number) => Seen::Sees {
+                view: View::Called {
+                    block,
+                    instance: Some(number),
+                },
+            },
+        }
+    }
+
+    /// What an operand names in the body of this block.
+    ///
+    /// # Errors
+    ///
+    /// Want of memory.
+    #[tactic(auto, unfolding(crate::specs::Seen::seen))]
+    pub fn seen(&self, alloc: Global, operand: &Operand) -> Result<Seen, AllocError>
+        ensures { IfOk result (λ s. s ≡ seen self.now operand.now) }
+    {
+        match operand {
+            Operand::Nothing => Ok(sees(View::Nothing)),
+            Operand::Direct {
+                block,
+                area,
+                width,
+                byte,
+                bit,
+            } => Ok(self.direct_seen(block, *area, *width, *byte, *bit)),
+            Operand::Timer { number } => Ok(sees(View::Timer { number: *number })),
+            Operand::Counter { number } => Ok(sees(View::Counter { number: *number })),
+            Operand::Named { head, steps } => self.path_seen(alloc, head, steps.as_slice()),
+            Operand::ByMemory {
+                area,
+                width,
+                from,
+                byte,
+            } => Ok(sees(View::ByMemory {
+                area: area_of(*area),
+                width: *width,
+                from: area_of(*from),
+                byte: *byte,
+            })),
+            Operand::NumberBy { what, from, byte } => Ok(sees(View::NumberBy {
+                what: *what,
+                from: area_of(*from),
+                byte: *byte,
+            })),
+            Operand::ByRegister {
+                area,
+                width,
+                register,
+                bits,
+            } => Ok(sees(View::ByRegister {
+                area: area_left(*area),
+                width: *width,
+                register: *register,
+                bits: *bits,
+            })),
+            Operand::Pointer { area, byte, bit } => Ok(sees(View::Pointer {
+                area: area_left(*area),
+                byte: *byte,
+                bit: *bit,
+            })),
+            Operand::Constant { .. } => Ok(sees(View::Constant)),
+            Operand::Label { .. } => Ok(sees(View::Label)),
+            Operand::OfStatus { flag } => Ok(sees(View::OfStatus { flag: *flag })),
+            Operand::Other { name } => register_seen(alloc, name),
+            Operand::OpenBlock { di, name } => Ok(opened_seen(*di, self.data_number(name))),
+            Operand::Called { name, instance } => {
+                let id = self.whole_block(named_block(self.symbols(), name));
+                Ok(self.called_seen(id, instance))
+            }
+        }
+    }
+}
