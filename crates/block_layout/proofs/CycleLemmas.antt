@@ -135,7 +135,6 @@ record Marked (among : ℕ → Type 0) (old new : Marks) : Type 0 where
   known : (x : ℕ) → Among x old.1 → Among x new.1
   are : (x : ℕ) → Among x new.1 → Among x old.1 ⊎ (get_or new.0 x false ≡ true)
 
-
 last_among : (xs : List ℕ) (x b : ℕ) → x ≡ b → Among x (xs ++ b ∷ [])
 last_among [] x b e = inl e
 last_among (y ∷ ys) x b e = inr (last_among ys x b e)

@@ -86,7 +86,11 @@ fn mark(reached: &mut [bool], found: &mut Vec<usize>, block: usize) -> Result<()
 }
 
 /// Marks blocks one behind the other, and notes those that weren't marked.
-fn mark_all(reached: &mut [bool], found: &mut Vec<usize>, blocks: &[usize]) -> Result<(), AllocError>
+fn mark_all(
+    reached: &mut [bool],
+    found: &mut Vec<usize>,
+    blocks: &[usize],
+) -> Result<(), AllocError>
     ensures { IfOk result (λ _. (reached.new, found.new.items)
         ≡ with_marks (reached.old, found.old.items) blocks.now) }
 {
