@@ -1,5 +1,5 @@
 -- What the stages of compiling find, joined.
-use Rattle.std.proofs.Common.{◌≡◌, Bool, true, false, if◌then◌else◌, refl, sym, ap, subst, ◌∙◌, ℕ, List, [], ◌++◌, Option, Some, None, Result, Ok, Err, ◌⊎◌, inl, inr}
+use Rattle.std.proofs.Common.{◌≡◌, Bool, true, false, if◌then◌else◌, refl, sym, ap, subst, ◌∙◌, ℕ, List, [], Option, Some, None, Result, Ok, Err, inl, inr}
 use Rattle.std.specs.Option.{unwrap_or}
 use Rattle.plc_base.specs.declared.refusals.Refusal.{Refusal}
 use Rattle.plc_base.specs.declared.refusals.SourceFault.{SourceFault}
@@ -26,8 +26,8 @@ use Rattle.stl_types.specs.Table.{statement_refusals, Checks}
 use Rattle.stl_codegen.specs.Generated.{program_of}
 use Rattle.sem_kept.specs.Agreement.{ProgramsRun, RunsAs}
 use Rattle.sem_kept.specs.Stages.{InTurn}
-use Rattle.sem_kept.specs.Meaning.{HasSymbols, HasTokens, HasTree, refusals_of, sound_by, IsSound, program_in, IsRunnable, without_program, HasCode, IsJudgedWith, InSymbols, InSource, IsJudged}
-use Rattle.compiler.specs.Compiling.{RefusesBy, Finds, fault_in_symbols, fault_in_source, IsRefusedBy, IsStopped, Lays, IsMadeOf, Makes}
+use Rattle.sem_kept.specs.Meaning.{HasSymbols, HasTokens, HasTree, refusals_of, sound_by, IsSound, program_in, IsRunnable, without_program, HasCode, IsJudgedWith, IsJudged}
+use Rattle.compiler.specs.Compiling.{RefusesBy, Finds, fault_in_symbols, fault_in_source, IsRefusedBy, IsStopped, Lays, IsMadeOf}
 
 -- an empty symbols file has no symbols
 pub empty_file : symbols_of [] ≡ Ok []

@@ -1,10 +1,9 @@
 -- A code that follows another is kept by it.
-use Rattle.std.proofs.Common.{◌≡◌, ℕ, List, refl, ap, ◌∙◌}
+use Rattle.std.proofs.Common.{ℕ, ap, ◌∙◌}
 use Rattle.plc_base.specs.declared.BlockId.{BlockId}
 use Rattle.machine.specs.Code.{Code}
 use Rattle.machine.specs.Moved.{Follows}
-use Rattle.var_access.specs.declared.What.{What}
-use Rattle.cpu.specs.Moved.{moved_state, EntriesMove, HistoriesMove}
+use Rattle.cpu.specs.Moved.{EntriesMove, HistoriesMove}
 use Rattle.cpu.specs.Replay.{Happened, happens, replay}
 use Rattle.cpu.specs.State.{State}
 use Rattle.kept_code.specs.Kept.{IsKept}

@@ -5,10 +5,9 @@ use Rattle.flat_code.specs.Programs.{DataBlock, NameEntry}
 use Rattle.machine.specs.Code.{Code}
 use Rattle.machine.specs.Flat.{code_of}
 use Rattle.var_access.specs.declared.What.{What}
-use Rattle.cpu.specs.Moved.{moved_state}
 use Rattle.cpu.specs.Replay.{happens, replay}
 use Rattle.stl_codegen.specs.Compiled.{StatedBlock}
-use Rattle.compiled_code.specs.Statements.{stated_code, position, IsCompilable, program_with}
+use Rattle.compiled_code.specs.Statements.{stated_code, IsCompilable, program_with}
 
 -- of two codes the second does what the first one means: after every history the mode, memory with
 -- timers and counters, the scheduler and the diagnostics are the same, and every entry answers and
