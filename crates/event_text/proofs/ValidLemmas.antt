@@ -1,5 +1,5 @@
 -- What a history spells is valid.
-use Rattle.std.proofs.Common.{◌≡◌, refl, ◌≤◌, ℕ, List, [], ◌∷◌, ◌++◌, Bool, true, false, cond, ◌&&◌, nat_le, ◌==◌, Option, Some, None, Ok, IfSome, All, replicate, bytes_eq, codes, arith, subst}
+use Rattle.std.proofs.Common.{◌≡◌, refl, ◌≤◌, ℕ, List, [], ◌∷◌, ◌++◌, Bool, true, false, cond, nat_le, Option, Some, None, Ok, IfSome, All, replicate, bytes_eq, codes, arith, subst}
 use Rattle.std.specs.Option.{option_map, option_and_then}
 use Rattle.std.specs.Str.Lines.{lines}
 use Rattle.std.proofs.lemmas.Bool.{leb-true}

@@ -1,5 +1,5 @@
 -- The text of a history: what each of its lines spells.
-use Rattle.std.specs.Prelude.{ℕ, ◌==◌, List, [], ◌∷◌, ◌++◌, length, replicate, filter, nat_eq, Bool, true, false, ◌&&◌, ◌||◌, nat_le, nat_lt, Option, Some, None, Result, Ok, Err, codes, bytes_eq, count_by, if◌then◌else◌}
+use Rattle.std.specs.Prelude.{ℕ, ◌==◌, List, [], ◌∷◌, ◌++◌, length, replicate, filter, nat_eq, Bool, true, false, ◌&&◌, ◌||◌, nat_le, Option, Some, None, Result, Ok, Err, codes, bytes_eq, count_by, if◌then◌else◌}
 use Rattle.std.specs.Option.{option_map, option_and_then}
 use Rattle.std.specs.Char.{is_ascii_hexdigit}
 use Rattle.std.specs.List.{slice_split, list_all, starts_with}

@@ -1,5 +1,5 @@
 -- The entries of a history, applied one by one.
-use Rattle.std.proofs.Common.{◌≡◌, ◌<◌, refl, sym, ◌∙◌, ap, ℕ, ◌+◌, ◌-◌, List, [], ◌∷◌, ◌++◌, length, take, drop, get_or, arith, length-append}
+use Rattle.std.proofs.Common.{◌≡◌, ◌<◌, sym, ◌∙◌, ap, ℕ, ◌+◌, ◌-◌, List, [], ◌∷◌, ◌++◌, length, take, drop, get_or, arith, length-append}
 use Rattle.std.proofs.lemmas.List.{take_more}
 use Rattle.std.proofs.lemmas.Grind.{common_steps}
 use Rattle.flat_code.specs.Programs.{Program}
@@ -7,7 +7,7 @@ use Rattle.machine.specs.Code.{Code}
 use Rattle.machine.specs.Flat.{code_of}
 use Rattle.var_access.specs.declared.Entry.{Entry}
 use Rattle.cpu.specs.declared.Observed.{Observed}
-use Rattle.cpu.specs.Replay.{happens, replay}
+use Rattle.cpu.specs.Replay.{replay}
 use Rattle.cpu.specs.Start.{start}
 use Rattle.cpu.specs.State.{State}
 use Rattle.controller.specs.Recorded.{Recorded}

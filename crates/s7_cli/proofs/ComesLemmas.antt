@@ -1,17 +1,15 @@
 -- How a command comes out: its files are read one after the other, then judged, and then its text is written.
-use Rattle.std.proofs.Common.{◌≡◌, ◌<◌, ◌⊎◌, inl, inr, refl, sym, ◌∙◌, ap, subst, ℕ, List, [], ◌∷◌, ◌++◌, length, Option, Some, Result, Ok, Err, true, Contains, arith}
+use Rattle.std.proofs.Common.{◌≡◌, inl, inr, refl, sym, ◌∙◌, ap, subst, ℕ, List, [], ◌∷◌, ◌++◌, Option, Some, Result, Ok, Err, Contains, arith}
 use Rattle.plc_io.specs.Contents.{Contents, Agrees, SameFiles}
 use Rattle.plc_io.specs.Counts.{Rose, SameCounts, NeverFell}
 use Rattle.plc_io.specs.FileCalls.{Unchanged}
 use Rattle.plc_io.specs.Moments.{FilesAt, SinkAt}
-use Rattle.s7_cli.specs.declared.failures.File.{File}
 use Rattle.s7_cli.specs.declared.failures.Failure.{Failure}
 use Rattle.s7_cli.specs.declared.failures.Failure.TheVariants.{WordsRefused, ReadFault, TooLong, Refused, WriteFault, NoMemory}
 use Rattle.s7_cli.specs.Answer.{Answer, Outcome, done, refused, read_fault, too_long}
 use Rattle.s7_cli.specs.Command.{Command, Input, inputs_of, outputs_of}
 use Rattle.s7_cli.specs.Ends.{Taking, taking, Answers, ChangesOutputs, WritesOutputs}
 use Rattle.s7_cli.specs.Inner.{OnlyReads, FileRead, HasRead, StopsAmong, AllRead, RefusedBy, TextWritten, Comes}
-use Rattle.s7_cli.specs.Lines.{line_of}
 use Rattle.s7_cli.specs.Reading.{Disk, disk, Holds, HoldAll, StopsAt, Reads}
 use Rattle.s7_cli.specs.Says.{Says}
 use Rattle.s7_cli.proofs.ReadingLemmas.{reads-all}

@@ -1,11 +1,9 @@
 -- The line of a command's failure is written behind what it did.
-use Rattle.std.proofs.Common.{◌≡◌, inl, inr, sym, subst, ℕ, List, take, Option, Some, None, Ok, Err}
+use Rattle.std.proofs.Common.{◌≡◌, inl, inr, sym, subst, ℕ, List, take, Option, Some, Ok, Err}
 use Rattle.plc_io.specs.Moments.{SinkAt}
 use Rattle.plc_io.specs.Taken.{Took}
-use Rattle.s7_cli.specs.declared.failures.File.{File}
 use Rattle.s7_cli.specs.declared.failures.Failure.{Failure}
 use Rattle.s7_cli.specs.declared.failures.Failure.TheVariants.{WordsRefused, ReadFault, TooLong, Refused, WriteFault, NoMemory}
-use Rattle.s7_cli.specs.Answer.{Answer}
 use Rattle.s7_cli.specs.Command.{Command}
 use Rattle.s7_cli.specs.Ends.{taking, IsCut, IsSaid, IsWriteFault, IsNoMemory, Ends}
 use Rattle.s7_cli.specs.Inner.{Fails, TextWritten, Comes, LineWritten}

@@ -1,11 +1,10 @@
 -- The reading of a command's input files, one after the other.
-use Rattle.std.proofs.Common.{◌≡◌, ◌<◌, ◌≤◌, ◌⊎◌, inl, inr, refl, sym, ◌∙◌, ap, subst, ℕ, List, [], ◌∷◌, ◌++◌, length, map, Option, Some, None, Err, true, arith}
-use Rattle.plc_io.specs.Contents.{Contents, Agrees}
-use Rattle.plc_io.specs.Counts.{Rose}
+use Rattle.std.proofs.Common.{◌≡◌, ◌<◌, ◌≤◌, ◌⊎◌, inl, inr, sym, ◌∙◌, ap, subst, ℕ, List, [], ◌∷◌, length, map, Some, None, true, arith}
+use Rattle.plc_io.specs.Contents.{Contents}
 use Rattle.s7_cli.specs.Answer.{Answer, read_fault, too_long}
 use Rattle.s7_cli.specs.Command.{Input, limit_of}
 use Rattle.s7_cli.specs.Ends.{RoseAmong}
-use Rattle.s7_cli.specs.Reading.{Disk, Holds, HoldAll, StopsAt, Reads, IsHeld, StopsTold, Allows, FailsOnTheWay}
+use Rattle.s7_cli.specs.Reading.{Disk, HoldAll, Reads, IsHeld, Allows, FailsOnTheWay}
 
 -- what is said of the contents of the files behind these
 abbrev pub Saying : Type 1

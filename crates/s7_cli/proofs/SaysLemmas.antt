@@ -5,8 +5,12 @@ use Rattle.plc_base.specs.declared.Refusal.{Refusal}
 use Rattle.plc_io.specs.Contents.{Contents}
 use Rattle.var_access.specs.declared.Entry.{Entry}
 use Rattle.machine.specs.Code.{Code}
-use Rattle.sem_kept.specs.Meaning.{IsJudged, IsMeaningUnique, ExcludesRefusal, IsRefusalUnique, Refused, InSymbols, InSource}
+use Rattle.sem_kept.specs.Agreement.{RunsAs}
+use Rattle.sem_kept.specs.Meaning.{IsJudged, IsMeaningUnique, ExcludesRefusal, IsRefusalUnique, Refused, InSymbols, InSource, MeansCode}
 use Rattle.event_text.specs.History.{history_of}
+use Rattle.event_text.specs.HistoryFault.{IsHistoryFault}
+use Rattle.event_text.specs.declared.HistoryFault.{HistoryFault}
+use Rattle.event_text.specs.declared.HistoryFault.TheVariants as history
 use Rattle.compiler.specs.Compiling.{RefusesBy}
 use Rattle.compiler.specs.declared.CompileFault.{CompileFault}
 use Rattle.compiler.specs.declared.CompileFault.TheVariants as compiling
@@ -17,7 +21,7 @@ use Rattle.s7_cli.specs.declared.failures.Failure.{Failure}
 use Rattle.s7_cli.specs.declared.files.ProgramText.{ProgramText}
 use Rattle.s7_cli.specs.Answer.{Answer, done, refused}
 use Rattle.s7_cli.specs.Command.{Command, Go, Check, symbols_inputs, program_inputs}
-use Rattle.s7_cli.specs.Faults.{failure_of_compiling}
+use Rattle.s7_cli.specs.Faults.{failure_of_compiling, failure_of_history}
 use Rattle.s7_cli.specs.Inner.{RefusedBy}
 use Rattle.s7_cli.specs.Lines.{ok_line}
 use Rattle.s7_cli.specs.Reading.{HoldAll}
@@ -165,3 +169,19 @@ pub check-refused : (V : Type 0) (source source' : List ℕ) (symbols symbols' :
 check-refused V source source' symbols symbols' fault r is are fails breaks =
     subst (λ (q : Result V Failure). RefusedBy (CheckSays source symbols) q) (sym fails)
     (check-refuses V source symbols fault (refused-so source source' symbols symbols' fault is are breaks))
+
+-- ---- a history that isn't read, behind a source that is compiled
+
+history-refuses : (V : Type 0) (source : List ℕ) (symbols : Option (List ℕ)) (code : Code) (text : List ℕ) (fault : HistoryFault)
+    → MeansCode source symbols code → IsHistoryFault text fault → RefusedBy {V = V} (GoSays source symbols text) (Err (failure_of_history fault))
+history-refuses V source symbols code text (history.Refused refusal) means is = (Ok code, means, ap (go_answer (Ok code)) (sym is))
+history-refuses V source symbols code text history.NoMemory means is = tt
+
+pub history-refused : (V : Type 0) (source source' : List ℕ) (symbols symbols' : Option (List ℕ)) (running : Code) (text : List ℕ)
+    (fault : HistoryFault) (r : Result V Failure) → source' ≡ source → symbols' ≡ symbols → r ≡ Err (failure_of_history fault)
+    → RunsAs source' symbols' running → IsHistoryFault text fault → RefusedBy (GoSays source symbols text) r
+history-refused V source source' symbols symbols' running text fault r is are fails runs breaks =
+    subst (λ (q : Result V Failure). RefusedBy (GoSays source symbols text) q) (sym fails)
+    (history-refuses V source symbols runs.0 text fault
+    (subst (λ (s : List ℕ). MeansCode s symbols runs.0) is (subst (λ (y : Option (List ℕ)). MeansCode source' y runs.0) are runs.1))
+    breaks)

@@ -8,13 +8,13 @@ use Rattle.s7_cli.specs.declared.failures.File.{File}
 use Rattle.s7_cli.specs.declared.failures.File.TheVariants.{Source, Symbols, History}
 use Rattle.s7_cli.specs.declared.failures.Failure.{Failure}
 use Rattle.s7_cli.specs.declared.failures.Failure.TheVariants.{WordsRefused, ReadFault, TooLong, Refused, WriteFault, NoMemory}
-use Rattle.s7_cli.specs.Answer.{Answer, Outcome, done, refused, read_fault, too_long, words_refused, refused_code, code_of}
-use Rattle.s7_cli.specs.Command.{Command, Input, inputs_of}
-use Rattle.s7_cli.specs.Ends.{Taking, Answers, InputRose, OutputRose, CountsReads, LeavesFiles, ChangesOutputs, WritesOutputs, CutShort, IsSaid, IsCut, SinkFailed, OutputFailed, IsWriteFault, IsNoMemory, Ends, Ended}
+use Rattle.s7_cli.specs.Answer.{Answer, Outcome, refused, read_fault, too_long, words_refused, code_of}
+use Rattle.s7_cli.specs.Command.{Command, inputs_of}
+use Rattle.s7_cli.specs.Ends.{Taking, Answers, InputRose, OutputRose, CountsReads, LeavesFiles, ChangesOutputs, WritesOutputs, IsSaid, IsCut, SinkFailed, OutputFailed, IsWriteFault, IsNoMemory, Ends, Ended}
 use Rattle.s7_cli.specs.Lines.{line_of}
 use Rattle.s7_cli.specs.Reading.{Disk, Reads, FailsOnTheWay}
 use Rattle.s7_cli.specs.Says.{Says}
-use Rattle.s7_cli.specs.StatusTable.{IsAllowed, IsDecided, IsCutOff, StatusTable}
+use Rattle.s7_cli.specs.StatusTable.{IsDecided, IsCutOff, StatusTable}
 use Rattle.s7_cli.proofs.ComesLemmas.{same-files}
 use Rattle.s7_cli.proofs.ReadingLemmas.{reads-told, reads-kinds, allows-one, fails-rose}
 use Rattle.s7_cli.proofs.SaysLemmas.{MeansOne, IsVerdict, says-one, says-verdict}

@@ -1,5 +1,5 @@
 -- How a command reads its input files.
-use Rattle.std.specs.Prelude.{◌≡◌, ◌<◌, ◌≤◌, ◌⊎◌, ℕ, List, [], ◌∷◌, length, Option, Some, None}
+use Rattle.std.specs.Prelude.{◌≡◌, ◌<◌, ◌≤◌, ◌⊎◌, ℕ, List, [], ◌∷◌, length, Some, None}
 use Rattle.plc_io.specs.Contents.{Contents, Agrees}
 use Rattle.plc_io.specs.Counts.{Rose}
 use Rattle.plc_io.specs.Moments.{FilesAt}

@@ -1,5 +1,5 @@
 -- What was read of a source.
-use Rattle.std.specs.Prelude.{ℕ, List, ◌∷◌, ◌≤◌, Option, Some, None, length, option_map, option_to_list, IfSome}
+use Rattle.std.specs.Prelude.{ℕ, List, ◌∷◌, ◌≤◌, Option, length, option_map, option_to_list, IfSome}
 use Rattle.s7_cli.specs.declared.files.ProgramText.{ProgramText}
 
 -- the bytes of the symbols file, if there is one

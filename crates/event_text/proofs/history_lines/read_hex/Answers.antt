@@ -1,4 +1,4 @@
-use Rattle.std.proofs.Common.{◌<◌, ◌∙◌, arith, length}
+use Rattle.std.proofs.Common.{◌<◌, ◌∙◌, arith}
 use Rattle.event_text.proofs.NumberLemmas.{hex_below, hex_digits, hex_fits, hex_value}
 use Rattle.event_text.proofs.history_lines.read_hex.Goals as goal
 

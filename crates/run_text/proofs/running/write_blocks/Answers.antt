@@ -34,7 +34,7 @@ loop-number-preserved g c =
     let next : c.in-Some-checked_add.next ≡ c.loop-number.place + 1 = omega (arith, c.in-Some-checked_add.ensures) in
     subst
     (λ (place : ℕ). GoesOn (flat_map block_text (data_blocks c.args.controller.now)) (flat_map block_text (drop place (data_blocks c.args.controller.now)))
-        (g.K.Sink.shown c.args.out.now) (g.K.Sink.shown c.write_block.new.out))
+    (g.K.Sink.shown c.args.out.now) (g.K.Sink.shown c.write_block.new.out))
     (sym next)
     (goes-next _ _ _ _ _ _ _ _ _ c.loop-number.invariant
     (found-next block_text (data_blocks c.args.controller.now) c.loop-number.place _ c.in-Some.ensures)
