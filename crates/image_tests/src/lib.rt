@@ -22,6 +22,8 @@ mod ops_both_ways;
 #[cfg(test)]
 mod ops_made;
 #[cfg(test)]
+mod programs_made;
+#[cfg(test)]
 mod readers;
 #[cfg(test)]
 mod record_numbers;
