@@ -20,6 +20,12 @@ mod op_code_table;
 #[cfg(test)]
 mod ops_both_ways;
 #[cfg(test)]
+mod ops_made;
+#[cfg(test)]
+mod programs_made;
+#[cfg(test)]
 mod readers;
+#[cfg(test)]
+mod record_numbers;
 #[cfg(test)]
 mod written_programs;

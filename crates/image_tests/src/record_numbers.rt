@@ -1,0 +1,55 @@
+//! The numbers of kinds, areas and widths in the records of an image.
+
+use flat_code::{area_number, kind_number, width_number};
+use plc_base::{Area, BlockKind, Place, Width};
+
+#[test]
+fn numbers_of_widths(rt: HostRuntime) {
+    for (width, number) in [
+        (Width::Bit, 1),
+        (Width::Byte, 2),
+        (Width::Word, 3),
+        (Width::Dword, 4),
+    ] {
+        assert_eq!(rt; width_number(width), number);
+    }
+}
+
+/// Data blocks have records of their own, and there are none of a type.
+#[test]
+fn numbers_of_kinds(rt: HostRuntime) {
+    for (kind, number) in [
+        (BlockKind::Ob, 1),
+        (BlockKind::Fc, 2),
+        (BlockKind::Fb, 3),
+        (BlockKind::Sfc, 5),
+        (BlockKind::Db, 0),
+        (BlockKind::Udt, 0),
+    ] {
+        assert_eq!(rt; kind_number(kind), number);
+    }
+}
+
+/// The area of a name's variable, of a place in no data block and in data block 10.
+#[test]
+fn numbers_of_areas(rt: HostRuntime) {
+    for (area, in_none) in [
+        (Area::I, 0x81),
+        (Area::Q, 0x82),
+        (Area::M, 0x83),
+        (Area::P, 0),
+        (Area::Db, 0),
+        (Area::Di, 0),
+        (Area::L, 0),
+    ] {
+        for (number, want) in [(0, in_none), (10, 0)] {
+            let place = Place {
+                area,
+                number,
+                byte: 4,
+                bit: 7,
+            };
+            assert_eq!(rt; area_number(&place), want, "{area:?} {number}");
+        }
+    }
+}
