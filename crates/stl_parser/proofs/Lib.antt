@@ -18,3 +18,4 @@ pub mod TypeLemmas
 pub mod StatementLemmas
 pub mod ClauseLemmas
 pub mod SizeLemmas
+pub mod RiseLemmas

@@ -14,3 +14,4 @@ pub mod Frame
 pub mod Source
 pub mod Spelling
 pub mod BlockReading
+pub mod Lines

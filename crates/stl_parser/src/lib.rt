@@ -25,4 +25,4 @@ mod tables;
 mod types;
 mod values;
 
-pub use sources::{law_of_clauses, parse};
+pub use sources::{law_of_clauses, law_of_lines, parse};
