@@ -124,7 +124,7 @@ by_register register.Dilg = refl
 by_register register.Dino = refl
 by_register _ = refl
 
-no_target : (o : Operand) (v : View) → is_target (operand_of o v) ≡ false
+pub no_target : (o : Operand) (v : View) → is_target (operand_of o v) ≡ false
 unfolding operand_of
 no_target o (view.NumberBy what from byte) = by_number what from byte
 no_target o (view.Register which) = by_register which

@@ -1,5 +1,5 @@
-mod Runs
-mod Reading
+pub mod Runs
+pub mod Reading
 mod Following
-mod Instructions
+pub mod Instructions
 mod Verified

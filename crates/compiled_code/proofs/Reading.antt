@@ -98,10 +98,10 @@ aimed_flat f [] = refl
 aimed_flat f (p ∷ ps) = map_append f p.front (p.end ∷ flat ps)
     ∙ ap (λ (z : List OpData). map (aimed_op f) p.front ++ aimed_op f p.end ∷ z) (aimed_flat f ps)
 
-aimed_bytes : (f : ℕ → ℕ) (p : Parted) → bytes_of (aimed_part f p) ≡ bytes_of p
+pub aimed_bytes : (f : ℕ → ℕ) (p : Parted) → bytes_of (aimed_part f p) ≡ bytes_of p
 aimed_bytes f p = let a = total_aimed f p.front in let b = size_aimed f p.end in omega (arith, a, b)
 
-aimed_extent : (f : ℕ → ℕ) (ps : List Parted) → extent (aimed_parts f ps) ≡ extent ps
+pub aimed_extent : (f : ℕ → ℕ) (ps : List Parted) → extent (aimed_parts f ps) ≡ extent ps
 aimed_extent f [] = refl
 aimed_extent f (p ∷ ps) = let a = aimed_bytes f p in let b = aimed_extent f ps in omega (arith, a, b)
 
@@ -112,11 +112,11 @@ aimed_prepares f (op ∷ ops) h = (h.0, aimed_prepares f ops h.1)
 pub aimed_is : (f : ℕ → ℕ) (p : Parted) → IsStatement p → IsStatement (aimed_part f p)
 aimed_is f p h = record { front = aimed_prepares f p.front h.front; end = h.end }
 
-aimed_are : (f : ℕ → ℕ) (ps : List Parted) → AreStatements ps → AreStatements (aimed_parts f ps)
+pub aimed_are : (f : ℕ → ℕ) (ps : List Parted) → AreStatements ps → AreStatements (aimed_parts f ps)
 aimed_are f [] h = tt
 aimed_are f (p ∷ ps) h = (aimed_is f p h.0, aimed_are f ps h.1)
 
-aimed_append : (f : ℕ → ℕ) (xs ys : List Parted) → aimed_parts f (xs ++ ys) ≡ aimed_parts f xs ++ aimed_parts f ys
+pub aimed_append : (f : ℕ → ℕ) (xs ys : List Parted) → aimed_parts f (xs ++ ys) ≡ aimed_parts f xs ++ aimed_parts f ys
 aimed_append f [] ys = refl
 aimed_append f (x ∷ xs) ys = ap (λ (z : List Parted). aimed_part f x ∷ z) (aimed_append f xs ys)
 
@@ -422,7 +422,7 @@ list_of_jumps f (suc most) front (j ∷ js) rest jumps few at =
 abbrev pub position : List Stated → ℕ → ℕ
 position ss n = offset_of (ops_in ss) n
 
-position_is : (front rest : List Stated) → position (front ++ rest) (length front) ≡ ends_at front
+pub position_is : (front rest : List Stated) → position (front ++ rest) (length front) ≡ ends_at front
 unfolding offset_of
 position_is front rest =
     let same : ops_in (front ++ rest) ≡ flat (parts front ++ parts rest)
