@@ -2,7 +2,7 @@
 -- follows it is the end of the tokens.
 use Rattle.std.proofs.Common.{arith, ℕ, ◌≡◌, ◌≤◌, ◌+◌, zero, suc, Bool, true, false, cond, List, [], ◌∷◌, ◌++◌, length, map, take, drop, filter, flat_map, Option, Some, None, ℤ, if◌then◌else◌, refl, sym, ap, subst, ◌∙◌, append_assoc}
 use Rattle.std.specs.Prelude.{◌&&◌, not, nat_lt}
-use Rattle.std.specs.Option.{option_map, option_or, option_and_then, IfSome}
+use Rattle.std.specs.Option.{option_map, option_or, IfSome}
 use Rattle.std.specs.List.{AllByRecursion}
 use Rattle.plc_base.specs.Decimal.{decimal_up_to}
 use Rattle.plc_base.specs.declared.blocks.BlockKind.{BlockKind}
@@ -19,7 +19,6 @@ use Rattle.stl_ast.specs.Declarations.{is_elementary}
 use Rattle.stl_ast.specs.declared.blocks.Block.{Block}
 use Rattle.stl_ast.specs.declared.blocks.Part.{Part}
 use Rattle.stl_ast.specs.declared.blocks.Setting.{Setting}
-use Rattle.stl_ast.specs.declared.blocks.Tree.{Tree}
 use Rattle.stl_ast.specs.declared.declarations.Bounds.{Bounds}
 use Rattle.stl_ast.specs.declared.declarations.Declaration.{Declaration}
 use Rattle.stl_ast.specs.declared.declarations.ElementType.{ElementType}
@@ -38,18 +37,18 @@ use Rattle.stl_parser.specs.declared.tables.Keyword.{Keyword}
 use Rattle.stl_parser.specs.declared.tables.Keyword.TheVariants as keyword
 use Rattle.stl_parser.specs.Addresses.{glued_at, separate_at, numbered_at, block_number_at, quoted_at, block_at, letter_count}
 use Rattle.stl_parser.specs.Clauses.{skip_semicolon, until_semicolon, behind_note, named_at, result_type, result_at, head_of, inner_end, structure_end, keyword_clause, version_at, word_at, head_word_at, head_word_clause, based_at, structure_clause, declaration_clause, statement_clause, setting_clause, inside_clause, semicolon_clause, plain_clause, other_clause, free_word_clause, word_clause, clause_by_kind, clause_at, takes_parameters, level_at, is_base, setting_of}
-use Rattle.stl_parser.specs.Declarations.{after_attribute, after_colon, declared_at, after_struct, structure_at, declaration_of}
+use Rattle.stl_parser.specs.Declarations.{after_attribute, after_colon, declared_at, after_struct, structure_at}
 use Rattle.stl_parser.specs.Lines.{Rises, lines_of, LinesRise}
 use Rattle.stl_parser.specs.Numbers.{signed_at, int_at, number_of}
 use Rattle.stl_parser.specs.Tables.{look_up}
 use Rattle.stl_parser.specs.Parts.{parts_from}
-use Rattle.stl_parser.specs.Source.{Reads, IsTree}
+use Rattle.stl_parser.specs.Source.{Reads}
 use Rattle.stl_parser.specs.Spelling.{is_kept, is_udt, nowhere, spelled_part, spelled_type, spelled_shape, spelled_block}
 use Rattle.stl_parser.specs.Statements.{labelled, unlabelled, statement_of}
 use Rattle.stl_parser.specs.Terminals.{has_kind, is_mark, is_key}
 use Rattle.stl_parser.specs.Types.{array_end, array_high, array_at, arrays_end, arrays_at, no_array}
 use Rattle.stl_parser.proofs.FrameLemmas.{right_clause}
-use Rattle.stl_parser.proofs.OptionLemmas.{mapped, chained, either, both, passed, none_holds, some_holds, failed, weakened}
+use Rattle.stl_parser.proofs.OptionLemmas.{mapped, chained, either, both, passed, none_holds, some_holds, failed}
 
 -- a clause that has a line has this one
 abbrev HasLine : ℕ → Clause → Type 0

@@ -19,5 +19,6 @@ lines_of b = map (λ s. s.line) b.body ++ b.end_line ∷ []
 -- in each block they rise, from 1 on; a source has no more lines than bytes, and one
 abbrev pub LinesRise : Type 0
 LinesRise =
-    (source : List ℕ) (tokens : List Token) (t : Tree) → AreTokens source tokens → IsTree source tokens t
+    (source : List ℕ) (tokens : List Token) (t : Tree)
+    → AreTokens source tokens → IsTree source tokens t
     → AllByRecursion (λ b. Rises (1 + length source) 1 (lines_of b)) t.blocks
