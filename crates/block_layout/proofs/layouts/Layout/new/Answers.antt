@@ -16,5 +16,5 @@ invariant_of-result c = record {
   inner = subst (λ (l : List Cell). AreScopes l c.in_ok-scopes.scopes.items) c.as_slice-4.ensures.value c.in_ok-scopes.ensures.scopes;
   whole = c.structure_bits-bits.ensures.value ∙ ap (λ (l : List Cell). structure_bits l) c.as_slice-6.ensures.value;
   near = c.structure_bits-bits.ensures.near;
-  ended = subst (λ (l : List Cell). EndParameters l c.parameters_end-parameters.result) c.as_slice-7.ensures.value c.parameters_end-parameters.ensures;
+  ended = subst (λ (l : List Cell). EndParameters l c.parameters_end-parameters.result) c.as_slice-8.ensures.value c.parameters_end-parameters.ensures;
 }
