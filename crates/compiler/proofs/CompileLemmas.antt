@@ -7,10 +7,7 @@ use Rattle.plc_base.specs.declared.refusals.SourceFault.TheVariants as found
 use Rattle.flat_code.specs.Image.{IsProgram}
 use Rattle.flat_code.specs.Programs.{Program}
 use Rattle.accepted_code.specs.Accepted.{program_in}
-use Rattle.image_file.specs.Laws.{VerifiesOrHasFault}
 use Rattle.image_file.specs.Loaded.{LoadedProgram}
-use Rattle.image_file.specs.Verifying.{IsFaultOf}
-use Rattle.image_file.specs.declared.faults.VerifyFault.{VerifyFault}
 use Rattle.machine.specs.Flat.{code_of}
 use Rattle.stl_ast.specs.Literals.{AreBytes}
 use Rattle.stl_ast.specs.declared.blocks.Tree.{Tree}
@@ -26,7 +23,7 @@ use Rattle.block_layout.specs.Table.{layout_refusals}
 use Rattle.block_layout.specs.declared.blocks.BlockLayout.{BlockLayout}
 use Rattle.stl_types.specs.Table.{statement_refusals, Checks}
 use Rattle.stl_codegen.specs.Generated.{program_of}
-use Rattle.sem_kept.specs.Agreement.{AreFiles, IsRunnable, ProgramsRun, RunsAs}
+use Rattle.sem_kept.specs.Agreement.{AreFiles, ProgramsRun, RunsAs}
 use Rattle.sem_kept.specs.Stages.{InTurn}
 use Rattle.sem_kept.specs.Meaning.{HasSymbols, HasTokens, HasTree, refusals_of, sound_by, IsSound, IsJudgedWith, IsJudged}
 use Rattle.compiler.specs.Compiling.{RefusesBy, Finds, fault_in_symbols, fault_in_source, IsRefusedBy, IsMadeOf, RunsWhereSound}
@@ -199,8 +196,3 @@ has_image list tree t layouts runs here laid there same =
     is : program_of t list layouts ≡ program_in list tree
     is = ap (λ (x : Tree). program_of x list layouts) same
         ∙ ap (λ (z : List BlockLayout). program_of tree list z) laid
-
--- a program that runs has no fault
-pub no_fault : (p : Program) (f : VerifyFault) → VerifiesOrHasFault → IsRunnable p
-    → IsFaultOf p f → ⊥
-no_fault p f law runs fault = (law p runs.is).1 runs.verifies f fault

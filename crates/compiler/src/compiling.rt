@@ -2,13 +2,14 @@ ghost use Rattle.std.specs.Prelude.{◌≡◌, ◌≤◌, length, IfOk, IfErr};
 ghost use Rattle.std.specs.Option.{option_map, IfSome};
 ghost use Rattle.machine.specs.Flat.{code_of};
 ghost use Rattle.accepted_code.specs.Accepted.{program_in};
+ghost use Rattle.stl_ast.specs.Literals.{AreBytes};
 ghost use Rattle.stl_symbols.specs.Symbols.{symbols_limit};
 ghost use Rattle.stl_symbols.specs.Least.{least};
 ghost use Rattle.stl_lexer.specs.Limits.{source_limit};
 ghost use Rattle.stl_types.specs.Table.{statement_refusals};
 ghost use Rattle.block_layout.specs.Layouts.{layouts_of};
 ghost use Rattle.block_layout.specs.Table.{layout_refusals};
-ghost use Rattle.sem_kept.specs.Agreement.{IsRunnable, RunsAs};
+ghost use Rattle.sem_kept.specs.Agreement.{AreFiles, IsRunnable, RunsAs};
 ghost use Rattle.sem_kept.specs.Meaning.{
   HasSymbols,
   HasTokens,
@@ -156,6 +157,31 @@ fn program_in(alloc: Global, tree: &Tree, symbols: &Symbols) -> Result<Loaded, S
     Ok(loaded)
 }
 
+/// A law: what a slice holds are bytes.
+fn law_of_bytes(bytes: &[u8])
+    ensures { AreBytes bytes.now }
+{}
+
+/// A law: so it is with a file, if there is one.
+fn law_of_file(file: Option<&[u8]>)
+    ensures { IfSome file.entry (λ bytes. AreBytes bytes.now) }
+{
+    match file {
+        None => {}
+        Some(bytes) => law_of_bytes(bytes),
+    }
+}
+
+/// A law: what is known of a source and a symbols file that are read.
+fn law_of_files(source: &[u8], symbols: Option<&[u8]>)
+    requires source { length source.now ≤ source_limit }
+    requires symbols { IfSome symbols (λ s. length s.now ≤ symbols_limit) }
+    ensures { AreFiles source.now (option_map (λ s. s.now) symbols.entry) }
+{
+    law_of_bytes(source);
+    law_of_file(symbols);
+}
+
 /// Compiles a source of at most 1,048,576 bytes with its symbols file, which has at most as many,
 /// into a loaded program that runs as it means. The symbols are judged first, then the tokens of
 /// the source, its clauses, and its layout together with its statements.
@@ -177,6 +203,7 @@ pub fn compiled(
         (RefusesBy source.now (option_map (λ s. s.now) symbols.entry)) }
 {
     sem_kept::laws::programs_run();
+    law_of_files(source, symbols);
     let list = match symbols_of(alloc, symbols) {
         Ok(list) => list,
         Err(fault) => return Err(in_symbols(fault)),

@@ -6,8 +6,8 @@ returns-in-Err-clause-refused c =
     checked_fault c.args.symbols.now c.args.tree.now c.args.tree.now c.args.layouts.now
     c.in-Err.fault c.requires.right c.requires.layouts c.in-Err.ensures
 
-pub returns-in-Some-clause-sound : goal.returns-in-Some-clause-sound
-returns-in-Some-clause-sound c =
+pub returns-clause-sound : goal.returns-clause-sound
+returns-clause-sound c =
     sound_both c.args.symbols.now c.args.tree.now c.args.layouts.now c.requires.right
     c.requires.layouts c.in-Ok.ensures.0
 
