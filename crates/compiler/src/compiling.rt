@@ -19,7 +19,14 @@ ghost use Rattle.sem_kept.specs.Meaning.{
 };
 ghost use Rattle.plc_base.specs.declared.refusals.SourceFault.TheVariants.{NoMemory};
 ghost use Rattle.sem_kept.specs.Stages.{InTurn};
-ghost use Rattle.compiler.specs.Compiling.{RefusesBy, Finds, IsRefusedBy, Lays, Makes, RunsWhereSound};
+ghost use Rattle.compiler.specs.Compiling.{
+  RefusesBy,
+  Finds,
+  IsRefusedBy,
+  Lays,
+  Makes,
+  RunsWhereSound,
+};
 
 use crate::faults::{CompileFault, in_source, in_symbols};
 use block_layout::{Layouts, lay_out, lay_out_sound};
