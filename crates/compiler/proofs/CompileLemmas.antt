@@ -1,16 +1,15 @@
 -- What the stages of compiling find, joined.
-use Rattle.std.proofs.Common.{◌≡◌, Bool, true, false, if◌then◌else◌, refl, sym, ap, subst, ◌∙◌, ℕ, List, [], Option, Some, None, Result, Ok, Err, inl, inr}
-use Rattle.std.specs.Option.{unwrap_or}
+use Rattle.std.proofs.Common.{◌≡◌, Bool, true, false, if◌then◌else◌, refl, sym, ap, subst, ◌∙◌, ℕ, suc, ◌<◌, List, [], ◌∷◌, get_or, Option, Some, None, option_map, Result, Ok, Err, inl, inr, Bor, arith}
+use Rattle.std.specs.Option.{unwrap_or, IfSome}
 use Rattle.plc_base.specs.declared.refusals.Refusal.{Refusal}
 use Rattle.plc_base.specs.declared.refusals.SourceFault.{SourceFault}
 use Rattle.plc_base.specs.declared.refusals.SourceFault.TheVariants as found
 use Rattle.flat_code.specs.Image.{IsProgram}
 use Rattle.flat_code.specs.Programs.{Program}
-use Rattle.image_file.specs.Laws.{VerifiesOrHasFault}
+use Rattle.accepted_code.specs.Accepted.{program_in}
 use Rattle.image_file.specs.Loaded.{LoadedProgram}
-use Rattle.image_file.specs.Verifying.{IsFaultOf}
-use Rattle.image_file.specs.declared.faults.VerifyFault.{VerifyFault}
 use Rattle.machine.specs.Flat.{code_of}
+use Rattle.stl_ast.specs.Literals.{AreBytes}
 use Rattle.stl_ast.specs.declared.blocks.Tree.{Tree}
 use Rattle.stl_lexer.specs.declared.kinds.Token.{Token}
 use Rattle.stl_lexer.specs.Tokens.{AreTokens, IsRefused as AreNoTokens}
@@ -24,10 +23,10 @@ use Rattle.block_layout.specs.Table.{layout_refusals}
 use Rattle.block_layout.specs.declared.blocks.BlockLayout.{BlockLayout}
 use Rattle.stl_types.specs.Table.{statement_refusals, Checks}
 use Rattle.stl_codegen.specs.Generated.{program_of}
-use Rattle.sem_kept.specs.Agreement.{ProgramsRun, RunsAs}
+use Rattle.sem_kept.specs.Agreement.{AreFiles, ProgramsRun, RunsAs}
 use Rattle.sem_kept.specs.Stages.{InTurn}
-use Rattle.sem_kept.specs.Meaning.{HasSymbols, HasTokens, HasTree, refusals_of, sound_by, IsSound, program_in, IsRunnable, without_program, HasCode, IsJudgedWith, IsJudged}
-use Rattle.compiler.specs.Compiling.{RefusesBy, Finds, fault_in_symbols, fault_in_source, IsRefusedBy, IsStopped, Lays, IsMadeOf}
+use Rattle.sem_kept.specs.Meaning.{HasSymbols, HasTokens, HasTree, refusals_of, sound_by, IsSound, IsJudgedWith, IsJudged}
+use Rattle.compiler.specs.Compiling.{RefusesBy, Finds, fault_in_symbols, fault_in_source, IsRefusedBy, IsMadeOf, RunsWhereSound}
 
 -- an empty symbols file has no symbols
 pub empty_file : symbols_of [] ≡ Ok []
@@ -80,19 +79,12 @@ pub refused_by_statements : (symbols : List Symbol) (tree : Tree) (layouts : Lis
     (r : Refusal)
     → least (layout_refusals tree symbols) ≡ None → layouts ≡ layouts_of tree symbols
     → least (statement_refusals tree symbols layouts) ≡ Some r
-    → InTurn (IsSound symbols) (HasCode symbols) tree (Err r)
+    → IsSound symbols tree (Err r)
 unfolding lesser
 refused_by_statements symbols tree layouts r here laid there =
-    inl (sym (ap (sound_by tree)
+    sym (ap (sound_by tree)
     (both symbols tree None (Some r) here
-    (ap (λ (z : List BlockLayout). least (statement_refusals tree symbols z)) (sym laid) ∙ there))))
-
-pub refused_program : (symbols : List Symbol) (tree : Tree) (r : Refusal)
-    → least (refusals_of symbols tree) ≡ None
-    → (IsRunnable (program_in symbols tree) → ⊥) → r ≡ without_program
-    → InTurn (IsSound symbols) (HasCode symbols) tree (Err r)
-refused_program symbols tree r sound stops is =
-    inr (tree, ap (sound_by tree) (sym sound), (stops, is))
+    (ap (λ (z : List BlockLayout). least (statement_refusals tree symbols z)) (sym laid) ∙ there)))
 
 -- ---- what a stage finds
 
@@ -150,41 +142,38 @@ pub program_fault : (source : List ℕ) (symbols : Option (List ℕ)) (list : Li
     → RefusesBy source symbols (fault_in_source fault)
 unfolding IsJudged
 program_fault source symbols list tree (found.Refused refusal) has (tokens, are, is) h =
-    (list, has, inr (tokens, are, inr (tree, is, h)))
+    (list, has, inr (tokens, are, inr (tree, is, inl h)))
 program_fault source symbols list tree found.NoMemory has at h = tt
+
+-- the symbols file, by the files as they are read
+pub if_file : (P : List ℕ → Type 0) (file : Option (Bor (List ℕ)))
+    → IfSome file (λ s. P s.now) → IfSome (option_map (λ (s : Bor (List ℕ)). s.now) file) P
+if_file P None h = h
+if_file P (Some s) h = h
+
+pub all_bytes : (bytes : List ℕ) → ((i : ℕ) → get_or bytes i 0 < 256) → AreBytes bytes
+all_bytes [] small = tt
+all_bytes (b ∷ bytes) small =
+    let first : b < 256 = small 0 in
+    (omega (arith, first), all_bytes bytes (λ i. small (suc i)))
+
+pub runs_where_sound : ProgramsRun → (source : List ℕ) (symbols : Option (List ℕ))
+    (list : List Symbol) (tree : Tree)
+    → AreFiles source symbols → HasSymbols symbols (Ok list)
+    → InTurn HasTokens (HasTree source) source (Ok tree) → RunsWhereSound list tree
+runs_where_sound law source symbols list tree are has (tokens, lexed, is) sound =
+    (law source symbols list tokens tree are has lexed is sound).0
 
 pub program_runs : ProgramsRun → (source : List ℕ) (symbols : Option (List ℕ))
     (list : List Symbol) (tree : Tree) (l : LoadedProgram)
-    → HasSymbols symbols (Ok list)
+    → AreFiles source symbols → HasSymbols symbols (Ok list)
     → InTurn HasTokens (HasTree source) source (Ok tree) → IsMadeOf list tree l
     → RunsAs source symbols (code_of l.program)
-program_runs law source symbols list tree l has (tokens, are, is) made =
+program_runs law source symbols list tree l are has (tokens, lexed, is) made =
     subst (λ (p : Program). RunsAs source symbols (code_of p)) (sym made.is)
-    (law source symbols list tokens tree has are is made.sound made.runs)
+    (law source symbols list tokens tree are has lexed is made.sound).1
 
 -- ---- the program
-
-pub stops : (list : List Symbol) (tree : Tree) (p : Program) (fault : SourceFault)
-    → least (refusals_of list tree) ≡ None → p ≡ program_in list tree → IsStopped p fault
-    → IsRefusedBy list tree fault
-stops list tree p (found.Refused refusal) sound is h =
-    refused_program list tree refusal sound
-    (λ runs. h.0 (subst IsRunnable (sym is) runs)) h.1
-stops list tree p found.NoMemory sound is h = tt
-
-pub made_of : (list : List Symbol) (tree : Tree) (p : Program) (l : LoadedProgram)
-    → least (refusals_of list tree) ≡ None → p ≡ program_in list tree
-    → IsRunnable p × (l.program ≡ p) → IsMadeOf list tree l
-made_of list tree p l sound is h = record {
-  sound = sound;
-  runs = subst IsRunnable is h.0;
-  is = h.1 ∙ is;
-}
-
-pub laid_fault : (list : List Symbol) (tree : Tree) (fault : SourceFault)
-    → Lays list tree (Err fault) → IsRefusedBy list tree fault
-laid_fault list tree (found.Refused refusal) h = inl h
-laid_fault list tree found.NoMemory h = tt
 
 pub checked_fault : (list : List Symbol) (tree checked : Tree) (layouts : List BlockLayout)
     (fault : SourceFault)
@@ -195,21 +184,15 @@ checked_fault list tree checked layouts (found.Refused refusal) here laid h =
     refused_by_statements list tree layouts refusal here laid h
 checked_fault list tree checked layouts found.NoMemory here laid h = tt
 
--- a tree without image doesn't run
-pub without_image : (list : List Symbol) (tree t : Tree) (layouts : List BlockLayout)
+-- a tree that breaks no rule has an image
+pub has_image : (list : List Symbol) (tree t : Tree) (layouts : List BlockLayout)
+    → RunsWhereSound list tree
     → least (layout_refusals tree list) ≡ None → layouts ≡ layouts_of tree list
     → least (statement_refusals tree list layouts) ≡ None → t ≡ tree
-    → (IsProgram (program_of t list layouts) → ⊥)
-    → InTurn (IsSound list) (HasCode list) tree (Err without_program)
-without_image list tree t layouts here laid there same none =
-    refused_program list tree without_program (sound_both list tree layouts here laid there)
-    (λ runs. none (subst IsProgram (sym is) runs.is)) refl
+    → IsProgram (program_of t list layouts)
+has_image list tree t layouts runs here laid there same =
+    subst IsProgram (sym is) (runs (sound_both list tree layouts here laid there)).is
   where
     is : program_of t list layouts ≡ program_in list tree
     is = ap (λ (x : Tree). program_of x list layouts) same
         ∙ ap (λ (z : List BlockLayout). program_of tree list z) laid
-
--- a program with a fault doesn't run
-pub fault_stops : (p : Program) (f : VerifyFault) → VerifiesOrHasFault → IsProgram p
-    → IsFaultOf p f → IsRunnable p → ⊥
-fault_stops p f law is fault runs = (law p is).1 runs.verifies f fault

@@ -1,6 +1,6 @@
 -- What compiling answers, stage by stage.
 use Rattle.std.specs.Prelude.{◌≡◌, ℕ, List, Option, None, Result, Ok, Err}
-use Rattle.flat_code.specs.Programs.{Program}
+use Rattle.accepted_code.specs.Accepted.{program_in}
 use Rattle.image_file.specs.Loaded.{LoadedProgram}
 use Rattle.plc_base.specs.declared.refusals.Refusal.{Refusal}
 use Rattle.plc_base.specs.declared.refusals.SourceFault.{SourceFault}
@@ -11,8 +11,8 @@ use Rattle.stl_symbols.specs.Symbol.{Symbol}
 use Rattle.block_layout.specs.Layouts.{layouts_of}
 use Rattle.block_layout.specs.Table.{layout_refusals}
 use Rattle.block_layout.specs.declared.blocks.BlockLayout.{BlockLayout}
-use Rattle.sem_kept.specs.Stages.{InTurn}
-use Rattle.sem_kept.specs.Meaning.{refusals_of, program_in, IsSound, IsRunnable, HasCode, without_program, InSymbols, InSource, IsRefusedSource}
+use Rattle.sem_kept.specs.Agreement.{IsRunnable}
+use Rattle.sem_kept.specs.Meaning.{refusals_of, IsSound, InSymbols, InSource, IsRefusedSource}
 use Rattle.compiler.specs.declared.faults.CompileFault.{CompileFault}
 use Rattle.compiler.specs.declared.faults.CompileFault.TheVariants as fault
 
@@ -39,30 +39,26 @@ Finds stage (Ok made) = stage (Ok made)
 Finds stage (Err (found.Refused refusal)) = stage (Err refusal)
 Finds stage (Err found.NoMemory) = Unit {0}
 
+-- a tree is refused by its layout or by its statements
+abbrev pub IsRefusedBy : List Symbol → Tree → SourceFault → Type 0
+IsRefusedBy symbols tree (found.Refused refusal) = IsSound symbols tree (Err refusal)
+IsRefusedBy symbols tree found.NoMemory = Unit {0}
+
 -- the layouts of a tree that breaks no rule on its layout, or the least of the rules on layout and
 -- on statements that it breaks
 abbrev pub Lays : List Symbol → Tree → Result (List BlockLayout) SourceFault → Type 0
 Lays symbols tree (Ok layouts) =
     (least (layout_refusals tree symbols) ≡ None) × (layouts ≡ layouts_of tree symbols)
-Lays symbols tree (Err (found.Refused refusal)) =
-    IsSound symbols tree (Err refusal)
-Lays symbols tree (Err found.NoMemory) = Unit {0}
+Lays symbols tree (Err fault) = IsRefusedBy symbols tree fault
 
--- a tree is refused by its layout, by its statements, or since its program doesn't run
-abbrev pub IsRefusedBy : List Symbol → Tree → SourceFault → Type 0
-IsRefusedBy symbols tree (found.Refused refusal) =
-    InTurn (IsSound symbols) (HasCode symbols) tree (Err refusal)
-IsRefusedBy symbols tree found.NoMemory = Unit {0}
-
--- a program doesn't run
-abbrev pub IsStopped : Program → SourceFault → Type 0
-IsStopped p (found.Refused refusal) = (IsRunnable p → ⊥) × (refusal ≡ without_program)
-IsStopped p found.NoMemory = Unit {0}
+-- the program of a tree runs where the tree breaks no rule
+abbrev pub RunsWhereSound : List Symbol → Tree → Type 0
+RunsWhereSound symbols tree =
+    least (refusals_of symbols tree) ≡ None → IsRunnable (program_in symbols tree)
 
 -- a loaded program is that of a tree which breaks no rule
 pub record IsMadeOf (symbols : List Symbol) (tree : Tree) (l : LoadedProgram) : Type 0 where
   pub sound : least (refusals_of symbols tree) ≡ None
-  pub runs : IsRunnable (program_in symbols tree)
   pub is : l.program ≡ program_in symbols tree
 
 abbrev pub Makes : List Symbol → Tree → Result LoadedProgram SourceFault → Type 0

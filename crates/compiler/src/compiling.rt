@@ -1,26 +1,32 @@
 ghost use Rattle.std.specs.Prelude.{◌≡◌, ◌≤◌, length, IfOk, IfErr};
 ghost use Rattle.std.specs.Option.{option_map, IfSome};
 ghost use Rattle.machine.specs.Flat.{code_of};
-ghost use Rattle.flat_code.specs.Image.{IsProgram};
+ghost use Rattle.accepted_code.specs.Accepted.{program_in};
+ghost use Rattle.stl_ast.specs.Literals.{AreBytes};
 ghost use Rattle.stl_symbols.specs.Symbols.{symbols_limit};
 ghost use Rattle.stl_symbols.specs.Least.{least};
 ghost use Rattle.stl_lexer.specs.Limits.{source_limit};
 ghost use Rattle.stl_types.specs.Table.{statement_refusals};
 ghost use Rattle.block_layout.specs.Layouts.{layouts_of};
 ghost use Rattle.block_layout.specs.Table.{layout_refusals};
-ghost use Rattle.sem_kept.specs.Agreement.{RunsAs};
+ghost use Rattle.sem_kept.specs.Agreement.{AreFiles, IsRunnable, RunsAs};
 ghost use Rattle.sem_kept.specs.Meaning.{
   HasSymbols,
   HasTokens,
   HasTree,
-  IsRunnable,
   IsSound,
-  program_in,
   refusals_of,
 };
 ghost use Rattle.plc_base.specs.declared.refusals.SourceFault.TheVariants.{NoMemory};
 ghost use Rattle.sem_kept.specs.Stages.{InTurn};
-ghost use Rattle.compiler.specs.Compiling.{RefusesBy, Finds, IsRefusedBy, IsStopped, Lays, Makes};
+ghost use Rattle.compiler.specs.Compiling.{
+  RefusesBy,
+  Finds,
+  IsRefusedBy,
+  Lays,
+  Makes,
+  RunsWhereSound,
+};
 
 use crate::faults::{CompileFault, in_source, in_symbols};
 use block_layout::{Layouts, lay_out, lay_out_sound};
@@ -34,11 +40,6 @@ use stl_lexer::lex;
 use stl_parser::parse;
 use stl_symbols::{Symbols, lesser, read_symbols};
 use stl_types::check;
-
-/// A source that has no image or doesn't verify is refused as a whole.
-const WITHOUT_PROGRAM: SourceFault = SourceFault::Refused {
-    refusal: Refusal { line: 0, rule: 99 },
-};
 
 /// The symbols of a symbols file. Without a file there are none, as in an empty one.
 fn symbols_of(alloc: Global, symbols: Option<&[u8]>) -> Result<Symbols, SourceFault>
@@ -122,6 +123,7 @@ fn program_of(
 ) -> Result<Program, SourceFault>
     requires right { least (layout_refusals tree.now symbols.now) ≡ None }
     requires layouts { layouts.now ≡ layouts_of tree.now symbols.now }
+    requires runs { RunsWhereSound symbols.now tree.now }
     ensures sound { IfOk result (λ p. least (refusals_of symbols.now tree.now) ≡ None) }
     ensures program { IfOk result (λ p. p ≡ program_in symbols.now tree.now) }
     ensures refused { IfErr result (IsRefusedBy symbols.now tree.now) }
@@ -133,42 +135,58 @@ fn program_of(
     let made = generate(alloc, &checked, layouts, symbols)?;
     match made {
         Some(program) => Ok(program),
-        None => Err(WITHOUT_PROGRAM),
+        None => unreachable!(),
     }
 }
 
-/// Nothing is done. The contract says that a program has an image.
-fn law_of_images(program: &Program)
-    ensures { IsProgram program.now }
-{
-    let _ = &program.code_blocks;
-}
-
-/// A program that is verified.
+/// A program that runs, verified.
 fn loaded(alloc: Global, program: Program) -> Result<Loaded, SourceFault>
-    ensures runs { IfOk result (λ l. IsRunnable program × (l.program ≡ program)) }
-    ensures refused { IfErr result (IsStopped program) }
+    requires { IsRunnable program }
+    ensures program { IfOk result (λ l. l.program ≡ program) }
+    ensures memory { IfErr result (λ e. e ≡ NoMemory) }
 {
-    law_of_images(&program);
     image_file::laws::verified_or_refused();
     match verify(alloc, program) {
-        Ok(loaded) => {
-            loaded.law_of_verifying();
-            Ok(loaded)
-        }
-        Err(VerifyError::Fault { fault: _ }) => Err(WITHOUT_PROGRAM),
+        Ok(loaded) => Ok(loaded),
+        Err(VerifyError::Fault { fault: _ }) => unreachable!(),
         Err(VerifyError::NoMemory) => Err(SourceFault::NoMemory),
     }
 }
 
 /// The loaded program of a tree.
 fn program_in(alloc: Global, tree: &Tree, symbols: &Symbols) -> Result<Loaded, SourceFault>
+    requires { RunsWhereSound symbols.now tree.now }
     ensures { Makes symbols.now tree.now result }
 {
     let layouts = layouts_of(alloc, tree, symbols)?;
     let program = program_of(alloc, tree, symbols, &layouts)?;
     let loaded = loaded(alloc, program)?;
     Ok(loaded)
+}
+
+/// A law: what a slice holds are bytes.
+fn law_of_bytes(bytes: &[u8])
+    ensures { AreBytes bytes.now }
+{}
+
+/// A law: so it is with a file, if there is one.
+fn law_of_file(file: Option<&[u8]>)
+    ensures { IfSome file.entry (λ bytes. AreBytes bytes.now) }
+{
+    match file {
+        None => {}
+        Some(bytes) => law_of_bytes(bytes),
+    }
+}
+
+/// A law: what is known of a source and a symbols file that are read.
+fn law_of_files(source: &[u8], symbols: Option<&[u8]>)
+    requires source { length source.now ≤ source_limit }
+    requires symbols { IfSome symbols (λ s. length s.now ≤ symbols_limit) }
+    ensures { AreFiles source.now (option_map (λ s. s.now) symbols.entry) }
+{
+    law_of_bytes(source);
+    law_of_file(symbols);
 }
 
 /// Compiles a source of at most 1,048,576 bytes with its symbols file, which has at most as many,
@@ -192,6 +210,7 @@ pub fn compiled(
         (RefusesBy source.now (option_map (λ s. s.now) symbols.entry)) }
 {
     sem_kept::laws::programs_run();
+    law_of_files(source, symbols);
     let list = match symbols_of(alloc, symbols) {
         Ok(list) => list,
         Err(fault) => return Err(in_symbols(fault)),

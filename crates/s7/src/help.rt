@@ -93,7 +93,6 @@ Rules of a source:
   54  data blocks have more than 2,097,152 bytes together
   55  a block has more than 65,534 statements
   56  types are nested deeper than 8
-  99  the source has no program that verifies (told as line 0)
 Rules of a symbols file:
   14  a line isn't four fields
   15  an address, type or name isn't right, or too many symbols

@@ -1,33 +1,91 @@
 -- The program of a source that breaks no rule runs as the source means.
-use Rattle.std.proofs.Common.{◌≡◌, refl, sym, ap, ℕ, List, Option, None, Ok}
+use Rattle.std.proofs.Common.{◌≡◌, refl, sym, ap, ◌∙◌, ℕ, List, [], Option, Some, None, Ok, arith}
+use Rattle.accepted_code.specs.Accepted.{AreSymbols, IsAccepted, program_in, AcceptedVerifies}
 use Rattle.compiled_code.specs.Verified.{VerifiedIsCompilable}
 use Rattle.kept_code.specs.Kept.{ProgramsAreKept}
+use Rattle.plc_base.specs.declared.refusals.Refusal.{Refusal}
 use Rattle.block_layout.specs.Layouts.{layouts_of}
+use Rattle.block_layout.specs.Table.{layout_refusals}
 use Rattle.stl_ast.specs.declared.blocks.Tree.{Tree}
 use Rattle.stl_codegen.specs.Generated.{code_blocks_of, data_blocks_of, names_of}
 use Rattle.stl_lexer.specs.declared.kinds.Token.{Token}
-use Rattle.stl_symbols.specs.Least.{least}
+use Rattle.stl_symbols.specs.Least.{least, lesser}
 use Rattle.stl_symbols.specs.Symbol.{Symbol}
-use Rattle.sem_kept.specs.Agreement.{ProgramsRun}
-use Rattle.sem_kept.specs.Meaning.{HasSymbols, HasTokens, HasTree, refusals_of, sound_by, program_in, code_in, IsRunnable, IsJudged, MeansCode}
+use Rattle.stl_symbols.proofs.LeastLemmas.{least-append}
+use Rattle.stl_types.specs.Table.{statement_refusals}
+use Rattle.sem_kept.specs.Agreement.{AreFiles, IsRunnable, ProgramsRun}
+use Rattle.sem_kept.specs.Meaning.{HasSymbols, HasTokens, HasTree, refusals_of, sound_by, code_in, IsJudged, MeansCode}
+use Rattle.sem_kept.proofs.StageLemmas.{ok_same}
 
 means : (source : List ℕ) (symbols : Option (List ℕ)) (list : List Symbol) (tokens : List Token)
     (tree : Tree)
     → HasSymbols symbols (Ok list) → HasTokens source (Ok tokens) → HasTree source tokens (Ok tree)
-    → least (refusals_of list tree) ≡ None → IsRunnable (program_in list tree)
-    → MeansCode source symbols (code_in list tree)
+    → least (refusals_of list tree) ≡ None → MeansCode source symbols (code_in list tree)
 unfolding IsJudged
-means source symbols list tokens tree has_list has_tokens has_tree sound runs = (
+means source symbols list tokens tree has_list has_tokens has_tree sound = (
   list,
   has_list,
-  (tokens, has_tokens, (tree, has_tree, (tree, ap (sound_by tree) (sym sound), (runs, refl)))),
+  (tokens, has_tokens, (tree, has_tree, (tree, ap (sound_by tree) (sym sound), refl))),
 )
 
-pub programs_run : VerifiedIsCompilable → ProgramsAreKept → ProgramsRun
-programs_run compilable kept source symbols list tokens tree has_list has_tokens has_tree sound runs = (
-  code_in list tree,
-  means source symbols list tokens tree has_list has_tokens has_tree sound runs,
-  kept (code_blocks_of tree list (layouts_of tree list))
-      (data_blocks_of tree list (layouts_of tree list)) (names_of list)
-      (compilable tree list (layouts_of tree list) runs.verifies),
+-- the symbols of an accepted source
+named : (symbols : Option (List ℕ)) (list : List Symbol)
+    → HasSymbols symbols (Ok list) → AreSymbols symbols list
+named None list has = ok_same list [] has
+named (Some bytes) list has = sym has
+
+-- neither of two lists has a refusal where both together have none
+none_of_both : (a b : Option Refusal) → lesser a b ≡ None → (a ≡ None) × (b ≡ None)
+unfolding lesser
+none_of_both None b none = (refl, none)
+none_of_both (Some r) None none = cc
+none_of_both (Some r) (Some q) none = absurd (grind arith)
+
+accepted : (source : List ℕ) (symbols : Option (List ℕ)) (list : List Symbol)
+    (tokens : List Token) (tree : Tree)
+    → AreFiles source symbols
+    → HasSymbols symbols (Ok list) → HasTokens source (Ok tokens) → HasTree source tokens (Ok tree)
+    → least (refusals_of list tree) ≡ None → IsAccepted source symbols list tree
+accepted source symbols list tokens tree are has_list has_tokens has_tree sound = record {
+  short = are.source_short;
+  file_short = are.symbols_short;
+  named = named symbols list has_list;
+  tokens = tokens;
+  lexed = has_tokens;
+  parsed = has_tree;
+  laid_out = neither.0;
+  checked = neither.1;
+}
+  where
+    layout : Option Refusal
+    layout = least (layout_refusals tree list)
+
+    statements : Option Refusal
+    statements = least (statement_refusals tree list (layouts_of tree list))
+
+    neither : (layout ≡ None) × (statements ≡ None)
+    neither =
+        none_of_both layout statements
+        (sym (least-append (layout_refusals tree list)
+        (statement_refusals tree list (layouts_of tree list)))
+        ∙ sound)
+
+pub programs_run : AcceptedVerifies → VerifiedIsCompilable → ProgramsAreKept → ProgramsRun
+programs_run verifies compilable kept source symbols list tokens tree are has_list has_tokens has_tree sound = (
+  runs,
+  (
+    code_in list tree,
+    means source symbols list tokens tree has_list has_tokens has_tree sound,
+    kept (code_blocks_of tree list (layouts_of tree list))
+        (data_blocks_of tree list (layouts_of tree list)) (names_of list)
+        (compilable tree list (layouts_of tree list) runs.verifies),
+  ),
 )
+  where
+    is : IsAccepted source symbols list tree
+    is = accepted source symbols list tokens tree are has_list has_tokens has_tree sound
+
+    runs : IsRunnable (program_in list tree)
+    runs =
+        let both = verifies source symbols list tree is are.source_bytes are.symbols_bytes in
+        record { is = both.0; verifies = both.1 }

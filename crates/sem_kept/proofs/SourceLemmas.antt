@@ -1,12 +1,6 @@
 -- A source is judged in one way.
-use Rattle.std.proofs.Common.{◌≡◌, refl, sym, ap, subst, ◌∙◌, ℕ, ◌+◌, ◌<◌, ◌≤◌, Bool, true, false, List, [], length, Option, Some, None, Result, Ok, Err, ◌⊎◌, inl, inr, arith}
+use Rattle.std.proofs.Common.{◌≡◌, refl, sym, ap, subst, ◌∙◌, ℕ, List, [], Option, Some, None, Result, Ok, Err, ◌⊎◌, inl, inr}
 use Rattle.plc_base.specs.declared.refusals.Refusal.{Refusal}
-use Rattle.flat_code.specs.Image.{IsProgram, body, front_size}
-use Rattle.flat_code.specs.Loading.{Verifies}
-use Rattle.flat_code.specs.Programs.{Program}
-use Rattle.image_file.specs.Laws.{VerifiesOrHasFault}
-use Rattle.image_file.specs.Verifying.{IsFaultOf}
-use Rattle.image_file.specs.declared.faults.VerifyFault.{VerifyFault}
 use Rattle.machine.specs.Code.{Code}
 use Rattle.stl_lexer.specs.declared.kinds.Token.{Token}
 use Rattle.stl_lexer.specs.Tokens.{AreTokensUnique, ExcludesViolation as TokensExclude, IsViolationUnique as OneTokenViolation, HasTokensOrViolation, IsTotal as EachHasTokens}
@@ -16,10 +10,10 @@ use Rattle.stl_symbols.specs.Least.{least}
 use Rattle.stl_symbols.specs.Symbol.{Symbol}
 use Rattle.stl_symbols.specs.Symbols.{symbols_of}
 use Rattle.sem_kept.specs.Stages.{InTurn, HasOneOutcome, HasOutcome}
-use Rattle.sem_kept.specs.Meaning.{HasSymbols, HasTokens, HasTree, refusals_of, sound_by, IsSound, program_in, code_in, IsRunnable, without_program, HasCode, IsJudgedWith, Refused, InSymbols, InSource, IsJudged, MeansCode, IsRefusedSource, IsMeaningUnique, ExcludesRefusal, IsRefusalUnique, IsTotal}
+use Rattle.sem_kept.specs.Meaning.{HasSymbols, HasTokens, HasTree, refusals_of, sound_by, IsSound, code_in, HasCode, IsJudgedWith, Refused, InSymbols, InSource, IsJudged, MeansCode, IsRefusedSource, IsMeaningUnique, ExcludesRefusal, IsRefusalUnique, IsTotal}
 use Rattle.sem_kept.proofs.StageLemmas.{same_refusal, ok_same, err_same, ok_no_err, one_by_parts, in_turn_one, in_turn_some}
 
--- what is known of tokens, of clauses and of programs
+-- what is known of tokens and of clauses
 pub record Laws : Type 0 where
   pub one_list : AreTokensUnique
   pub tokens_exclude : TokensExclude
@@ -29,7 +23,6 @@ pub record Laws : Type 0 where
   pub one_clause_violation : OneClauseViolation
   pub tokens_or_violation : EachHasTokens
   pub tree_or_violation : EachHasTree
-  pub verifies_or_fault : VerifiesOrHasFault
 
 -- ---- one outcome at most
 
@@ -57,12 +50,7 @@ sound_one : (symbols : List Symbol) → HasOneOutcome (IsSound symbols)
 sound_one symbols tree x y is_x is_y = is_x ∙ sym is_y
 
 code_one : (symbols : List Symbol) → HasOneOutcome (HasCode symbols)
-code_one symbols =
-    one_by_parts
-    (HasCode symbols)
-    (λ tree c d is_c is_d. is_c.1 ∙ sym is_d.1)
-    (λ tree c r is_c is_r. is_r.0 is_c.0)
-    (λ tree r s is_r is_s. is_r.1 ∙ sym is_s.1)
+code_one symbols tree x y is_x is_y = is_x ∙ sym is_y
 
 with_one : Laws → (source : List ℕ) (symbols : List Symbol) (x y : Result Code Refusal)
     → IsJudgedWith source symbols x → IsJudgedWith source symbols y → x ≡ y
@@ -160,50 +148,8 @@ tree_some laws source tokens = tree_at source tokens (laws.tree_or_violation sou
 sound_some : (symbols : List Symbol) → HasOutcome (IsSound symbols)
 sound_some symbols tree = (sound_by tree (least (refusals_of symbols tree)), refl)
 
--- whether the image of a program is short enough
-by_length : (p : Program) (n : ℕ) → front_size + length ((body false).spell p) ≡ n
-    → (body false).good p ≡ true → (n ≤ 8388608) ⊎ (8388608 < n)
-    → IsProgram p ⊎ (IsProgram p → ⊥)
-by_length p n is good (inl short) = inl (record { good = good; short = omega (arith, is, short) })
-by_length p n is good (inr long) =
-    inr (λ h. let short = h.short in omega (arith, is, short, long))
-
-short_or_long : (n : ℕ) → (n ≤ 8388608) ⊎ (8388608 < n)
-short_or_long n = grind arith
-
-by_good : (p : Program) (good : Bool) → (body false).good p ≡ good
-    → IsProgram p ⊎ (IsProgram p → ⊥)
-by_good p true is =
-    by_length p (front_size + length ((body false).spell p)) refl is
-    (short_or_long (front_size + length ((body false).spell p)))
-by_good p false is = inr (λ h. let both : true ≡ false = sym h.good ∙ is in cc)
-
-is_program_or_not : (p : Program) → IsProgram p ⊎ (IsProgram p → ⊥)
-is_program_or_not p = by_good p ((body false).good p) refl
-
-by_fault : (p : Program) → IsProgram p → (Verifies p → (f : VerifyFault) → IsFaultOf p f → ⊥)
-    → Verifies p ⊎ ((f : VerifyFault) × IsFaultOf p f) → IsRunnable p ⊎ (IsRunnable p → ⊥)
-by_fault p is excludes (inl verifies) = inl (record { is = is; verifies = verifies })
-by_fault p is excludes (inr (f, fault)) = inr (λ h. excludes h.verifies f fault)
-
-by_program : Laws → (p : Program) → IsProgram p ⊎ (IsProgram p → ⊥)
-    → IsRunnable p ⊎ (IsRunnable p → ⊥)
-by_program laws p (inl is) =
-    by_fault p is (laws.verifies_or_fault p is).1 (laws.verifies_or_fault p is).0
-by_program laws p (inr other) = inr (λ h. other h.is)
-
-runs_or_not : Laws → (p : Program) → IsRunnable p ⊎ (IsRunnable p → ⊥)
-runs_or_not laws p = by_program laws p (is_program_or_not p)
-
-code_at : (symbols : List Symbol) (tree : Tree)
-    → IsRunnable (program_in symbols tree) ⊎ (IsRunnable (program_in symbols tree) → ⊥)
-    → (x : Result Code Refusal) × HasCode symbols tree x
-code_at symbols tree (inl runs) = (Ok (code_in symbols tree), (runs, refl))
-code_at symbols tree (inr other) = (Err without_program, (other, refl))
-
-code_some : Laws → (symbols : List Symbol) → HasOutcome (HasCode symbols)
-code_some laws symbols tree =
-    code_at symbols tree (runs_or_not laws (program_in symbols tree))
+code_some : (symbols : List Symbol) → HasOutcome (HasCode symbols)
+code_some symbols tree = (Ok (code_in symbols tree), refl)
 
 with_some : Laws → (source : List ℕ) (symbols : List Symbol)
     → (x : Result Code Refusal) × IsJudgedWith source symbols x
@@ -213,7 +159,7 @@ with_some laws source symbols =
     (in_turn_some (HasTree source) (InTurn (IsSound symbols) (HasCode symbols))
     (tree_some laws source)
     (in_turn_some (IsSound symbols) (HasCode symbols) (sound_some symbols)
-    (code_some laws symbols)))
+    (code_some symbols)))
     source
 
 symbols_some : (symbols : Option (List ℕ))

@@ -1,24 +1,45 @@
--- A code that no history tells from what a source means.
-use Rattle.std.specs.Prelude.{◌≡◌, ℕ, List, Option, None, Ok}
+-- The program of a source runs as the source means.
+use Rattle.std.specs.Prelude.{◌≡◌, ◌≤◌, ℕ, List, length, Option, None, Ok}
+use Rattle.std.specs.Option.{IfSome}
+use Rattle.flat_code.specs.Image.{IsProgram}
+use Rattle.flat_code.specs.Loading.{Verifies}
+use Rattle.flat_code.specs.Programs.{Program}
 use Rattle.machine.specs.Code.{Code}
 use Rattle.machine.specs.Flat.{code_of}
+use Rattle.stl_ast.specs.Literals.{AreBytes}
 use Rattle.stl_ast.specs.declared.blocks.Tree.{Tree}
+use Rattle.stl_lexer.specs.Limits.{source_limit}
 use Rattle.stl_lexer.specs.declared.kinds.Token.{Token}
 use Rattle.stl_symbols.specs.Least.{least}
 use Rattle.stl_symbols.specs.Symbol.{Symbol}
+use Rattle.stl_symbols.specs.Symbols.{symbols_limit}
+use Rattle.accepted_code.specs.Accepted.{program_in}
 use Rattle.kept_code.specs.Kept.{IsKept}
-use Rattle.sem_kept.specs.Meaning.{HasSymbols, HasTokens, HasTree, refusals_of, program_in, IsRunnable, MeansCode}
+use Rattle.sem_kept.specs.Meaning.{HasSymbols, HasTokens, HasTree, refusals_of, MeansCode}
 
 -- the source with these symbols means a code, and no history tells it from the one that runs
 abbrev pub RunsAs : (source : List ℕ) (symbols : Option (List ℕ)) → (running : Code) → Type 0
 RunsAs source symbols running =
     (code : Code) × MeansCode source symbols code × IsKept code running
 
--- the program of a source that breaks no rule runs as the source means
+-- a program has an image and verifies
+pub record IsRunnable (p : Program) : Type 0 where
+  pub is : IsProgram p
+  pub verifies : Verifies p
+
+-- a source and a symbols file as they are read: bytes, and no more than a limit of them
+pub record AreFiles (source : List ℕ) (symbols : Option (List ℕ)) : Type 0 where
+  pub source_short : length source ≤ source_limit
+  pub source_bytes : AreBytes source
+  pub symbols_short : IfSome symbols (λ file. length file ≤ symbols_limit)
+  pub symbols_bytes : IfSome symbols AreBytes
+
+-- the program of a source that breaks no rule has an image, verifies, and runs as the source means
 abbrev pub ProgramsRun : Type 0
 ProgramsRun =
     (source : List ℕ) (symbols : Option (List ℕ)) (list : List Symbol) (tokens : List Token)
     (tree : Tree)
+    → AreFiles source symbols
     → HasSymbols symbols (Ok list) → HasTokens source (Ok tokens) → HasTree source tokens (Ok tree)
-    → least (refusals_of list tree) ≡ None → IsRunnable (program_in list tree)
-    → RunsAs source symbols (code_of (program_in list tree))
+    → least (refusals_of list tree) ≡ None
+    → IsRunnable (program_in list tree) × RunsAs source symbols (code_of (program_in list tree))

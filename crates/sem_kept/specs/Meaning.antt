@@ -1,9 +1,6 @@
 -- What a source with its symbols means: the code of its statements, or a refusal.
 use Rattle.std.specs.Prelude.{ℕ, ◌≡◌, ◌⊎◌, List, [], ◌++◌, Option, Some, None, Result, Ok, Err}
 use Rattle.plc_base.specs.declared.refusals.Refusal.{Refusal}
-use Rattle.flat_code.specs.Image.{IsProgram}
-use Rattle.flat_code.specs.Loading.{Verifies}
-use Rattle.flat_code.specs.Programs.{Program}
 use Rattle.machine.specs.Code.{Code}
 use Rattle.stl_ast.specs.declared.blocks.Tree.{Tree}
 use Rattle.stl_lexer.specs.declared.kinds.Token.{Token}
@@ -15,7 +12,7 @@ use Rattle.stl_symbols.specs.Symbols.{symbols_of}
 use Rattle.block_layout.specs.Layouts.{layouts_of}
 use Rattle.block_layout.specs.Table.{layout_refusals}
 use Rattle.stl_types.specs.Table.{statement_refusals}
-use Rattle.stl_codegen.specs.Generated.{code_blocks_of, data_blocks_of, program_of}
+use Rattle.stl_codegen.specs.Generated.{code_blocks_of, data_blocks_of}
 use Rattle.compiled_code.specs.Statements.{stated_code}
 use Rattle.sem_kept.specs.Stages.{InTurn}
 
@@ -49,36 +46,20 @@ sound_by tree (Some refusal) = Err refusal
 abbrev pub IsSound : List Symbol → Tree → Result Tree Refusal → Type 0
 IsSound symbols tree outcome = outcome ≡ sound_by tree (least (refusals_of symbols tree))
 
--- the program of a tree
-abbrev pub program_in : List Symbol → Tree → Program
-program_in symbols tree = program_of tree symbols (layouts_of tree symbols)
-
--- its statements, by their numbers in each block
+-- the statements of a tree, by their numbers in each block
 abbrev pub code_in : List Symbol → Tree → Code
 code_in symbols tree =
     stated_code (code_blocks_of tree symbols (layouts_of tree symbols))
     (data_blocks_of tree symbols (layouts_of tree symbols))
 
--- a program has an image and verifies
-pub record IsRunnable (p : Program) : Type 0 where
-  pub is : IsProgram p
-  pub verifies : Verifies p
-
--- a source without a program that runs is refused as a whole: by line 0, rule 99
-abbrev pub without_program : Refusal
-without_program = record { line = 0; rule = 99 }
-
--- the statements of a tree, where its program runs
+-- a tree that breaks no rule means them; nothing is refused here
 abbrev pub HasCode : List Symbol → Tree → Result Code Refusal → Type 0
-HasCode symbols tree (Ok code) =
-    IsRunnable (program_in symbols tree) × (code ≡ code_in symbols tree)
-HasCode symbols tree (Err refusal) =
-    (IsRunnable (program_in symbols tree) → ⊥) × (refusal ≡ without_program)
+HasCode symbols tree outcome = outcome ≡ Ok (code_in symbols tree)
 
 -- ---- in turn
 
--- a source with these symbols is judged by its tokens, its clauses, its layout together with its
--- statements, and its program
+-- a source with these symbols is judged by its tokens, its clauses, and its layout together with its
+-- statements; where it breaks no rule, it means its statements
 abbrev pub IsJudgedWith : (source : List ℕ) → List Symbol → Result Code Refusal → Type 0
 IsJudgedWith source symbols outcome =
     InTurn HasTokens (InTurn (HasTree source) (InTurn (IsSound symbols) (HasCode symbols)))

@@ -18,14 +18,14 @@ pub fn law_of_sources()
 {
     stl_lexer::law_of_tokens();
     stl_parser::law_of_clauses();
-    image_file::laws::verified_or_refused();
 }
 
-/// The program of a source that breaks no rule runs as the source means: no history tells it from
-/// the statements of the source.
+/// The program of a source that breaks no rule has an image and verifies, and it runs as the source
+/// means: no history tells it from the statements of the source.
 pub fn programs_run()
     ensures { ProgramsRun }
 {
+    accepted_code::laws::accepted_verifies();
     compiled_code::laws::verified_is_compilable();
     kept_code::laws::programs_are_kept();
 }

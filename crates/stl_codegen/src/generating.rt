@@ -63,7 +63,7 @@ fn ordered_names(alloc: Global, symbols: &Symbols) -> Result<Vec<NameEntry>, NoM
 /// The program of a source that breaks no rule: its code blocks with a statement at each line, its
 /// data blocks with their initial bytes, and the names of its variables in I, Q and M. `None` where
 /// the code has no image, because a number doesn't fit its field or the image is too long; no source
-/// that breaks no rule is known to be so.
+/// that breaks no rule is so, by a law of `accepted_code`.
 ///
 /// # Errors
 ///

@@ -1,7 +1,7 @@
 use Rattle.std.proofs.Common.{ℕ, List, Option, option_map, sym, subst, Bor}
 use Rattle.compiler.specs.Compiling.{RefusesBy}
 use Rattle.compiler.specs.declared.faults.CompileFault.{CompileFault}
-use Rattle.compiler.proofs.CompileLemmas.{symbols_refused, tree_fault, program_fault, program_runs}
+use Rattle.compiler.proofs.CompileLemmas.{symbols_refused, tree_fault, program_fault, runs_where_sound, program_runs}
 use Rattle.compiler.proofs.compiling.compiled.Goals as goal
 
 pub returns-in-Err-clause-refused : goal.returns-in-Err-clause-refused
@@ -17,12 +17,18 @@ returns-in-Err-tree_of-clause-refused c =
     (tree_fault c.args.source.now given c.in-Ok.list c.in-Err-tree_of.fault c.in-Ok.ensures
     c.in-Err-tree_of.ensures)
 
+pub program_in-requires : goal.program_in-requires
+program_in-requires c =
+    let given : Option (List ℕ) = option_map (λ (s : Bor (List ℕ)). s.now) c.args.symbols in
+    runs_where_sound c.programs_run.ensures c.args.source.now given c.in-Ok.list
+    c.in-Ok-tree_of.tree c.law_of_files.ensures c.in-Ok.ensures c.in-Ok-tree_of.ensures
+
 pub returns-in-Ok-program_in-clause-ok : goal.returns-in-Ok-program_in-clause-ok
 returns-in-Ok-program_in-clause-ok c =
     let given : Option (List ℕ) = option_map (λ (s : Bor (List ℕ)). s.now) c.args.symbols in
     program_runs c.programs_run.ensures c.args.source.now given c.in-Ok.list
-    c.in-Ok-tree_of.tree c.in-Ok-program_in.loaded c.in-Ok.ensures c.in-Ok-tree_of.ensures
-    c.in-Ok-program_in.ensures
+    c.in-Ok-tree_of.tree c.in-Ok-program_in.loaded c.law_of_files.ensures c.in-Ok.ensures
+    c.in-Ok-tree_of.ensures c.in-Ok-program_in.ensures
 
 pub returns-clause-refused : goal.returns-clause-refused
 returns-clause-refused c =

@@ -1,4 +1,4 @@
-use Rattle.compiler.proofs.CompileLemmas.{checked_fault, sound_both, without_image}
+use Rattle.compiler.proofs.CompileLemmas.{checked_fault, sound_both, has_image}
 use Rattle.compiler.proofs.compiling.program_of.Goals as goal
 
 pub returns-in-Err-clause-refused : goal.returns-in-Err-clause-refused
@@ -6,13 +6,13 @@ returns-in-Err-clause-refused c =
     checked_fault c.args.symbols.now c.args.tree.now c.args.tree.now c.args.layouts.now
     c.in-Err.fault c.requires.right c.requires.layouts c.in-Err.ensures
 
-pub returns-in-Some-clause-sound : goal.returns-in-Some-clause-sound
-returns-in-Some-clause-sound c =
+pub returns-clause-sound : goal.returns-clause-sound
+returns-clause-sound c =
     sound_both c.args.symbols.now c.args.tree.now c.args.layouts.now c.requires.right
     c.requires.layouts c.in-Ok.ensures.0
 
-pub returns-in-None-clause-refused : goal.returns-in-None-clause-refused
-returns-in-None-clause-refused c =
-    without_image c.args.symbols.now c.args.tree.now c.in-Ok.checked c.args.layouts.now
-    c.requires.right c.requires.layouts c.in-Ok.ensures.0 c.in-Ok.ensures.1
+pub unreachable-requires : goal.unreachable-requires
+unreachable-requires c =
     (rw c.in-None.is at c.in_ok-made.ensures.none)
+    (has_image c.args.symbols.now c.args.tree.now c.in-Ok.checked c.args.layouts.now
+    c.requires.runs c.requires.right c.requires.layouts c.in-Ok.ensures.0 c.in-Ok.ensures.1)

@@ -13,6 +13,5 @@ returns c =
       one_clause_violation = c.law_of_clauses.ensures.one_violation;
       tokens_or_violation = c.law_of_tokens.ensures.total;
       tree_or_violation = c.law_of_clauses.ensures.total;
-      verifies_or_fault = c.verified_or_refused.ensures.either;
     } in
     record { one_meaning = one_meaning laws; meaning_or_refusal = meaning_or_refusal laws; one_refusal = one_refusal laws; total = each_judged laws }
