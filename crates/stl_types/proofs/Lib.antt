@@ -1,4 +1,3 @@
 pub mod CallLemmas
 pub mod WalkLemmas
 pub mod ContextLemmas
-mod CalleeLemmas
