@@ -1,0 +1,47 @@
+-- A source that breaks no rule, and its program.
+use Rattle.std.specs.Prelude.{◌≡◌, ℕ, ◌≤◌, List, [], length, Option, Some, None, Ok}
+use Rattle.std.specs.Option.{IfSome}
+use Rattle.block_layout.specs.Layouts.{layouts_of}
+use Rattle.block_layout.specs.Table.{layout_refusals}
+use Rattle.flat_code.specs.Image.{IsProgram}
+use Rattle.flat_code.specs.Loading.{Verifies}
+use Rattle.flat_code.specs.Programs.{Program}
+use Rattle.stl_ast.specs.Literals.{AreBytes}
+use Rattle.stl_ast.specs.declared.blocks.Tree.{Tree}
+use Rattle.stl_codegen.specs.Generated.{program_of}
+use Rattle.stl_lexer.specs.Limits.{source_limit}
+use Rattle.stl_lexer.specs.Tokens.{AreTokens}
+use Rattle.stl_lexer.specs.declared.kinds.Token.{Token}
+use Rattle.stl_parser.specs.Source.{IsTree}
+use Rattle.stl_symbols.specs.Least.{least}
+use Rattle.stl_symbols.specs.Symbol.{Symbol}
+use Rattle.stl_symbols.specs.Symbols.{symbols_limit, symbols_of}
+use Rattle.stl_types.specs.Table.{statement_refusals}
+
+-- the symbols of a symbols file; without a file there are none
+abbrev pub AreSymbols : Option (List ℕ) → List Symbol → Type 0
+AreSymbols None symbols = symbols ≡ []
+AreSymbols (Some bytes) symbols = symbols_of bytes ≡ Ok symbols
+
+-- a source of no more than 1 MiB, with a symbols file of no more, breaks no rule
+pub record IsAccepted (source : List ℕ) (file : Option (List ℕ)) (symbols : List Symbol) (t : Tree)
+    : Type 0 where
+  pub short : length source ≤ source_limit
+  pub file_short : IfSome file (λ bytes. length bytes ≤ symbols_limit)
+  pub named : AreSymbols file symbols
+  pub tokens : List Token
+  pub lexed : AreTokens source tokens
+  pub parsed : IsTree source tokens t
+  pub laid_out : least (layout_refusals t symbols) ≡ None
+  pub checked : least (statement_refusals t symbols (layouts_of t symbols)) ≡ None
+
+-- its program
+abbrev pub program_in : List Symbol → Tree → Program
+program_in symbols t = program_of t symbols (layouts_of t symbols)
+
+-- the program of each accepted source has an image and verifies
+abbrev pub AcceptedVerifies : Type 0
+AcceptedVerifies =
+    (source : List ℕ) (file : Option (List ℕ)) (symbols : List Symbol) (t : Tree)
+    → IsAccepted source file symbols t → AreBytes source → IfSome file AreBytes
+    → IsProgram (program_in symbols t) × Verifies (program_in symbols t)
