@@ -1,7 +1,7 @@
 -- What an accepted source keeps: each rule breaks nothing, at each block in its context and at each
 -- statement. From `accepted` all else is drawn: `right_tree` gives each block, `sound_code_blocks`
 -- and `sound_data_blocks` hand it to the blocks of the program.
-use Rattle.std.proofs.Common.{◌≡◌, ℕ, zero, suc, ◌+◌, Bool, true, false, ◌||◌, List, [], ◌∷◌, ◌++◌, length, map, append_assoc, Option, Some, None, refl, sym, ap, subst, ◌∙◌, add-one, arith}
+use Rattle.std.proofs.Common.{◌≡◌, ℕ, zero, suc, ◌+◌, Bool, true, false, List, [], ◌∷◌, ◌++◌, length, map, append_assoc, Option, Some, None, refl, sym, ap, subst, ◌∙◌, add-one, arith}
 use Rattle.std.specs.Prelude.{if◌then◌else◌, slice_get}
 use Rattle.std.specs.List.{AllByRecursion, flat_map}
 use Rattle.plc_base.specs.declared.blocks.BlockId.{BlockId}
@@ -9,23 +9,20 @@ use Rattle.plc_base.specs.declared.refusals.Refusal.{Refusal}
 use Rattle.stl_ast.specs.Statements.{IsStatement}
 use Rattle.stl_ast.specs.WellFormed.{IsBlock, IsWellFormed}
 use Rattle.stl_ast.specs.declared.blocks.Block.{Block}
-use Rattle.stl_ast.specs.declared.blocks.Setting.{Setting}
 use Rattle.stl_ast.specs.declared.blocks.Tree.{Tree}
 use Rattle.stl_ast.specs.declared.operands.Operand.{Operand}
 use Rattle.stl_ast.specs.declared.statements.Actual.{Actual}
 use Rattle.stl_ast.specs.declared.statements.Statement.{Statement}
-use Rattle.stl_lexer.specs.declared.kinds.Token.{Token}
-use Rattle.stl_parser.specs.Source.{IsTree}
 use Rattle.stl_parser.proofs.SizeLemmas.{well_formed}
 use Rattle.stl_symbols.specs.Gathered.{gathered}
-use Rattle.stl_symbols.specs.Least.{broken_if, least}
+use Rattle.stl_symbols.specs.Least.{broken_if}
 use Rattle.stl_symbols.specs.Symbol.{Symbol}
 use Rattle.stl_symbols.proofs.LeastLemmas.{least_none}
 use Rattle.block_layout.specs.Around.{in_block}
 use Rattle.block_layout.specs.Blocks.{is_code, is_data_block}
 use Rattle.block_layout.specs.ByPlace.{by_place}
 use Rattle.block_layout.specs.Heads.{on_heads}
-use Rattle.block_layout.specs.Layouts.{block_layout, is_broken, layouts_by, layouts_from, layouts_of}
+use Rattle.block_layout.specs.Layouts.{block_layout, layouts_by, layouts_from, layouts_of}
 use Rattle.block_layout.specs.Measures.{types_of}
 use Rattle.block_layout.specs.Operands.{Judged, in_body, operands_of}
 use Rattle.block_layout.specs.Rule21.{broken_21, rule_21}
@@ -47,7 +44,7 @@ use Rattle.block_layout.specs.Table.{layout_refusals, refusals_by as layout_refu
 use Rattle.block_layout.specs.Types.{Types}
 use Rattle.block_layout.specs.declared.blocks.BlockLayout.{BlockLayout}
 use Rattle.stl_types.specs.Actuals.{formal_named}
-use Rattle.stl_types.specs.Bodies.{first_context, in_bodies, in_contexts}
+use Rattle.stl_types.specs.Bodies.{first_context, in_contexts}
 use Rattle.stl_types.specs.Brackets.{closes_none, is_eighth, left_open, rule_29, rule_30, rule_31, with_brackets}
 use Rattle.stl_types.specs.Calls.{by_callee, call_37, calls_unknown, dates_in, has_wrong_instance, is_bare_call, lacks_actual, misfits, names_none, rule_24_of_actuals, rule_34, rule_35, rule_36, rule_37, rule_38, rule_40, rule_46, sees_date, supplied_twice, unnamed}
 use Rattle.stl_types.specs.Context.{Context}

@@ -15,10 +15,13 @@ mod JumpsProgram
 mod JumpsRules
 mod JumpsSettled
 mod JumpsWords
+mod OperandsCalls
 mod OperandsCells
+mod OperandsFine
 mod OperandsFormals
 mod OperandsInstr
 mod OperandsMembers
+mod OperandsPassed
 mod OperandsPaths
 mod OperandsPlaced
 mod OperandsPlaces

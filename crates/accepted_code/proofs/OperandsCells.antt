@@ -1,11 +1,10 @@
 -- The cells of a source that breaks no rule are sound, and its data types take the bits of theirs.
-use Rattle.std.proofs.Common.{ℕ, zero, suc, ◌≡◌, ◌<◌, ◌≤◌, ◌+◌, ◌*◌, ◌/◌, ◌%◌, List, [], ◌∷◌, ◌++◌, append_assoc, Option, Some, None, Bool, true, false, ◌&&◌, ◌||◌, not, nat_eq, nat_lt, nat_le, refl, sym, ◌∙◌, ap, subst, arith, length, map, get_or, if◌then◌else◌, eqb-true, ltb-false, le-ltb, le-leb}
+use Rattle.std.proofs.Common.{ℕ, zero, suc, ◌≡◌, ◌<◌, ◌≤◌, ◌+◌, ◌/◌, ◌%◌, List, [], ◌∷◌, ◌++◌, Option, Some, None, Bool, true, false, ◌&&◌, ◌||◌, not, nat_eq, nat_lt, nat_le, refl, sym, ◌∙◌, ap, subst, arith, length, map, get_or, if◌then◌else◌, eqb-true, ltb-false, le-ltb, le-leb}
 use Rattle.std.specs.List.{AllByRecursion, flat_map, list_all, slice_get}
 use Rattle.std.specs.Option.{option_and_then, option_map}
 use Rattle.plc_base.specs.declared.blocks.BlockId.{BlockId}
 use Rattle.plc_base.specs.declared.blocks.BlockKind.{BlockKind}
 use Rattle.plc_base.specs.declared.blocks.BlockKind.TheVariants as kinds
-use Rattle.plc_base.specs.declared.refusals.Refusal.{Refusal}
 use Rattle.stl_ast.specs.Blocks.{may_have}
 use Rattle.stl_ast.specs.WellFormed.{AreSections, IsBlock, IsShapeOf, MayReturn}
 use Rattle.stl_ast.specs.declared.blocks.Block.{Block}
@@ -19,15 +18,14 @@ use Rattle.stl_ast.specs.declared.declarations.ElementType.TheVariants as elemen
 use Rattle.stl_ast.specs.declared.declarations.Simple.{Simple}
 use Rattle.stl_ast.specs.declared.declarations.TypeTree.{TypeTree}
 use Rattle.stl_ast.specs.declared.names.BlockName.{BlockName}
-use Rattle.stl_symbols.specs.Least.{broken_if}
 use Rattle.stl_symbols.specs.Symbol.{Symbol}
-use Rattle.block_layout.specs.Around.{Holder, Outside, around, in_block, in_list, in_rest, of_sections, of_structure, onto, section_declarations}
+use Rattle.block_layout.specs.Around.{Outside, around, in_list, in_rest, of_sections, of_structure, onto, section_declarations}
 use Rattle.block_layout.specs.Blocks.{block_place, found_block, id_of, ids_of, is_block_number, is_data_type, is_id, is_same_block, is_same_kind, known_block, named_block, of_kind}
-use Rattle.block_layout.specs.Cells.{breaks_rule, cell_of, cells_of, components_of, is_oversized, is_sound, is_temp, laid, opened, returned_cells, section_cells, temps_of, udt_element, uses_oversized}
+use Rattle.block_layout.specs.Cells.{breaks_rule, cell_of, cells_of, components_of, is_oversized, is_temp, laid, opened, returned_cells, section_cells, temps_of, udt_element, uses_oversized}
 use Rattle.block_layout.specs.Declarations.{has_upside_down, init_fits, is_unknown_type}
 use Rattle.block_layout.specs.Layouts.{block_layout, layouts_by, layouts_from, layouts_of}
-use Rattle.block_layout.specs.Lengths.{block_bits, length_of, named_type, referred, shape_bits, shape_named, shape_of}
-use Rattle.block_layout.specs.Measures.{bits_after, depths_after, rounds, type_bits, types_of, unmeasured, with_all_bits, with_all_depths, with_bits, with_depths}
+use Rattle.block_layout.specs.Lengths.{length_of, named_type, referred, shape_named, shape_of}
+use Rattle.block_layout.specs.Measures.{bits_after, depths_after, type_bits, types_of, unmeasured, with_all_bits, with_all_depths, with_bits, with_depths}
 use Rattle.block_layout.specs.Paths.{cells_at, cells_in}
 use Rattle.block_layout.specs.Rule21.{broken_21, is_twice}
 use Rattle.block_layout.specs.Rule23.{broken_23}
@@ -38,12 +36,9 @@ use Rattle.block_layout.specs.Rule56.{broken_56, depth_around, element_depth, is
 use Rattle.block_layout.specs.Sizes.{structure_bits}
 use Rattle.block_layout.specs.Types.{Types, udt_of}
 use Rattle.block_layout.specs.declared.blocks.BlockLayout.{BlockLayout}
-use Rattle.block_layout.specs.declared.blocks.Shape.{Shape}
 use Rattle.block_layout.specs.declared.blocks.Shape.TheVariants as shape
 use Rattle.block_layout.specs.declared.cells.Cell.{Cell}
-use Rattle.block_layout.specs.declared.cells.Element.{Element}
-use Rattle.block_layout.specs.declared.cells.Element.TheVariants.{Plain, Structure, DateAndTime, Udt, Unknown}
-use Rattle.accepted_code.proofs.Accepted.{AllLaid, AreSoundDeclarations, IsSound, IsSoundTree, all_append, none_left, none_right, not_broken, sound_at}
+use Rattle.accepted_code.proofs.Accepted.{AreSoundDeclarations, IsSound, IsSoundTree, all_append, none_left, none_right, not_broken, sound_at}
 use Rattle.accepted_code.proofs.OperandsTypes.{type_settled}
 use Rattle.accepted_code.proofs.OperandsWalks.{AreRight, IsRightCell, IsSettled, structure_even}
 
@@ -131,8 +126,8 @@ around_shallow y o level (d ∷ ds) few p =
     by outer inner false = outer
     by outer inner true =
         let fits : o.depth + opened_by y (around d.level ds) + own_depth y d ≤ 8
-            = deep_fits (o.depth + opened_by y (around d.level ds)) (own_depth y d)
-            (not_deep y o ds d p.0) inner in
+        = deep_fits (o.depth + opened_by y (around d.level ds)) (own_depth y d)
+        (not_deep y o ds d p.0) inner in
         moved o.depth (own_depth y d) (opened_by y (around d.level ds)) fits
 
 element_shallow : (y : Types) (o : Outside) (before : List Declaration) (d : Declaration)
@@ -437,7 +432,7 @@ pub block_of_layout : (symbols : List Symbol) (t : Tree) → IsSoundTree symbols
     (l : BlockLayout) → slice_get (layouts_of t symbols) k ≡ Some l → IsLaid symbols t k l
 block_of_layout symbols t h k l e =
     let found = laid_origin (types_of symbols t.blocks) t.blocks [] t.blocks k l
-        (ap (λ (ls : List BlockLayout). slice_get ls k) (sym (layouts_are symbols t)) ∙ e) in
+    (ap (λ (ls : List BlockLayout). slice_get ls k) (sym (layouts_are symbols t)) ∙ e) in
     record { block = found.0; sound = sound_at symbols t h k found.0 l found.1 e }
 
 pub layout_of_block : (symbols : List Symbol) (t : Tree) → IsSoundTree symbols t → (k : ℕ)
@@ -593,8 +588,8 @@ settles symbols t h (element.Udt name) few = by (udt_of (types_of symbols t.bloc
         small few same =
             let most = small_type (types_of symbols t.blocks) t.blocks from.of kind type laid.2.head.by_51 in
             let is : structure_bits (cells_at (layouts_of t symbols) v false)
-                ≡ structure_bits (components_of (types_of symbols t.blocks) from.of)
-                = ap (λ (cs : List Cell). structure_bits cs) (cells_are symbols t v from.of laid.0 laid.2 false) in
+            ≡ structure_bits (components_of (types_of symbols t.blocks) from.of)
+            = ap (λ (cs : List Cell). structure_bits cs) (cells_are symbols t v from.of laid.0 laid.2 false) in
             omega (arith, same, most, is)
 
     by : (o : Option ℕ) → udt_of (types_of symbols t.blocks) name ≡ o
@@ -625,7 +620,7 @@ are_right symbols t h block place temporary c e =
         → IsRightCell (layouts_of t symbols) c
     by None is =
         let none : slice_get (cells_in temporary None) place ≡ Some c
-            = ap (λ (o : Option BlockLayout). slice_get (cells_in temporary o) place) (sym is) ∙ e in
+        = ap (λ (o : Option BlockLayout). slice_get (cells_in temporary o) place) (sym is) ∙ e in
         absurd cc
     by (Some l) is = each temporary (ap (λ (cs : List Cell). slice_get cs place) (sym (cells_are symbols t block laid.block l laid.sound temporary)) ∙ e)
       where

@@ -1,8 +1,7 @@
 -- The parameters of a called block as the source has them and as its code has them: the same, in the
 -- same order, and no two with one name.
-use Rattle.std.proofs.Common.{ℕ, zero, suc, ◌≡◌, ◌<◌, ◌≤◌, ◌+◌, List, [], ◌∷◌, ◌++◌, append_assoc, Option, Some, None, is_some, Bool, true, false, ◌&&◌, ◌||◌, not, nat_eq, nat_lt, refl, sym, ◌∙◌, ap, subst, arith, length, map, take, drop, find, bytes_eq, if◌then◌else◌, le-ltb, eq-eqb}
-use Rattle.std.specs.Prelude.{◌==◌, codes}
-use Rattle.std.specs.List.{AllByRecursion, flat_map, slice_get}
+use Rattle.std.proofs.Common.{ℕ, suc, ◌≡◌, List, [], ◌∷◌, ◌++◌, append_assoc, Option, Some, None, is_some, Bool, true, false, ◌&&◌, ◌||◌, not, nat_eq, refl, sym, ◌∙◌, ap, subst, arith, map, find, bytes_eq, if◌then◌else◌, le-ltb, eq-eqb}
+use Rattle.std.specs.List.{AllByRecursion, flat_map}
 use Rattle.std.specs.Option.{option_map}
 use Rattle.std.specs.Bool.{Decides}
 use Rattle.std.proofs.lemmas.List.{map-append}
@@ -15,9 +14,9 @@ use Rattle.flat_code.specs.Image.{record_of_param}
 use Rattle.flat_code.specs.declared.image_fields.ParameterRecord.{ParameterRecord}
 use Rattle.flat_code.specs.declared.programs.Param.{Param}
 use Rattle.stl_ast.specs.Blocks.{is_parameter}
-use Rattle.stl_ast.specs.Declarations.{is_elementary, is_plain}
+use Rattle.stl_ast.specs.Declarations.{is_plain}
 use Rattle.stl_ast.specs.Outline.{IsOutline, level_behind}
-use Rattle.stl_ast.specs.WellFormed.{AreDeclaredIn, AreSections, IsBlock, IsDeclaredIn, IsSection}
+use Rattle.stl_ast.specs.WellFormed.{AreDeclaredIn, IsBlock, IsSection}
 use Rattle.stl_ast.specs.declared.blocks.Block.{Block}
 use Rattle.stl_ast.specs.declared.blocks.Part.{Part}
 use Rattle.stl_ast.specs.declared.blocks.PartKind.{PartKind}
@@ -30,7 +29,7 @@ use Rattle.stl_ast.specs.declared.declarations.Simple.{Simple}
 use Rattle.stl_ast.specs.declared.declarations.Simple.TheVariants as simple
 use Rattle.stl_symbols.specs.Folding.{folded}
 use Rattle.stl_symbols.specs.Names.{place_of}
-use Rattle.block_layout.specs.Around.{Outside, of_sections, of_structure, onto, ret_val, returned_names, section_declarations}
+use Rattle.block_layout.specs.Around.{Outside, of_sections, of_structure, onto, returned_names}
 use Rattle.block_layout.specs.Blocks.{is_function_block}
 use Rattle.block_layout.specs.Cells.{breaks_rule, cell_of, cells_of, components_of, is_temp, laid, opened, returned_cells, section_cells}
 use Rattle.block_layout.specs.Offsets.{width_of}
@@ -40,8 +39,7 @@ use Rattle.block_layout.specs.declared.blocks.BlockLayout.{BlockLayout}
 use Rattle.block_layout.specs.declared.cells.Cell.{Cell}
 use Rattle.block_layout.specs.declared.cells.Element.{Element}
 use Rattle.block_layout.specs.declared.cells.Element.TheVariants.{Plain, Structure, DateAndTime, Udt, Unknown}
-use Rattle.stl_types.specs.Actuals.{formal_named}
-use Rattle.stl_types.specs.Parameters.{dtime, formal, formal_here, formal_of, formals_of, is_one_of, mode, ob_nr, returns, sign, system_formals}
+use Rattle.stl_types.specs.Parameters.{dtime, formal, formal_here, formal_of, formals_of, mode, ob_nr, returns, sign, system_formals}
 use Rattle.stl_types.specs.declared.parameters.Formal.{Formal}
 use Rattle.stl_codegen.specs.Generated.{param_here, param_of, params_of, section_number}
 use Rattle.stl_codegen.specs.Instruction.{in_order, return_last}
@@ -203,7 +201,7 @@ found_each (g ∷ gs) h = (
             let one : name ≡ f.name = same_bytes name f.name e in
             let two : name ≡ g.name = same_bytes name g.name is in
             let both : bytes_eq f.name g.name ≡ true
-                = ap (λ (n : List ℕ). bytes_eq f.name n) (sym two ∙ one) ∙ bytes_itself f.name in
+            = ap (λ (n : List ℕ). bytes_eq f.name n) (sym two ∙ one) ∙ bytes_itself f.name in
             let never = k.0 in
             absurd cc
 

@@ -1,26 +1,24 @@
 -- The instruction of a statement fits what surrounds its block; of a call this is a premise here.
-use Rattle.std.proofs.Common.{ℕ, suc, ◌≡◌, ◌≤◌, Bool, true, false, List, [], ◌∷◌, Option, Some, None, refl, sym, ◌∙◌, ap, subst, if◌then◌else◌}
-use Rattle.std.specs.List.{AllByRecursion}
+use Rattle.std.proofs.Common.{ℕ, ◌≡◌, false, List, Option, Some, None, refl, sym, ◌∙◌, ap, subst, if◌then◌else◌}
 use Rattle.std.specs.Option.{is_none}
 use Rattle.plc_base.specs.declared.blocks.BlockId.{BlockId}
 use Rattle.flat_code.specs.Blocks.{Around}
-use Rattle.flat_code.specs.Instr.{Instr, Passing, Does, Jumps, JumpsByList, Calls, Returns}
+use Rattle.flat_code.specs.Instr.{Calls}
 use Rattle.flat_code.specs.declared.kinds.JumpWord.{JumpWord}
 use Rattle.flat_code.specs.declared.kinds.JumpWord.TheVariants as jump
 use Rattle.flat_code.specs.declared.words.CallWord.{CallWord}
 use Rattle.flat_code.specs.declared.words.EndWord.{EndWord}
-use Rattle.stl_ast.specs.Statements.{is_call, is_called}
+use Rattle.stl_ast.specs.Statements.{is_call}
 use Rattle.stl_ast.specs.declared.literals.Literal.{Literal}
 use Rattle.stl_ast.specs.declared.mnemonics.Mnemonic.{Mnemonic}
 use Rattle.stl_ast.specs.declared.mnemonics.Mnemonic.TheVariants as code
 use Rattle.stl_ast.specs.declared.operands.Operand.{Operand}
 use Rattle.stl_ast.specs.declared.operands.Operand.TheVariants as operand
 use Rattle.stl_ast.specs.declared.statements.Statement.{Statement}
-use Rattle.stl_types.specs.Constants.{takes_constant}
 use Rattle.stl_types.specs.Context.{Context}
 use Rattle.stl_types.specs.Forms.{form_of}
 use Rattle.stl_types.specs.Operands.{operand_rule, rule_of, rule_seen, statement_rule}
-use Rattle.stl_types.specs.Parameters.{Callee, callee_of}
+use Rattle.stl_types.specs.Parameters.{callee_of}
 use Rattle.stl_types.specs.Resolved.{resolved, seen_view}
 use Rattle.stl_types.specs.Seen.{seen}
 use Rattle.stl_types.specs.declared.forms.Form.{Form}
@@ -30,7 +28,7 @@ use Rattle.stl_types.specs.declared.views.View.{View}
 use Rattle.stl_types.specs.declared.views.View.TheVariants as view
 use Rattle.stl_codegen.specs.Emitted.{ending}
 use Rattle.stl_codegen.specs.Instruction.{call_instr, end_instr, filler, instr_by, instruction, jump_instr, passings_to, resolved_instr, target_of, view_instr}
-use Rattle.stl_codegen.specs.Operands.{opened_by, operand_of}
+use Rattle.stl_codegen.specs.Operands.{operand_of}
 use Rattle.stl_codegen.specs.Words.{call_of, end_of, jump_of, word_of}
 use Rattle.accepted_code.specs.Operands.{InstrFits, IsRightOperand}
 use Rattle.accepted_code.proofs.OperandsViews.{IsSeen}

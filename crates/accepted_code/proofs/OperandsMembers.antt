@@ -1,6 +1,6 @@
 -- The blocks of the program by their numbers: a called block is the one that the source names, and
 -- an instance is as long as its function block.
-use Rattle.std.proofs.Common.{ℕ, zero, suc, ◌≡◌, ◌<◌, ◌≤◌, ◌+◌, ◌-◌, ◌/◌, ◌%◌, ◌⊎◌, inl, inr, ⊎_elim, List, [], ◌∷◌, ◌++◌, Option, Some, None, is_some, Bool, true, false, ◌&&◌, ◌||◌, not, nat_eq, nat_lt, nat_le, refl, sym, ◌∙◌, ap, subst, arith, length, length-set, map, replicate, fold, if◌then◌else◌, eqb-true, ltb-false, le-ltb, eq-eqb, le_antisymm}
+use Rattle.std.proofs.Common.{ℕ, zero, suc, ◌≡◌, ◌≤◌, ◌+◌, ◌/◌, ◌%◌, List, [], ◌∷◌, ◌++◌, Option, Some, Bool, true, false, ◌&&◌, nat_eq, nat_lt, refl, sym, ◌∙◌, ap, subst, arith, length, length-set, map, replicate, fold, if◌then◌else◌, eqb-true, ltb-false, eq-eqb, le_antisymm}
 use Rattle.std.specs.Prelude.{◌==◌, slice_get, slice_index, slice_set}
 use Rattle.std.specs.List.{AllByRecursion}
 use Rattle.std.specs.Option.{option_and_then, option_map}
@@ -26,8 +26,8 @@ use Rattle.stl_types.specs.Context.{Context}
 use Rattle.stl_codegen.specs.Compiled.{StatedBlock, compiled}
 use Rattle.stl_codegen.specs.Generated.{code_block, code_block_of, code_blocks_of, data_block, data_block_of, data_blocks_of, each_block, instance_len, params_of}
 use Rattle.stl_codegen.specs.Order.{inserted, is_code_before, is_data_before, sorted}
-use Rattle.accepted_code.proofs.Accepted.{IsSound, IsSoundTree, all_append, context_at, sound_code_blocks, sound_data_blocks}
-use Rattle.accepted_code.proofs.OperandsCells.{measured_ids, measured_symbols, same_block}
+use Rattle.accepted_code.proofs.Accepted.{IsSound, IsSoundTree, context_at, sound_code_blocks, sound_data_blocks}
+use Rattle.accepted_code.proofs.OperandsCells.{measured_ids, measured_symbols}
 use Rattle.accepted_code.proofs.OperandsViews.{layout_id}
 
 -- ---- what holds of all blocks holds of each
@@ -143,9 +143,12 @@ block_itself id =
 place_first : (id : BlockId) (ids : List (Option BlockId)) (j : ℕ)
     → slice_get ids j ≡ Some (Some id) → (m : ℕ) × (block_place id ids ≡ Some m) × (m ≤ j)
 place_first id [] j e = absurd cc
-place_first id (i ∷ is) zero e =
-    (0, ap (λ (t : Bool). if t then Some 0 else option_map (λ k. suc k) (block_place id is))
-    (ap (is_id id) (let same : i ≡ Some id = cc in same) ∙ block_itself id), omega arith)
+place_first id (i ∷ is) zero e = (
+  0,
+  ap (λ (t : Bool). if t then Some 0 else option_map (λ k. suc k) (block_place id is))
+      (ap (is_id id) (let same : i ≡ Some id = cc in same) ∙ block_itself id),
+  omega arith,
+)
 place_first id (i ∷ is) (suc j) e = by (is_id id i) (place_first id is j e)
   where
     by : (t : Bool) → ((m : ℕ) × (block_place id is ≡ Some m) × (m ≤ j))
@@ -232,7 +235,7 @@ finds kind number il ps (b ∷ bs) h some =
         ≡ Some (kind, il, ps)
     by true is more =
         let kinds_same : (sig_of b).kind ≡ kind
-            = eqb-true (sig_of b).kind kind (first ((sig_of b).kind == kind) ((sig_of b).number == number) is) in
+        = eqb-true (sig_of b).kind kind (first ((sig_of b).kind == kind) ((sig_of b).number == number) is) in
         let rest = h.0 is in
         ap (λ (k : ℕ). Some (k, (sig_of b).instance_len, (sig_of b).params)) kinds_same
         ∙ ap (λ (n : ℕ). Some (kind, n, (sig_of b).params)) rest.0
@@ -297,7 +300,7 @@ called_block symbols t tree p b l id h is code =
         let one : (number_of_kind id.kind == number_of_kind id.kind) ≡ true = eq-eqb (number_of_kind id.kind) (number_of_kind id.kind) refl in
         let two : (id.number == id.number) ≡ true = eq-eqb id.number id.number refl in
         let both : matches (number_of_kind id.kind) id.number (code_block (context_at symbols t p) b l id) ≡ true
-            = ap (λ (t' : Bool). t' && id.number == id.number) one ∙ two in
+        = ap (λ (t' : Bool). t' && id.number == id.number) one ∙ two in
         absurd cc
 
     each : (k : ℕ) (c : Block) (m : BlockLayout) (other : BlockId) → IsSound symbols t k c m

@@ -1,6 +1,6 @@
 -- Whole paths: where they lead, they lead within the structure that they begin in.
-use Rattle.std.proofs.Common.{ℕ, zero, suc, ◌≡◌, ◌<◌, ◌≤◌, ◌+◌, ◌-◌, ◌*◌, ◌/◌, ◌%◌, min, ℤ, pos, negsuc, ◌-ℤ◌, int_lt, unsigned_abs, List, [], ◌∷◌, ◌++◌, Option, Some, None, is_some, Bool, true, false, ◌&&◌, ◌||◌, not, nat_eq, nat_lt, nat_le, refl, sym, ◌∙◌, ap, subst, arith, length, drop, drop_of_length-le, add-one, if◌then◌else◌, eqb-true}
-use Rattle.std.specs.List.{AllByRecursion, slice_get}
+use Rattle.std.proofs.Common.{ℕ, zero, suc, ◌≡◌, ◌<◌, ◌≤◌, ◌+◌, ◌*◌, ◌%◌, ℤ, ◌-ℤ◌, int_lt, unsigned_abs, List, [], ◌∷◌, Option, Some, None, is_some, Bool, true, false, ◌&&◌, ◌||◌, not, nat_eq, refl, sym, ◌∙◌, ap, subst, arith, length, drop, drop_of_length-le, add-one, if◌then◌else◌, eqb-true}
+use Rattle.std.specs.List.{slice_get}
 use Rattle.stl_ast.specs.declared.blocks.PathStep.{PathStep}
 use Rattle.stl_ast.specs.declared.blocks.PathStep.TheVariants as step
 use Rattle.stl_ast.specs.declared.declarations.Bounds.{Bounds}
@@ -18,7 +18,7 @@ use Rattle.block_layout.specs.declared.members.Member.{Member}
 use Rattle.block_layout.specs.declared.walks.Spot.{Spot}
 use Rattle.block_layout.specs.declared.walks.Walk.{Walk}
 use Rattle.block_layout.specs.declared.walks.Walk.TheVariants as walk
-use Rattle.accepted_code.proofs.OperandsWalks.{AreRight, Goes, IsRightCell, IsSettled, Lies, Meets, element_within, found_lies, index_meets, inner_even, outermost_lies, settled_even, structure_ends}
+use Rattle.accepted_code.proofs.OperandsWalks.{AreRight, Goes, IsSettled, Lies, Meets, element_within, found_lies, index_meets, inner_even, outermost_lies, settled_even, structure_ends}
 
 or_left : (a b : Bool) → (a || b) ≡ false → a ≡ false
 or_left true b e = absurd cc

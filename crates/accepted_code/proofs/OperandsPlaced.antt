@@ -1,11 +1,11 @@
 -- The ops of a block have no fault by their operands, their end marks and their calls, where the
 -- instruction of each statement fits what surrounds the block.
-use Rattle.std.proofs.Common.{◌≡◌, ℕ, zero, suc, ◌+◌, Bool, true, false, ◌&&◌, ◌||◌, not, List, [], ◌∷◌, ◌++◌, length, map, append_assoc, Option, Some, None, refl, sym, ap, subst, ◌∙◌, arith}
-use Rattle.std.specs.Prelude.{if◌then◌else◌, ◌==◌}
+use Rattle.std.proofs.Common.{◌≡◌, ℕ, ◌+◌, Bool, true, false, ◌&&◌, ◌||◌, not, List, [], ◌∷◌, ◌++◌, map, append_assoc, Option, Some, None, refl, sym, ap, subst, ◌∙◌}
+use Rattle.std.specs.Prelude.{◌==◌}
 use Rattle.std.specs.List.{AllByRecursion}
 use Rattle.std.proofs.lemmas.List.{map-append}
 use Rattle.plc_base.specs.declared.blocks.BlockId.{BlockId}
-use Rattle.flat_code.specs.Blocks.{Around, Callee, callee, call_fault, call_fault_among, is_above, is_bad_actual, is_bad_call, is_bad_place, is_in_db, is_input, is_stray_pass, is_stray_use_db, lacks_own, lacks_width, mark_fault, misfits_call, misfits_callee, operand_fault, own_parameter, pass_before, pass_index, prepares, seven_if, writes}
+use Rattle.flat_code.specs.Blocks.{Around, callee, call_fault_among, is_above, is_bad_actual, is_bad_call, is_bad_place, is_in_db, is_stray_pass, is_stray_use_db, lacks_width, mark_fault, misfits_call, misfits_callee, operand_fault, pass_before, pass_index, prepares, seven_if}
 use Rattle.flat_code.specs.Codes.{first_of, size}
 use Rattle.flat_code.specs.Instr.{Instr, Passing, Does, Jumps, JumpsByList, Calls, Returns}
 use Rattle.flat_code.specs.Kinds.{kind_of}
@@ -22,9 +22,8 @@ use Rattle.flat_code.specs.declared.words.EndWord.TheVariants as ends
 use Rattle.flat_code.specs.declared.words.Word.{Word}
 use Rattle.flat_code.specs.declared.words.Word.TheVariants as word
 use Rattle.stl_codegen.specs.Compiled.{Stated, aimed, aimed_op, ops_in, placed_ops}
-use Rattle.stl_codegen.specs.Emitted.{call_op, called_kind, end_op, ending, instance_number, jump_op, opening, ops_of, passing, preparing}
-use Rattle.stl_codegen.specs.Fitting.{IsStill}
-use Rattle.accepted_code.specs.Operands.{ArePassed, AreFine, InstrFits, IsFine, IsOpenedFor, IsRightOperand, PassesAlone}
+use Rattle.stl_codegen.specs.Emitted.{call_op, called_kind, end_op, ending, instance_number, ops_of, passing, preparing}
+use Rattle.accepted_code.specs.Operands.{ArePassed, AreFine, InstrFits, IsFine, IsRightOperand}
 
 seven_none : (b : Bool) → b ≡ false → seven_if b ≡ None
 seven_none b e = ap seven_if e

@@ -1,23 +1,18 @@
 -- What a path into declared variables names: a place that meets its width, within the local data
 -- where it lies there, or a parameter of the function.
-use Rattle.std.proofs.Common.{ℕ, zero, suc, ◌≡◌, ◌<◌, ◌≤◌, ◌+◌, ◌-◌, ◌*◌, ◌/◌, ◌%◌, max, ℤ, ◌-ℤ◌, unsigned_abs, List, [], ◌∷◌, ◌++◌, append_assoc, Option, Some, None, is_some, Bool, true, false, ◌&&◌, ◌||◌, not, nat_eq, nat_lt, nat_le, refl, sym, ◌∙◌, ap, subst, arith, length, map, take, drop, drop_of_length-le, if◌then◌else◌, eqb-true, ltb-false, le-ltb, le-leb, eq-eqb, ne_eqb}
+use Rattle.std.proofs.Common.{ℕ, zero, suc, ◌≡◌, ◌≤◌, ◌+◌, ◌-◌, ◌*◌, ◌/◌, ◌%◌, ℤ, ◌-ℤ◌, unsigned_abs, List, [], ◌∷◌, ◌++◌, Option, Some, None, is_some, Bool, true, false, ◌||◌, not, nat_eq, nat_lt, refl, sym, ◌∙◌, ap, subst, arith, length, drop, drop_of_length-le, if◌then◌else◌, eqb-true, le-ltb, le-leb, eq-eqb, ne_eqb}
 use Rattle.std.specs.Prelude.{◌==◌}
 use Rattle.std.specs.List.{AllByRecursion, flat_map, slice_get}
-use Rattle.std.specs.Option.{option_and_then, option_map}
-use Rattle.plc_base.specs.declared.blocks.BlockId.{BlockId}
 use Rattle.plc_base.specs.declared.blocks.BlockKind.{BlockKind}
 use Rattle.plc_base.specs.declared.blocks.BlockKind.TheVariants as kinds
 use Rattle.plc_base.specs.declared.places.Area.{Area}
 use Rattle.plc_base.specs.declared.places.Area.TheVariants as area
-use Rattle.plc_base.specs.declared.places.Place.{Place}
-use Rattle.plc_base.specs.declared.places.Width.{Width}
-use Rattle.plc_base.specs.declared.places.Width.TheVariants as width
 use Rattle.flat_code.specs.Blocks.{Around, is_bad_place, is_odd_bit}
 use Rattle.flat_code.specs.Faults.{size_of_width}
 use Rattle.flat_code.specs.Forms.{width_code}
-use Rattle.stl_ast.specs.Blocks.{is_parameter, may_have, part_rank}
-use Rattle.stl_ast.specs.Declarations.{is_elementary, is_plain}
-use Rattle.stl_ast.specs.WellFormed.{AreDeclaredIn, AreSections, IsBlock, IsDeclaredIn, IsSection, IsShapeOf}
+use Rattle.stl_ast.specs.Blocks.{is_parameter, may_have}
+use Rattle.stl_ast.specs.Declarations.{is_plain}
+use Rattle.stl_ast.specs.WellFormed.{AreDeclaredIn, AreSections, IsBlock, IsSection, IsShapeOf}
 use Rattle.stl_ast.specs.declared.blocks.Block.{Block}
 use Rattle.stl_ast.specs.declared.blocks.Part.{Part}
 use Rattle.stl_ast.specs.declared.blocks.PartKind.{PartKind}
@@ -31,13 +26,12 @@ use Rattle.stl_ast.specs.declared.declarations.ElementType.TheVariants as elemen
 use Rattle.stl_ast.specs.declared.declarations.Simple.{Simple}
 use Rattle.stl_ast.specs.declared.declarations.Simple.TheVariants as simple
 use Rattle.stl_ast.specs.declared.declarations.TypeTree.{TypeTree}
-use Rattle.stl_ast.specs.declared.names.BlockName.{BlockName}
 use Rattle.block_layout.specs.Around.{Outside, of_sections, of_structure, onto}
 use Rattle.block_layout.specs.Cells.{cell_of, cells_of, components_of, is_temp, laid, opened, returned_cells, section_cells}
 use Rattle.block_layout.specs.Members.{component}
 use Rattle.block_layout.specs.Offsets.{place_at, placed, width_of}
 use Rattle.block_layout.specs.Paths.{cells_at, elementary_at, entered, found_at, goes_on, in_sections, indexed, indexed_behind, is_beyond, kind_of, named, named_behind, named_in, outermost, plain_kind, step_of, walked, walked_local, whole_at, within}
-use Rattle.block_layout.specs.Sizes.{array_bits, capped, element_of, plain_bits, structure_bits}
+use Rattle.block_layout.specs.Sizes.{array_bits, capped, element_of, plain_bits}
 use Rattle.block_layout.specs.Types.{Types}
 use Rattle.block_layout.specs.declared.blocks.BlockLayout.{BlockLayout}
 use Rattle.block_layout.specs.declared.cells.Cell.{Cell}
@@ -48,7 +42,6 @@ use Rattle.block_layout.specs.declared.walks.Spot.{Spot}
 use Rattle.block_layout.specs.declared.walks.Walk.{Walk}
 use Rattle.block_layout.specs.declared.walks.Walk.TheVariants as walk
 use Rattle.stl_types.specs.Variables.{behind_others, in_area}
-use Rattle.stl_types.specs.declared.views.Seen.{Seen}
 use Rattle.stl_types.specs.declared.views.Seen.TheVariants.{Sees}
 use Rattle.stl_types.specs.declared.views.Side.TheVariants as side
 use Rattle.stl_types.specs.declared.views.View.TheVariants as view
@@ -216,12 +209,15 @@ opened_parameters (c ∷ cs) h = by (opened_parameters cs h.1) c.sound
   where
     by : AreParameters (opened cs) → (t : Bool)
         → AreParameters (if t then record c { opens = true } ∷ cs else c ∷ opened cs)
-    by more true = (record {
-      single = h.0.single;
-      kind = h.0.kind;
-      plain = h.0.plain;
-      section = h.0.section;
-    }, h.1)
+    by more true = (
+      record {
+        single = h.0.single;
+        kind = h.0.kind;
+        plain = h.0.plain;
+        section = h.0.section;
+      },
+      h.1,
+    )
     by more false = (h.0, more)
 
 -- of a function, the sections that aren't temporary hold parameters

@@ -1,6 +1,6 @@
 -- The rounds in which data types are measured settle: types that are nested at most eight deep have
 -- in the ninth round the bits that their cells take.
-use Rattle.std.proofs.Common.{ℕ, zero, suc, ◌≡◌, ◌<◌, ◌≤◌, ◌+◌, ◌*◌, ◌/◌, ◌%◌, min, max, List, [], ◌∷◌, ◌++◌, Option, Some, None, Bool, true, false, ◌&&◌, ◌||◌, not, nat_eq, nat_lt, nat_le, refl, sym, ◌∙◌, ap, ap₂, subst, arith, length, drop, map, get_or, if◌then◌else◌}
+use Rattle.std.proofs.Common.{ℕ, zero, suc, ◌≡◌, ◌<◌, ◌≤◌, ◌+◌, max, List, [], ◌∷◌, Option, Some, None, Bool, true, false, ◌&&◌, ◌||◌, not, nat_lt, nat_le, refl, sym, ◌∙◌, ap, ap₂, subst, arith, length, map, get_or, if◌then◌else◌}
 use Rattle.std.specs.List.{AllByRecursion, list_all, slice_get}
 use Rattle.stl_ast.specs.declared.blocks.Block.{Block}
 use Rattle.stl_ast.specs.declared.blocks.PartKind.{PartKind}
@@ -15,12 +15,12 @@ use Rattle.block_layout.specs.Cells.{breaks_rule, cell_of, cells_of, is_oversize
 use Rattle.block_layout.specs.Declarations.{has_upside_down, init_fits, is_unknown_type}
 use Rattle.block_layout.specs.Measures.{bits_after, deep, deepest, depths_after, type_bits, type_depth, with_bits, with_depths}
 use Rattle.block_layout.specs.Rule21.{is_twice}
-use Rattle.block_layout.specs.Rule56.{depth_around, element_depth, is_too_deep, opened_by, own_depth, udt_depth}
+use Rattle.block_layout.specs.Rule56.{element_depth, is_too_deep, opened_by, own_depth, udt_depth}
 use Rattle.block_layout.specs.Sizes.{structure_bits}
 use Rattle.block_layout.specs.Types.{Types, udt_of}
 use Rattle.block_layout.specs.declared.cells.Cell.{Cell}
 use Rattle.block_layout.specs.declared.cells.Element.{Element}
-use Rattle.block_layout.specs.declared.cells.Element.TheVariants.{Plain, Structure, DateAndTime, Udt, Unknown}
+use Rattle.block_layout.specs.declared.cells.Element.TheVariants.{Udt}
 
 -- ---- the bits of types have no part in their depths
 

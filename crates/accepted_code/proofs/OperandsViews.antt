@@ -1,8 +1,8 @@
 -- What the operands of a source that breaks no rule name: each is seen, and fits its block.
-use Rattle.std.proofs.Common.{ℕ, zero, suc, ◌≡◌, ◌<◌, ◌≤◌, ◌+◌, ◌-◌, ◌*◌, ◌/◌, ◌%◌, max, List, [], ◌∷◌, ◌++◌, Option, Some, None, is_some, Bool, true, false, ◌&&◌, ◌||◌, not, nat_eq, nat_lt, nat_le, refl, sym, ◌∙◌, ap, subst, arith, length, map, if◌then◌else◌, ltb-false, le-ltb, eq-eqb}
+use Rattle.std.proofs.Common.{ℕ, zero, suc, ◌≡◌, ◌<◌, ◌≤◌, ◌+◌, ◌/◌, ◌%◌, max, List, [], ◌∷◌, ◌++◌, Option, Some, None, is_some, Bool, true, false, ◌||◌, not, refl, sym, ◌∙◌, ap, subst, arith, length, map, if◌then◌else◌, ltb-false, le-ltb, eq-eqb}
 use Rattle.std.specs.Prelude.{◌==◌}
 use Rattle.std.specs.List.{AllByRecursion, flat_map, slice_get}
-use Rattle.std.specs.Option.{is_none, option_and_then, option_map}
+use Rattle.std.specs.Option.{is_none, option_and_then}
 use Rattle.plc_base.specs.Widths.{byte_count}
 use Rattle.plc_base.specs.declared.blocks.BlockId.{BlockId}
 use Rattle.plc_base.specs.declared.blocks.BlockKind.{BlockKind}
@@ -16,9 +16,8 @@ use Rattle.flat_code.specs.Faults.{size_of_width}
 use Rattle.flat_code.specs.Forms.{width_code}
 use Rattle.flat_code.specs.Image.{number_of_kind, record_of_param}
 use Rattle.flat_code.specs.declared.image_fields.ParameterRecord.{ParameterRecord}
-use Rattle.flat_code.specs.declared.programs.Param.{Param}
 use Rattle.stl_ast.specs.Blocks.{is_parameter, may_have}
-use Rattle.stl_ast.specs.Operands.{IsBitOf, IsInBlock, IsOperand}
+use Rattle.stl_ast.specs.Operands.{IsBitOf, IsOperand}
 use Rattle.stl_ast.specs.Statements.{is_called}
 use Rattle.stl_ast.specs.WellFormed.{AreSections, IsBlock, IsSection, IsShapeOf, MayReturn}
 use Rattle.stl_ast.specs.declared.blocks.Block.{Block}
@@ -44,18 +43,18 @@ use Rattle.stl_symbols.specs.Symbol.{Symbol, symbol_named}
 use Rattle.stl_symbols.specs.declared.targets.Target.{Target}
 use Rattle.stl_symbols.specs.declared.targets.Target.TheVariants as target
 use Rattle.block_layout.specs.Around.{Outside, of_sections, of_structure, onto}
-use Rattle.block_layout.specs.Blocks.{found_block, has_structure, id_of, ids_of, is_code, is_data_block, is_function, is_function_block, is_organization_block}
+use Rattle.block_layout.specs.Blocks.{found_block, has_structure, id_of, is_code, is_data_block, is_function, is_function_block}
 use Rattle.block_layout.specs.Cells.{cells_of, components_of, is_temp, returned_cells, section_cells, temps_of}
 use Rattle.block_layout.specs.Layouts.{block_layout, layouts_by, layouts_from, layouts_of}
 use Rattle.block_layout.specs.Lengths.{actuals_end, block_bits, farthest, is_local, least_local, length_of, local_end, local_len, named_type, referred, shape_at, shape_bits, shape_named, shape_of}
 use Rattle.block_layout.specs.Measures.{types_of}
 use Rattle.block_layout.specs.Members.{component}
 use Rattle.block_layout.specs.Offsets.{place_at, placed, width_of}
-use Rattle.block_layout.specs.Paths.{cells_at, cells_in, elementary_at, folded_path, if_whole, kind_of, leaves_judged, leaves_local, shape_block, structure_of, walked_data, walked_local, whole_at, whole_block}
-use Rattle.block_layout.specs.Rule23.{is_unknown_data, is_unknown_instance, is_unknown_path, is_unknown_shape, names_unknown}
+use Rattle.block_layout.specs.Paths.{cells_at, elementary_at, folded_path, kind_of, leaves_local, shape_block, structure_of, walked_data, walked_local, whole_at, whole_block}
+use Rattle.block_layout.specs.Rule23.{is_unknown_data, is_unknown_path, is_unknown_shape, names_unknown}
 use Rattle.block_layout.specs.Rule42.{leaves_found, leaves_path, operand_is_outside}
 use Rattle.block_layout.specs.Rule50.{has_too_much_local}
-use Rattle.block_layout.specs.Sizes.{plain_bits, structure_bits, up}
+use Rattle.block_layout.specs.Sizes.{structure_bits, up}
 use Rattle.block_layout.specs.Types.{Types}
 use Rattle.block_layout.specs.declared.blocks.BlockLayout.{BlockLayout}
 use Rattle.block_layout.specs.declared.blocks.Shape.{Shape}
@@ -69,20 +68,20 @@ use Rattle.block_layout.specs.declared.walks.Walk.{Walk}
 use Rattle.block_layout.specs.declared.walks.Walk.TheVariants as walk
 use Rattle.stl_types.specs.Actuals.{is_input_section}
 use Rattle.stl_types.specs.Addresses.{address, address_in, area_left, area_of}
-use Rattle.stl_types.specs.Context.{Context, data_number, data_place, ids, in_function, is_of_function, number_of}
-use Rattle.stl_types.specs.Seen.{direct_seen, opened_seen, path_seen, register_of, seen, symbol_seen, target_view}
+use Rattle.stl_types.specs.Context.{data_number, data_place, in_function, is_of_function, number_of}
+use Rattle.stl_types.specs.Seen.{opened_seen, path_seen, register_of, seen, symbol_seen, target_view}
 use Rattle.stl_types.specs.Unknown.{is_unknown}
-use Rattle.stl_types.specs.Variables.{composite, data_at, date_or_composite, data_path, data_variable, data_walked, in_area, is_temporary, own_at, own_elementary, own_variable, own_walked, parameter, parameter_at, parameter_index}
+use Rattle.stl_types.specs.Variables.{composite, data_at, date_or_composite, data_path, data_variable, data_walked, in_area, own_at, own_elementary, own_variable, own_walked, parameter, parameter_at, parameter_index}
 use Rattle.stl_types.specs.declared.views.Seen.{Seen}
-use Rattle.stl_types.specs.declared.views.Seen.TheVariants.{Sees, Unknown, Rests}
+use Rattle.stl_types.specs.declared.views.Seen.TheVariants.{Sees}
 use Rattle.stl_types.specs.declared.views.Side.TheVariants as side
 use Rattle.stl_types.specs.declared.views.View.{View}
 use Rattle.stl_types.specs.declared.views.View.TheVariants as view
 use Rattle.stl_codegen.specs.Generated.{param, param_here, param_of, params_of, section_number}
-use Rattle.stl_codegen.specs.Instruction.{in_order, return_last}
-use Rattle.accepted_code.proofs.Accepted.{IsSound, IsSoundTree, IsSoundActual, IsSoundStatement, context_at}
+use Rattle.stl_codegen.specs.Instruction.{return_last}
+use Rattle.accepted_code.proofs.Accepted.{IsSound, IsSoundTree, context_at}
 use Rattle.accepted_code.proofs.OperandsCells.{IsFoundBlock, IsOrigin, all_there, are_right, cells_are, found_there, id_kind, layout_of_block, measured_ids, measured_symbols, origin}
-use Rattle.accepted_code.proofs.OperandsPaths.{Moves, data_goes, from_moves, local_goes, local_moves}
+use Rattle.accepted_code.proofs.OperandsPaths.{Moves, data_goes, local_goes, local_moves}
 use Rattle.accepted_code.proofs.OperandsPlaces.{AreParameters, GivesOne, IsElementary, IsParameterCell, IsPlaced, Stays, count_each, data_fits, elementary, function_components, in_its_order, instance_fits, local_fits, local_stays, one_each, placed_sees, reached_place}
 use Rattle.accepted_code.proofs.OperandsSymbols.{SymbolFits, TargetFits, is_symbols_area, named_fits}
 use Rattle.accepted_code.proofs.OperandsWalks.{AreRight, Goes, Lies, structure_even}
@@ -178,7 +177,7 @@ holds_locals y b code few = record {
     second least x z whole h = omega (arith, h)
 
 -- the structure of a function block is as long as its instances
-block_own : (y : Types) (b : Block) → IsBlock b → b.kind ≡ kinds.Fb → shape_of y b ≡ shape.Own
+pub block_own : (y : Types) (b : Block) → IsBlock b → b.kind ≡ kinds.Fb → shape_of y b ≡ shape.Own
 block_own y b h is =
     ap (λ (n : Option BlockName). shape_named y (referred n b.shape)) none.1
     ∙ ap (λ (s : Option TypeTree). shape_named y (named_type s)) none.0
@@ -186,7 +185,7 @@ block_own y b h is =
     none : IsShapeOf kinds.Fb b.shape b.instance_of b.components
     none = subst (λ (k : BlockKind). IsShapeOf k b.shape b.instance_of b.components) is h.shaped
 
-instance_length : (y : Types) (blocks : List Block) (b : Block) → b.kind ≡ kinds.Fb
+pub instance_length : (y : Types) (blocks : List Block) (b : Block) → b.kind ≡ kinds.Fb
     → shape_of y b ≡ shape.Own → length_of y blocks b ≡ structure_bits (components_of y b) / 8
 unfolding length_of
 instance_length y blocks b is own = rw is (rw own refl)
@@ -364,7 +363,7 @@ target_fits a (target.Timer number) h = tt
 target_fits a (target.Counter number) h = tt
 target_fits a (target.Block id) h = tt
 
-not_none : {A : Type 0} (o : Option A) → is_none o ≡ false → (x : A) × (o ≡ Some x)
+pub not_none : {A : Type 0} (o : Option A) → is_none o ≡ false → (x : A) × (o ≡ Some x)
 not_none None e = absurd cc
 not_none (Some x) e = (x, refl)
 
@@ -401,7 +400,7 @@ data_block_kind kinds.Fb e = absurd cc
 data_block_kind kinds.Sfc e = absurd cc
 data_block_kind kinds.Udt e = absurd cc
 
-whole_is : (l : List BlockLayout) (p : ℕ) (at : BlockLayout) → slice_get l p ≡ Some at
+pub whole_is : (l : List BlockLayout) (p : ℕ) (at : BlockLayout) → slice_get l p ≡ Some at
     → at.broken ≡ false → whole_at l p ≡ Some at
 whole_is l p at there whole =
     ap (λ (o : Option BlockLayout). whole_block o) there
@@ -611,7 +610,7 @@ module _ (symbols : List Symbol) (t : Tree) (tree : IsSoundTree symbols t) (k : 
           reads false 0 (walked_local (layouts_of t symbols) k name steps)
           (λ s reaches.
           let home : Stays k (walk.Reaches s) = subst (Stays k) reaches
-              (local_stays (layouts_of t symbols) k plain name steps e whole_here) in
+          (local_stays (layouts_of t symbols) k plain name steps e whole_here) in
           parameter_seen is s home.0 home.1 (elementary_at (layouts_of t symbols) s) refl)
           moves known
         where
@@ -738,6 +737,13 @@ id_there symbols t tree kinds p id there kind = record {
     laid : (l : BlockLayout) × (slice_get (layouts_of t symbols) p ≡ Some l) × IsSound symbols t p from.of l
     laid = layout_of_block symbols t tree p from.of from.there
 
+pub id_there_is : (symbols : List Symbol) (t : Tree) (tree : IsSoundTree symbols t)
+    (kinds : BlockKind → Bool) (p : ℕ) (id : BlockId)
+    (there : slice_get (types_of symbols t.blocks).ids p ≡ Some (Some id)) (kind : kinds id.kind ≡ true)
+    → (id_there symbols t tree kinds p id there kind).id ≡ id
+unfolding id_there
+id_there_is symbols t tree kinds p id there kind = refl
+
 pub block_there : (symbols : List Symbol) (t : Tree) → IsSoundTree symbols t
     → (kinds : BlockKind → Bool) (name : BlockName) (p : ℕ)
     → found_block (types_of symbols t.blocks).symbols (types_of symbols t.blocks).ids kinds name ≡ Some p
@@ -798,7 +804,7 @@ or_last : (a b : Bool) → (a || b) ≡ false → b ≡ false
 or_last true b e = absurd cc
 or_last false b e = e
 
-data_length : (y : Types) (blocks : List Block) (b : Block) → b.kind ≡ kinds.Db
+pub data_length : (y : Types) (blocks : List Block) (b : Block) → b.kind ≡ kinds.Db
     → length_of y blocks b ≡ shape_bits y blocks b (shape_of y b) / 8
 unfolding length_of
 data_length y blocks b is = rw is refl
@@ -814,7 +820,7 @@ shape_found y (Some n) other e = (n, by (found_block y.symbols y.ids has_structu
     by None e = absurd cc
     by (Some m) e = ap (λ (i : ℕ). Some i) (let same : m ≡ other = cc in same)
 
-layout_shape : (symbols : List Symbol) (t : Tree) (p : ℕ) (b : Block) (l : BlockLayout)
+pub layout_shape : (symbols : List Symbol) (t : Tree) (p : ℕ) (b : Block) (l : BlockLayout)
     → IsSound symbols t p b l → l.shape ≡ shape_of (types_of symbols t.blocks) b
 unfolding block_layout
 layout_shape symbols t p b l h = ap (λ (z : BlockLayout). z.shape) h.layout
@@ -876,9 +882,9 @@ structured symbols t tree p d = by (shape_of (types_of symbols t.blocks) d.block
         there = block_there symbols t tree has_structure found.0 other found.1
     by shape.Unknown e =
         let known = or_last (is_none (id_of (types_of symbols t.blocks).symbols d.block))
-            (is_unknown_shape (shape_of (types_of symbols t.blocks) d.block)) d.sound.head.by_23 in
+        (is_unknown_shape (shape_of (types_of symbols t.blocks) d.block)) d.sound.head.by_23 in
         let never : is_unknown_shape shape.Unknown ≡ false
-            = ap is_unknown_shape (sym e) ∙ known in
+        = ap is_unknown_shape (sym e) ∙ known in
         absurd cc
 
 -- a component of a data block

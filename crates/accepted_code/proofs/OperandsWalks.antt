@@ -1,17 +1,15 @@
 -- Where paths lead: each component that they reach lies within its structure, at a place that meets
 -- its alignment. Of cells that are all sound, no path rests.
-use Rattle.std.proofs.Common.{ℕ, zero, suc, ◌≡◌, ◌<◌, ◌≤◌, ◌+◌, ◌-◌, ◌*◌, ◌/◌, ◌%◌, min, ℤ, pos, negsuc, ◌-ℤ◌, int_lt, unsigned_abs, List, [], ◌∷◌, ◌++◌, Option, Some, None, is_some, Bool, true, false, ◌&&◌, ◌||◌, not, nat_eq, nat_lt, nat_le, refl, sym, ◌∙◌, ap, subst, arith, length, drop, add-one, drop-drop, if◌then◌else◌, eqb-true, mul-le-mul_right, suc-mul, mul_assoc, mul_comm}
-use Rattle.std.specs.List.{AllByRecursion, slice_get}
+use Rattle.std.proofs.Common.{ℕ, zero, suc, ◌≡◌, ◌<◌, ◌≤◌, ◌+◌, ◌*◌, ◌/◌, ◌%◌, min, List, [], ◌∷◌, Option, Some, None, Bool, true, false, ◌&&◌, nat_eq, nat_lt, refl, sym, ◌∙◌, ap, subst, arith, length, drop, add-one, drop-drop, if◌then◌else◌, eqb-true, mul-le-mul_right, suc-mul, mul_assoc}
+use Rattle.std.specs.List.{slice_get}
 use Rattle.std.specs.Str.{bytes_eq}
-use Rattle.stl_ast.specs.declared.blocks.PathStep.{PathStep}
-use Rattle.stl_ast.specs.declared.blocks.PathStep.TheVariants as step
 use Rattle.stl_ast.specs.declared.declarations.Bounds.{Bounds}
 use Rattle.stl_ast.specs.declared.declarations.Simple.{Simple}
 use Rattle.stl_ast.specs.declared.declarations.Simple.TheVariants as simple
-use Rattle.block_layout.specs.Declarations.{count, is_upside_down}
+use Rattle.block_layout.specs.Declarations.{count}
 use Rattle.block_layout.specs.Members.{component}
-use Rattle.block_layout.specs.Paths.{cells_at, cells_in, elementary_at, entered, found_at, further, goes_on, in_sections, indexed, indexed_behind, is_beyond, is_beyond_in, is_beyond_left, is_judged, kind_of, leaves, leaves_from, leaves_judged, leaves_local, leaves_sections, named, named_behind, named_in, outermost, plain_kind, step_is_beyond, step_of, structure_of, walked, walked_data, walked_from, walked_local, walked_or_rests, whole_at, within}
-use Rattle.block_layout.specs.Sizes.{alignment, array_bits, capped, cell_bits, element_alignment, element_bits, element_of, end_of, plain_bits, stepped, structure_bits, up}
+use Rattle.block_layout.specs.Paths.{cells_at, entered, found_at, outermost, within}
+use Rattle.block_layout.specs.Sizes.{alignment, array_bits, capped, cell_bits, element_alignment, element_bits, element_of, end_of, stepped, structure_bits, up}
 use Rattle.block_layout.specs.declared.blocks.BlockLayout.{BlockLayout}
 use Rattle.block_layout.specs.declared.cells.Cell.{Cell}
 use Rattle.block_layout.specs.declared.cells.Element.{Element}
@@ -201,7 +199,7 @@ index_meets n k [] (Udt block bits) components e f g =
 index_meets n k [] Unknown components e f g = omega (arith, e)
 index_meets n k (b ∷ bs) of components e f g =
     let m = times_even k (array_bits (b ∷ bs) (element_bits of components))
-        (array_even b bs (element_bits of components)) in
+    (array_even b bs (element_bits of components)) in
     omega (arith, e, m)
 
 -- one element of an array lies within it
@@ -512,6 +510,6 @@ unfolding outermost structure_bits
 outermost_lies l limit right block temporary offset name even near fits =
     found_lies l limit right block temporary 0 0 offset name even near
     (let ends = structure_ends (end_of 0 0 (cells_at l block temporary))
-        (capped (up (end_of 0 0 (cells_at l block temporary)) 16)) refl
-        (let f = fits in let n = near in omega (arith, f, n)) in
+    (capped (up (end_of 0 0 (cells_at l block temporary)) 16)) refl
+    (let f = fits in let n = near in omega (arith, f, n)) in
     let f = fits in omega (arith, ends, f))

@@ -1,21 +1,17 @@
 -- The word of an instruction takes the width of its operand, writes no input, and prepares nothing.
-use Rattle.std.proofs.Common.{◌≡◌, ℕ, zero, suc, ◌+◌, Bool, true, false, ◌&&◌, ◌||◌, not, List, [], ◌∷◌, Option, Some, None, refl, sym, ap, subst, ◌∙◌, arith}
+use Rattle.std.proofs.Common.{◌≡◌, ℕ, Bool, true, false, ◌&&◌, ◌||◌, not, Option, Some, None, refl, sym, ap, ◌∙◌}
 use Rattle.std.specs.Prelude.{if◌then◌else◌, nat_eq}
 use Rattle.plc_base.specs.declared.places.Area.{Area}
 use Rattle.plc_base.specs.declared.places.Area.TheVariants as area
-use Rattle.plc_base.specs.declared.places.Place.{Place}
 use Rattle.plc_base.specs.declared.places.Width.{Width}
 use Rattle.plc_base.specs.declared.places.Width.TheVariants as width
-use Rattle.flat_code.specs.Blocks.{Around, is_bad_place, is_in_db, is_input as is_input_parameter, lacks_own, lacks_width, own_parameter, prepares, writes as writes_code}
+use Rattle.flat_code.specs.Blocks.{Around, is_bad_place, is_input as is_input_parameter, lacks_own, lacks_width, own_parameter, prepares, writes as writes_code}
 use Rattle.flat_code.specs.OpCodes.{code_of}
 use Rattle.flat_code.specs.Table.{has_width as has_width_of, takes_of}
 use Rattle.flat_code.specs.Words.{word_of as word_of_code}
 use Rattle.flat_code.specs.declared.table.Takes.{Takes}
 use Rattle.flat_code.specs.declared.operands.Operand.TheVariants as flat
-use Rattle.flat_code.specs.declared.words.Joined.TheVariants as joined
-use Rattle.flat_code.specs.declared.words.PointerWord.TheVariants as pointers
 use Rattle.flat_code.specs.declared.words.Word.{Word}
-use Rattle.flat_code.specs.declared.words.Word.TheVariants as word
 use Rattle.stl_ast.specs.declared.blocks.PartKind.{PartKind}
 use Rattle.stl_ast.specs.declared.blocks.PartKind.TheVariants as part
 use Rattle.stl_ast.specs.declared.declarations.Simple.{Simple}
@@ -39,7 +35,7 @@ use Rattle.stl_types.specs.declared.views.Side.TheVariants as side
 use Rattle.stl_types.specs.declared.views.View.{View}
 use Rattle.stl_types.specs.declared.views.View.TheVariants as view
 use Rattle.stl_codegen.specs.Emitted.{ending}
-use Rattle.stl_codegen.specs.Operands.{is_db, numbered_operand, opened_by, opened_by_place, operand_of, register_operand}
+use Rattle.stl_codegen.specs.Operands.{is_db, numbered_operand, opened_by, operand_of, register_operand}
 use Rattle.stl_codegen.specs.Words.{add_word, load_pointer_word, load_word, or_word, store_pointer_word, transfer_word, word_of}
 use Rattle.accepted_code.specs.Operands.{IsOpenedFor, IsRightOperand}
 

@@ -1,31 +1,29 @@
 -- THE PROGRAM OF AN ACCEPTED SOURCE has an image and verifies: no field of its records has a fault, and no op of a
 -- block has one, by its operand, its jump, its brackets or its call.
-use Rattle.std.proofs.Common.{◌≡◌, ℕ, ◌+◌, ◌<◌, ◌≤◌, zero, suc, true, List, [], ◌∷◌, ◌++◌, length, map, get_or, Option, Some, None, refl, ap, subst, ◌∙◌, arith}
+use Rattle.std.proofs.Common.{◌≡◌, ℕ, ◌+◌, ◌<◌, zero, suc, true, false, List, [], ◌∷◌, length, map, get_or, Option, Some, None, refl, arith}
 use Rattle.std.specs.List.{AllByRecursion}
 use Rattle.std.specs.Option.{IfSome}
 use Rattle.flat_code.specs.Checking.{good_blocks}
-use Rattle.flat_code.specs.Image.{IsProgram, record_of_block}
-use Rattle.flat_code.specs.Loading.{AreVerified, Verifies, around, lens_of}
-use Rattle.flat_code.specs.Placed.{spots}
+use Rattle.flat_code.specs.Image.{record_of_block}
+use Rattle.flat_code.specs.Loading.{AreVerified, around, lens_of}
+use Rattle.flat_code.specs.Placed.{places, spots}
 use Rattle.flat_code.specs.Programs.{CodeBlock}
 use Rattle.flat_code.specs.Records.{BlockRecord}
 use Rattle.stl_ast.specs.Literals.{AreBytes}
-use Rattle.stl_ast.specs.declared.blocks.Tree.{Tree}
 use Rattle.stl_codegen.specs.Compiled.{StatedBlock, code_in, compiled}
 use Rattle.stl_codegen.specs.Generated.{code_blocks_of}
 use Rattle.stl_parser.proofs.RiseLemmas.{lines_rise}
-use Rattle.stl_symbols.specs.Symbol.{Symbol}
 use Rattle.block_layout.specs.Layouts.{layouts_of}
-use Rattle.accepted_code.specs.Accepted.{AcceptedVerifies, IsAccepted, program_in}
+use Rattle.accepted_code.specs.Accepted.{AcceptedVerifies, program_in}
 use Rattle.accepted_code.specs.Coded.{IsCoded}
 use Rattle.accepted_code.specs.Jumps.{AllLandRight}
-use Rattle.accepted_code.specs.Operands.{InstrFits}
+use Rattle.accepted_code.specs.Operands.{AreFine}
 use Rattle.accepted_code.specs.Records.{HasCode, IsOfBytes}
 use Rattle.accepted_code.specs.Sizes.{IsSmallBlock}
 use Rattle.accepted_code.proofs.Accepted.{right_tree}
 use Rattle.accepted_code.proofs.Coded.{are_coded}
 use Rattle.accepted_code.proofs.JumpsProgram.{fine_is_faultless, jumps_land_right}
-use Rattle.accepted_code.proofs.OperandsPlaced.{code_fine}
+use Rattle.accepted_code.proofs.OperandsFine.{operands_are_fine}
 use Rattle.accepted_code.proofs.RecordBlocks.{data_blocks_rise}
 use Rattle.accepted_code.proofs.RecordData.{data_blocks_right}
 use Rattle.accepted_code.proofs.RecordNames.{names_right}
@@ -35,25 +33,19 @@ use Rattle.accepted_code.proofs.SizesProgram.{small_is_program}
 
 -- ---- blocks
 
--- the instructions of a block fit what surrounds it
-abbrev pub BlockFits : (lens : List (ℕ × ℕ)) (all : List BlockRecord) → StatedBlock → Type 0
-BlockFits lens all b =
-    AllByRecursion
-    (λ s. InstrFits (around (Some lens) all (record_of_block (compiled b))) lens s.instr)
-    b.statements
-
 abbrev BlockLands : StatedBlock → Type 0
 BlockLands b = AllLandRight (code_in b.statements)
 
 blocks_clean : (lens : List (ℕ × ℕ)) (all : List BlockRecord) (bs : List StatedBlock)
-    → AllByRecursion (BlockFits lens all) bs → AllByRecursion BlockLands bs
-    → AreVerified lens all (map record_of_block (map compiled bs))
-blocks_clean lens all [] fits lands = tt
-blocks_clean lens all (b ∷ bs) fits lands =
+    → AllByRecursion
+    (λ b. AreFine (around (Some lens) all (record_of_block b)) lens (spots b.code) (places b.code))
+    (map compiled bs)
+    → AllByRecursion BlockLands bs → AreVerified lens all (map record_of_block (map compiled bs))
+blocks_clean lens all [] fine lands = tt
+blocks_clean lens all (b ∷ bs) fine lands =
     let a = around (Some lens) all (record_of_block (compiled b)) in (
-      fine_is_faultless a lens 0 (code_in b.statements) refl
-          (code_fine a lens (spots (code_in b.statements)) b.statements fits.0) lands.0,
-      blocks_clean lens all bs fits.1 lands.1,
+      fine_is_faultless a lens 0 (code_in b.statements) refl fine.0 lands.0,
+      blocks_clean lens all bs fine.1 lands.1,
     )
 
 -- ---- the program
@@ -75,19 +67,8 @@ of_bytes : (file : Option (List ℕ)) → IfSome file AreBytes → IsOfBytes fil
 of_bytes None are = tt
 of_bytes (Some bytes) are = below bytes are
 
--- what is left to show of an accepted source: its instructions fit what surrounds their blocks
-abbrev pub AreFitting : List Symbol → Tree → Type 0
-AreFitting symbols t =
-    AllByRecursion
-    (BlockFits (lens_of (program_in symbols t).data_blocks)
-    (map record_of_block (program_in symbols t).code_blocks))
-    (code_blocks_of t symbols (layouts_of t symbols))
-
-pub verified_where_fitting : (source : List ℕ) (file : Option (List ℕ)) (symbols : List Symbol) (t : Tree)
-    → IsAccepted source file symbols t → AreBytes source → IfSome file AreBytes
-    → AreFitting symbols t
-    → IsProgram (program_in symbols t) × Verifies (program_in symbols t)
-verified_where_fitting source file symbols t a bytes file_bytes fits =
+pub accepted_verifies : AcceptedVerifies
+accepted_verifies source file symbols t a bytes file_bytes =
     let small = accepted_is_small source file symbols t a in
     let p = program_in symbols t in
     let codes = has_code p.code_blocks (are_coded source file symbols t a bytes) small.blocks in
@@ -101,6 +82,7 @@ verified_where_fitting source file symbols t a bytes file_bytes fits =
       record {
         right = records_right source file symbols t a (of_bytes file file_bytes) codes small.counts true;
         blocks = blocks_clean (lens_of p.data_blocks) (map record_of_block p.code_blocks)
-            (code_blocks_of t symbols (layouts_of t symbols)) fits (jumps_land_right source file symbols t a);
+            (code_blocks_of t symbols (layouts_of t symbols)) (operands_are_fine source file symbols t a bytes)
+            (jumps_land_right source file symbols t a);
       },
     )

@@ -1,17 +1,24 @@
 -- When the ops of a block have no fault by their operands, their end marks and their calls.
-use Rattle.std.specs.Prelude.{◌≡◌, ℕ, true, false, ◌&&◌, List, [], ◌∷◌, Option, Some, None}
+use Rattle.std.specs.Prelude.{◌≡◌, ℕ, true, false, ◌&&◌, List, [], ◌∷◌, map, Option, Some, None}
 use Rattle.std.specs.List.{AllByRecursion}
 use Rattle.flat_code.specs.Blocks.{Around, Callee, callee, call_fault, is_above, is_bad_actual, is_bad_call, is_bad_place, is_in_db, is_input, lacks_own, lacks_width, mark_fault, misfits_callee, operand_fault, own_parameter, prepares, writes}
 use Rattle.flat_code.specs.Instr.{Instr, Passing, Does, Calls}
 use Rattle.flat_code.specs.OpCodes.{code_of}
 use Rattle.flat_code.specs.Ops.{OpData}
-use Rattle.flat_code.specs.Placed.{Placed, Spot}
+use Rattle.flat_code.specs.Image.{record_of_block}
+use Rattle.flat_code.specs.Loading.{around, lens_of}
+use Rattle.flat_code.specs.Placed.{Placed, Spot, places, spots}
+use Rattle.flat_code.specs.Programs.{CodeBlock, Program}
 use Rattle.flat_code.specs.declared.operands.Operand.{Operand}
 use Rattle.flat_code.specs.declared.operands.Operand.TheVariants as operand
 use Rattle.flat_code.specs.declared.words.CallWord.{CallWord}
 use Rattle.flat_code.specs.declared.words.CallWord.TheVariants as calls
+use Rattle.stl_ast.specs.Literals.{AreBytes}
+use Rattle.stl_ast.specs.declared.blocks.Tree.{Tree}
+use Rattle.stl_symbols.specs.Symbol.{Symbol}
 use Rattle.stl_codegen.specs.Emitted.{called_kind, ending, instance_number, passing}
 use Rattle.stl_codegen.specs.Fitting.{IsStill}
+use Rattle.accepted_code.specs.Accepted.{IsAccepted, program_in}
 
 -- ---- what fits
 
@@ -68,3 +75,19 @@ pub record IsFine (a : Around) (lens : List (ℕ × ℕ)) (ss : List Spot) (p : 
 
 abbrev pub AreFine : Around → List (ℕ × ℕ) → List Spot → List Placed → Type 0
 AreFine a lens ss ps = AllByRecursion (IsFine a lens ss) ps
+
+-- ---- a program
+
+-- the ops of a block among the others of its program
+abbrev pub BlockIsFine : Program → CodeBlock → Type 0
+BlockIsFine p b =
+    AreFine
+    (around (Some (lens_of p.data_blocks)) (map record_of_block p.code_blocks) (record_of_block b))
+    (lens_of p.data_blocks) (spots b.code) (places b.code)
+
+-- of an accepted source, whose elements are bytes
+abbrev pub OperandsAreFine : Type 0
+OperandsAreFine =
+    (source : List ℕ) (file : Option (List ℕ)) (symbols : List Symbol) (t : Tree)
+    → IsAccepted source file symbols t → AreBytes source
+    → AllByRecursion (BlockIsFine (program_in symbols t)) (program_in symbols t).code_blocks
