@@ -1,14 +1,32 @@
--- How a cycle of data types is found: of each block it is known whether it leads to one in so many steps.
-use Rattle.std.specs.Prelude.{◌≡◌, ℕ, Bool, false, List, Some, get_or, map}
+-- How a cycle of data types is found: from a block on, step by step, what is used by the blocks that the step before
+-- has found. Each block is marked once.
+use Rattle.std.specs.Prelude.{ℕ, nat_lt, Bool, true, false, ◌&&◌, not, if◌then◌else◌, List, [], ◌∷◌, ◌++◌, length, map, get_or, slice_set, Some}
 use Rattle.stl_ast.specs.declared.blocks.Block.{Block}
-use Rattle.block_layout.specs.Rule43.{leads_to, uses_of}
+use Rattle.block_layout.specs.Rule43.{uses_of}
 use Rattle.block_layout.specs.Types.{Types}
 
 -- the data types that each block uses
 abbrev pub uses_of_all : Types → List Block → List (List ℕ)
 uses_of_all y blocks = map (λ b. uses_of y (Some b)) blocks
 
--- the blocks that lead to this one
-abbrev pub IsReached : Types → List Block → (to steps : ℕ) → List Bool → Type 0
-IsReached y blocks to steps reached =
-    (from : ℕ) → get_or reached from false ≡ leads_to y blocks steps from to
+-- the marks of all blocks, and the blocks that were found
+abbrev pub Marks : Type 0
+Marks = List Bool × List ℕ
+
+abbrev pub is_new : List Bool → ℕ → Bool
+is_new reached block = nat_lt block (length reached) && not (get_or reached block false)
+
+-- with a block marked and found, if it wasn't marked
+abbrev pub with_mark : Marks → ℕ → Marks
+with_mark marks block =
+    if is_new marks.0 block then (slice_set marks.0 block true, marks.1 ++ block ∷ []) else marks
+
+abbrev pub with_marks : Marks → List ℕ → Marks
+with_marks marks [] = marks
+with_marks marks (block ∷ blocks) = with_marks (with_mark marks block) blocks
+
+-- with all that some blocks use
+abbrev pub spread : (uses : List (List ℕ)) → Marks → (blocks : List ℕ) → Marks
+spread uses marks [] = marks
+spread uses marks (block ∷ blocks) =
+    spread uses (with_marks marks (get_or uses block [])) blocks

@@ -1,5 +1,7 @@
 -- What is kept of cells, for look-ups.
-use Rattle.std.specs.Prelude.{ℕ, ◌+◌, ◌<◌, ◌≤◌, ◌≡◌, true, List, length, get_or, drop}
+use Rattle.std.specs.Prelude.{ℕ, ◌+◌, ◌<◌, ◌≤◌, ◌≡◌, true, false, List, ◌++◌, length, get_or, drop}
+use Rattle.std.specs.List.{AllByRecursion}
+use Rattle.stl_ast.specs.Blocks.{is_parameter}
 use Rattle.block_layout.specs.declared.cells.Cell.{Cell}
 use Rattle.block_layout.specs.declared.members.Scope.{Scope}
 use Rattle.block_layout.specs.Members.{members_of, names_of}
@@ -21,12 +23,28 @@ AreScopes cells scopes = (k : ℕ) (c : Cell) (s : Scope) → k < length cells
     → (get_or cells k c).sound ≡ true
     → IsScope (get_or cells k c) (drop (k + 1) cells) (get_or scopes k s)
 
--- sizes and components of cells
+-- cells that are no parameters
+abbrev pub AreOthers : List Cell → Type 0
+AreOthers cells = AllByRecursion (λ c. is_parameter c.section ≡ false) cells
+
+-- the cells up to this place have all parameters among them
+pub record EndParameters (cells : List Cell) (parameters : ℕ) : Type 0 where
+  pub within : parameters ≤ length cells
+  pub others : AreOthers (drop parameters cells)
+
+-- the first cells, which have all parameters among them
+pub record HaveParameters (cells first : List Cell) : Type 0 where
+  pub rest : List Cell
+  pub whole : cells ≡ first ++ rest
+  pub others : AreOthers rest
+
+-- sizes and components of cells, and how many of them have all parameters
 pub record AreKept (cells : List Cell) (elements : List ℕ) (outer : Scope) (scopes : List Scope)
-    (bits : ℕ) : Type 0 where
+    (bits parameters : ℕ) : Type 0 where
   pub sized : elements ≡ elements_of cells
   pub outermost : HasComponents 0 cells outer
   pub counted : length scopes ≡ length cells
   pub inner : AreScopes cells scopes
   pub whole : bits ≡ structure_bits cells
   pub near : bits ≤ LARGEST
+  pub ended : EndParameters cells parameters

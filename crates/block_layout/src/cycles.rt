@@ -1,7 +1,7 @@
-ghost use Rattle.std.specs.Prelude.{◌≡◌, ◌<◌, ℕ, ◌||◌, IfOk, map, length, List, get_or, false, nat_eq, true, []};
+ghost use Rattle.std.specs.Prelude.{◌≡◌, ◌<◌, ℕ, IfOk, map, length, List, get_or, false, []};
 ghost use Rattle.block_layout.specs.Heads.{flagged};
 ghost use Rattle.block_layout.specs.Types.{Types};
-ghost use Rattle.std.specs.List.{flat_map, list_any, slice_get};
+ghost use Rattle.std.specs.List.{flat_map, slice_get};
 ghost use Rattle.stl_ast.specs.declared.blocks.Block.{Block};
 ghost use Rattle.block_layout.specs.Rule43.{
   contains_itself,
@@ -12,7 +12,7 @@ ghost use Rattle.block_layout.specs.Rule43.{
   uses_of,
 };
 ghost use Rattle.stl_symbols.specs.Least.{least};
-ghost use Rattle.block_layout.specs.Cycles.{IsReached, uses_of_all};
+ghost use Rattle.block_layout.specs.Cycles.{spread, uses_of_all, with_mark, with_marks};
 
 use crate::types::Types;
 use plc_base::{BlockKind, Refusal};
@@ -48,14 +48,6 @@ fn uses_of(
     Ok(uses)
 }
 
-/// Whether a list of uses leads to a block, by the blocks that lead to it.
-fn leads(uses: &[usize], to: usize, reached: &[bool]) -> bool
-    ensures { result ≡ list_any (λ used. nat_eq used to || get_or reached.now used false) uses.now }
-{
-    uses.iter()
-        .any(|used| *used == to || flag_at(reached, *used))
-}
-
 pub(crate) fn flag_at(flags: &[bool], place: usize) -> bool
     ensures { result ≡ get_or flags.now place false }
 {
@@ -81,57 +73,68 @@ pub(crate) fn all_uses(
     Ok(all)
 }
 
-/// The blocks that lead to a block in one step more.
-fn next_reached(
+/// Marks a block and notes it, where it isn't marked yet.
+fn mark(reached: &mut [bool], found: &mut Vec<usize>, block: usize) -> Result<(), AllocError>
+    ensures { IfOk result (λ _. (reached.new, found.new.items)
+        ≡ with_mark (reached.old, found.old.items) block) }
+{
+    if block < reached.len() && !reached[block] {
+        found.push(block)?;
+        reached[block] = true;
+    }
+    Ok(())
+}
+
+/// Marks blocks one behind the other, and notes those that weren't marked.
+fn mark_all(
+    reached: &mut [bool],
+    found: &mut Vec<usize>,
+    blocks: &[usize],
+) -> Result<(), AllocError>
+    ensures { IfOk result (λ _. (reached.new, found.new.items)
+        ≡ with_marks (reached.old, found.old.items) blocks.now) }
+{
+    for block in blocks {
+        mark(reached, found, *block)?;
+    }
+    Ok(())
+}
+
+/// Marks what some blocks use, and gives those that weren't marked.
+fn used_next(
     alloc: Global,
     uses: &[Vec<usize>],
-    to: usize,
-    reached: &[bool],
-) -> Result<Vec<bool>, AllocError>
-    ensures { IfOk result (λ v. v.items ≡ map (λ u.
-        list_any (λ used. nat_eq used to || get_or reached.now used false) u.items) uses.now) }
+    blocks: &[usize],
+    reached: &mut [bool],
+) -> Result<Vec<usize>, AllocError>
+    ensures { IfOk result (λ found. (reached.new, found.items)
+        ≡ spread (map (λ u. u.items) uses.now) (reached.old, []) blocks.now) }
 {
-    let mut next = Vec::with_capacity(alloc, uses.len())?;
-    for own in uses {
-        next.push(leads(own.as_slice(), to, reached))?;
-    }
-    Ok(next)
-}
-
-fn differ(a: bool, b: bool) -> bool
-    ensures { result ≡ false → a ≡ b }
-{
-    if a { !b } else { b }
-}
-
-fn are_same(a: &[bool], b: &[bool]) -> bool
-    ensures { result ≡ true → (k : ℕ) → get_or a.now k false ≡ get_or b.now k false }
-{
-    if a.len() != b.len() {
-        return false;
-    }
-    for i in 0..a.len() {
-        if differ(a[i], b[i]) {
-            return false;
+    let mut found = Vec::new(alloc);
+    for block in blocks {
+        if *block < uses.len() {
+            mark_all(reached, &mut found, uses[*block].as_slice())?;
         }
     }
-    true
+    Ok(found)
 }
 
-/// Whether uses lead from a block back to it.
+/// Whether uses lead from a block back to it: step by step, what is used by the blocks that the
+/// step before has found.
 pub(crate) fn leads_back(alloc: Global, uses: &[Vec<usize>], to: usize) -> Result<bool, AllocError>
     ensures { IfOk result (λ leads. (y : Types) (blocks : List Block)
         → map (λ u. u.items) uses.now ≡ uses_of_all y blocks
         → leads ≡ leads_to y blocks (length uses.now) to to) }
 {
-    let mut reached = Vec::new(alloc);
+    let mut reached = vec![in alloc; false; uses.len()]?;
+    let mut found = Vec::new(alloc);
+    found.push(to)?;
     for step in 0..uses.len() {
-        let known = reached.as_slice();
-        let next = next_reached(alloc, uses, to, known)?;
-        if are_same(next.as_slice(), known) {
-            return Ok(flag_at(known, to));
+        let next = used_next(alloc, uses, found.as_slice(), reached.as_mut_slice())?;
+        if next.is_empty() {
+            return Ok(flag_at(&reached, to));
         }
-        reached = next;
+        found = next;
     }
     Ok(flag_at(&reached, to))
 }

@@ -52,7 +52,8 @@ pub(crate) fn least_wrong_number(symbols: &Symbols, blocks: &[Block]) -> Option<
     })
 }
 
-fn is_parameter(kind: PartKind) -> bool
+/// Whether a section declares parameters: VAR_INPUT, VAR_OUTPUT, VAR_IN_OUT.
+pub fn is_parameter(kind: PartKind) -> bool
     ensures { result ≡ is_parameter kind }
 {
     matches!(kind, PartKind::Input | PartKind::Output | PartKind::InOut)

@@ -15,10 +15,11 @@ ghost use Rattle.std.specs.List.{slice_get};
 ghost use Rattle.std.specs.Option.{option_copied};
 ghost use Rattle.block_layout.specs.Members.{component};
 ghost use Rattle.block_layout.specs.Sizes.{element_of, elements_of, structure_bits};
-ghost use Rattle.block_layout.specs.Scopes.{AreScopes, IsScope};
+ghost use Rattle.block_layout.specs.Scopes.{AreScopes, EndParameters, HaveParameters, IsScope};
 ghost use Rattle.block_layout.specs.declared.cells.Cell.{Cell};
 
 use crate::cells::{Cell, LARGEST};
+use crate::heads::is_parameter;
 use crate::members::{Member, Scope, find, members};
 use crate::sizes::{elements, structure_bits};
 use std::alloc::{AllocError, Global};
@@ -32,6 +33,7 @@ pub struct Layout {
     outer: Scope,
     scopes: Vec<Scope>,
     bits: u64,
+    parameters: usize,
 }
 
 impl Model for Layout {
@@ -44,7 +46,8 @@ impl Model for Layout {
 
     ghost view = { λ l. l.cells.items };
 
-    ghost invariant = { λ l. AreKept l.cells.items l.elements.items l.outer l.scopes.items l.bits };
+    ghost invariant = { λ l. AreKept l.cells.items l.elements.items l.outer l.scopes.items l.bits
+        l.parameters };
 }
 
 /// The cells from a place on.
@@ -99,6 +102,17 @@ fn scopes(alloc: Global, cells: &[Cell], elements: &[u64]) -> Result<Vec<Scope>,
     Ok(scopes)
 }
 
+/// The place behind the last parameter.
+fn parameters_end(cells: &[Cell]) -> usize
+    ensures { EndParameters cells.now result }
+{
+    let mut end = cells.len();
+    while end > 0 && !is_parameter(cells[end - 1].section) {
+        end -= 1;
+    }
+    end
+}
+
 impl Layout {
     /// These cells, laid out.
     pub(crate) fn new(alloc: Global, cells: Vec<Cell>) -> Result<Self, AllocError>
@@ -108,12 +122,14 @@ impl Layout {
         let outer = members(alloc, cells.as_slice(), elements.as_slice(), 0)?;
         let scopes = scopes(alloc, cells.as_slice(), elements.as_slice())?;
         let bits = structure_bits(cells.as_slice(), elements.as_slice());
+        let parameters = parameters_end(cells.as_slice());
         Ok(Layout {
             cells,
             elements,
             outer,
             scopes,
             bits,
+            parameters,
         })
     }
 
@@ -122,6 +138,13 @@ impl Layout {
         ensures { result.now ≡ self.now }
     {
         self.cells.as_slice()
+    }
+
+    /// The cells up to the last parameter.
+    pub(crate) fn parameters(&self) -> &[Cell]
+        ensures { HaveParameters self.now result.now }
+    {
+        &self.cells.as_slice()[..self.parameters]
     }
 
     /// The bits of an element of each cell.

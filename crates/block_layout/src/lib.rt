@@ -42,6 +42,7 @@ mod walks;
 pub use blocks::{BlockLayout, Section, Shape};
 pub use cells::{Cell, Element, LARGEST, Preset};
 pub use constants::{bits_of, fits};
+pub use heads::is_parameter;
 pub use laws::law_of_offsets;
 pub use laying::{Layouts, lay_out, lay_out_sound};
 pub use layouts::Layout;

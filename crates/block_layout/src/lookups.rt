@@ -3,6 +3,7 @@ ghost use Rattle.std.specs.List.{slice_get};
 ghost use Rattle.std.specs.Option.{option_copied};
 ghost use Rattle.block_layout.specs.Blocks.{found_block, is_data_block};
 ghost use Rattle.block_layout.specs.Members.{component};
+ghost use Rattle.block_layout.specs.Scopes.{HaveParameters};
 ghost use Rattle.block_layout.specs.Paths.{
   cells_at,
   elementary_at,
@@ -58,6 +59,17 @@ impl Layouts {
         match layout_at(self.list(), block, temporary) {
             None => &[],
             Some(layout) => layout.cells(),
+        }
+    }
+
+    /// The first declarations of the block at this place, outside VAR_TEMP: all its parameters are
+    /// among them. None where the source has no such block.
+    pub fn parameters(&self, block: usize) -> &[Cell]
+        ensures { HaveParameters (cells_at self.now block false) result.now }
+    {
+        match layout_at(self.list(), block, false) {
+            None => &[],
+            Some(layout) => layout.parameters(),
         }
     }
 

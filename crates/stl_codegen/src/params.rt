@@ -13,7 +13,6 @@ ghost use Rattle.std.specs.Option.{IfNone};
 ghost use Rattle.std.specs.List.{AllByRecursion, flat_map};
 ghost use Rattle.block_layout.specs.Blocks.{is_function_block};
 ghost use Rattle.block_layout.specs.Offsets.{width_of};
-ghost use Rattle.stl_ast.specs.Blocks.{is_parameter};
 ghost use Rattle.stl_codegen.specs.Fitting.{Added, ParamFits, ParamsFit};
 ghost use Rattle.stl_codegen.specs.Generated.{
   offset_named,
@@ -27,7 +26,7 @@ ghost use Rattle.stl_codegen.specs.Generated.{
 
 use crate::instructions::in_order;
 use arrayvec::ArrayVec;
-use block_layout::{BlockLayout, Cell, Element, Layout, Member, width_of};
+use block_layout::{BlockLayout, Cell, Element, Layout, Member, is_parameter, width_of};
 use flat_code::Param;
 use plc_base::{BlockKind, Width};
 use std::alloc::{AllocError, Global};
@@ -42,15 +41,6 @@ fn section_number(section: PartKind) -> u8
         PartKind::Output => 2,
         _ => 3,
     }
-}
-
-fn is_parameter(section: PartKind) -> bool
-    ensures { result ≡ is_parameter section }
-{
-    matches!(
-        section,
-        PartKind::Input | PartKind::Output | PartKind::InOut
-    )
 }
 
 pub(crate) fn is_function_block(kind: BlockKind) -> bool

@@ -1,3 +1,4 @@
 pub mod CallLemmas
 pub mod WalkLemmas
 pub mod ContextLemmas
+mod CalleeLemmas

@@ -1,7 +1,6 @@
 ghost use Rattle.std.specs.Prelude.{◌≡◌, ◌++◌, IfOk};
 ghost use Rattle.std.specs.List.{list_all};
 ghost use Rattle.std.specs.Option.{option_map};
-ghost use Rattle.stl_ast.specs.Blocks.{is_parameter};
 ghost use Rattle.stl_types.specs.Parameters.{
   callee_at,
   callee_by,
@@ -17,19 +16,10 @@ ghost use Rattle.stl_types.specs.Parameters.{
 use crate::parameters::{Callee, Formal};
 use crate::scopes::Scope;
 use crate::system_functions::system_formals;
-use block_layout::{Cell, Element, named_block};
+use block_layout::{Cell, Element, is_parameter, named_block};
 use plc_base::{BlockId, BlockKind};
 use std::alloc::{AllocError, Global};
-use stl_ast::{Name, Operand, PartKind};
-
-fn is_parameter(section: PartKind) -> bool
-    ensures { result ≡ is_parameter section }
-{
-    matches!(
-        section,
-        PartKind::Input | PartKind::Output | PartKind::InOut
-    )
-}
+use stl_ast::{Name, Operand};
 
 /// Adds the parameter that a component is, if it is one.
 fn add_formal(formals: &mut Vec<Formal>, alloc: Global, cell: &Cell) -> Result<(), AllocError>
@@ -97,7 +87,9 @@ fn system_callee(alloc: Global, id: BlockId) -> Result<Option<Callee>, AllocErro
 }
 
 impl<'a> Scope<'a> {
-    /// A block of the source at its place.
+    /// A block of the source at its place. Only its first components are gone through, which have
+    /// all parameters among them.
+    #[tactic(auto, using(crate::proofs::CalleeLemmas::of_first))]
     fn callee_at(
         &self,
         alloc: Global,
@@ -106,7 +98,7 @@ impl<'a> Scope<'a> {
     ) -> Result<Option<Callee>, AllocError>
         ensures { IfOk result (λ c. c ≡ callee_at self.now id place) }
     {
-        match sound_formals(alloc, self.layouts().cells(place, false))? {
+        match sound_formals(alloc, self.layouts().parameters(place))? {
             None => Ok(None),
             Some(formals) => Ok(Some(Callee {
                 id,

@@ -1,28 +1,44 @@
-use Rattle.std.proofs.Common.{arith, ℕ, List, Bool, false, sym, ◌∙◌, ap, length, get_or, subst}
-use Rattle.block_layout.specs.Cycles.{IsReached}
+use Rattle.std.proofs.Common.{rules, arith, ◌≡◌, ◌∷◌, [], ℕ, List, Bool, false, get_or, length, map, refl, sym, ◌∙◌, ap, subst, replicate, add-one}
+use Rattle.stl_ast.specs.declared.blocks.Block.{Block}
+use Rattle.block_layout.specs.Cycles.{spread}
 use Rattle.block_layout.specs.Rule43.{leads_to}
-use Rattle.block_layout.proofs.CycleLemmas.{reached_next, settled}
+use Rattle.block_layout.proofs.CycleLemmas.{IsRound, all_rounds, ended, first_round, later_round, length-uses, next_round, none_there, written}
 use Rattle.block_layout.proofs.cycles.leads_back.Goals as goal
 
 pub loop-step-init : goal.loop-step-init
-loop-step-init c = λ y blocks are from. ap (λ (l : List Bool). get_or l from false) c.new-reached.ensures.items
+loop-step-init c = λ y blocks are.
+    let none : c.in_ok-reached.reached.items ≡ replicate (length c.args.uses.now) false = search rules in
+    let only : c.push.new.self.items ≡ c.args.to ∷ [] = search rules in
+    first_round y blocks c.args.to c.in_ok-reached.reached.items c.push.new.self.items
+    (none ∙ ap (λ (n : ℕ). replicate n false) (length-uses y blocks c.args.uses.now are)) only
 
 pub loop-step-preserved : goal.loop-step-preserved
 loop-step-preserved c = λ y blocks are.
-    reached_next y blocks c.args.to c.loop-step.step c.as_slice-known.result.now c.in_ok-next.next.items c.args.uses.now are c.in_ok-next.ensures
-    (subst (λ (l : List Bool). IsReached y blocks c.args.to c.loop-step.step l) (sym c.as_slice-known.ensures.value) (c.loop-step.invariant y blocks are))
+    let held = c.loop-step.invariant y blocks are in
+    let after : (c.used_next.new.reached, c.in_ok-next.next.items) ≡ spread (map (λ u. u.items) c.args.uses.now) (c.loop-step.reached.items, []) c.loop-step.found.items = search rules in
+    let r = next_round y blocks c.args.to c.loop-step.step (map (λ u. u.items) c.args.uses.now) c.loop-step.reached.items c.loop-step.found.items (c.used_next.new.reached, c.in_ok-next.next.items) are after held in
+    let long : length c.used_next.new.reached ≡ c.loop-step.reached.len = r.size ∙ sym held.size ∙ sym c.loop-step.reached.ok.0 in
+    later_round y blocks c.args.to c.loop-step.step _ c.used_next.new.reached c.in_ok-next.next.items (written c.loop-step.reached.len c.used_next.new.reached c.loop-step.reached.items long) r
 
-pub returns-then-are_same : goal.returns-then-are_same
-returns-then-are_same c = λ y blocks are.
-    let is = subst (λ (l : List Bool). IsReached y blocks c.args.to c.loop-step.step l) (sym c.as_slice-known.ensures.value) (c.loop-step.invariant y blocks are) in
+pub returns-then-is_empty : goal.returns-then-is_empty
+returns-then-is_empty c = λ y blocks are.
+    let held = c.loop-step.invariant y blocks are in
+    let after : (c.used_next.new.reached, c.in_ok-next.next.items) ≡ spread (map (λ u. u.items) c.args.uses.now) (c.loop-step.reached.items, []) c.loop-step.found.items = search rules in
+    let r = next_round y blocks c.args.to c.loop-step.step (map (λ u. u.items) c.args.uses.now) c.loop-step.reached.items c.loop-step.found.items (c.used_next.new.reached, c.in_ok-next.next.items) are after held in
+    let long : length c.used_next.new.reached ≡ c.loop-step.reached.len = r.size ∙ sym held.size ∙ sym c.loop-step.reached.ok.0 in
+    let none = none_there c.in_ok-next.next.items c.in_ok-next.next.len (sym c.is_empty.ensures ∙ c.if-is_empty.true) c.in_ok-next.next.ok.0 in
+    let flag : c.flag_at.result ≡ get_or c.used_next.new.reached c.args.to false =
+    c.flag_at.ensures ∙ ap (λ (l : List Bool). get_or l c.args.to false) (c.deref.ensures.value ∙ written c.loop-step.reached.len c.used_next.new.reached c.loop-step.reached.items long) in
+    let n = length-uses y blocks c.args.uses.now are in
     let within = c.loop-step-test.true in
-    c.flag_at.ensures
-    ∙ settled y blocks c.args.to c.loop-step.step (length c.args.uses.now) c.as_slice-known.result.now c.in_ok-next.next.items is
-    (reached_next y blocks c.args.to c.loop-step.step c.as_slice-known.result.now c.in_ok-next.next.items c.args.uses.now are c.in_ok-next.ensures is)
-    (λ k. ap (λ (l : List Bool). get_or l k false) (sym c.as_slice.ensures.value) ∙ c.are_same.ensures c.if-are_same.true k) (omega arith)
+    flag ∙ ended y blocks c.args.to c.loop-step.step c.used_next.new.reached c.in_ok-next.next.items r none (omega arith)
+    ∙ ap (λ (k : ℕ). leads_to y blocks k c.args.to c.args.to) (sym n)
 
 pub returns : goal.returns
 returns c = λ y blocks are.
-    c.flag_at-2.ensures ∙ ap (λ (l : List Bool). get_or l c.args.to false) c.deref.ensures.value
-    ∙ (c.loop-step.invariant y blocks are) c.args.to ∙ ap (λ (n : ℕ). leads_to y blocks n c.args.to c.args.to)
-    (let over = c.loop-step-test.false in let most = c.loop-step.auto.step-end in omega arith)
+    let n = length-uses y blocks c.args.uses.now are in
+    let over = c.loop-step-test.false in
+    let most = c.loop-step.auto.step-end in
+    c.flag_at-2.ensures ∙ ap (λ (l : List Bool). get_or l c.args.to false) c.deref-2.ensures.value
+    ∙ all_rounds y blocks c.args.to c.loop-step.step c.loop-step.reached.items c.loop-step.found.items (c.loop-step.invariant y blocks are) (omega arith)
+    ∙ ap (λ (k : ℕ). leads_to y blocks k c.args.to c.args.to) (sym n)

@@ -2,7 +2,7 @@ use Rattle.std.proofs.Common.{◌∙◌, ap, subst, length, List}
 use Rattle.block_layout.specs.declared.cells.Cell.{Cell}
 use Rattle.block_layout.specs.Members.{names_of, members_of}
 use Rattle.block_layout.specs.Sizes.{elements_of, structure_bits}
-use Rattle.block_layout.specs.Scopes.{AreScopes}
+use Rattle.block_layout.specs.Scopes.{AreScopes, EndParameters}
 use Rattle.block_layout.proofs.layouts.Layout.new.Goals as goal
 
 pub invariant_of-result : goal.invariant_of-result
@@ -16,4 +16,5 @@ invariant_of-result c = record {
   inner = subst (λ (l : List Cell). AreScopes l c.in_ok-scopes.scopes.items) c.as_slice-4.ensures.value c.in_ok-scopes.ensures.scopes;
   whole = c.structure_bits-bits.ensures.value ∙ ap (λ (l : List Cell). structure_bits l) c.as_slice-6.ensures.value;
   near = c.structure_bits-bits.ensures.near;
+  ended = subst (λ (l : List Cell). EndParameters l c.parameters_end-parameters.result) c.as_slice-8.ensures.value c.parameters_end-parameters.ensures;
 }
