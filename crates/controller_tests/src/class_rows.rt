@@ -12,7 +12,7 @@ type Written = Result<(), AllocError>;
 /// What requests an organization block in RUN: for OB 1 no request but the cycle point, for the cyclic
 /// ones the end of a period of so many milliseconds, for OB 80 an exceeded cycle time, for OB 85 a
 /// request of a block that isn't loaded.
-#[derive(Clone, Copy, PartialEq, Eq)]
+#[derive(Clone, Copy)]
 enum By {
     CyclePoint,
     Arrival,
