@@ -155,7 +155,12 @@ fn loaded(alloc: Global, program: &str) -> Result<Loaded, Fail> {
     }
 }
 
-fn run_text(alloc: Global, rt: &impl Abort, program: &str, history: &str) -> Result<String, Fail> {
+pub(crate) fn run_text(
+    alloc: Global,
+    rt: &impl Abort,
+    program: &str,
+    history: &str,
+) -> Result<String, Fail> {
     let mut controller = Controller::new(alloc, loaded(alloc, program)?)?;
     let mut out = String::new(alloc);
     for line in history.split('|') {

@@ -5,6 +5,8 @@
 #[cfg(test)]
 mod bench;
 #[cfg(test)]
+mod class_rows;
+#[cfg(test)]
 mod error_rows;
 #[cfg(test)]
 mod interrupt_rows;

@@ -154,7 +154,7 @@ fn calls_of_blocks(rt: HostRuntime) -> Result<(), Fail> {
 }
 
 /// Startup, time and error organization blocks, and system functions.
-static ORGANIZATION_BLOCKS: [Run; 7] = [
+static ORGANIZATION_BLOCKS: [Run; 12] = [
     // 151 ms without a cycle point: OB 80 isn't loaded.
     (
         "",
@@ -166,6 +166,34 @@ static ORGANIZATION_BLOCKS: [Run; 7] = [
         "ORGANIZATION_BLOCK OB 80\nBEGIN\nNOP 0;\nEND_ORGANIZATION_BLOCK\n",
         "tick 151\ntick 151\n",
         "@2 MODE STOP 10 AT OB 80 LINE 3\nEND 2 STOP 10\n",
+    ),
+    // A period of OB 38 that ends while it waits for its start; with OB 80 the cycle time ends the tick.
+    (
+        "ORGANIZATION_BLOCK OB 38\nBEGIN\nNOP 0;\nEND_ORGANIZATION_BLOCK\n",
+        "tick 60000\n",
+        "@1 MODE STOP 9 AT NONE\nEND 1 STOP 9\n",
+    ),
+    (
+        "ORGANIZATION_BLOCK OB 38\nBEGIN\nNOP 0;\nEND_ORGANIZATION_BLOCK\nORGANIZATION_BLOCK OB 80\nBEGIN\nNOP 0;\nEND_ORGANIZATION_BLOCK\n",
+        "tick 60000\n",
+        "@1 MODE STOP 10 AT NONE\nEND 1 STOP 10\n",
+    ),
+    // In STARTUP an on-delay of 50 s is over after 50,000 ms, and not after 49,999.
+    (
+        "ORGANIZATION_BLOCK OB 100\nBEGIN\nSET;\nL S5T#50S;\nSD T 1;\nA T 1;\n= Q 4.0;\nEND_ORGANIZATION_BLOCK\n",
+        "step 3\ntick 50000\nstep 4\n",
+        "@7 MODE RUN\n@8 PQ 4 = 01\nEND 8 RUN\n",
+    ),
+    (
+        "ORGANIZATION_BLOCK OB 100\nBEGIN\nSET;\nL S5T#50S;\nSD T 1;\nA T 1;\n= Q 4.0;\nEND_ORGANIZATION_BLOCK\n",
+        "step 3\ntick 49999\nstep 4\n",
+        "@7 MODE RUN\nEND 8 RUN\n",
+    ),
+    // The program stops the controller.
+    (
+        "ORGANIZATION_BLOCK OB 1\nBEGIN\nCALL SFC 46;\nEND_ORGANIZATION_BLOCK\n",
+        "step 2\n",
+        "@2 MODE STOP 1 AT OB 1 LINE 3\nEND 2 STOP 1\n",
     ),
     // OB 40 waits while interrupts are disabled.
     (
