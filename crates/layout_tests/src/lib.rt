@@ -2,7 +2,11 @@
 #![tactic(auto)]
 
 #[cfg(test)]
+mod bytes_tests;
+#[cfg(test)]
 mod calls;
+#[cfg(test)]
+mod limit_tests;
 #[cfg(test)]
 mod offset_tests;
 #[cfg(test)]

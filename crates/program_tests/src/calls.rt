@@ -123,7 +123,7 @@ fn runs_and_refusals(rt: HostRuntime) -> Result<(), Fail> {
 #[test]
 fn checks(rt: HostRuntime) -> Result<(), Fail> {
     // source, status, text
-    let table: [(&[u8], u8, &[u8]); 16] = [
+    let table: [(&[u8], u8, &[u8]); 18] = [
         (RUNG, 0, b"OK\n"),
         (b"", 0, b"OK\n"),
         (b"// nothing\n", 0, b"OK\n"),
@@ -179,6 +179,17 @@ fn checks(rt: HostRuntime) -> Result<(), Fail> {
             b"ORGANIZATION_BLOCK OB 1\nBEGIN\nL M 0.0;\nEND_ORGANIZATION_BLOCK\nORGANIZATION_BLOCK OB 1\nBEGIN\nEND_ORGANIZATION_BLOCK\n",
             2,
             b"source refused: line 3 rule 24\n",
+        ),
+        // The lesser rule of one line, be it of blocks or of statements.
+        (
+            b"ORGANIZATION_BLOCK OB 1\nBEGIN\nOPN DB 9; L M 0.0;\nEND_ORGANIZATION_BLOCK\n",
+            2,
+            b"source refused: line 3 rule 23\n",
+        ),
+        (
+            b"ORGANIZATION_BLOCK OB 1\nBEGIN\nOPN DB 9; A \"nix\";\nEND_ORGANIZATION_BLOCK\n",
+            2,
+            b"source refused: line 3 rule 20\n",
         ),
         // A place beyond the memory is met only when it runs.
         (

@@ -56,7 +56,7 @@ static WIDTHS: [Row; 18] = [
     (b"= MB [MD 4];", 2, 24),
 ];
 
-static FORMS: [Row; 25] = [
+static FORMS: [Row; 28] = [
     (b"SET;\nCLR;\n+I;", 0, 0),
     (b"SET M 0.0;", 2, 25),
     (b"A;", 2, 25),
@@ -65,6 +65,9 @@ static FORMS: [Row; 25] = [
     (b"= T 1;", 2, 25),
     (b"L DB 1;", 2, 25),
     (b"UC DB 1;", 2, 25),
+    (b"CALL DB 1;", 2, 25),
+    (b"CALL UDT 1;", 2, 25),
+    (b"CC UDT 1;", 2, 25),
     (b"CALL \"Fun\", DB 2;", 2, 25),
     (b"T PQW 0;\nL PIW 0;", 0, 0),
     (b"T PIW 0;", 2, 25),
@@ -122,7 +125,7 @@ static INPUTS: [Row; 8] = [
     (b"T #num; A 5;", 2, 25),
 ];
 
-static LABELS: [Row; 21] = [
+static LABELS: [Row; 22] = [
     (b"JU a1;\na1: SET;", 0, 0),
     (b"a1: SET;\nJC a1;", 0, 0),
     (b"JU a1;", 2, 26),
@@ -139,6 +142,7 @@ static LABELS: [Row; 21] = [
     (b"JL a9;\n;\nJU a9;\n;\na9: SET;", 0, 0),
     (b"JL a9;\nSET;\na9: SET;", 2, 32),
     (b"JL a9;\nJC a9;\na9: SET;", 2, 32),
+    (b"JL a9;\nJU a9;\nNOP 0;\na9: SET;", 2, 32),
     (b"a9: SET;\nJL a9;", 3, 32),
     (b"a9: JL a9;", 2, 32),
     (b"JL a9;\nJU a9;", 2, 26),

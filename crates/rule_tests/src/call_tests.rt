@@ -48,7 +48,7 @@ static SUPPLIED: [Row; 20] = [
     (b"CALL FC 2 (num := 5,\nkept := 5);", 2, 36),
 ];
 
-static FITTING: [Row; 25] = [
+static FITTING: [Row; 31] = [
     (
         b"CALL FB 1, DB 2 (num := 32767);\nCALL FB 1, DB 2 (num := -32768);",
         0,
@@ -69,6 +69,15 @@ static FITTING: [Row; 25] = [
     (b"CALL FB 1, DB 2 (wide := DW#16#5);", 2, 37),
     (b"CALL FB 1, DB 2 (flag := M 0.0, wide := QD 0);", 0, 0),
     (b"CALL FB 1, DB 2 (flag := MW 0);", 2, 37),
+    // A constant fits by its form: DW#16# or four characters a DWORD.
+    (
+        b"CALL FC 5 (long := DW#16#5);\nCALL FC 5 (long := 'abcd');",
+        0,
+        0,
+    ),
+    (b"CALL FC 5 (long := W#16#5);", 2, 37),
+    (b"CALL FC 5 (long := 5);", 2, 37),
+    (b"CALL FC 5 (long := L#5);", 2, 37),
     // Peripheral inputs for IN, outputs for OUT and IN_OUT.
     (b"CALL FB 1, DB 2 (num := PIW 0, wide := PQD 0);", 0, 0),
     (b"CALL FB 1, DB 2 (num := PQW 0);", 2, 37),
@@ -86,6 +95,12 @@ static FITTING: [Row; 25] = [
         0,
     ),
     (b"CALL FB 1, DB 2 (flag := #bit);", 2, 37),
+    (
+        b"CALL FC 5 (long := #long);\nCALL FC 5 (long := #wide);",
+        0,
+        0,
+    ),
+    (b"CALL FB 1, DB 2 (wide := #long);", 2, 37),
     (b"CALL FB 1, DB 2 (num := #wide);", 2, 37),
     (b"CALL FB 1, DB 2 (num := #own.list);", 2, 37),
     (b"CALL FB 1, DB 2 (num := #when);", 2, 24),

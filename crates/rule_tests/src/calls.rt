@@ -11,7 +11,7 @@ use stl_types::check;
 
 /// What stands on the first line of each source of a body: blocks that it can name, and the head of
 /// its function with its declarations. The body itself begins on the second line.
-static BEFORE: [&[u8]; 10] = [
+static BEFORE: [&[u8]; 11] = [
     b"TYPE UDT 1 STRUCT num : INT; inner : STRUCT flag : BOOL; END_STRUCT; list : ARRAY [1 .. 3] OF INT; END_STRUCT END_TYPE ",
     b"DATA_BLOCK DB 1 UDT 1 BEGIN END_DATA_BLOCK ",
     b"FUNCTION_BLOCK FB 1 VAR_INPUT num : INT; END_VAR VAR_OUTPUT flag : BOOL; END_VAR VAR_IN_OUT wide : DWORD; END_VAR VAR kept : INT; END_VAR BEGIN END_FUNCTION_BLOCK ",
@@ -20,7 +20,8 @@ static BEFORE: [&[u8]; 10] = [
     b"FUNCTION FC 2 : INT VAR_INPUT num : INT; END_VAR VAR_OUTPUT flag : BOOL; END_VAR VAR_IN_OUT wide : DWORD; END_VAR BEGIN END_FUNCTION ",
     b"FUNCTION FC 3 : VOID BEGIN END_FUNCTION ",
     b"FUNCTION FC 4 : VOID VAR_INPUT one : INT; one : INT; END_VAR BEGIN END_FUNCTION ",
-    b"FUNCTION FC 1 : VOID VAR_INPUT num : INT; bit : BOOL; END_VAR VAR_OUTPUT res : INT; END_VAR VAR_IN_OUT wide : DWORD; END_VAR ",
+    b"FUNCTION FC 5 : VOID VAR_INPUT long : DWORD; END_VAR BEGIN END_FUNCTION ",
+    b"FUNCTION FC 1 : VOID VAR_INPUT num : INT; bit : BOOL; long : DWORD; END_VAR VAR_OUTPUT res : INT; END_VAR VAR_IN_OUT wide : DWORD; END_VAR ",
     b"VAR_TEMP tmp : INT; way : BOOL; own : UDT 1; row : ARRAY [1 .. 2] OF INT; when : DATE_AND_TIME; END_VAR BEGIN\n",
 ];
 

@@ -9,3 +9,5 @@ mod call_tests;
 mod calls;
 #[cfg(test)]
 mod source_tests;
+#[cfg(test)]
+mod word_tests;

@@ -1,7 +1,7 @@
 use crate::calls::{Row, sources_agree};
 use std::test::Fail;
 
-static BLOCKS: [Row; 14] = [
+static BLOCKS: [Row; 15] = [
     // A component of a user-defined data type among the temporary variables of each kind of block.
     (
         b"TYPE UDT 1\nSTRUCT\nnum : INT;\nEND_STRUCT\nEND_TYPE\nORGANIZATION_BLOCK OB 1\nVAR_TEMP\nown : UDT 1;\nEND_VAR\nBEGIN\nL #own.num;\nEND_ORGANIZATION_BLOCK",
@@ -55,6 +55,12 @@ static BLOCKS: [Row; 14] = [
         b"DATA_BLOCK DB 1\nSTRUCT\nnum : INT;\nEND_STRUCT\nBEGIN\nnum := 5;\nother := 5;\nEND_DATA_BLOCK",
         7,
         20,
+    ),
+    // Of a name that is declared twice the first declaration is meant.
+    (
+        b"DATA_BLOCK DB 1\nSTRUCT\nnum : INT;\nNUM : BOOL;\nEND_STRUCT\nBEGIN\nEND_DATA_BLOCK\nFUNCTION FC 1 : VOID\nBEGIN\nL DB1.num;\nA DB1.num;\nEND_FUNCTION",
+        11,
+        24,
     ),
     // A label belongs to its body, and so do brackets.
     (
