@@ -1,4 +1,4 @@
-use Rattle.std.proofs.Common.{ℕ, ◌≡◌, ◌+◌, List, [], ◌∷◌, refl, ◌∙◌, ap, arith, max, map, add-one}
+use Rattle.std.proofs.Common.{ℕ, zero, suc, ◌≡◌, ◌≤◌, ◌+◌, ◌-◌, sym, List, [], ◌∷◌, refl, ◌∙◌, ap, arith, max, map, add-one}
 use Rattle.stl_ast.specs.declared.declarations.Declaration.{Declaration}
 use Rattle.block_layout.specs.Around.{of_structure}
 use Rattle.stl_ast.specs.declared.blocks.Block.{Block}
@@ -41,3 +41,31 @@ bits_step y types blocks k next new is_types is_next is_new =
 pub bits_done : (y types : Types) (blocks : List Block) (k : ℕ) → types ≡ with_bits y (bits_after k y blocks) → k ≡ rounds → types ≡ with_all_bits y blocks
 unfolding with_all_bits
 bits_done y types blocks k is_types all = is_types ∙ ap (λ (j : ℕ). with_bits y (bits_after j y blocks)) all
+
+depths_stay : (y : Types) (blocks : List Block) (k j n : ℕ) → n ≡ j + k → depths_after (suc k) y blocks ≡ depths_after k y blocks → depths_after n y blocks ≡ depths_after k y blocks
+depths_stay y blocks k zero n is same = let at : n ≡ k = omega arith in ap (λ (i : ℕ). depths_after i y blocks) at
+depths_stay y blocks k (suc j) n is same =
+    let next : n ≡ suc (j + k) = omega arith in
+    ap (λ (i : ℕ). depths_after i y blocks) next ∙ ap (λ (m : List ℕ). map (type_depth (with_depths y m)) blocks) (depths_stay y blocks k j (j + k) refl same) ∙ same
+
+pub depths_settled : (y types : Types) (blocks : List Block) (k : ℕ) (next : List ℕ) → types ≡ with_depths y (depths_after k y blocks) → next ≡ map (type_depth types) blocks → next ≡ types.depths → k ≤ rounds →
+    types ≡ with_all_depths y blocks
+depths_settled y types blocks k next is_types is_next is_same most =
+    let same : depths_after (suc k) y blocks ≡ depths_after k y blocks =
+    ap (λ (t : Types). map (type_depth t) blocks) (sym is_types) ∙ sym is_next ∙ is_same ∙ ap (λ (t : Types). t.depths) is_types in
+    let whole : rounds ≡ (rounds - k) + k = omega arith in
+    depths_done y types blocks rounds (is_types ∙ ap (λ (m : List ℕ). with_depths y m) (sym (depths_stay y blocks k (rounds - k) rounds whole same))) refl
+
+bits_stay : (y : Types) (blocks : List Block) (k j n : ℕ) → n ≡ j + k → bits_after (suc k) y blocks ≡ bits_after k y blocks → bits_after n y blocks ≡ bits_after k y blocks
+bits_stay y blocks k zero n is same = let at : n ≡ k = omega arith in ap (λ (i : ℕ). bits_after i y blocks) at
+bits_stay y blocks k (suc j) n is same =
+    let next : n ≡ suc (j + k) = omega arith in
+    ap (λ (i : ℕ). bits_after i y blocks) next ∙ ap (λ (m : List ℕ). map (type_bits (with_bits y m)) blocks) (bits_stay y blocks k j (j + k) refl same) ∙ same
+
+pub bits_settled : (y types : Types) (blocks : List Block) (k : ℕ) (next : List ℕ) → types ≡ with_bits y (bits_after k y blocks) → next ≡ map (type_bits types) blocks → next ≡ types.bits → k ≤ rounds →
+    types ≡ with_all_bits y blocks
+bits_settled y types blocks k next is_types is_next is_same most =
+    let same : bits_after (suc k) y blocks ≡ bits_after k y blocks =
+    ap (λ (t : Types). map (type_bits t) blocks) (sym is_types) ∙ sym is_next ∙ is_same ∙ ap (λ (t : Types). t.bits) is_types in
+    let whole : rounds ≡ (rounds - k) + k = omega arith in
+    bits_done y types blocks rounds (is_types ∙ ap (λ (m : List ℕ). with_bits y m) (sym (bits_stay y blocks k (rounds - k) rounds whole same))) refl

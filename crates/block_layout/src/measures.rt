@@ -1,4 +1,4 @@
-ghost use Rattle.std.specs.Prelude.{◌≡◌, ◌≤◌, IfOk, map, [], max};
+ghost use Rattle.std.specs.Prelude.{◌≡◌, ◌≤◌, IfOk, map, [], max, true};
 ghost use Rattle.stl_ast.specs.declared.blocks.PartKind.TheVariants as part;
 ghost use Rattle.block_layout.specs.Around.{of_structure};
 ghost use Rattle.block_layout.specs.Blocks.{ids_of, is_data_type};
@@ -163,7 +163,14 @@ fn zeros(alloc: Global, blocks: &[Block]) -> Result<Vec<u64>, AllocError>
     Ok(zeros)
 }
 
-/// The types with their depths.
+/// Whether a round gave what the one before it gave.
+fn are_same(given: &[u64], before: &[u64]) -> bool
+    ensures { result ≡ true → given.now ≡ before.now }
+{
+    given == before
+}
+
+/// The types with their depths; a round that changes nothing is the last one.
 #[tactic(auto, unfolding(crate::specs::Measures::with_all_depths))]
 fn with_all_depths<'a>(
     alloc: Global,
@@ -175,12 +182,15 @@ fn with_all_depths<'a>(
     let mut types = with_depths(types, zeros(alloc, blocks)?);
     for round in 0..ROUNDS {
         let depths = next_depths(alloc, &types, blocks)?;
+        if are_same(&depths, &types.depths) {
+            return Ok(types);
+        }
         types = with_depths(types, depths);
     }
     Ok(types)
 }
 
-/// The types with their bits.
+/// The types with their bits; a round that changes nothing is the last one.
 #[tactic(auto, unfolding(crate::specs::Measures::with_all_bits))]
 fn with_all_bits<'a>(
     alloc: Global,
@@ -192,6 +202,9 @@ fn with_all_bits<'a>(
     let mut types = with_bits(types, zeros(alloc, blocks)?);
     for round in 0..ROUNDS {
         let bits = next_bits(alloc, &types, blocks)?;
+        if are_same(&bits, &types.bits) {
+            return Ok(types);
+        }
         types = with_bits(types, bits);
     }
     Ok(types)
