@@ -116,7 +116,7 @@ static SHIFTS: [Row; 25] = [
     ("SLD", "A2=20 A1=1", "A1=0 STW=80"),
     ("SLD", "A2=21 A1=FFFFFFFF STW=80", "A1=0 STW=0"),
     ("SRD #4", "A1=F000000F", "A1=F000000 STW=80"),
-    ("SRD #20", "A1=80000000", "A1=0 STW=80"),
+    ("SRD", "A2=20 A1=80000000", "A1=0 STW=80"),
     // 32 places are a whole turn, 33 are one place
     ("RLD #4", "A1=F000000A", "A1=AF STW=80"),
     ("RLD #20", "A1=1", "A1=1 STW=80"),

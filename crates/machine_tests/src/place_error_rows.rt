@@ -64,7 +64,7 @@ fn numbers_of_timers_and_counters(rt: HostRuntime) -> Result<(), Fail> {
 }
 
 /// 32 and 33: no block is open in DB, in DI; by reading, by writing, and for the pointer's own place.
-static NOT_OPEN: [Row; 20] = [
+static NOT_OPEN: [Row; 22] = [
     ("L DBW0; L #5", "A1=7", "ERR=32 ERRS=1 A1=5 A2=7"),
     ("T DBW0", "A1=7", "ERR=32"),
     ("A DBX0.0", "STW=9", "ERR=32"),
@@ -89,6 +89,9 @@ static NOT_OPEN: [Row; 20] = [
         "A1=7",
         "ERR=33 DB=A DB10.DBW0=0",
     ),
+    // the block of the pointer's own place comes before that of the operand
+    ("L DBW[DID0]", "A1=7", "ERR=33"),
+    ("T DIW[DBD0]", "A1=7", "ERR=32"),
 ];
 
 #[test]

@@ -86,7 +86,7 @@ fn timers(rt: HostRuntime) -> Result<(), Fail> {
 }
 
 /// Each of CU, CD, S and FR acts on a rising RLO of its own edge.
-static COUNTERS: [Row; 19] = [
+static COUNTERS: [Row; 20] = [
     ("SET; CU C5; CU C5", "", "CV5=1 STW=6"),
     ("SET; CU C5; CLR; CU C5; SET; CU C5", "", "CV5=2 STW=6"),
     ("CU C5", "STW=D", "CV5=0 STW=4"),
@@ -116,6 +116,11 @@ static COUNTERS: [Row; 19] = [
     ),
     // by a word of memory
     ("SET; S C[MW0]; CU C[MW0]", "MW0=5 A1=0012", "CV5=D STW=6"),
+    (
+        "SET; S C5; L #7; FR C[MW0]; S C5",
+        "MW0=5 A1=0123",
+        "CV5=7 A1=7 A2=123 STW=6",
+    ),
     (
         "SET; S C5; CD C[LW0]; L C[LW0]",
         "LB1=05 A1=0012",

@@ -64,7 +64,7 @@ fn data_blocks(rt: HostRuntime) -> Result<(), Fail> {
 }
 
 /// Numbers, jumps, local data, brackets and timers in OB 1, and interrupts.
-static STATEMENTS: [Run; 9] = [
+static STATEMENTS: [Run; 10] = [
     (
         "ORGANIZATION_BLOCK OB 1\nBEGIN\nL 32767;\nL 1;\n+I;\nT QW 4;\nEND_ORGANIZATION_BLOCK\n",
         "step 7\n",
@@ -91,6 +91,12 @@ static STATEMENTS: [Run; 9] = [
         "ORGANIZATION_BLOCK OB 1\nBEGIN\nA(;\nA(;\nA(;\nA(;\nA(;\nA(;\nA(;\nA I 0.0;\n);\n);\n);\n);\n);\n);\n);\n= Q 4.0;\nEND_ORGANIZATION_BLOCK\n",
         "in 0 01\nstep 19\n",
         "@20 PQ 4 = 01\nEND 20 RUN\n",
+    ),
+    // OB 40 interrupts in a bracket and has one of its own: 1 X (0), and AN (0).
+    (
+        "ORGANIZATION_BLOCK OB 1\nBEGIN\nA I 0.0;\nX(;\nO I 0.1;\n);\n= Q 4.0;\nEND_ORGANIZATION_BLOCK\nORGANIZATION_BLOCK OB 40\nBEGIN\nAN(;\nA I 0.1;\n);\n= Q 5.0;\nEND_ORGANIZATION_BLOCK\n",
+        "in 0 01\nstep 3\narrive 40\nstep 10\n",
+        "@15 PQ 4 = 01\n@15 PQ 5 = 01\nEND 15 RUN\n",
     ),
     // An on-delay of 50 ms is over after 50 ms, and not after 49.
     (
@@ -154,7 +160,19 @@ fn calls_of_blocks(rt: HostRuntime) -> Result<(), Fail> {
 }
 
 /// Startup, time and error organization blocks, and system functions.
-static ORGANIZATION_BLOCKS: [Run; 12] = [
+static ORGANIZATION_BLOCKS: [Run; 14] = [
+    // The first bytes of the start information: 16#11, the start code, the class and the number. OB 40 has
+    // class 16, OB 1 class 1 and another start code from the second cycle on.
+    (
+        "ORGANIZATION_BLOCK OB 40\nBEGIN\nL LD 0;\nT PQD 300;\nEND_ORGANIZATION_BLOCK\n",
+        "arrive 40\nstep 2\n",
+        "@3 PQ 300 = 11\n@3 PQ 301 = 41\n@3 PQ 302 = 10\n@3 PQ 303 = 28\nEND 3 RUN\n",
+    ),
+    (
+        "ORGANIZATION_BLOCK OB 1\nBEGIN\nL LD 0;\nT PQD 300;\nEND_ORGANIZATION_BLOCK\n",
+        "step 7\n",
+        "@3 PQ 300 = 11\n@3 PQ 301 = 01\n@3 PQ 302 = 01\n@3 PQ 303 = 01\n@7 PQ 301 = 03\nEND 7 RUN\n",
+    ),
     // 151 ms without a cycle point: OB 80 isn't loaded.
     (
         "",
