@@ -141,7 +141,7 @@ static CALLED: [Row; 23] = [
         0,
     ),
     (
-        b"CALL SFC 39 (MODE := B#16#0, OB_NR := 20, RET_VAL := MW 0);\nCALL SFC 33 (OB_NR := 20, RET_VAL := MW 0);",
+        b"CALL SFC 39 (MODE := B#16#0, OB_NR := 20, RET_VAL := MW 0);\nCALL SFC 40 (MODE := B#16#0, OB_NR := 20, RET_VAL := MW 0);\nCALL SFC 33 (OB_NR := 20, RET_VAL := MW 0);",
         0,
         0,
     ),

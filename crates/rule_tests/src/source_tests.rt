@@ -1,7 +1,7 @@
 use crate::calls::{Row, sources_agree};
 use std::test::Fail;
 
-static BLOCKS: [Row; 15] = [
+static BLOCKS: [Row; 17] = [
     // A component of a user-defined data type among the temporary variables of each kind of block.
     (
         b"TYPE UDT 1\nSTRUCT\nnum : INT;\nEND_STRUCT\nEND_TYPE\nORGANIZATION_BLOCK OB 1\nVAR_TEMP\nown : UDT 1;\nEND_VAR\nBEGIN\nL #own.num;\nEND_ORGANIZATION_BLOCK",
@@ -77,6 +77,18 @@ static BLOCKS: [Row; 15] = [
         b"FUNCTION FC 1 : VOID\nBEGIN\nA(;\nEND_FUNCTION\nFUNCTION FC 2 : VOID\nBEGIN\n);\nEND_FUNCTION",
         3,
         30,
+    ),
+    // No instruction calls an organization block.
+    (
+        b"ORGANIZATION_BLOCK OB 10\nBEGIN\nSET;\nEND_ORGANIZATION_BLOCK\nFUNCTION FC 1 : VOID\nBEGIN\nCALL OB 10;\nEND_FUNCTION",
+        7,
+        25,
+    ),
+    // The names of the parameters rest on the called block, whatever is wrong with the instance.
+    (
+        b"FUNCTION_BLOCK FB 1\nBEGIN\nSET;\nEND_FUNCTION_BLOCK\nORGANIZATION_BLOCK OB 1\nBEGIN\nCALL FB 1, DB 9 (nope := 5);\nEND_ORGANIZATION_BLOCK\nDATA_BLOCK DB 9\nFB 99\nBEGIN\nEND_DATA_BLOCK",
+        7,
+        34,
     ),
     // The least line of all blocks, whatever its rule.
     (
