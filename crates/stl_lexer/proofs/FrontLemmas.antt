@@ -5,7 +5,7 @@ use Rattle.std.specs.List.{list_all, list_any, prefix_len}
 use Rattle.std.specs.Char.{is_ascii_digit, to_ascii_lowercase}
 use Rattle.std.specs.Str.{str_to_ascii_lowercase}
 use Rattle.std.proofs.lemmas.Slice.Eq.{bytes_eq-Decides}
-use Rattle.std.proofs.lemmas.Bool.{and_parts, cases_Bool, eqb-true, or_cases, or_left, ltb-true, false≢true, not-true}
+use Rattle.std.proofs.lemmas.Bool.{and_parts, and_from, cases_Bool, eqb-true, or_cases, or_left, ltb-true, false≢true, false_from_ne_true, not-true}
 use Rattle.std.proofs.lemmas.Bool.Decides.{nat_tests}
 use Rattle.stl_lexer.specs.declared.kinds.TokenKind.TheVariants.{Word, Number, Quoted, Local, Characters, Based, NumberLiteral, TimeLiteral, Mark, SignWord, Attribute, Title}
 use Rattle.stl_lexer.specs.declared.tables.Tail.{Tail}
@@ -215,3 +215,56 @@ number_alone text n based number h =
     (none_listed Apart (is_apart is_ascii_digit) sign_words text without refl)
     (not_opened open_brace close_brace false text (λ _. other open_brace refl))
     (none_listed Line (is_apart is_ascii_digit) title_words text without refl)
+
+-- ---- neither
+
+no_start : (text : List ℕ) → HasNone (λ s after. is_word s) text → is_word_start (get_or text 0 0) ≡ false
+unfolding is_word_start
+no_start [] none = refl
+no_start (b ∷ s) none = false_from_ne_true (is_word_start b) (λ e. none 1 (record { some = omega arith; within = omega arith; fits = and_from (is_word_start b) true e refl }))
+
+no_digit : (text : List ℕ) → HasNone (λ s after. is_number s) text → is_ascii_digit (get_or text 0 0) ≡ false
+no_digit [] none = refl
+no_digit (b ∷ s) none = false_from_ne_true (is_ascii_digit b) (λ e. none 1 (record { some = omega arith; within = omega arith; fits = and_from (is_ascii_digit b) true e refl }))
+
+letter_lower : (text : List ℕ) → first_letter text ≡ to_ascii_lowercase (get_or text 0 0)
+unfolding first_letter
+letter_lower [] = refl
+letter_lower (b ∷ s) = refl
+
+is_other : ℕ → Bool
+is_other b = not (is_word_byte b)
+
+other_letter : (text : List ℕ) → is_word_start (get_or text 0 0) ≡ false → is_ascii_digit (get_or text 0 0) ≡ false → is_other (first_letter text) ≡ true
+unfolding is_other is_word_byte
+other_letter text start digit =
+    let here : is_word_byte (get_or text 0 0) ≡ false = rw (start, digit) refl in
+    rw (letter_lower text, sym (word_lower (get_or text 0 0)), start, digit) refl
+
+-- the kinds that begin with neither a word nor a number
+pub sign_best : (text : List ℕ) (quoted local characters mark sign_word attribute : Option ℕ)
+    → HasNone (λ s after. is_word s) text
+    → HasNone (λ s after. is_number s) text
+    → FindsLongest (λ s after. is_quoted s) text quoted
+    → FindsLongest (λ s after. is_local s) text local
+    → FindsLongest (λ s after. is_enclosed single_quote single_quote true s) text characters
+    → FindsLongest (is_listed Nothing marks) text mark
+    → FindsLongest (is_listed Apart sign_words) text sign_word
+    → FindsLongest (λ s after. is_enclosed open_brace close_brace false s) text attribute
+    → MatchOption (better_of (better_of (better_of (better_of (better_of (better_of None Quoted quoted) Local local) Characters characters) Mark mark) SignWord sign_word) Attribute attribute) (HasNoForm text) (λ found. IsLongest text found.kind found.length)
+unfolding first_letter is_apart is_other is_word_start is_word_byte based_prefixes long_prefixes count_prefixes time_prefixes s5time_prefixes title_words
+sign_best text quoted local characters mark sign_word attribute word number h2 h3 h4 h8 h9 h10 =
+    let without : (entry : List ℕ) → is_apart is_other entry ≡ true → begins_with entry text ≡ true → ⊥ = none_apart is_other text (other_letter text (no_start text word) (no_digit text number)) in
+    best_found text None None quoted local characters None None None mark sign_word attribute None
+    word
+    number
+    h2
+    h3
+    h4
+    (none_listed Run (is_apart is_other) based_prefixes text without refl)
+    (either_longest (is_listed SignedRun long_prefixes) (is_listed Run count_prefixes) text None None (none_listed SignedRun (is_apart is_other) long_prefixes text without refl) (none_listed Run (is_apart is_other) count_prefixes text without refl))
+    (either_longest (is_listed SignedRun time_prefixes) (is_listed Run s5time_prefixes) text None None (none_listed SignedRun (is_apart is_other) time_prefixes text without refl) (none_listed Run (is_apart is_other) s5time_prefixes text without refl))
+    h8
+    h9
+    h10
+    (none_listed Line (is_apart is_other) title_words text without refl)

@@ -2,7 +2,7 @@ ghost use Rattle.std.specs.Prelude.{◌≡◌, ◌≤◌, length};
 ghost use Rattle.stl_lexer.specs.Forms.{is_number, is_word};
 ghost use Rattle.stl_lexer.specs.Gap.{line_at};
 ghost use Rattle.stl_lexer.specs.Limits.{source_limit};
-ghost use Rattle.stl_lexer.specs.Longest.{FindsToken, IsLongestOf, better_of};
+ghost use Rattle.stl_lexer.specs.Longest.{FindsToken, HasNone, IsLongestOf, better_of};
 ghost use Rattle.stl_lexer.specs.Tokens.{FindsNext, is_minus};
 
 use crate::bytes::{behind, first_letter};
@@ -89,6 +89,20 @@ fn number_token(text: &[u8], size: usize) -> Option<Found>
     better(number, TokenKind::Based, longest_based(text))
 }
 
+/// The longest token where neither a word nor a number stands at the front.
+fn sign_token(text: &[u8]) -> Option<Found>
+    requires word { HasNone (λ s after. is_word s) text.now }
+    requires number { HasNone (λ s after. is_number s) text.now }
+    ensures { FindsToken text.now result }
+{
+    let quoted = better(None, TokenKind::Quoted, longest_quoted(text));
+    let local = better(quoted, TokenKind::Local, longest_local(text));
+    let characters = better(local, TokenKind::Characters, longest_characters(text));
+    let mark = better(characters, TokenKind::Mark, longest_mark(text));
+    let sign_word = better(mark, TokenKind::SignWord, longest_sign_word(text));
+    better(sign_word, TokenKind::Attribute, longest_attribute(text))
+}
+
 /// The longest token at the front of the text.
 fn longest_token(text: &[u8]) -> Option<Found>
     ensures { FindsToken text.now result }
@@ -98,7 +112,7 @@ fn longest_token(text: &[u8]) -> Option<Found>
     }
     match longest_number(text) {
         Some(size) => number_token(text, size),
-        None => longest_of_all(text),
+        None => sign_token(text),
     }
 }
 
