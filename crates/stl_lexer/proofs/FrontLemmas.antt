@@ -242,7 +242,7 @@ other_letter text start digit =
     rw (letter_lower text, sym (word_lower (get_or text 0 0)), start, digit) refl
 
 -- the kinds that begin with neither a word nor a number
-pub sign_best : (text : List ℕ) (quoted local characters mark sign_word attribute : Option ℕ)
+sign_best : (text : List ℕ) (quoted local characters mark sign_word attribute : Option ℕ)
     → HasNone (λ s after. is_word s) text
     → HasNone (λ s after. is_number s) text
     → FindsLongest (λ s after. is_quoted s) text quoted
@@ -268,3 +268,63 @@ sign_best text quoted local characters mark sign_word attribute word number h2 h
     h9
     h10
     (none_listed Line (is_apart is_other) title_words text without refl)
+
+-- no mark begins with this byte
+none_mark : (b : ℕ) (text : List ℕ) → get_or text 0 0 ≡ b → (to_ascii_lowercase b == b) ≡ true → list_all (is_apart (λ c. c == b)) marks ≡ true → HasNone (is_listed Nothing marks) text
+none_mark b text first same all = none_listed Nothing (is_apart (λ c. c == b)) marks text (none_apart (λ c. c == b) text (ap (λ c. c == b) (letter_lower text ∙ ap to_ascii_lowercase first) ∙ same)) all
+
+none_sign_word : (b : ℕ) (text : List ℕ) → get_or text 0 0 ≡ b → (to_ascii_lowercase b == b) ≡ true → list_all (is_apart (λ c. c == b)) sign_words ≡ true → HasNone (is_listed Apart sign_words) text
+none_sign_word b text first same all = none_listed Apart (is_apart (λ c. c == b)) sign_words text (none_apart (λ c. c == b) text (ap (λ c. c == b) (letter_lower text ∙ ap to_ascii_lowercase first) ∙ same)) all
+
+none_quoted : (text : List ℕ) → (get_or text 0 0 ≡ double_quote → ⊥) → HasNone (λ s after. is_quoted s) text
+none_quoted text h = not_quoted text (not_opened double_quote double_quote true text (λ _. h))
+
+none_characters : (text : List ℕ) → (get_or text 0 0 ≡ single_quote → ⊥) → HasNone (λ s after. is_enclosed single_quote single_quote true s) text
+none_characters text h = not_opened single_quote single_quote true text (λ _. h)
+
+none_attribute : (text : List ℕ) → (get_or text 0 0 ≡ open_brace → ⊥) → HasNone (λ s after. is_enclosed open_brace close_brace false s) text
+none_attribute text h = not_opened open_brace close_brace false text (λ _. h)
+
+-- what begins with its own byte is of one kind
+pub quoted_alone : (text : List ℕ) (found : Option ℕ) → HasNone (λ s after. is_word s) text → HasNone (λ s after. is_number s) text → get_or text 0 0 ≡ double_quote → FindsLongest (λ s after. is_quoted s) text found → MatchOption (better_of None Quoted found) (HasNoForm text) (λ found. IsLongest text found.kind found.length)
+unfolding first_letter is_apart marks mark_text sign_words
+quoted_alone text found word number first h = sign_best text found None None None None None word number h
+    (none_local text (λ e. absurd (omega (arith, first, e))))
+    (none_characters text (λ e. absurd (omega (arith, first, e))))
+    (none_mark double_quote text first refl refl)
+    (none_sign_word double_quote text first refl refl)
+    (none_attribute text (λ e. absurd (omega (arith, first, e))))
+
+pub local_alone : (text : List ℕ) (found : Option ℕ) → HasNone (λ s after. is_word s) text → HasNone (λ s after. is_number s) text → get_or text 0 0 ≡ hash → FindsLongest (λ s after. is_local s) text found → MatchOption (better_of None Local found) (HasNoForm text) (λ found. IsLongest text found.kind found.length)
+unfolding first_letter is_apart marks mark_text sign_words
+local_alone text found word number first h = sign_best text None found None None None None word number
+    (none_quoted text (λ e. absurd (omega (arith, first, e))))
+    h
+    (none_characters text (λ e. absurd (omega (arith, first, e))))
+    (none_mark hash text first refl refl)
+    (none_sign_word hash text first refl refl)
+    (none_attribute text (λ e. absurd (omega (arith, first, e))))
+
+pub characters_alone : (text : List ℕ) (found : Option ℕ) → HasNone (λ s after. is_word s) text → HasNone (λ s after. is_number s) text → get_or text 0 0 ≡ single_quote → FindsLongest (λ s after. is_enclosed single_quote single_quote true s) text found → MatchOption (better_of None Characters found) (HasNoForm text) (λ found. IsLongest text found.kind found.length)
+unfolding first_letter is_apart marks mark_text sign_words
+characters_alone text found word number first h = sign_best text None None found None None None word number
+    (none_quoted text (λ e. absurd (omega (arith, first, e))))
+    (none_local text (λ e. absurd (omega (arith, first, e))))
+    h
+    (none_mark single_quote text first refl refl)
+    (none_sign_word single_quote text first refl refl)
+    (none_attribute text (λ e. absurd (omega (arith, first, e))))
+
+pub attribute_alone : (text : List ℕ) (found : Option ℕ) → HasNone (λ s after. is_word s) text → HasNone (λ s after. is_number s) text → get_or text 0 0 ≡ open_brace → FindsLongest (λ s after. is_enclosed open_brace close_brace false s) text found → MatchOption (better_of None Attribute found) (HasNoForm text) (λ found. IsLongest text found.kind found.length)
+unfolding first_letter is_apart marks mark_text sign_words
+attribute_alone text found word number first h = sign_best text None None None None None found word number
+    (none_quoted text (λ e. absurd (omega (arith, first, e))))
+    (none_local text (λ e. absurd (omega (arith, first, e))))
+    (none_characters text (λ e. absurd (omega (arith, first, e))))
+    (none_mark open_brace text first refl refl)
+    (none_sign_word open_brace text first refl refl)
+    h
+
+-- another byte is only asked for marks and sign words
+pub mark_best : (text : List ℕ) (mark sign_word : Option ℕ) → HasNone (λ s after. is_word s) text → HasNone (λ s after. is_number s) text → (get_or text 0 0 ≡ double_quote → ⊥) → (get_or text 0 0 ≡ hash → ⊥) → (get_or text 0 0 ≡ single_quote → ⊥) → (get_or text 0 0 ≡ open_brace → ⊥) → FindsLongest (is_listed Nothing marks) text mark → FindsLongest (is_listed Apart sign_words) text sign_word → MatchOption (better_of (better_of None Mark mark) SignWord sign_word) (HasNoForm text) (λ found. IsLongest text found.kind found.length)
+mark_best text mark sign_word word number quote local single brace h8 h9 = sign_best text None None None mark sign_word None word number (none_quoted text quote) (none_local text local) (none_characters text single) h8 h9 (none_attribute text brace)

@@ -95,12 +95,23 @@ fn sign_token(text: &[u8]) -> Option<Found>
     requires number { HasNone (λ s after. is_number s) text.now }
     ensures { FindsToken text.now result }
 {
-    let quoted = better(None, TokenKind::Quoted, longest_quoted(text));
-    let local = better(quoted, TokenKind::Local, longest_local(text));
-    let characters = better(local, TokenKind::Characters, longest_characters(text));
-    let mark = better(characters, TokenKind::Mark, longest_mark(text));
-    let sign_word = better(mark, TokenKind::SignWord, longest_sign_word(text));
-    better(sign_word, TokenKind::Attribute, longest_attribute(text))
+    let [first, ..] = text else {
+        return None;
+    };
+    if *first == b'"' {
+        return better(None, TokenKind::Quoted, longest_quoted(text));
+    }
+    if *first == b'#' {
+        return better(None, TokenKind::Local, longest_local(text));
+    }
+    if *first == b'\'' {
+        return better(None, TokenKind::Characters, longest_characters(text));
+    }
+    if *first == b'{' {
+        return better(None, TokenKind::Attribute, longest_attribute(text));
+    }
+    let mark = better(None, TokenKind::Mark, longest_mark(text));
+    better(mark, TokenKind::SignWord, longest_sign_word(text))
 }
 
 /// The longest token at the front of the text.
