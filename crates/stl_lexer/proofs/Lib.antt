@@ -1,5 +1,4 @@
 pub mod EntryLemmas
-pub mod FrontLemmas
 pub mod GapLemmas
 pub mod LineLemmas
 pub mod LongestLemmas
