@@ -160,7 +160,8 @@ impl Controller {
     /// The number of a data block and its bytes after the whole history, by the block's place among
     /// all by rising number, counted from 0; none from their count on.
     pub fn data_block(&self, place: usize) -> Option<(u16, &[u8])>
-        ensures { option_map (λ b. (b.0, b.1.now)) result ≡ slice_get (blocks_after self.now) place }
+        ensures { option_map (λ b. (b.0, b.1.now)) result
+            ≡ slice_get (blocks_after self.now) place }
     {
         match number_at(self.numbers.as_slice(), place) {
             None => None,

@@ -226,9 +226,11 @@ fn first_among(
     requires fit { All BlockFits blocks.now }
     requires all { signatures.now ≡ map signature_of (map record_of_block blocks.now) }
     ensures fault { IfOk result (λ f. IfSome f
-        (IsFirstOf (option_map (λ d. d.now) lens.entry) (map record_of_block blocks.now) blocks.now)) }
+        (IsFirstOf (option_map (λ d. d.now) lens.entry)
+        (map record_of_block blocks.now) blocks.now)) }
     ensures none { IfOk result (λ f. IfNone f
-        (AreClean (option_map (λ d. d.now) lens.entry) (map record_of_block blocks.now) blocks.now)) }
+        (AreClean (option_map (λ d. d.now) lens.entry)
+        (map record_of_block blocks.now) blocks.now)) }
 {
     for block in blocks {
         if let Some(fault) = block_fault(alloc, signatures, lens, block)? {

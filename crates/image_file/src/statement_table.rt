@@ -57,7 +57,8 @@ fn add_statement(
     stack: &[OpenBracket],
 ) -> Result<(), NoMemory>
     ensures { OnOk result (statements.new.items
-        ≡ (if begin then statements.old.items ++ record { at = at; codes = few stack.now } ∷ [] else statements.old.items)) }
+        ≡ (if begin then statements.old.items ++ record { at = at; codes = few stack.now } ∷ []
+        else statements.old.items)) }
 {
     if !begin {
         return Ok(());

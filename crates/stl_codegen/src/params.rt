@@ -135,8 +135,8 @@ fn declared_params(
     ensures value { IfOk result (λ made. IfSome made (λ params. params.items
         ≡ flat_map (λ c. param_here in_instance components.now c) components.now)) }
     ensures none { IfOk result (λ made. IfNone made
-        (AllByRecursion ParamFits (flat_map (λ c. param_here in_instance components.now c) components.now)
-        → ⊥)) }
+        (AllByRecursion ParamFits
+        (flat_map (λ c. param_here in_instance components.now c) components.now) → ⊥)) }
 {
     let mut params = Vec::new(alloc);
     for cell in components.cells() {
@@ -170,7 +170,8 @@ pub(crate) fn params_of(
 ) -> Result<Option<ArrayVec<Param, 60>>, AllocError>
     ensures value { IfOk result (λ made. IfSome made (λ params. params.items
         ≡ params_of block.now layout.now)) }
-    ensures none { IfOk result (λ made. IfNone made (ParamsFit (params_of block.now layout.now) → ⊥)) }
+    ensures none { IfOk result (λ made. IfNone made
+        (ParamsFit (params_of block.now layout.now) → ⊥)) }
 {
     let in_instance = is_function_block(block.kind);
     let Some(params) = declared_params(alloc, in_instance, &layout.components)? else {

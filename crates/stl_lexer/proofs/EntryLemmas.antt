@@ -25,7 +25,7 @@ pub entry_within : (entry text : List ℕ) → begins_with entry text ≡ true �
 unfolding begins_with
 entry_within entry text e = omega (arith, same_length entry (take (length entry) text) e, length-take (length entry) text)
 
-begun : (entry text : List ℕ) → 0 < length entry → begins_with entry text ≡ true → first_letter entry ≡ first_letter text
+pub begun : (entry text : List ℕ) → 0 < length entry → begins_with entry text ≡ true → first_letter entry ≡ first_letter text
 unfolding begins_with first_letter
 begun [] text some e = absurd (omega arith)
 begun (c ∷ entry) [] some e = absurd (omega (arith, same_length (c ∷ entry) [] e))
@@ -48,7 +48,7 @@ begins_front entry text m h = ap (str_eq_ignore_ascii_case entry) (take-take (le
 tail_at : (tail : Tail) (entry text : List ℕ) (n : ℕ) → length entry + n ≤ length text → is_tail tail (drop (length entry) (take (length entry + n) text)) (drop (length entry + n) text) ≡ is_tail tail (take n (drop (length entry) text)) (drop n (drop (length entry) text))
 tail_at tail entry text n h = λ i. is_tail tail (drop-take (length entry) n text i) (sym (drop-drop n (length entry) text) i)
 
-entry_at : (tail : Tail) (entry text : List ℕ) (m : ℕ) → IsFormAt (is_entry tail entry) text m → (length entry ≤ m) × (begins_with entry text ≡ true) × IsTailAt tail (drop (length entry) text) (m - length entry)
+pub entry_at : (tail : Tail) (entry text : List ℕ) (m : ℕ) → IsFormAt (is_entry tail entry) text m → (length entry ≤ m) × (begins_with entry text ≡ true) × IsTailAt tail (drop (length entry) text) (m - length entry)
 unfolding is_entry
 entry_at tail entry text m at =
     let parts = and_parts (begins_with entry (take m text)) (is_tail tail (drop (length entry) (take m text)) (drop m text)) at.fits in

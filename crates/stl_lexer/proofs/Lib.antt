@@ -1,4 +1,5 @@
 pub mod EntryLemmas
+pub mod FrontLemmas
 pub mod GapLemmas
 pub mod LineLemmas
 pub mod LongestLemmas

@@ -27,7 +27,7 @@ run_longest p (b ∷ s) (suc m) h e =
     let rest = run_longest p s m (omega arith) parts.1 in
     rw parts.0 (omega (arith, rest))
 
-found_cons : (f p : ℕ → Bool) (b : ℕ) (s : List ℕ) → f b ≡ true → IsLongestOf (λ s' after. is_run f p s') (b ∷ s) (suc (prefix_len p s))
+pub found_cons : (f p : ℕ → Bool) (b : ℕ) (s : List ℕ) → f b ≡ true → IsLongestOf (λ s' after. is_run f p s') (b ∷ s) (suc (prefix_len p s))
 found_cons f p b s e = record {
   fits = record {
     some = omega arith;

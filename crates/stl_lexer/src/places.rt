@@ -1,10 +1,11 @@
 ghost use Rattle.std.specs.Prelude.{◌≡◌, ◌≤◌, length};
+ghost use Rattle.stl_lexer.specs.Forms.{is_number, is_word};
 ghost use Rattle.stl_lexer.specs.Gap.{line_at};
 ghost use Rattle.stl_lexer.specs.Limits.{source_limit};
-ghost use Rattle.stl_lexer.specs.Longest.{FindsToken, better_of};
+ghost use Rattle.stl_lexer.specs.Longest.{FindsToken, HasNone, IsLongestOf, better_of};
 ghost use Rattle.stl_lexer.specs.Tokens.{FindsNext, is_minus};
 
-use crate::bytes::behind;
+use crate::bytes::{behind, first_letter};
 use crate::entries::{
     longest_based, longest_mark, longest_number_literal, longest_sign_word, longest_time_literal,
     longest_title,
@@ -36,8 +37,8 @@ fn better(best: Option<Found>, kind: TokenKind, length: Option<usize>) -> Option
     }
 }
 
-/// The longest token at the front of the text.
-fn longest_token(text: &[u8]) -> Option<Found>
+/// The longest token at the front of the text, of all kinds.
+fn longest_of_all(text: &[u8]) -> Option<Found>
     ensures { FindsToken text.now result }
 {
     let word = better(None, TokenKind::Word, longest_word(text));
@@ -56,6 +57,74 @@ fn longest_token(text: &[u8]) -> Option<Found>
     let sign_word = better(mark, TokenKind::SignWord, longest_sign_word(text));
     let attribute = better(sign_word, TokenKind::Attribute, longest_attribute(text));
     better(attribute, TokenKind::Title, longest_title(text))
+}
+
+/// The longest token where a word of this size stands at the front: with no `#` behind it, the word
+/// or a title.
+fn word_token(text: &[u8], size: usize) -> Option<Found>
+    requires word { IsLongestOf (λ s after. is_word s) text.now size }
+    requires within { size ≤ length text.now }
+    ensures { FindsToken text.now result }
+{
+    if first_letter(behind(text, size)) == b'#' {
+        return longest_of_all(text);
+    }
+    let word = Some(Found {
+        kind: TokenKind::Word,
+        length: size,
+    });
+    better(word, TokenKind::Title, longest_title(text))
+}
+
+/// The longest token where a number of this size stands at the front: the number, or a binary
+/// literal.
+fn number_token(text: &[u8], size: usize) -> Option<Found>
+    requires { IsLongestOf (λ s after. is_number s) text.now size }
+    ensures { FindsToken text.now result }
+{
+    let number = Some(Found {
+        kind: TokenKind::Number,
+        length: size,
+    });
+    better(number, TokenKind::Based, longest_based(text))
+}
+
+/// The longest token where neither a word nor a number stands at the front.
+fn sign_token(text: &[u8]) -> Option<Found>
+    requires word { HasNone (λ s after. is_word s) text.now }
+    requires number { HasNone (λ s after. is_number s) text.now }
+    ensures { FindsToken text.now result }
+{
+    let [first, ..] = text else {
+        return None;
+    };
+    if *first == b'"' {
+        return better(None, TokenKind::Quoted, longest_quoted(text));
+    }
+    if *first == b'#' {
+        return better(None, TokenKind::Local, longest_local(text));
+    }
+    if *first == b'\'' {
+        return better(None, TokenKind::Characters, longest_characters(text));
+    }
+    if *first == b'{' {
+        return better(None, TokenKind::Attribute, longest_attribute(text));
+    }
+    let mark = better(None, TokenKind::Mark, longest_mark(text));
+    better(mark, TokenKind::SignWord, longest_sign_word(text))
+}
+
+/// The longest token at the front of the text.
+fn longest_token(text: &[u8]) -> Option<Found>
+    ensures { FindsToken text.now result }
+{
+    if let Some(size) = longest_word(text) {
+        return word_token(text, size);
+    }
+    match longest_number(text) {
+        Some(size) => number_token(text, size),
+        None => sign_token(text),
+    }
 }
 
 /// Whether bytes of this kind are the mark `-`.

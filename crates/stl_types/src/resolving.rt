@@ -36,7 +36,8 @@ fn rule_seen(form: Form, seen: Seen) -> Option<u16>
 
 /// The rule that an instruction breaks by its operand, which comes to `found`.
 fn operand_rule(form: Form, operand: &Operand, found: Seen) -> Option<u16>
-    ensures { (c : Context) → found ≡ seen c operand.now → result ≡ operand_rule c form operand.now }
+    ensures { (c : Context) → found ≡ seen c operand.now
+        → result ≡ operand_rule c form operand.now }
 {
     match operand {
         Operand::Constant { value } => {

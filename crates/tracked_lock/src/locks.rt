@@ -54,9 +54,11 @@ impl<V: Storied + Drop> Model for TrackedLock<V> {
 
     ghost Value = { Locked V.Origin };
 
-    ghost view = { λ l. lock_of l.table.shared.table_id (V.origin l.table.shared.key.first.value) l.table.shared.key.passes };
+    ghost view = { λ l. lock_of l.table.shared.table_id
+        (V.origin l.table.shared.key.first.value) l.table.shared.key.passes };
 
-    ghost invariant = { λ l. IsLockTable l.table.shared.table_id × (l.passes ≡ l.table.shared.key.passes) × (l.passes < 256) };
+    ghost invariant = { λ l. IsLockTable l.table.shared.table_id
+        × (l.passes ≡ l.table.shared.key.passes) × (l.passes < 256) };
 }
 
 /// Numbers from 1 to n aren't among those of the pass.

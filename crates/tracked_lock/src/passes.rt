@@ -74,7 +74,8 @@ impl<V: Storied> Held<V> {
     /// The value, to be changed.
     pub fn value_mut(&mut self) -> &mut V
         ensures* writes_back { sem 𝓛
-            (Lends (the_row V.row V.Origin.row V.Entry.row V.Storied) V.row self.entry result (with_value self.old)) }
+            (Lends (the_row V.row V.Origin.row V.Entry.row V.Storied) V.row self.entry result
+            (with_value self.old)) }
         ensures value { result.now ≡ self.old.value }
     {
         &mut self.value
