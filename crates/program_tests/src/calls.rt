@@ -44,7 +44,7 @@ pub(crate) fn call<R: Threads + Wait + Sync>(
 #[test]
 fn runs_and_refusals(rt: HostRuntime) -> Result<(), Fail> {
     // source, history, status, text
-    let table: [(&[u8], &[u8], u8, &[u8]); 14] = [
+    let table: [(&[u8], &[u8], u8, &[u8]); 15] = [
         (RUNG, ONE_RUN, 0, b"@7 PQ 4 = 01\nEND 7 RUN\n"),
         (RUNG, b"in 0 01\nstep 5\n", 0, b"END 6 RUN\n"),
         (b"", b"step 2\n", 0, b"END 2 RUN\n"),
@@ -52,6 +52,13 @@ fn runs_and_refusals(rt: HostRuntime) -> Result<(), Fail> {
         (
             b"ORGANIZATION_BLOCK OB 1\nBEGIN\nA I 0.0;\nA I 0.1;\nO;\nA I 0.2;\nA I 0.3;\n= Q 4.0;\nEND_ORGANIZATION_BLOCK\n",
             b"in 0 0E\nstep 9\n",
+            0,
+            b"@10 PQ 4 = 01\nEND 10 RUN\n",
+        ),
+        // The first branch alone: 0.0 is on, and 0.1 too.
+        (
+            b"ORGANIZATION_BLOCK OB 1\nBEGIN\nA I 0.0;\nA I 0.1;\nO;\nA I 0.2;\nA I 0.3;\n= Q 4.0;\nEND_ORGANIZATION_BLOCK\n",
+            b"in 0 03\nstep 9\n",
             0,
             b"@10 PQ 4 = 01\nEND 10 RUN\n",
         ),
