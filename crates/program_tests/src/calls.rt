@@ -1,6 +1,6 @@
 use arrayvec::ArrayVec;
 use plc_io::{MemFiles, MemSink, OpenGate};
-use s7_cli::s7_main;
+use s7_cli::{cmd_check, cmd_go, s7_main};
 use std::alloc::Global;
 use std::sync::Wait;
 use std::test::Fail;
@@ -122,6 +122,25 @@ fn runs_and_refusals(rt: HostRuntime) -> Result<(), Fail> {
         assert_eq!(rt; code, status);
         assert_eq!(rt; out.taken.as_slice(), text);
     }
+    Ok(())
+}
+
+// The commands by themselves, with the names of their files in place of words.
+#[test]
+fn the_two_commands(rt: HostRuntime) -> Result<(), Fail> {
+    let alloc = rt.alloc();
+    let mut files = two_files(alloc, RUNG, ONE_RUN)?;
+    let mut out = MemSink::new(alloc, 64);
+    let checked = cmd_check(alloc, "source", None, &mut files, &mut out);
+    assert_eq!(rt; checked.code, 0);
+    assert_eq!(rt; out.taken.as_slice(), b"OK\n".as_slice());
+    let mut out = MemSink::new(alloc, 64);
+    let run = cmd_go(alloc, "source", "history", None, &mut files, &mut out);
+    assert_eq!(rt; run.code, 0);
+    assert_eq!(rt;
+        out.taken.as_slice(),
+        b"@7 PQ 4 = 01\nEND 7 RUN\n".as_slice()
+    );
     Ok(())
 }
 
