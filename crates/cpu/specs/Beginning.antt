@@ -10,6 +10,7 @@ use Rattle.machine.specs.Code.{Code, Head}
 use Rattle.ob_sched.specs.declared.start_infos.StartInfo.{StartInfo}
 use Rattle.cpu.specs.State.{State}
 
+-- the organization block of a number
 abbrev pub ob_block : ℕ → BlockId
 ob_block ob = record { kind = Ob; number = ob }
 
