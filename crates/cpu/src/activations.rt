@@ -98,6 +98,18 @@ fn add_obs(obs: &mut ArrayVec<u16, ACTIVATIONS>, activations: &[Activation])
     }
 }
 
+// One more place, behind all.
+#[inline(never)]
+fn add_place(all: &mut Vec<Activation>)
+    requires few { length all.old.items < 48 }
+    requires room { 48 ≤ vec_capacity all.old }
+    ensures room { vec_capacity all.new ≡ vec_capacity all.old }
+    ensures one { (a : Activation) × (all.new.items ≡ all.old.items ++ a ∷ []) }
+{
+    let pushed = all.push(Activation::new(0, 0, Frame::default()));
+    prove!(pushed.is_ok());
+}
+
 // Sees to it that there is a place behind the first ones.
 fn make_place(all: &mut Vec<Activation>, place: usize)
     requires place { place ≤ length all.old.items }
@@ -109,8 +121,7 @@ fn make_place(all: &mut Vec<Activation>, place: usize)
     ensures kept { take place all.new.items ≡ take place all.old.items }
 {
     if place == all.len() {
-        let pushed = all.push(Activation::new(0, 0, Frame::default()));
-        prove!(pushed.is_ok());
+        add_place(all);
     }
 }
 
