@@ -3,7 +3,7 @@ ghost use Rattle.std.specs.Prelude.{◌≡◌, ℕ, ◌+◌, ◌<◌, ◌≤◌,
 ghost use Rattle.plc_mem.specs.Changes.{IsFirstDifference};
 
 /// How many bytes are compared at once: outputs seldom change, so most of a walk finds them equal.
-const BLOCK: usize = 64;
+pub(crate) const BLOCK: usize = 64;
 
 /// The first index from `from` on at which two runs of the same length differ.
 pub(crate) fn first_difference(old: &[u8], new: &[u8], from: usize) -> Option<usize>
