@@ -103,10 +103,12 @@ fn add_obs(obs: &mut ArrayVec<u16, ACTIVATIONS>, activations: &[Activation])
 fn add_place(all: &mut Vec<Activation>)
     requires few { length all.old.items < 48 }
     requires room { 48 ≤ vec_capacity all.old }
-    ensures room { vec_capacity all.new ≡ vec_capacity all.old }
+    ensures room { 48 ≤ vec_capacity all.new }
     ensures one { (a : Activation) × (all.new.items ≡ all.old.items ++ a ∷ []) }
 {
-    let pushed = all.push(Activation::new(0, 0, Frame::default()));
+    let mut frame = Frame::default();
+    frame.begin(ob_block(0), 0);
+    let pushed = all.push(Activation::new(0, 0, frame));
     prove!(pushed.is_ok());
 }
 
@@ -139,8 +141,9 @@ fn begin_in(
     ensures { all.new ≡ set all.old place (told_from 0 info.now.bytes
         (begun class ob (frame_begun (block_of_ob ob) local_len))) }
 {
-    all[place].restart(class, ob, ob_block(ob), local_len);
-    tell(&mut all[place], &info.bytes);
+    let a = &mut all[place];
+    a.restart(class, ob, ob_block(ob), local_len);
+    tell(a, &info.bytes);
 }
 
 impl Activations {
@@ -188,7 +191,7 @@ impl Activations {
     }
 
     /// The organization blocks that are active, the lowest one first.
-    #[tactic(auto, using(crate::proofs::ActiveLemmas::active_standing, crate::proofs::ActiveLemmas::standing_few))]
+    #[tactic(auto, using(crate::proofs::ActiveLemmas::active_standing, crate::proofs::ActiveLemmas::front_count, crate::proofs::ActiveLemmas::standing_count))]
     pub(crate) fn active(&self) -> ArrayVec<u16, ACTIVATIONS>
         requires { length self.now ≤ 48 }
         ensures { result.items ≡ active self.now }
@@ -199,7 +202,7 @@ impl Activations {
     }
 
     // An organization block begins above those that stand.
-    #[tactic(auto, using(crate::proofs::ActiveLemmas::standing_few, crate::proofs::ActiveLemmas::one_begun))]
+    #[tactic(auto, using(crate::proofs::ActiveLemmas::standing_count, crate::proofs::ActiveLemmas::one_begun))]
     fn push(&mut self, class: u8, ob: u16, local_len: u16, info: &StartInfo)
         requires room { length self.old < 48 }
         requires local { local_len ≤ 1024 }
@@ -220,7 +223,7 @@ impl Activations {
 
     /// An organization block begins above those that stand, with its start information; false where it
     /// isn't loaded.
-    #[tactic(auto, using(crate::proofs::ActiveLemmas::block_begins, crate::proofs::ActiveLemmas::block_missing))]
+    #[tactic(auto, using(crate::proofs::ActiveLemmas::block_begins, crate::proofs::ActiveLemmas::block_missing, crate::proofs::ActiveLemmas::block_is))]
     pub(crate) fn begin(&mut self, program: &Loaded, class: u8, ob: u16, info: &StartInfo) -> bool
         requires { length self.old < 48 }
         ensures begins { Begins (ob_in (code_of program.now.program) class ob info.now)
