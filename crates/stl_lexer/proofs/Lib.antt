@@ -4,6 +4,7 @@ pub mod GapLemmas
 pub mod LineLemmas
 pub mod LongestLemmas
 pub mod MarkLemmas
+pub mod PlainLemmas
 pub mod QuoteLemmas
 pub mod RankLemmas
 pub mod RuleLemmas

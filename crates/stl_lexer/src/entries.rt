@@ -238,7 +238,11 @@ pub(crate) fn longest_sign_word(text: &[u8]) -> Option<usize>
             return None;
         }
     }
-    longest_entry(Tail::Apart, sign_words_from(letter), text)
+    let words = sign_words_from(letter);
+    if words.is_empty() {
+        return None;
+    }
+    longest_entry(Tail::Apart, words, text)
 }
 
 /// The length of the longest binary or hexadecimal literal at the front of the text, right or wrong.

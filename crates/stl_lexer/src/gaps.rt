@@ -1,6 +1,7 @@
-ghost use Rattle.std.specs.Prelude.{◌≡◌, ◌≤◌, length, drop, sum_by, take};
+ghost use Rattle.std.specs.Prelude.{◌≡◌, ◌≤◌, ℕ, true, List, length, drop, sum_by, take};
 ghost use Rattle.std.specs.List.{prefix_len};
 ghost use Rattle.stl_lexer.specs.declared.gaps.GapPart.TheVariants.{Blanks};
+ghost use Rattle.stl_lexer.specs.Forms.{has_form};
 ghost use Rattle.stl_lexer.specs.Gap.{
   GoesOn,
   after_gap,
@@ -12,6 +13,7 @@ ghost use Rattle.stl_lexer.specs.Gap.{
 ghost use Rattle.stl_lexer.specs.Limits.{source_limit};
 
 use crate::bytes::{behind, in_source, is_separator, opens_comment};
+use crate::kinds::{TokenKind, is_plain};
 
 /// A place in a source: how many bytes stand before it, and its line.
 #[derive(Clone, Copy, Debug, PartialEq, Eq)]
@@ -42,6 +44,18 @@ pub(crate) fn newlines(text: &[u8]) -> u32
     ensures { result ≡ sum_by newlines_of text.now }
 {
     text.iter().map(|b| newline(*b)).sum()
+}
+
+/// How many lines end in a token.
+pub(crate) fn token_lines(kind: TokenKind, token: &[u8]) -> u32
+    requires limit { length token.now ≤ source_limit }
+    requires form { (after : List ℕ) × (has_form kind token.now after ≡ true) }
+    ensures { result ≡ sum_by newlines_of token.now }
+{
+    if is_plain(kind) {
+        return 0;
+    }
+    newlines(token)
 }
 
 /// The part of the gap that goes on behind the first byte, or None where the gap ends before it.

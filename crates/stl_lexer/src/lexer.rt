@@ -3,7 +3,7 @@ ghost use Rattle.stl_lexer.specs.Limits.{source_limit};
 ghost use Rattle.stl_lexer.specs.TimeLiteral.{ReadsTimes};
 ghost use Rattle.stl_lexer.specs.Tokens.{AreTokens, AreTokensUnique, ExcludesViolation, IsRefused, IsTotal, IsViolationUnique};
 
-use crate::gaps::{Position, newlines};
+use crate::gaps::{Position, token_lines};
 use crate::lists::Tokens;
 use crate::places::{is_minus, next_token};
 use plc_base::SourceFault;
@@ -31,7 +31,7 @@ pub fn lex(alloc: Global, bytes: &[u8]) -> Result<Tokens, SourceFault>
                 let text = &bytes[token.start as usize..token.end as usize];
                 from = Position {
                     offset: token.end as usize,
-                    line: token.line + newlines(text),
+                    line: token.line + token_lines(token.kind, text),
                 };
                 minus = is_minus(token.kind, text);
                 list.push(token)?;

@@ -1,10 +1,11 @@
-ghost use Rattle.std.specs.Prelude.{◌≡◌, ◌<◌, ◌≤◌, length, not, position, IfSome};
+ghost use Rattle.std.specs.Prelude.{◌≡◌, ◌<◌, ◌≤◌, ℕ, true, List, length, not, position, IfSome};
 ghost use Rattle.stl_lexer.specs.declared.kinds.TokenKind.{TokenKind};
 ghost use Rattle.stl_lexer.specs.Bytes.{in_source};
+ghost use Rattle.stl_lexer.specs.Forms.{has_form};
 ghost use Rattle.stl_lexer.specs.Rules.{characters_rule, fault_of, rule_of, rule_without_form};
 
 use crate::bytes::in_source;
-use crate::kinds::TokenKind;
+use crate::kinds::{TokenKind, is_plain};
 use crate::literals::{based_rule, decimal_rule, number_rule, time_rule};
 
 /// Rule 1: a byte begins no token.
@@ -79,22 +80,27 @@ fn rule_of(kind: TokenKind, token: &[u8], minus: bool) -> Option<u16>
 }
 
 /// The place of the first byte that no source holds.
-fn foreign_byte(token: &[u8]) -> Option<usize>
+fn foreign_byte(kind: TokenKind, token: &[u8]) -> Option<usize>
+    requires { (after : List ℕ) × (has_form kind token.now after ≡ true) }
     ensures value { result ≡ position (λ b. not (in_source b)) token.now }
     ensures within { IfSome result (λ offset. offset < length token.now) }
 {
+    if is_plain(kind) {
+        return None;
+    }
     token.iter().position(|b| !in_source(*b))
 }
 
 /// The first thing that is wrong with a token: its own rule, else a byte that no source holds.
 #[tactic(auto, unfolding(crate::specs::Rules::fault_of))]
 pub(crate) fn fault_of(kind: TokenKind, token: &[u8], minus: bool) -> Option<Fault>
+    requires { (after : List ℕ) × (has_form kind token.now after ≡ true) }
     ensures value { result ≡ fault_of kind token.now minus }
     ensures within { IfSome result (λ fault. fault.offset ≤ length token.now) }
 {
     match rule_of(kind, token, minus) {
         Some(rule) => Some(Fault { offset: 0, rule }),
-        None => match foreign_byte(token) {
+        None => match foreign_byte(kind, token) {
             Some(offset) => Some(Fault {
                 offset,
                 rule: NO_TOKEN,

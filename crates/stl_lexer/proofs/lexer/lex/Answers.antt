@@ -1,4 +1,4 @@
-use Rattle.std.proofs.Common.{false, is_ok, refl, sym, ap, subst, arith, rules}
+use Rattle.std.proofs.Common.{◌-◌, drop, false, is_ok, refl, sym, ap, subst, arith, rules}
 use Rattle.std.proofs.ResultArms.{chosen}
 use Rattle.stl_lexer.specs.Gap.{line_at}
 use Rattle.stl_lexer.specs.Tokens.{AreTokens, IsViolation, IsNext, IsEnd, Breaks}
@@ -20,7 +20,7 @@ overflow_add-from c =
     let s = c.args.bytes.now in
     let t = c.in-Ok-Some.token in
     let next : IsNext s c.loop-token.from.offset c.loop-token.minus t = rw c.in-Ok-Some.field-0-is at c.in-Ok-Some.ensures in
-    omega (arith, line_at_end s t.start t.end (omega (arith, next.forward)), next.line, c.newlines.ensures, line_at_limit s t.end, c.requires)
+    omega (arith, line_at_end s t.start t.end (omega (arith, next.forward)), next.line, c.token_lines.ensures, line_at_limit s t.end, c.requires)
 
 pub loop-token-preserved : goal.loop-token-preserved
 loop-token-preserved c =
@@ -32,7 +32,7 @@ loop-token-preserved c =
       source = c.loop-token.invariant.source;
       tokens = rw (pushed, c.is_minus-minus.ensures) (leads_more s c.loop-token.from.offset c.loop-token.minus 0 false c.loop-token.list.items t c.loop-token.invariant.tokens next);
       within = next.within;
-      line = omega (arith, line_at_end s t.start t.end (omega (arith, next.forward)), next.line, c.newlines.ensures);
+      line = omega (arith, line_at_end s t.start t.end (omega (arith, next.forward)), next.line, c.token_lines.ensures);
     }
 
 pub invariant_of-result-clause-cut : goal.invariant_of-result-clause-cut
@@ -55,3 +55,10 @@ unfolding IsViolation
 returns-in-Err-clause-refused c =
     let s = c.args.bytes.now in
     (c.loop-token.list.items, leads_then s c.loop-token.from.offset c.loop-token.minus (λ at m. Breaks s at m c.in-Err.refusal.line c.in-Err.refusal.rule) 0 false c.loop-token.list.items c.loop-token.invariant.tokens c.in-Err.ensures)
+
+pub token_lines-requires-clause-form : goal.token_lines-requires-clause-form
+token_lines-requires-clause-form c =
+    let s = c.args.bytes.now in
+    let t = c.in-Ok-Some.token in
+    let next : IsNext s c.loop-token.from.offset c.loop-token.minus t = rw c.in-Ok-Some.field-0-is at c.in-Ok-Some.ensures in
+    (drop (t.end - t.start) (drop t.start s), next.longest.fits.fits)

@@ -1,4 +1,4 @@
-use Rattle.std.proofs.Common.{◌+◌, ◌<◌, length, sym, ◌∙◌, ap, inr, refl, arith}
+use Rattle.std.proofs.Common.{◌+◌, ◌<◌, drop, length, sym, ◌∙◌, ap, inr, refl, arith}
 use Rattle.std.proofs.lemmas.Bool.{eqb-false}
 use Rattle.std.proofs.lemmas.List.{length-drop}
 use Rattle.stl_lexer.proofs.LineLemmas.{line_of_fault, line_at_limit}
@@ -26,3 +26,6 @@ returns-in-Some-fault_of c =
         rule_is = refl;
       });
     }
+
+pub fault_of-requires : goal.fault_of-requires
+fault_of-requires c = (drop c.in-Some.found.length c.behind-text.result.now, c.in-Some.ensures.fits.fits)
