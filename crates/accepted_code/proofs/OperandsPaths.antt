@@ -13,7 +13,7 @@ use Rattle.block_layout.specs.declared.blocks.BlockLayout.{BlockLayout}
 use Rattle.block_layout.specs.declared.cells.Cell.{Cell}
 use Rattle.block_layout.specs.declared.cells.Element.{Element}
 use Rattle.block_layout.specs.declared.cells.Element.TheVariants.{Plain, Structure, DateAndTime, Udt, Unknown}
-use Rattle.block_layout.specs.declared.cells.TheConstants.{LARGEST}
+use Rattle.block_layout.specs.Sizes.{largest}
 use Rattle.block_layout.specs.declared.members.Member.{Member}
 use Rattle.block_layout.specs.declared.walks.Spot.{Spot}
 use Rattle.block_layout.specs.declared.walks.Walk.{Walk}
@@ -216,17 +216,17 @@ element_parts c cs = (
 )
 
 structure_fits : (offset element end limit : ℕ) → offset + element ≤ limit → element ≡ capped (up end 16)
-    → limit < LARGEST → offset + end ≤ limit
+    → limit < largest → offset + end ≤ limit
 structure_fits offset element end limit inside is near =
-    let short : capped (up end 16) < LARGEST = omega (arith, inside, is, near) in
+    let short : capped (up end 16) < largest = omega (arith, inside, is, near) in
     let ends = structure_ends end (capped (up end 16)) refl short in
     omega (arith, inside, is, ends)
 
 udt_fits : (offset element bits whole limit : ℕ) → offset + element ≤ limit → element ≡ capped bits
-    → bits ≡ whole → limit < LARGEST → offset + whole ≤ limit
+    → bits ≡ whole → limit < largest → offset + whole ≤ limit
 udt_fits offset element bits whole limit inside is same near = omega (arith, inside, is, same, near)
 
-module _ (l : List BlockLayout) (limit : ℕ) (right : AreRight l) (near : limit < LARGEST) where
+module _ (l : List BlockLayout) (limit : ℕ) (right : AreRight l) (near : limit < largest) where
   even_here : (s : Spot) (h : Lies l limit s) (of : Element) → h.cell.of ≡ of
       → drop s.depth h.cell.bounds ≡ [] → Meets s.offset [] of
   even_here s h of is none =
@@ -393,7 +393,7 @@ judged_stays true b e f = f
 judged_stays false b e f = absurd cc
 
 -- a path into the data of a block whose structure is there
-pub data_goes : (l : List BlockLayout) (limit : ℕ) → AreRight l → limit < LARGEST
+pub data_goes : (l : List BlockLayout) (limit : ℕ) → AreRight l → limit < largest
     → (block inside : ℕ) (ps : List PathStep) → structure_of l block ≡ Some inside
     → structure_bits (cells_at l inside false) ≤ limit
     → leaves_judged l (structure_of l block) ps ≡ false → Goes l limit (walked_data l block ps)
@@ -406,7 +406,7 @@ data_goes l limit right near block inside ps is fits stays =
     (subst (λ (o : Option ℕ). leaves_judged l o ps ≡ false) is stays)))
 
 -- a path into a block's own variables: temporary ones, or those of its structure
-pub local_goes : (l : List BlockLayout) (limit : ℕ) → AreRight l → limit < LARGEST
+pub local_goes : (l : List BlockLayout) (limit : ℕ) → AreRight l → limit < largest
     → (block : ℕ) (name : List ℕ) (ps : List PathStep) (own : Bool)
     → is_some (component 0 0 0 name (cells_at l block false)) ≡ own
     → structure_bits (cells_at l block (not own)) ≤ limit

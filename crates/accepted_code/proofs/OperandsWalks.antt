@@ -14,7 +14,7 @@ use Rattle.block_layout.specs.declared.blocks.BlockLayout.{BlockLayout}
 use Rattle.block_layout.specs.declared.cells.Cell.{Cell}
 use Rattle.block_layout.specs.declared.cells.Element.{Element}
 use Rattle.block_layout.specs.declared.cells.Element.TheVariants.{Plain, Structure, DateAndTime, Udt, Unknown}
-use Rattle.block_layout.specs.declared.cells.TheConstants.{LARGEST}
+use Rattle.block_layout.specs.Sizes.{largest}
 use Rattle.block_layout.specs.declared.members.Member.{Member}
 use Rattle.block_layout.specs.declared.walks.Spot.{Spot}
 use Rattle.block_layout.specs.declared.walks.Walk.{Walk}
@@ -140,11 +140,11 @@ start_meets n at c e = align_meets n at c.opens (nat_eq (length c.bounds) 0) c.b
 
 -- ---- sizes
 
-capped_same : (n : ℕ) → n < LARGEST → capped n ≡ n
+capped_same : (n : ℕ) → n < largest → capped n ≡ n
 capped_same n h = omega (arith, h)
 
 -- what is below the cap wasn't capped
-below_cap : (n : ℕ) → capped n < LARGEST → n ≡ capped n
+below_cap : (n : ℕ) → capped n < largest → n ≡ capped n
 below_cap n h = omega (arith, h)
 
 capped_even : (n : ℕ) → n % 16 ≡ 0 → capped n % 16 ≡ 0
@@ -210,7 +210,7 @@ one_of_many k n size h =
     omega (arith, more, is)
 
 pub element_within : (offset limit k : ℕ) (b : Bounds) (bs : List Bounds) (element : ℕ) → k < count b
-    → limit < LARGEST → offset + array_bits (b ∷ bs) element ≤ limit
+    → limit < largest → offset + array_bits (b ∷ bs) element ≤ limit
     → (capped (offset + capped (k * array_bits bs element)) ≡ offset + k * array_bits bs element)
     × (offset + k * array_bits bs element + array_bits bs element ≤ limit)
 element_within offset limit k b bs element h near fits = by (k * array_bits bs element)
@@ -226,16 +226,16 @@ element_within offset limit k b bs element h near fits = by (k * array_bits bs e
 
 record Grows (at next : ℕ) : Type 0 where
   above : at ≤ next
-  near : next ≤ LARGEST
+  near : next ≤ largest
 
-grows_by : (here sound : Bool) (at first bits : ℕ) → at ≤ LARGEST → at ≤ first
+grows_by : (here sound : Bool) (at first bits : ℕ) → at ≤ largest → at ≤ first
     → Grows at (if here then if sound then capped (first + bits) else at else at)
 grows_by true true at first bits near behind =
     record { above = omega (arith, near, behind); near = omega arith }
 grows_by true false at first bits near behind = record { above = omega arith; near = near }
 grows_by false sound at first bits near behind = record { above = omega arith; near = near }
 
-step_grows : (level at : ℕ) (c : Cell) (bits : ℕ) → at ≤ LARGEST
+step_grows : (level at : ℕ) (c : Cell) (bits : ℕ) → at ≤ largest
     → Grows at (stepped level at c bits)
 step_grows level at c bits near =
     grows_by (nat_eq c.level level) c.sound at (up at (alignment c)) bits near (start_behind at c)
@@ -254,7 +254,7 @@ end_none : (level at : ℕ) → end_of level at [] ≡ at
 unfolding end_of
 end_none level at = refl
 
-end_grows : (level at : ℕ) (cells : List Cell) → at ≤ LARGEST → at ≤ end_of level at cells
+end_grows : (level at : ℕ) (cells : List Cell) → at ≤ largest → at ≤ end_of level at cells
 end_grows level at [] near = let none = end_none level at in omega (arith, none)
 end_grows level at (c ∷ cs) near =
     by (end_grows level (stepped level at c (cell_bits c cs)) cs
@@ -290,7 +290,7 @@ pub record IsFound (all : List Cell) (end : ℕ) (m : Member) : Type 0 where
   pub there : slice_get all m.place ≡ Some cell
   pub at : ℕ
   pub offset : m.offset ≡ up at (alignment cell)
-  pub within : cell.sound ≡ true → end < LARGEST
+  pub within : cell.sound ≡ true → end < largest
       → m.offset + cell_bits cell (drop (suc m.place) all) ≤ end
 
 component_step : (level at p : ℕ) (name : List ℕ) (c : Cell) (cs : List Cell)
@@ -310,9 +310,9 @@ and_left : (a b : Bool) → (a && b) ≡ true → a ≡ true
 and_left true b e = refl
 and_left false b e = absurd cc
 
-here_within : (level at : ℕ) (c : Cell) (cs : List Cell) → at ≤ LARGEST
+here_within : (level at : ℕ) (c : Cell) (cs : List Cell) → at ≤ largest
     → nat_lt c.level level ≡ false → nat_eq c.level level ≡ true → c.sound ≡ true
-    → end_of level at (c ∷ cs) < LARGEST
+    → end_of level at (c ∷ cs) < largest
     → up at (alignment c) + cell_bits c cs ≤ end_of level at (c ∷ cs)
 here_within level at c cs near stays here sound short =
     let same = end_step level at c cs stays in
@@ -323,12 +323,12 @@ here_within level at c cs near stays here sound short =
     fits (up at (alignment c) + cell_bits c cs) (stepped level at c (cell_bits c cs))
     (end_of level (stepped level at c (cell_bits c cs)) cs) (end_of level at (c ∷ cs)) is later same short
   where
-    fits : (n next end whole : ℕ) → next ≡ capped n → next ≤ end → whole ≡ end → whole < LARGEST
+    fits : (n next end whole : ℕ) → next ≡ capped n → next ≤ end → whole ≡ end → whole < largest
         → n ≤ whole
     fits n next end whole a b c d = omega (arith, a, b, c, d)
 
 pub component_found : (all : List Cell) (level at p : ℕ) (cells : List Cell) (name : List ℕ)
-    (m : Member) → drop p all ≡ cells → at ≤ LARGEST → component level at p name cells ≡ Some m
+    (m : Member) → drop p all ≡ cells → at ≤ largest → component level at p name cells ≡ Some m
     → IsFound all (end_of level at cells) m
 component_found all level at p [] name m e near found =
     let none = component_none level at p name in absurd cc
@@ -423,7 +423,7 @@ slice_behind (c ∷ cs) (suc first) k =
 
 -- a component of a structure whose components begin at a place of the cells
 pub found_lies : (l : List BlockLayout) (limit : ℕ) (right : AreRight l) (block : ℕ) (temporary : Bool)
-    (level first offset : ℕ) (name : List ℕ) → offset % 16 ≡ 0 → limit < LARGEST
+    (level first offset : ℕ) (name : List ℕ) → offset % 16 ≡ 0 → limit < largest
     → offset + end_of level 0 (drop first (cells_at l block temporary)) ≤ limit
     → Goes l limit (found_at (cells_at l block temporary) block temporary first offset
     (component level 0 0 name (drop first (cells_at l block temporary))))
@@ -454,7 +454,7 @@ found_lies l limit right block temporary level first offset name even near fits 
             is : IsRightCell l f.cell
             is = right block (first + m.place) temporary f.cell there
 
-            short : end < LARGEST
+            short : end < largest
             short = omega (arith, near, fits)
 
             inside : m.offset + cell_bits f.cell (drop (suc m.place) (drop first cells)) ≤ end
@@ -468,7 +468,7 @@ found_lies l limit right block temporary level first offset name even near fits 
             place = fit offset m.offset (cell_bits f.cell (drop (suc m.place) (drop first cells))) end limit inside fits near
               where
                 fit : (offset more size end limit : ℕ) → more + size ≤ end → offset + end ≤ limit
-                    → limit < LARGEST → capped (offset + capped more) ≡ offset + more
+                    → limit < largest → capped (offset + capped more) ≡ offset + more
                 fit offset more size end limit a b c = omega (arith, a, b, c)
 
             spot : Spot
@@ -499,11 +499,11 @@ found_lies l limit right block temporary level first offset name even near fits 
             whether false e = absurd cc
 
 -- the end of a structure's components is within the bits of the structure
-pub structure_ends : (end bits : ℕ) → bits ≡ capped (up end 16) → bits < LARGEST → end ≤ bits
+pub structure_ends : (end bits : ℕ) → bits ≡ capped (up end 16) → bits < largest → end ≤ bits
 structure_ends end bits e h = let m = up_16_behind end in omega (arith, e, h, m)
 
 pub outermost_lies : (l : List BlockLayout) (limit : ℕ) → AreRight l → (block : ℕ) (temporary : Bool)
-    (offset : ℕ) (name : List ℕ) → offset % 16 ≡ 0 → limit < LARGEST
+    (offset : ℕ) (name : List ℕ) → offset % 16 ≡ 0 → limit < largest
     → offset + structure_bits (cells_at l block temporary) ≤ limit
     → Goes l limit (outermost l block temporary offset name)
 unfolding outermost structure_bits

@@ -50,7 +50,7 @@ use Rattle.block_layout.specs.declared.blocks.BlockLayout.{BlockLayout}
 use Rattle.block_layout.specs.declared.cells.Cell.{Cell}
 use Rattle.block_layout.specs.declared.cells.Element.{Element}
 use Rattle.block_layout.specs.declared.cells.Element.TheVariants as element
-use Rattle.block_layout.specs.declared.cells.TheConstants.{LARGEST}
+use Rattle.block_layout.specs.Sizes.{largest}
 use Rattle.block_layout.specs.declared.members.Member.{Member}
 use Rattle.flat_code.specs.Checking.{good_params}
 use Rattle.flat_code.specs.Faults.{fault_of, size_of_width}
@@ -354,11 +354,11 @@ up_behind c at = by c.opens (nat_eq (length c.bounds) 0) (least c.of)
     by false true h = h
     by false false h = omega arith
 
-past_behind : (at : ℕ) (c : Cell) (bits : ℕ) → at ≤ LARGEST → (at ≤ stepped 0 at c bits) × (stepped 0 at c bits ≤ LARGEST)
+past_behind : (at : ℕ) (c : Cell) (bits : ℕ) → at ≤ largest → (at ≤ stepped 0 at c bits) × (stepped 0 at c bits ≤ largest)
 past_behind at c bits near = by (nat_eq c.level 0) c.sound
   where
     by : (outer sound : Bool) → (at ≤ (if outer then (if sound then capped (up at (alignment c) + bits) else at) else at))
-        × ((if outer then (if sound then capped (up at (alignment c) + bits) else at) else at) ≤ LARGEST)
+        × ((if outer then (if sound then capped (up at (alignment c) + bits) else at) else at) ≤ largest)
     by true true = let behind = up_behind c at in (omega (arith, near, behind), omega arith)
     by true false = (omega arith, near)
     by false sound = (omega arith, near)
@@ -367,7 +367,7 @@ end_step : (at : ℕ) (c : Cell) (cs : List Cell) → end_of 0 at (c ∷ cs) ≡
 unfolding end_of element_of
 end_step at c cs = let never = never_less c.level in rw never refl
 
-end_behind : (at : ℕ) (cs : List Cell) → at ≤ LARGEST → at ≤ end_of 0 at cs
+end_behind : (at : ℕ) (cs : List Cell) → at ≤ largest → at ≤ end_of 0 at cs
 unfolding end_of
 end_behind at [] near = omega arith
 end_behind at (c ∷ cs) near =
@@ -429,20 +429,20 @@ unfolding element_of
 plain_sized c cs k bounds of = rw bounds (rw of refl)
 
 pub parameters_placed : (look : List ℕ → Option Member) (len at place : ℕ) (seen : List (List ℕ)) (cs : List Cell)
-    → at ≤ LARGEST → end_of 0 at cs < LARGEST → end_of 0 at cs ≤ 8 * len
+    → at ≤ largest → end_of 0 at cs < largest → end_of 0 at cs ≤ 8 * len
     → ((n : List ℕ) → NotIn n seen → look n ≡ component 0 at place n cs) → AreOnce seen cs → AllByRecursion IsParameter cs
     → AllByRecursion (IsPlacedIn look len) cs
 parameters_placed look len at place seen [] near below fits finds once are = tt
 parameters_placed look len at place seen (c ∷ cs) near below fits finds once are = (
   here,
-  parameters_placed look len next (place + 1) (seen_by seen c) cs step.1 (subst (λ (n : ℕ). n < LARGEST) same below)
+  parameters_placed look len next (place + 1) (seen_by seen c) cs step.1 (subst (λ (n : ℕ). n < largest) same below)
       (subst (λ (n : ℕ). n ≤ 8 * len) same fits) later once.1 are.1,
 )
   where
     next : ℕ
     next = stepped 0 at c (cell_bits c cs)
 
-    step : (at ≤ next) × (next ≤ LARGEST)
+    step : (at ≤ next) × (next ≤ largest)
     step = past_behind at c (cell_bits c cs) near
 
     same : end_of 0 at (c ∷ cs) ≡ end_of 0 next cs
@@ -730,7 +730,7 @@ pub record HasParams (kind instance : ℕ) (ps : List Param) : Type 0 where
   pub none : kind ≡ 1 → ps ≡ []
 
 structure_end : (cells : List Cell) → structure_bits cells / 8 ≤ 16384
-    → (end_of 0 0 cells < LARGEST) × (end_of 0 0 cells ≤ 8 * (structure_bits cells / 8))
+    → (end_of 0 0 cells < largest) × (end_of 0 0 cells ≤ 8 * (structure_bits cells / 8))
 unfolding structure_bits up
 structure_end cells short = (omega (arith, short), omega (arith, short))
 

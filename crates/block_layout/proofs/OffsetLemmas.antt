@@ -6,7 +6,7 @@ use Rattle.stl_ast.specs.declared.declarations.Simple.TheVariants as simple
 use Rattle.block_layout.specs.declared.cells.Cell.{Cell}
 use Rattle.block_layout.specs.declared.cells.Element.{Element}
 use Rattle.block_layout.specs.declared.cells.Element.TheVariants.{Plain, Structure, DateAndTime, Udt, Unknown}
-use Rattle.block_layout.specs.declared.cells.TheConstants.{LARGEST}
+use Rattle.block_layout.specs.Sizes.{largest}
 use Rattle.block_layout.specs.declared.members.Member.{Member}
 use Rattle.block_layout.specs.Members.{members_of}
 use Rattle.block_layout.specs.Places.{AreOffsets, IsLeastPlace, Sibling, is_sound_cell, siblings, sound_offsets}
@@ -82,14 +82,14 @@ here_least n c = up_is_least n (alignment c) (aligned c)
 -- the end of components is no lower than where they begin
 pub record Grows (at next : ℕ) : Type 0 where
   pub above : at ≤ next
-  pub near : next ≤ LARGEST
+  pub near : next ≤ largest
 
-grows_by : (here sound : Bool) (at first bits : ℕ) → at ≤ LARGEST → at ≤ first → Grows at (if here then if sound then capped (first + bits) else at else at)
+grows_by : (here sound : Bool) (at first bits : ℕ) → at ≤ largest → at ≤ first → Grows at (if here then if sound then capped (first + bits) else at else at)
 grows_by true true at first bits near past_ = record { above = omega arith; near = omega arith }
 grows_by true false at first bits near past_ = record { above = omega arith; near = near }
 grows_by false sound at first bits near past_ = record { above = omega arith; near = near }
 
-step_grows : (level at : ℕ) (c : Cell) (bits : ℕ) → at ≤ LARGEST → Grows at (stepped level at c bits)
+step_grows : (level at : ℕ) (c : Cell) (bits : ℕ) → at ≤ largest → Grows at (stepped level at c bits)
 step_grows level at c bits near = grows_by (nat_eq c.level level) c.sound at (up at (alignment c)) bits near (here_least at c).behind
 
 end_step : (level at : ℕ) (c : Cell) (cs : List Cell) → nat_lt c.level level ≡ false → end_of level at (c ∷ cs) ≡ end_of level (stepped level at c (cell_bits c cs)) cs
@@ -104,7 +104,7 @@ end_none : (level at : ℕ) → end_of level at [] ≡ at
 unfolding end_of
 end_none level at = refl
 
-end_grows : (level at : ℕ) (cells : List Cell) → at ≤ LARGEST → at ≤ end_of level at cells
+end_grows : (level at : ℕ) (cells : List Cell) → at ≤ largest → at ≤ end_of level at cells
 end_grows level at [] near = let none = end_none level at in omega arith
 end_grows level at (c ∷ cs) near =
     ⊎_elim
@@ -148,7 +148,7 @@ from_there : (level at : ℕ) (c : Cell) (cs : List Cell) → (c.sound && nat_eq
     stepped level at c (cell_bits c cs) ≡ at → AreOffsets at (siblings level cs) (offsets_from level at cs) → AreOffsets at (siblings level (c ∷ cs)) (offsets_from level at (c ∷ cs))
 from_there level at c cs other stays is_step later = rw stays (rw other (rw is_step later))
 
-are_from : (level at : ℕ) (cells : List Cell) → at ≤ LARGEST → end_of level at cells < LARGEST → AreOffsets at (siblings level cells) (offsets_from level at cells)
+are_from : (level at : ℕ) (cells : List Cell) → at ≤ largest → end_of level at cells < largest → AreOffsets at (siblings level cells) (offsets_from level at cells)
 are_from level at [] near short = tt
 are_from level at (c ∷ cs) near short =
     ⊎_elim
@@ -156,7 +156,7 @@ are_from level at (c ∷ cs) near short =
     (λ stays.
     let next = stepped level at c (cell_bits c cs) in
     let grows = step_grows level at c (cell_bits c cs) near in
-    let ends : end_of level next cs < LARGEST = subst (λ (n : ℕ). n < LARGEST) (end_step level at c cs stays) short in
+    let ends : end_of level next cs < largest = subst (λ (n : ℕ). n < largest) (end_step level at c cs stays) short in
     let later = are_from level next cs grows.near ends in
     ⊎_elim
     (λ here.
@@ -207,9 +207,9 @@ from_members all level at p (c ∷ cs) e =
     (from_members all level (stepped level at c (cell_bits c cs)) (p + 1) cs (behind_place all p c cs e))))
     (cases_Bool (nat_lt c.level level))
 
-pub offsets_are : (level : ℕ) (cells : List Cell) → end_of level 0 cells < LARGEST → AreOffsets 0 (siblings level cells) (sound_offsets level cells)
+pub offsets_are : (level : ℕ) (cells : List Cell) → end_of level 0 cells < largest → AreOffsets 0 (siblings level cells) (sound_offsets level cells)
 offsets_are level cells short =
     subst (λ (l : List ℕ). AreOffsets 0 (siblings level cells) l) (sym (from_members cells level 0 0 cells refl)) (are_from level 0 cells (omega arith) short)
 
-pub offsets_alone : (level : ℕ) (cells : List Cell) (places : List ℕ) → end_of level 0 cells < LARGEST → AreOffsets 0 (siblings level cells) places → places ≡ sound_offsets level cells
+pub offsets_alone : (level : ℕ) (cells : List Cell) (places : List ℕ) → end_of level 0 cells < largest → AreOffsets 0 (siblings level cells) places → places ≡ sound_offsets level cells
 offsets_alone level cells places short are = one_places 0 (siblings level cells) places (sound_offsets level cells) are (offsets_are level cells short)

@@ -7,7 +7,7 @@ use Rattle.stl_ast.specs.declared.declarations.Simple.TheVariants as simple
 use Rattle.block_layout.specs.declared.cells.Cell.{Cell}
 use Rattle.block_layout.specs.declared.cells.Element.{Element}
 use Rattle.block_layout.specs.declared.cells.Element.TheVariants.{Plain, Structure, DateAndTime, Udt, Unknown}
-use Rattle.block_layout.specs.declared.cells.TheConstants.{LARGEST}
+use Rattle.block_layout.specs.Sizes.{largest}
 use Rattle.block_layout.specs.Sizes.{stepped, cell_bits, element_of, end_of, elements_of, capped, array_bits, element_bits}
 
 drop_suc : {X : Type 0} (x : X) (xs : List X) (i : ℕ) → drop (i + 1) xs ≡ drop (suc i + 1) (x ∷ xs)
@@ -42,7 +42,7 @@ pub length-elements : (cells : List Cell) → length (elements_of cells) ≡ len
 length-elements [] = refl
 length-elements (c ∷ cs) = ap (λ n. suc n) (length-elements cs)
 
-element_small : (of : Element) (n : ℕ) → n ≤ LARGEST → element_bits of n ≤ LARGEST
+element_small : (of : Element) (n : ℕ) → n ≤ largest → element_bits of n ≤ largest
 element_small (Plain simple.Bool) n h = omega arith
 element_small (Plain simple.Byte) n h = omega arith
 element_small (Plain simple.Char) n h = omega arith
@@ -57,20 +57,20 @@ element_small DateAndTime n h = omega arith
 element_small (Udt block bits) n h = omega arith
 element_small Unknown n h = omega arith
 
-array_small : (bs : List Bounds) (n : ℕ) → n ≤ LARGEST → array_bits bs n ≤ LARGEST
+array_small : (bs : List Bounds) (n : ℕ) → n ≤ largest → array_bits bs n ≤ largest
 array_small [] n h = h
 array_small (b ∷ bs) n h = omega arith
 
-components_small : (sound : Bool) (n : ℕ) → (if sound then capped n else 0) ≤ LARGEST
+components_small : (sound : Bool) (n : ℕ) → (if sound then capped n else 0) ≤ largest
 components_small true n = omega arith
 components_small false n = omega arith
 
-pub element_near : (c : Cell) (cs : List Cell) → element_of c cs ≤ LARGEST
+pub element_near : (c : Cell) (cs : List Cell) → element_of c cs ≤ largest
 unfolding element_of
 element_near c cs = element_small c.of _ (components_small c.sound _)
 
-pub size_small : (cells : List Cell) (i d : ℕ) (c : Cell) → i < length cells → get_or (elements_of cells) i d ≤ LARGEST
-size_small cells i d c within = subst (λ (n : ℕ). n ≤ LARGEST) (sym (elements_at cells i c d within)) (element_near (get_or cells i c) (drop (i + 1) cells))
+pub size_small : (cells : List Cell) (i d : ℕ) (c : Cell) → i < length cells → get_or (elements_of cells) i d ≤ largest
+size_small cells i d c within = subst (λ (n : ℕ). n ≤ largest) (sym (elements_at cells i c d within)) (element_near (get_or cells i c) (drop (i + 1) cells))
 
 pub size_within : (cells : List Cell) (i : ℕ) (sizes : List ℕ) → sizes ≡ elements_of cells → i < length cells → i < length sizes
 size_within cells i sizes are within = let l = length-elements cells in let e = ap length are in omega arith
@@ -89,14 +89,14 @@ elements_value cells now elements place d r are is_now within is_r c =
     let there : place < length cells = subst (λ (l : List Cell). place < length l) is_now within in
     is_r ∙ ap (λ (l : List ℕ). get_or l place d) are ∙ elements_at cells place c d there ∙ ap (λ (l : List Cell). element_of (get_or l place c) (drop (place + 1) l)) (sym is_now)
 
-all_near : (cells : List Cell) (i d : ℕ) → i < length cells → get_or (elements_of cells) i d ≤ LARGEST
+all_near : (cells : List Cell) (i d : ℕ) → i < length cells → get_or (elements_of cells) i d ≤ largest
 all_near [] i d within = absurd (let never : ⊥ = omega arith in never)
 all_near (x ∷ xs) zero d within = element_near x xs
 all_near (x ∷ xs) (suc i) d within = let w : i < length xs = omega arith in all_near xs i d w
 
-pub elements_near : (cells now : List Cell) (elements : List ℕ) (place d r : ℕ) → elements ≡ elements_of cells → now ≡ cells → place < length now → r ≡ get_or elements place d → r ≤ LARGEST
+pub elements_near : (cells now : List Cell) (elements : List ℕ) (place d r : ℕ) → elements ≡ elements_of cells → now ≡ cells → place < length now → r ≡ get_or elements place d → r ≤ largest
 elements_near cells now elements place d r are is_now within is_r =
-    subst (λ (n : ℕ). n ≤ LARGEST) (sym (is_r ∙ ap (λ (l : List ℕ). get_or l place d) are)) (all_near cells place d (subst (λ (l : List Cell). place < length l) is_now within))
+    subst (λ (n : ℕ). n ≤ largest) (sym (is_r ∙ ap (λ (l : List ℕ). get_or l place d) are)) (all_near cells place d (subst (λ (l : List Cell). place < length l) is_now within))
 
 pub elements_within : (cells now : List Cell) (elements : List ℕ) (place : ℕ) → elements ≡ elements_of cells → now ≡ cells → place < length now → place < length elements
 elements_within cells now elements place are is_now within =

@@ -8,14 +8,14 @@ use Rattle.stl_ast.specs.declared.declarations.Bounds.{Bounds}
 use Rattle.block_layout.specs.Declarations.{count}
 use Rattle.block_layout.specs.InitialBytes.{element_starts, in_steps}
 use Rattle.block_layout.specs.Sizes.{array_bits, capped}
-use Rattle.block_layout.specs.declared.cells.TheConstants.{LARGEST}
+use Rattle.block_layout.specs.Sizes.{largest}
 
 -- a sum or a product that is held at a greatest number above the cap
-pub capped_held : (n held most : ℕ) → LARGEST ≤ most → held ≡ min n most → capped held ≡ capped n
+pub capped_held : (n held most : ℕ) → largest ≤ most → held ≡ min n most → capped held ≡ capped n
 capped_held n held most far is = omega (arith, far, is)
 
 -- one step more
-pub steps_more : (step start k product gone sum most : ℕ) (places before : List ℕ) → LARGEST ≤ most → product ≡ min (k * step) most → gone ≡ capped product → sum ≡ min (start + gone) most →
+pub steps_more : (step start k product gone sum most : ℕ) (places before : List ℕ) → largest ≤ most → product ≡ min (k * step) most → gone ≡ capped product → sum ≡ min (start + gone) most →
     places ≡ before ++ in_steps step k start → places ++ capped sum ∷ [] ≡ before ++ in_steps step (k + 1) start
 steps_more step start k product gone sum most places before far is_product is_gone is_sum so_far =
     let f : ℕ → ℕ = λ j. capped (start + capped (j * step)) in

@@ -11,32 +11,39 @@ use Rattle.stl_symbols.specs.Symbol.{Symbol, symbol_named}
 use Rattle.stl_symbols.specs.declared.targets.Target.{Target}
 use Rattle.stl_symbols.specs.declared.targets.Target.TheVariants as target
 
+-- a code block: an organization block, a function or a function block
 abbrev pub is_code : BlockKind → Bool
 is_code kind.Ob = true
 is_code kind.Fc = true
 is_code kind.Fb = true
 is_code _ = false
 
+-- a function (FC)
 abbrev pub is_function : BlockKind → Bool
 is_function kind.Fc = true
 is_function _ = false
 
+-- an organization block (OB)
 abbrev pub is_organization_block : BlockKind → Bool
 is_organization_block kind.Ob = true
 is_organization_block _ = false
 
+-- a function block (FB)
 abbrev pub is_function_block : BlockKind → Bool
 is_function_block kind.Fb = true
 is_function_block _ = false
 
+-- a data block (DB)
 abbrev pub is_data_block : BlockKind → Bool
 is_data_block kind.Db = true
 is_data_block _ = false
 
+-- a user-defined data type (UDT)
 abbrev pub is_data_type : BlockKind → Bool
 is_data_type kind.Udt = true
 is_data_type _ = false
 
+-- a system function (SFC)
 abbrev pub is_system_function : BlockKind → Bool
 is_system_function kind.Sfc = true
 is_system_function _ = false
@@ -45,9 +52,11 @@ is_system_function _ = false
 abbrev pub has_structure : BlockKind → Bool
 has_structure k = is_function_block k || is_data_type k
 
+-- a block of whatever kind
 abbrev pub is_any : BlockKind → Bool
 is_any k = true
 
+-- two kinds are the same
 abbrev pub is_same_kind : BlockKind → BlockKind → Bool
 is_same_kind kind.Ob = is_organization_block
 is_same_kind kind.Fc = is_function
@@ -56,6 +65,7 @@ is_same_kind kind.Db = is_data_block
 is_same_kind kind.Sfc = is_system_function
 is_same_kind kind.Udt = is_data_type
 
+-- two blocks are the same: by kind and number
 abbrev pub is_same_block : BlockId → BlockId → Bool
 is_same_block a b = is_same_kind a.kind b.kind && nat_eq a.number b.number
 
@@ -63,6 +73,7 @@ is_same_block a b = is_same_kind a.kind b.kind && nat_eq a.number b.number
 abbrev pub lies_within : (low high : ℕ) → ℕ → Bool
 lies_within low high n = nat_le low n && nat_le n high
 
+-- the number of an organization block of the profile
 abbrev pub is_ob_number : ℕ → Bool
 is_ob_number n =
     nat_eq n 1 || lies_within 10 17 n || lies_within 20 23 n || lies_within 30 38 n
@@ -101,6 +112,7 @@ id_of symbols b = of_kind (is_same_kind b.kind) (named_block symbols b.name)
 abbrev pub ids_of : List Symbol → List Block → List (Option BlockId)
 ids_of symbols blocks = map (λ b. id_of symbols b) blocks
 
+-- a block of the source is this one; one without kind and number is none
 abbrev pub is_id : BlockId → Option BlockId → Bool
 is_id id None = false
 is_id id (Some other) = is_same_block id other

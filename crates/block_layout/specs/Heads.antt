@@ -6,6 +6,7 @@ use Rattle.stl_ast.specs.declared.blocks.Block.{Block}
 use Rattle.stl_symbols.specs.Gathered.{gathered}
 use Rattle.stl_symbols.specs.Least.{broken_if}
 
+-- a refusal at the head of each block that breaks the rule, by the blocks before it
 abbrev pub on_heads : (breaks : List Block → Block → Bool) → (rule : ℕ) → List Block → List Refusal
 on_heads breaks rule blocks =
     gathered (λ b. false) (λ before b. broken_if (breaks before b) b.line rule)

@@ -13,9 +13,11 @@ use Rattle.block_layout.specs.Rule56.{own_depth, depth_around}
 use Rattle.block_layout.specs.Sizes.{structure_bits}
 use Rattle.block_layout.specs.Types.{Types}
 
+-- the types with these depths, one for each block of the source
 abbrev pub with_depths : Types → List ℕ → Types
 with_depths y depths = record y { depths = depths }
 
+-- the types with these sizes in bits, one for each block of the source
 abbrev pub with_bits : Types → List ℕ → Types
 with_bits y bits = record y { bits = bits }
 
@@ -29,21 +31,26 @@ deepest y o before (d ∷ ds) =
 abbrev pub deep : ℕ → ℕ
 deep n = min n 9
 
+-- the depth of a user-defined data type; that of another block is 0
 unfoldable pub type_depth : Types → Block → ℕ
 type_depth y b = if is_data_type b.kind then deep (deepest y of_structure [] b.components) else 0
 
+-- the size in bits of a user-defined data type; that of another block is 0
 unfoldable pub type_bits : Types → Block → ℕ
 type_bits y b =
     if is_data_type b.kind then structure_bits
     (cells_of y of_structure part.Static [] b.components) else 0
 
+-- the rounds that settle sound types
 abbrev pub rounds : ℕ
 rounds = 9
 
+-- the depths of all blocks after so many rounds
 abbrev pub depths_after : ℕ → Types → List Block → List ℕ
 depths_after zero y blocks = map (λ b. 0) blocks
 depths_after (suc k) y blocks = map (type_depth (with_depths y (depths_after k y blocks))) blocks
 
+-- the sizes in bits of all blocks after so many rounds
 abbrev pub bits_after : ℕ → Types → List Block → List ℕ
 bits_after zero y blocks = map (λ b. 0) blocks
 bits_after (suc k) y blocks = map (type_bits (with_bits y (bits_after k y blocks))) blocks
@@ -57,11 +64,14 @@ unmeasured symbols blocks = record {
   bits = [];
 }
 
+-- the types with their depths after the last round
 unfoldable pub with_all_depths : Types → List Block → Types
 with_all_depths y blocks = with_depths y (depths_after rounds y blocks)
 
+-- the types with their sizes in bits after the last round
 unfoldable pub with_all_bits : Types → List Block → Types
 with_all_bits y blocks = with_bits y (bits_after rounds y blocks)
 
+-- what is known of the types of a source, depths and sizes in bits measured
 unfoldable pub types_of : List Symbol → List Block → Types
 types_of symbols blocks = with_all_bits (with_all_depths (unmeasured symbols blocks) blocks) blocks

@@ -5,6 +5,7 @@ use Rattle.plc_base.specs.declared.blocks.BlockId.{BlockId}
 use Rattle.plc_base.specs.declared.blocks.BlockKind.{BlockKind}
 use Rattle.block_layout.specs.Blocks.{is_same_kind}
 
+-- a block has this number; one that isn't of the kind has none
 abbrev pub is_number : ℕ → Option ℕ → Bool
 is_number n None = false
 is_number n (Some m) = nat_eq n m

@@ -18,6 +18,7 @@ use Rattle.block_layout.specs.declared.walks.Walk.TheVariants as walk
 use Rattle.block_layout.specs.Blocks.{known_block, is_code, is_data_block, is_function_block}
 use Rattle.block_layout.specs.Paths.{walked_data, walked_from, leaves_from, leaves_judged, structure_of, elementary_at, if_whole}
 
+-- the width of an elementary data type
 abbrev pub width_of : Simple → Width
 width_of simple.Bool = width.Bit
 width_of simple.Byte = width.Byte

@@ -13,7 +13,7 @@ use Rattle.block_layout.specs.declared.blocks.Shape.TheVariants as shape
 use Rattle.block_layout.specs.declared.cells.Cell.{Cell}
 use Rattle.block_layout.specs.declared.cells.Element.{Element}
 use Rattle.block_layout.specs.declared.cells.Element.TheVariants.{Plain, Structure, Udt}
-use Rattle.block_layout.specs.declared.cells.TheConstants.{LARGEST}
+use Rattle.block_layout.specs.Sizes.{largest}
 use Rattle.block_layout.specs.declared.members.Member.{Member}
 use Rattle.block_layout.specs.declared.walks.Spot.{Spot}
 use Rattle.block_layout.specs.declared.walks.Walk.{Walk}
@@ -244,7 +244,7 @@ elementary_at l spot = kind_of spot (slice_get (cells_at l spot.block spot.tempo
 
 -- an offset isn't above the cap
 abbrev pub OffsetIsNear : Walk → Type 0
-OffsetIsNear (walk.Reaches spot) = spot.offset ≤ LARGEST
+OffsetIsNear (walk.Reaches spot) = spot.offset ≤ largest
 OffsetIsNear _ = Unit {0}
 
 -- the component at a spot is sound

@@ -9,6 +9,7 @@ use Rattle.stl_symbols.specs.Least.{broken_if}
 use Rattle.stl_symbols.specs.Names.{place_of}
 use Rattle.block_layout.specs.Around.{Outside, in_blocks}
 
+-- the name of a declaration at this level, without case; of one at another level none
 abbrev pub name_here : ℕ → Declaration → List (List ℕ)
 name_here level d = if nat_eq d.level level then folded d.name ∷ [] else []
 
@@ -19,11 +20,14 @@ names_before outer level [] = outer
 names_before outer level (d ∷ ds) =
     if nat_lt d.level level then [] else names_before outer level ds ++ name_here level d
 
+-- its name stands before it in its list
 abbrev pub is_twice : Outside → List Declaration → Declaration → Bool
 is_twice o before d = is_some (place_of (folded d.name) (names_before o.names d.level before))
 
+-- the refusal of a declaration, at its line
 abbrev pub broken_21 : Outside → List Declaration → Declaration → List Refusal
 broken_21 o before d = broken_if (is_twice o before d) d.line 21
 
+-- rule 21: a name declared twice in one list
 unfoldable pub rule_21 : List Block → List Refusal
 rule_21 blocks = in_blocks broken_21 blocks

@@ -7,6 +7,7 @@ use Rattle.block_layout.specs.Blocks.{id_of, block_place}
 use Rattle.block_layout.specs.Heads.{on_heads}
 use Rattle.block_layout.specs.Types.{Types}
 
+-- a place that is found lies before this one
 abbrev pub is_earlier : Option ℕ → ℕ → Bool
 is_earlier None place = false
 is_earlier (Some first) place = nat_lt first place
@@ -16,5 +17,6 @@ abbrev pub is_block_twice : Types → (before : List Block) → Block → Bool
 is_block_twice y before b =
     is_earlier (option_and_then (λ id. block_place id y.ids) (id_of y.symbols b)) (length before)
 
+-- rule 22: a block twice
 unfoldable pub rule_22 : Types → List Block → List Refusal
 rule_22 y blocks = on_heads (is_block_twice y) 22 blocks

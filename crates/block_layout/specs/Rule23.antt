@@ -23,6 +23,7 @@ use Rattle.block_layout.specs.Types.{Types}
 use Rattle.block_layout.specs.declared.blocks.Shape.{Shape}
 use Rattle.block_layout.specs.declared.blocks.Shape.TheVariants as shape
 
+-- what a data block is of is unknown
 abbrev pub is_unknown_shape : Shape → Bool
 is_unknown_shape shape.Unknown = true
 is_unknown_shape _ = false
@@ -35,9 +36,11 @@ has_unknown_head y b = is_none (id_of y.symbols b) || is_unknown_shape (shape_of
 abbrev pub broken_23 : Types → Outside → List Declaration → Declaration → List Refusal
 broken_23 y o before d = broken_if (is_unknown_type y d.of.of) d.line 23
 
+-- the source has no such data block
 abbrev pub is_unknown_data : Types → BlockName → Bool
 is_unknown_data y name = is_none (found_block y.symbols y.ids is_data_block name)
 
+-- a data block is named that the source hasn't
 abbrev pub is_unknown_instance : Types → Option BlockName → Bool
 is_unknown_instance y None = false
 is_unknown_instance y (Some name) = is_unknown_data y name
@@ -48,9 +51,11 @@ is_unknown_id y None = true
 is_unknown_id y (Some id) =
     if is_system_function id.kind then false else is_none (known_block id y.ids)
 
+-- a called block, by its name
 abbrev pub is_unknown_called : Types → BlockName → Bool
 is_unknown_called y name = is_unknown_id y (named_block y.symbols name)
 
+-- the data block before a component
 abbrev pub is_unknown_path : Types → PathHead → Bool
 is_unknown_path y (head.InBlock name) = is_unknown_data y name
 is_unknown_path y _ = false
@@ -64,9 +69,11 @@ names_unknown y (operand.Called name instance) =
     is_unknown_called y name || is_unknown_instance y instance
 names_unknown y _ = false
 
+-- the refusal of an operand, at its line
 abbrev pub operand_23 : Types → Judged → List Refusal
 operand_23 y o = broken_if (names_unknown y o.operand) o.line 23
 
+-- rule 23: an unknown block or user-defined data type
 unfoldable pub rule_23 : Types → List Block → List Refusal
 rule_23 y blocks =
     on_heads (λ before b. has_unknown_head y b) 23 blocks ++ in_blocks (broken_23 y) blocks

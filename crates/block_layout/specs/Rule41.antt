@@ -17,9 +17,11 @@ use Rattle.block_layout.specs.declared.blocks.BlockLayout.{BlockLayout}
 use Rattle.block_layout.specs.declared.walks.Walk.{Walk}
 use Rattle.block_layout.specs.declared.walks.Walk.TheVariants as walk
 
+-- a declaration whose initial values don't fit its type
 abbrev pub broken_41 : Outside → List Declaration → Declaration → List Refusal
 broken_41 o before d = broken_if (not (init_fits d)) d.line 41
 
+-- a value fits an elementary data type; what is of another type fits none
 abbrev pub fits_kind : Literal → Option Simple → Bool
 fits_kind value None = false
 fits_kind value (Some kind) = fits value kind
@@ -29,8 +31,10 @@ abbrev pub misfits : List BlockLayout → Literal → Walk → Bool
 misfits l value (walk.Reaches spot) = not (fits_kind value (elementary_at l spot))
 misfits l value _ = false
 
+-- the value of a setting doesn't fit the component that its path leads to
 abbrev pub setting_misfits : List BlockLayout → ℕ → Setting → Bool
 setting_misfits l block s = misfits l s.value (walked_setting l block (folded_path s.path))
 
+-- rule 41: an initial value that doesn't fit
 unfoldable pub rule_41 : List BlockLayout → List Block → List Refusal
 rule_41 l blocks = in_blocks broken_41 blocks ++ on_settings (setting_misfits l) 41 0 blocks

@@ -22,6 +22,7 @@ use Rattle.block_layout.specs.Settings.{on_settings}
 use Rattle.block_layout.specs.Types.{Types}
 use Rattle.block_layout.specs.declared.blocks.BlockLayout.{BlockLayout}
 
+-- a declaration with the upper below the lower bound
 abbrev pub broken_42 : Outside → List Declaration → Declaration → List Refusal
 broken_42 o before d = broken_if (has_upside_down d) d.line 42
 
@@ -30,6 +31,7 @@ abbrev pub setting_is_outside : List BlockLayout → ℕ → Setting → Bool
 setting_is_outside l block s =
     leaves_judged l (setting_structure l block) (folded_path s.path)
 
+-- the path in a data block, where the source has it
 abbrev pub leaves_found : List BlockLayout → Option ℕ → List PathStep → Bool
 leaves_found l None steps = false
 leaves_found l (Some block) steps = leaves_judged l (structure_of l block) steps
@@ -42,10 +44,12 @@ leaves_path y l block (head.InBlock name) steps =
     leaves_found l (found_block y.symbols y.ids is_data_block name) (folded_path steps)
 leaves_path y l block (head.Symbol name) steps = false
 
+-- an operand with an index outside its array
 abbrev pub operand_is_outside : Types → List BlockLayout → ℕ → Operand → Bool
 operand_is_outside y l block (operand.Named path steps) = leaves_path y l block path steps
 operand_is_outside y l block _ = false
 
+-- the refusal of an operand, at its line
 abbrev pub operand_42 : Types → List BlockLayout → ℕ → Judged → List Refusal
 operand_42 y l block o = broken_if (operand_is_outside y l block o.operand) o.line 42
 
@@ -53,6 +57,7 @@ operand_42 y l block o = broken_if (operand_is_outside y l block o.operand) o.li
 abbrev pub bodies_42 : Types → List BlockLayout → (block : ℕ) → List Block → List Refusal
 bodies_42 y l block blocks = by_place (λ k b. in_body (operand_42 y l k) b.body) block blocks
 
+-- rule 42: the upper below the lower bound, or an index outside its array
 unfoldable pub rule_42 : Types → List BlockLayout → List Block → List Refusal
 rule_42 y l blocks =
     in_blocks broken_42 blocks ++ on_settings (setting_is_outside l) 42 0 blocks

@@ -10,6 +10,7 @@ use Rattle.block_layout.specs.Blocks.{is_data_type}
 use Rattle.block_layout.specs.Heads.{on_heads}
 use Rattle.block_layout.specs.Types.{Types, udt_of}
 
+-- the one place in a list, or none
 abbrev pub if_some : Option ℕ → List ℕ
 if_some None = []
 if_some (Some n) = n ∷ []
@@ -19,6 +20,7 @@ abbrev pub used_by : Types → ElementType → List ℕ
 used_by y (element.Udt name) = if_some (udt_of y name)
 used_by y _ = []
 
+-- the data types that a block uses
 abbrev pub uses_of : Types → Option Block → List ℕ
 uses_of y None = []
 uses_of y (Some b) = flat_map (λ d. used_by y d.of.of) b.components
@@ -35,5 +37,6 @@ abbrev pub contains_itself : Types → List Block → (before : List Block) → 
 contains_itself y blocks before b =
     is_data_type b.kind && leads_to y blocks (length blocks) (length before) (length before)
 
+-- rule 43: a user-defined data type contains itself
 unfoldable pub rule_43 : Types → List Block → List Refusal
 rule_43 y blocks = on_heads (contains_itself y blocks) 43 blocks

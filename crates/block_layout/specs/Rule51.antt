@@ -7,8 +7,10 @@ use Rattle.block_layout.specs.Heads.{on_heads}
 use Rattle.block_layout.specs.Lengths.{length_of}
 use Rattle.block_layout.specs.Types.{Types}
 
+-- a block is above 16,384 bytes
 abbrev pub is_too_long : Types → List Block → Block → Bool
 is_too_long y blocks b = nat_lt 16384 (length_of y blocks b)
 
+-- rule 51: a data block, data type or instance above 16,384 bytes
 unfoldable pub rule_51 : Types → List Block → List Refusal
 rule_51 y blocks = on_heads (λ before b. is_too_long y blocks b) 51 blocks

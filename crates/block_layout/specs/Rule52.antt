@@ -8,6 +8,7 @@ use Rattle.stl_ast.specs.declared.blocks.Part.{Part}
 use Rattle.stl_ast.specs.declared.declarations.Simple.{Simple}
 use Rattle.block_layout.specs.Heads.{on_heads}
 
+-- the return value of a function counts 1
 abbrev pub returned : Option Simple → ℕ
 returned None = 0
 returned (Some kind) = 1
@@ -16,11 +17,14 @@ returned (Some kind) = 1
 abbrev pub declared_in : Part → ℕ
 declared_in p = if is_parameter p.kind then count_by (λ d. nat_eq d.level 0) p.items else 0
 
+-- the parameters of a block, the return value counted
 abbrev pub parameter_count : Block → ℕ
 parameter_count b = sum_by declared_in b.parts + returned b.result
 
+-- a block has more than 60 of them
 abbrev pub has_too_many_parameters : Block → Bool
 has_too_many_parameters b = nat_lt 60 (parameter_count b)
 
+-- rule 52: more than 60 parameters
 unfoldable pub rule_52 : List Block → List Refusal
 rule_52 blocks = on_heads (λ before b. has_too_many_parameters b) 52 blocks

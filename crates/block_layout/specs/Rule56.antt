@@ -15,6 +15,7 @@ abbrev pub udt_depth : List ℕ → Option ℕ → ℕ
 udt_depth depths None = 0
 udt_depth depths (Some block) = get_or depths block 0
 
+-- how deep an element type is: a structure 1, an elementary type 0
 abbrev pub element_depth : Types → ElementType → ℕ
 element_depth y element.Structure = 1
 element_depth y (element.Udt name) = udt_depth y.depths (udt_of y name)
@@ -29,16 +30,20 @@ abbrev pub opened_by : Types → List Holder → ℕ
 opened_by y [] = 0
 opened_by y (h ∷ hs) = own_depth y h.declaration + opened_by y hs
 
+-- how deep a declaration stands
 abbrev pub depth_around : Types → Outside → ℕ → List Declaration → ℕ
 depth_around y o level before = o.depth + opened_by y (around level before)
 
+-- a declaration opens the ninth structure or array
 abbrev pub is_too_deep : Types → Outside → List Declaration → Declaration → Bool
 is_too_deep y o before d =
     nat_le (depth_around y o d.level before) 8
     && nat_lt 8 (depth_around y o d.level before + own_depth y d)
 
+-- the refusal of a declaration, at its line
 abbrev pub broken_56 : Types → Outside → List Declaration → Declaration → List Refusal
 broken_56 y o before d = broken_if (is_too_deep y o before d) d.line 56
 
+-- rule 56: types nested deeper than 8
 unfoldable pub rule_56 : Types → List Block → List Refusal
 rule_56 y blocks = in_blocks (broken_56 y) blocks

@@ -5,7 +5,7 @@ use Rattle.stl_ast.specs.Blocks.{is_parameter}
 use Rattle.block_layout.specs.declared.cells.Cell.{Cell}
 use Rattle.block_layout.specs.declared.members.Scope.{Scope}
 use Rattle.block_layout.specs.Members.{members_of, names_of}
-use Rattle.block_layout.specs.declared.cells.TheConstants.{LARGEST}
+use Rattle.block_layout.specs.Sizes.{largest}
 use Rattle.block_layout.specs.Sizes.{elements_of, structure_bits}
 
 -- the components at a level, of which these cells are the first
@@ -46,5 +46,5 @@ pub record AreKept (cells : List Cell) (elements : List ℕ) (outer : Scope) (sc
   pub counted : length scopes ≡ length cells
   pub inner : AreScopes cells scopes
   pub whole : bits ≡ structure_bits cells
-  pub near : bits ≤ LARGEST
+  pub near : bits ≤ largest
   pub ended : EndParameters cells parameters

@@ -7,10 +7,12 @@ use Rattle.block_layout.specs.declared.blocks.BlockLayout.{BlockLayout}
 use Rattle.block_layout.specs.declared.settings.SettingFault.{SettingFault}
 use Rattle.block_layout.specs.declared.settings.SettingFault.TheVariants as fault
 
+-- a setting of the block at a place breaks this one of the rules
 abbrev pub setting_breaks : List BlockLayout → SettingFault → ℕ → Setting → Bool
 setting_breaks l fault.UnfitValue = setting_misfits l
 setting_breaks l fault.OutsideIndex = setting_is_outside l
 
+-- the number of the rule
 abbrev pub rule_of : SettingFault → ℕ
 rule_of fault.UnfitValue = 41
 rule_of fault.OutsideIndex = 42

@@ -7,6 +7,7 @@ use Rattle.stl_ast.specs.declared.blocks.Setting.{Setting}
 use Rattle.stl_symbols.specs.Least.{broken_if}
 use Rattle.block_layout.specs.ByPlace.{by_place}
 
+-- the settings of one data block that break a rule
 abbrev pub in_settings : (breaks : Setting → Bool) → (rule : ℕ) → List Setting → List Refusal
 in_settings breaks rule settings = flat_map (λ s. broken_if (breaks s) s.line rule) settings
 

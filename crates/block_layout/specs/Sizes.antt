@@ -6,12 +6,15 @@ use Rattle.stl_ast.specs.declared.declarations.Simple.TheVariants as simple
 use Rattle.block_layout.specs.declared.cells.Cell.{Cell}
 use Rattle.block_layout.specs.declared.cells.Element.{Element}
 use Rattle.block_layout.specs.declared.cells.Element.TheVariants.{Plain, Structure, DateAndTime, Udt, Unknown}
-use Rattle.block_layout.specs.declared.cells.TheConstants.{LARGEST}
 use Rattle.block_layout.specs.Declarations.{count}
+
+-- the number of bits at which all sizes and offsets stop, above every size that a rule allows
+abbrev pub largest : ℕ
+largest = 2147483648
 
 -- sizes and offsets beyond every limit count as one
 abbrev pub capped : ℕ → ℕ
-capped n = min n LARGEST
+capped n = min n largest
 
 -- the least multiple of the alignment at or past a number
 unfoldable pub up : ℕ → (alignment : ℕ) → ℕ

@@ -23,6 +23,7 @@ use Rattle.block_layout.specs.Rule55.{rule_55}
 use Rattle.block_layout.specs.Rule56.{rule_56}
 use Rattle.block_layout.specs.Types.{Types}
 
+-- all refusals of the blocks of a source, by the rules in order
 unfoldable pub refusals_by : Types → List BlockLayout → List Block → List Refusal
 refusals_by y l blocks =
     rule_21 blocks  -- a name declared twice in one list
@@ -40,5 +41,6 @@ refusals_by y l blocks =
     ++ rule_55 blocks  -- more than 65,534 statements
     ++ rule_56 y blocks  -- types nested deeper than 8
 
+-- all refusals of a source by these rules, with its symbols
 unfoldable pub layout_refusals : Tree → List Symbol → List Refusal
 layout_refusals t symbols = refusals_by (types_of symbols t.blocks) (layouts_of t symbols) t.blocks

@@ -1,3 +1,4 @@
+ghost use Rattle.block_layout.specs.Sizes.{largest};
 ghost use Rattle.std.specs.Prelude.{◌≡◌, ◌≤◌, Some};
 ghost use Rattle.std.specs.List.{slice_get};
 ghost use Rattle.block_layout.specs.Paths.{
@@ -18,7 +19,7 @@ ghost use Rattle.block_layout.specs.Paths.{
 };
 
 use crate::blocks::BlockLayout;
-use crate::cells::{Cell, LARGEST};
+use crate::cells::Cell;
 use crate::routes::{in_sections, walk_local};
 use crate::walks::{Spot, Walk, bounds_at, layout_at, outermost, step, walk_from};
 use stl_ast::{Bounds, PathStep};
@@ -64,7 +65,7 @@ fn step_is_beyond(layouts: &[BlockLayout], spot: Spot, step: &PathStep) -> bool
 /// Whether an index of a path is outside its array, from a sound component on.
 #[tactic(auto, using(crate::proofs::WalkLemmas::step_sound))]
 fn leaves(layouts: &[BlockLayout], start: Spot, path: &[PathStep]) -> bool
-    requires offset { start.offset ≤ LARGEST }
+    requires offset { start.offset ≤ largest }
     requires sound { IsSoundAt layouts.now start }
     ensures { result ≡ leaves layouts.now start path.now }
 {

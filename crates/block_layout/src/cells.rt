@@ -34,4 +34,4 @@ pub struct Cell {
 }
 
 /// Sizes and offsets from here on count as this one, in bits: 256 MiB, far above each limit.
-pub const LARGEST: u64 = 2_147_483_648;
+pub(crate) const LARGEST: u64 = 2_147_483_648;

@@ -16,11 +16,11 @@ ghost use Rattle.block_layout.specs.InitialBytes.{
   writes_from,
 };
 ghost use Rattle.block_layout.specs.Paths.{folded_path, structure_of, walked_data};
-ghost use Rattle.block_layout.specs.Sizes.{elements_of, plain_bits};
+ghost use Rattle.block_layout.specs.Sizes.{elements_of, plain_bits, largest};
 
 use crate::blocks::BlockLayout;
 use crate::bytes::{put, put_values};
-use crate::cells::{Cell, Element, LARGEST};
+use crate::cells::{Cell, Element};
 use crate::constants::bits_of;
 use crate::layouts::{behind, numbers_behind};
 use crate::measures::ROUNDS;
@@ -49,7 +49,7 @@ fn put_plain(
     element: u64,
     starts: &[u64],
 ) -> Result<(), AllocError>
-    requires { element ≤ LARGEST }
+    requires { element ≤ largest }
     ensures { IfOk result (λ _. bytes.new ≡ fold put bytes.old (flat_map
         (λ s. writes_at (plain_bits kind) (element_starts cell.now.bounds element (s ∷ []))
         (preset_values cell.now.presets)) starts.now)) }
@@ -79,9 +79,9 @@ fn put_cell(
     at: u64,
     starts: &[u64],
 ) -> Result<(), AllocError>
-    requires element { element ≤ LARGEST }
+    requires element { element ≤ largest }
     requires elements { elements.now ≡ elements_of behind.now }
-    requires near { at ≤ LARGEST }
+    requires near { at ≤ largest }
     ensures { IfOk result (λ _. bytes.new ≡ fold put bytes.old (cell_writes
         (λ inner. writes_from (type_writes layouts.now depth) (cell.now.level + 1) inner 0
         behind.now) (type_writes layouts.now depth) level at starts.now cell.now element)) }

@@ -14,11 +14,11 @@ ghost use Rattle.std.specs.Prelude.{
 ghost use Rattle.std.specs.List.{slice_get};
 ghost use Rattle.std.specs.Option.{option_copied};
 ghost use Rattle.block_layout.specs.Members.{component};
-ghost use Rattle.block_layout.specs.Sizes.{element_of, elements_of, structure_bits};
+ghost use Rattle.block_layout.specs.Sizes.{element_of, elements_of, structure_bits, largest};
 ghost use Rattle.block_layout.specs.Scopes.{AreScopes, EndParameters, HaveParameters, IsScope};
 ghost use Rattle.block_layout.specs.declared.cells.Cell.{Cell};
 
-use crate::cells::{Cell, LARGEST};
+use crate::cells::Cell;
 use crate::heads::is_parameter;
 use crate::members::{Member, Scope, find, members};
 use crate::sizes::{elements, structure_bits};
@@ -157,7 +157,7 @@ impl Layout {
     /// The bits of a structure of these cells.
     pub fn bits(&self) -> u64
         ensures value { result ≡ structure_bits self.now }
-        ensures near { result ≤ LARGEST }
+        ensures near { result ≤ largest }
     {
         self.bits
     }
@@ -207,7 +207,7 @@ impl Layout {
         requires { place < length self.now }
         ensures value { (c : Cell) → result
             ≡ element_of (get_or self.now place c) (drop (place + 1) self.now) }
-        ensures near { result ≤ LARGEST }
+        ensures near { result ≤ largest }
     {
         self.elements[place]
     }

@@ -31,10 +31,9 @@ ghost use Rattle.block_layout.specs.Lengths.{
   shape_named,
   shape_of,
 };
-ghost use Rattle.block_layout.specs.Sizes.{structure_bits};
+ghost use Rattle.block_layout.specs.Sizes.{structure_bits, largest};
 
 use crate::blocks::Shape;
-use crate::cells::LARGEST;
 use crate::layouts::Layout;
 use crate::outlines::Outline;
 use crate::types::Types;
@@ -164,7 +163,7 @@ fn is_structured(kind: BlockKind) -> bool
 fn bits_at(outlines: &[Outline], place: usize) -> u64
     ensures value { result
         ≡ bits_of_cells (option_map (λ o. o.components) (slice_get outlines.now place)) }
-    ensures near { result ≤ LARGEST }
+    ensures near { result ≤ largest }
 {
     match outlines.get(place) {
         Some(outline) => outline.components.bits(),

@@ -40,7 +40,7 @@ mod verdicts;
 mod walks;
 
 pub use blocks::{BlockLayout, Section, Shape};
-pub use cells::{Cell, Element, LARGEST, Preset};
+pub use cells::{Cell, Element, Preset};
 pub use constants::{bits_of, fits};
 pub use heads::is_parameter;
 pub use laws::law_of_offsets;

@@ -13,6 +13,7 @@ ghost use Rattle.block_layout.specs.Sizes.{
   stepped,
   structure_bits,
   up,
+  largest,
 };
 
 use crate::cells::{Cell, Element, LARGEST};
@@ -30,7 +31,7 @@ pub(crate) fn capped(n: u64) -> u64
 pub(crate) fn up(n: u64, alignment: u64) -> u64
     requires positive { 0 < alignment }
     requires small { alignment ≤ 16 }
-    requires near { n ≤ LARGEST }
+    requires near { n ≤ largest }
     ensures value { result ≡ up n alignment }
     ensures near { result < n + alignment }
 {
@@ -89,9 +90,9 @@ pub(crate) fn count(bounds: &Bounds) -> u64
 
 /// The bits of arrays, the outermost first, of elements of so many bits.
 pub(crate) fn array_bits(bounds: &[Bounds], element: u64) -> u64
-    requires { element ≤ LARGEST }
+    requires { element ≤ largest }
     ensures value { result ≡ array_bits bounds.now element }
-    ensures near { result ≤ LARGEST }
+    ensures near { result ≤ largest }
 {
     let mut bits = element;
     for i in (0..bounds.len()).rev() {
@@ -102,9 +103,9 @@ pub(crate) fn array_bits(bounds: &[Bounds], element: u64) -> u64
 }
 
 fn element_bits(of: Element, components: u64) -> u64
-    requires { components ≤ LARGEST }
+    requires { components ≤ largest }
     ensures value { result ≡ element_bits of components }
-    ensures near { result ≤ LARGEST }
+    ensures near { result ≤ largest }
 {
     match of {
         Element::Plain { kind } => plain_bits(kind),
@@ -116,10 +117,10 @@ fn element_bits(of: Element, components: u64) -> u64
 }
 
 fn past(at: u64, cell: &Cell, bits: u64) -> u64
-    requires near { at ≤ LARGEST }
-    requires small { bits ≤ LARGEST }
+    requires near { at ≤ largest }
+    requires small { bits ≤ largest }
     ensures value { result ≡ past at cell.now bits }
-    ensures near { result ≤ LARGEST }
+    ensures near { result ≤ largest }
 {
     if cell.sound {
         capped(up(at, alignment(cell)) + bits)
@@ -129,10 +130,10 @@ fn past(at: u64, cell: &Cell, bits: u64) -> u64
 }
 
 pub(crate) fn stepped(at: u64, cell: &Cell, bits: u64, level: u64) -> u64
-    requires near { at ≤ LARGEST }
-    requires small { bits ≤ LARGEST }
+    requires near { at ≤ largest }
+    requires small { bits ≤ largest }
     ensures value { result ≡ stepped level at cell.now bits }
-    ensures near { result ≤ LARGEST }
+    ensures near { result ≤ largest }
 {
     if cell.level as u64 == level {
         past(at, cell, bits)
@@ -146,7 +147,7 @@ pub(crate) fn stepped(at: u64, cell: &Cell, bits: u64, level: u64) -> u64
 fn end_of(cells: &[Cell], elements: &[u64], level: u64) -> u64
     requires { elements.now ≡ elements_of cells.now }
     ensures value { result ≡ end_of level 0 cells.now }
-    ensures near { result ≤ LARGEST }
+    ensures near { result ≤ largest }
 {
     let mut at = 0;
     for i in 0..cells.len() {
@@ -165,7 +166,7 @@ fn components(cell: &Cell, behind: &[Cell], elements: &[u64]) -> u64
     requires { elements.now ≡ elements_of behind.now }
     ensures value { result ≡ (if cell.now.sound
         then capped (up (end_of (cell.now.level + 1) 0 behind.now) 16) else 0) }
-    ensures near { result ≤ LARGEST }
+    ensures near { result ≤ largest }
 {
     if cell.sound {
         capped(up(end_of(behind, elements, cell.level as u64 + 1), 16))
@@ -193,7 +194,7 @@ pub(crate) fn elements(alloc: Global, cells: &[Cell]) -> Result<Vec<u64>, AllocE
 pub(crate) fn structure_bits(cells: &[Cell], elements: &[u64]) -> u64
     requires { elements.now ≡ elements_of cells.now }
     ensures value { result ≡ structure_bits cells.now }
-    ensures near { result ≤ LARGEST }
+    ensures near { result ≤ largest }
 {
     capped(up(end_of(cells, elements, 0), 16))
 }

@@ -1,3 +1,4 @@
+ghost use Rattle.block_layout.specs.Sizes.{largest};
 ghost use Rattle.std.specs.Prelude.{◌≡◌, ◌≤◌, ◌++◌, IfOk, replicate};
 ghost use Rattle.std.specs.List.{flat_map};
 ghost use Rattle.block_layout.specs.InitialBytes.{
@@ -8,7 +9,7 @@ ghost use Rattle.block_layout.specs.InitialBytes.{
   preset_values,
 };
 
-use crate::cells::{Cell, LARGEST, Preset};
+use crate::cells::{Cell, Preset};
 use crate::sizes::{alignment, array_bits, capped, count, up};
 use crate::walks::bounds_behind;
 use std::alloc::{AllocError, Global};
@@ -43,7 +44,7 @@ pub(crate) fn element_starts(
     element: u64,
     starts: &[u64],
 ) -> Result<Vec<u64>, AllocError>
-    requires { element ≤ LARGEST }
+    requires { element ≤ largest }
     ensures { IfOk result (λ v. v.items ≡ element_starts bounds.now element starts.now) }
 {
     let mut places = starts.to_vec(alloc)?;
@@ -61,7 +62,7 @@ pub(crate) fn filled_starts(
     element: u64,
     starts: &[u64],
 ) -> Result<Vec<u64>, AllocError>
-    requires { element ≤ LARGEST }
+    requires { element ≤ largest }
     ensures { IfOk result (λ v. v.items ≡ filled_starts bounds.now element starts.now) }
 {
     if element == 0 {
@@ -78,7 +79,7 @@ pub(crate) fn begun(
     cell: &Cell,
     starts: &[u64],
 ) -> Result<Vec<u64>, AllocError>
-    requires { at ≤ LARGEST }
+    requires { at ≤ largest }
     ensures { IfOk result (λ v. v.items ≡ begun at cell.now starts.now) }
 {
     let first = up(at, alignment(cell));

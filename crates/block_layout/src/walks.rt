@@ -1,3 +1,4 @@
+ghost use Rattle.block_layout.specs.Sizes.{largest};
 ghost use Rattle.std.specs.Prelude.{
   ◌≡◌,
   ◌≤◌,
@@ -39,7 +40,7 @@ ghost use Rattle.block_layout.specs.Paths.{
 ghost use Rattle.block_layout.specs.declared.cells.Cell.{Cell};
 
 use crate::blocks::BlockLayout;
-use crate::cells::{Cell, Element, LARGEST};
+use crate::cells::{Cell, Element};
 use crate::layouts::Layout;
 use crate::members::Member;
 use crate::sizes::{array_bits, capped};
@@ -82,7 +83,7 @@ pub(crate) fn layout_at(layouts: &[BlockLayout], block: usize, temporary: bool) 
 
 /// The component at a place of a block.
 fn entered(layout: &Layout, block: usize, temporary: bool, place: usize, offset: u64) -> Walk
-    requires { offset ≤ LARGEST }
+    requires { offset ≤ largest }
     ensures value { result ≡ entered block temporary place offset (slice_get layout.now place) }
     ensures near { OffsetIsNear result }
 {
@@ -114,7 +115,7 @@ fn found_at(
     offset: u64,
     found: Option<Member>,
 ) -> Walk
-    requires near { offset ≤ LARGEST }
+    requires near { offset ≤ largest }
     requires within { IfSome found (λ m. first + m.place < 2 ^ 64) }
     ensures value { result ≡ found_at layout.now block temporary first offset found }
     ensures near { OffsetIsNear result }
@@ -140,7 +141,7 @@ pub(crate) fn outermost(
     offset: u64,
     name: &[u8],
 ) -> Walk
-    requires { offset ≤ LARGEST }
+    requires { offset ≤ largest }
     ensures value { result ≡ outermost layouts.now block temporary offset name.now }
     ensures near { OffsetIsNear result }
 {
@@ -161,7 +162,7 @@ pub(crate) fn is_used_up(cell: &Cell, depth: usize) -> bool
 
 /// A name behind a component.
 fn named_in(layouts: &[BlockLayout], layout: &Layout, spot: Spot, name: &[u8], cell: &Cell) -> Walk
-    requires offset { spot.offset ≤ LARGEST }
+    requires offset { spot.offset ≤ largest }
     requires layout { layout.now ≡ cells_at layouts.now spot.block spot.temporary }
     requires cell { slice_get layout.now spot.place ≡ Some cell.now }
     requires within { spot.place + 1 < 2 ^ 64 }
@@ -189,7 +190,7 @@ fn named_in(layouts: &[BlockLayout], layout: &Layout, spot: Spot, name: &[u8], c
 /// A step by name.
 #[tactic(auto, unfolding(crate::specs::Paths::named))]
 fn named(layouts: &[BlockLayout], spot: Spot, name: &[u8]) -> Walk
-    requires offset { spot.offset ≤ LARGEST }
+    requires offset { spot.offset ≤ largest }
     requires sound { IsSoundAt layouts.now spot }
     ensures value { result ≡ named layouts.now spot name.now }
     ensures near { OffsetIsNear result }
@@ -226,7 +227,7 @@ pub(crate) fn bounds_behind(bounds: &[Bounds], depth: usize) -> &[Bounds]
 
 /// An index behind a component of a block.
 fn indexed_in(layout: &Layout, spot: Spot, at: i32) -> Walk
-    requires { spot.offset ≤ LARGEST }
+    requires { spot.offset ≤ largest }
     ensures value { result
         ≡ indexed_behind spot layout.now at (slice_get layout.now spot.place) }
     ensures near { OffsetIsNear result }
@@ -262,7 +263,7 @@ fn indexed_in(layout: &Layout, spot: Spot, at: i32) -> Walk
 /// A step by index.
 #[tactic(auto, unfolding(crate::specs::Paths::indexed))]
 fn indexed(layouts: &[BlockLayout], spot: Spot, at: i32) -> Walk
-    requires { spot.offset ≤ LARGEST }
+    requires { spot.offset ≤ largest }
     ensures value { result ≡ indexed layouts.now spot at }
     ensures near { OffsetIsNear result }
 {
@@ -275,7 +276,7 @@ fn indexed(layouts: &[BlockLayout], spot: Spot, at: i32) -> Walk
 /// A step.
 #[tactic(auto, unfolding(crate::specs::Paths::step_of))]
 pub(crate) fn step(layouts: &[BlockLayout], spot: Spot, step: &PathStep) -> Walk
-    requires offset { spot.offset ≤ LARGEST }
+    requires offset { spot.offset ≤ largest }
     requires sound { IsSoundAt layouts.now spot }
     ensures value { result ≡ step_of layouts.now spot step.now }
     ensures near { OffsetIsNear result }
@@ -289,7 +290,7 @@ pub(crate) fn step(layouts: &[BlockLayout], spot: Spot, step: &PathStep) -> Walk
 /// Where a path leads from a sound component.
 #[tactic(auto, using(crate::proofs::WalkLemmas::step_sound))]
 fn walk_behind(layouts: &[BlockLayout], start: Spot, path: &[PathStep]) -> Walk
-    requires offset { start.offset ≤ LARGEST }
+    requires offset { start.offset ≤ largest }
     requires sound { IsSoundAt layouts.now start }
     ensures value { result ≡ walked layouts.now start path.now }
     ensures near { OffsetIsNear result }

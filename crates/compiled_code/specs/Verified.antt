@@ -9,6 +9,7 @@ use Rattle.block_layout.specs.declared.blocks.BlockLayout.{BlockLayout}
 use Rattle.stl_codegen.specs.Generated.{code_blocks_of, program_of}
 use Rattle.compiled_code.specs.Statements.{IsCompilable}
 
+-- where the program verifies, each code block of its source is compilable
 abbrev pub VerifiedIsCompilable : Type 0
 VerifiedIsCompilable =
     (t : Tree) (symbols : List Symbol) (layouts : List BlockLayout)

@@ -149,7 +149,7 @@ fn peripherals(rt: HostRuntime) {
     assert_eq!(rt; memory.read(at(Area::I, 0, 0), Width::Byte), Ok(0));
     assert_eq!(rt; memory.write(at(Area::Q, 0, 0), Width::Byte, 0x99), Ok(()));
     assert_eq!(rt; memory.output(0), Some(0));
-    let before = *memory.outputs();
+    let before = memory.outputs().copied();
     memory.refresh();
     assert_eq!(rt; memory.read(at(Area::I, 0, 0), Width::Byte), Ok(0x55));
     assert_eq!(rt; memory.output(0), Some(0x99));

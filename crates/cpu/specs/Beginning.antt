@@ -3,29 +3,21 @@ use Rattle.std.specs.Prelude.{ℕ, ◌+◌, min, List, [], ◌∷◌, Option, So
 use Rattle.std.specs.Option.{option_map}
 use Rattle.plc_base.specs.declared.blocks.BlockKind.TheVariants.{Ob}
 use Rattle.plc_base.specs.declared.BlockId.{BlockId}
-use Rattle.frames.specs.Activations.{begun, with_local_byte}
+use Rattle.frames.specs.Activations.{begun, frame_begun, with_local_byte}
 use Rattle.frames.specs.declared.Activation.{Activation}
 use Rattle.frames.specs.declared.frame.Frame.{Frame}
 use Rattle.machine.specs.Code.{Code, Head}
 use Rattle.ob_sched.specs.declared.start_infos.StartInfo.{StartInfo}
 use Rattle.cpu.specs.State.{State}
 
+-- the organization block of a number
 abbrev pub ob_block : ℕ → BlockId
 ob_block ob = record { kind = Ob; number = ob }
 
 -- the frame of an organization block: at its first statement, nothing open, and its local bytes, 1,024
 -- at most (no program that is loaded has more)
 abbrev pub ob_frame : (ob : ℕ) → Head → Frame
-ob_frame ob head = record {
-  block = ob_block ob;
-  at = 0;
-  db = None;
-  di = None;
-  instance = None;
-  brackets = [];
-  local_len = min head.local_len 1024;
-  bindings = [];
-}
+ob_frame ob head = frame_begun (ob_block ob) (min head.local_len 1024)
 
 -- bytes from a local byte of the outermost frame on, as far as there are such local bytes
 abbrev pub told_from : (byte : ℕ) → List ℕ → Activation → Activation

@@ -1,7 +1,8 @@
 -- What calls of the code leave of the activations, and answer.
-use Rattle.std.specs.Prelude.{◌≡◌, ℕ, ◌==◌, List, [], ◌∷◌, Option, Some, None, if◌then◌else◌}
+use Rattle.std.specs.Prelude.{◌≡◌, ℕ, ◌==◌, Bool, true, false, List, [], ◌∷◌, Option, Some, None, if◌then◌else◌}
 use Rattle.plc_base.specs.declared.Mode.{Mode}
 use Rattle.plc_base.specs.declared.Mode.TheVariants.{Run}
+use Rattle.plc_base.specs.declared.Spot.{Spot}
 use Rattle.plc_mem.specs.Areas.{Areas}
 use Rattle.frames.specs.declared.Activation.{Activation}
 use Rattle.frames.specs.declared.bindings.Binding.{Binding}
@@ -11,7 +12,8 @@ use Rattle.machine.specs.declared.outcomes.Outcome.{Outcome}
 use Rattle.machine.specs.declared.outcomes.Outcome.TheVariants as outcome
 use Rattle.ob_sched.specs.Scheduler.{Scheduler}
 use Rattle.sys_funcs.specs.Returned.{LeavesReturned}
-use Rattle.cpu.specs.Errors.{failed}
+use Rattle.status_word.specs.declared.Regs.{Regs}
+use Rattle.cpu.specs.Errors.{error_in, failed}
 use Rattle.cpu.specs.Serving.{Served, Returns, Passes, Stops, result_given, after_service, served}
 use Rattle.cpu.specs.State.{State}
 use Rattle.cpu.specs.Stepping.{ob_ended}
@@ -27,6 +29,25 @@ running_of (a ∷ below) = Some a
 
 abbrev pub stand_of : Activation → Stand
 stand_of a = record { ob = a.ob; block = a.running.frame.block; at = a.running.frame.at }
+
+-- an organization block begins above those that stand, or there is none
+abbrev pub Begins : Option Activation → (old new : List Activation) → Bool → Type 0
+Begins None old new false = new ≡ old
+Begins (Some a) old new true = new ≡ a ∷ old
+Begins a old new answer = ⊥
+
+-- the running activation has other registers, and interrupts are delayed so often in it
+abbrev pub HandedOn : (delay : ℕ) → Regs → (old new : List Activation) → Type 0
+HandedOn delay regs [] new = new ≡ []
+HandedOn delay regs (a ∷ below) new =
+    new ≡ record a { delay = delay; running = record a.running { regs = regs } } ∷ below
+
+-- the organization block of an error of the running activation begins above it, or there is none
+abbrev pub ErrorBegins :
+    Code → (error : ℕ) → (at : Option Spot) → (old new : List Activation) → Bool → Type 0
+ErrorBegins code error at [] new answer = (new ≡ []) × (answer ≡ false)
+ErrorBegins code error at (a ∷ below) new answer =
+    Begins (error_in code error at a) (a ∷ below) new answer
 
 -- the activations after a statement of `a`, above `below`
 abbrev pub StepsTo :

@@ -9,6 +9,7 @@ use Rattle.ob_sched.specs.declared.start_infos.StartEvent.TheVariants.{Arrival}
 use Rattle.cpu.specs.State.{State, is_stop, each_diagnosed}
 use Rattle.cpu.specs.Stopping.{halted}
 
+-- STOP with a cause, if there is one
 abbrev pub stopped_if : Code → (cause : Option ℕ) → State → State
 stopped_if code None s = s
 stopped_if code (Some cause) s = halted code cause s

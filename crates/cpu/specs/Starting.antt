@@ -6,10 +6,12 @@ use Rattle.plc_base.specs.declared.blocks.BlockKind.TheVariants as kinds
 use Rattle.flat_code.specs.Programs.{DataBlock}
 use Rattle.image_file.specs.Readers.{bytes_of}
 
+-- the kind of data blocks
 abbrev pub is_data_kind : BlockKind → Bool
 is_data_kind kinds.Db = true
 is_data_kind _ = false
 
+-- a block is a data block
 abbrev pub is_data_block : BlockId → Bool
 is_data_block id = is_data_kind id.kind
 

@@ -1,15 +1,15 @@
 //! Organization blocks as they begin.
-ghost use Rattle.std.specs.Prelude.{◌≡◌, ◌+◌, ◌≤◌, ◌<◌, length, IfSome, unwrap_or};
+ghost use Rattle.std.specs.Prelude.{◌≡◌, ◌+◌, ◌≤◌, ◌<◌, length, min, IfSome, unwrap_or};
+ghost use Rattle.std.specs.Option.{option_map};
 ghost use Rattle.frames.specs.Activations.{with_local_byte};
 ghost use Rattle.machine.specs.Entering.{at_block};
 ghost use Rattle.machine.specs.Flat.{code_of};
-ghost use Rattle.cpu.specs.Beginning.{ob_block as block_of_ob, ob_in, told_from};
+ghost use Rattle.cpu.specs.Beginning.{ob_block as block_of_ob, told_from};
 
-use frames::{Activation, Bindings, Frame};
+use frames::Activation;
 use image_file::Loaded;
-use ob_sched::StartInfo;
 use plc_base::{BlockId, BlockKind};
-use status_word::{Brackets, Regs};
+use status_word::Regs;
 
 /// How many local bytes an activation has at most.
 const LOCAL_BYTES: u16 = 1024;
@@ -31,8 +31,8 @@ fn tell_byte(a: &mut Activation, byte: u16, value: u8)
     let _ = a.set_local(0, byte, value);
 }
 
-// The first local bytes of the outermost frame, as far as there are such local bytes.
-fn tell(a: &mut Activation, bytes: &[u8])
+/// Writes the first local bytes of the outermost frame, as far as there are such local bytes.
+pub(crate) fn tell(a: &mut Activation, bytes: &[u8])
     requires { length bytes.now ≤ 1024 }
     ensures { a.new ≡ told_from 0 bytes.now a.old }
 {
@@ -45,34 +45,15 @@ fn tell(a: &mut Activation, bytes: &[u8])
     }
 }
 
-/// An organization block of the program as it begins, with its start information; none where it
-/// isn't loaded.
-#[tactic(auto, unfolding(crate::specs::Beginning::ob_begun), using(crate::proofs::SameLemmas::told_class, crate::proofs::SameLemmas::told_ob))]
-pub(crate) fn ob_activation(
-    program: &Loaded,
-    class: u8,
-    ob: u16,
-    info: StartInfo,
-) -> Option<Activation>
-    ensures value { result ≡ ob_in (code_of program.now.program) class ob info }
-    ensures class { IfSome result (λ a. a.class ≡ class) }
-    ensures ob { IfSome result (λ a. a.ob ≡ ob) }
+/// How many local bytes an organization block of the program has, 1,024 at most; none where it isn't
+/// loaded.
+pub(crate) fn local_len_of(program: &Loaded, ob: u16) -> Option<u16>
+    ensures value { result ≡ option_map (λ head. min head.local_len 1024)
+        ((code_of program.now.program).head (block_of_ob ob)) }
+    ensures few { IfSome result (λ n. n ≤ 1024) }
 {
-    let block = ob_block(ob);
-    let code = program.code(block)?;
-    let frame = Frame {
-        block,
-        at: 0,
-        db: None,
-        di: None,
-        instance: None,
-        brackets: Brackets::new(),
-        local_len: code.local_len().min(LOCAL_BYTES),
-        bindings: Bindings::new(),
-    };
-    let mut a = Activation::new(class, ob, frame);
-    tell(&mut a, &info.bytes);
-    Some(a)
+    let code = program.code(ob_block(ob))?;
+    Some(code.local_len().min(LOCAL_BYTES))
 }
 
 /// The registers with OS 0, OR 0, STA 1, /FC 0, as at the begin of a block.

@@ -1,8 +1,8 @@
 //! Synchronous errors.
-ghost use Rattle.std.specs.Prelude.{◌≡◌, IfSome};
+ghost use Rattle.std.specs.Prelude.{◌≡◌};
 ghost use Rattle.machine.specs.Flat.{code_of};
 ghost use Rattle.cpu.specs.Ready.{HasStatement};
-ghost use Rattle.cpu.specs.Errors.{is_synchronous as is_error_ob, cause_without as cause_of_missing, failure as failure_of, error_in};
+ghost use Rattle.cpu.specs.Errors.{is_synchronous as is_error_ob, cause_without as cause_of_missing, failure as failure_of};
 ghost use Rattle.ob_sched.specs.StartInformation.{IsEvent, ob_of, ob_of_error};
 ghost use Rattle.cpu.specs.Leaves.{error_left};
 ghost use Rattle.cpu.specs.Stack.{IsStanding};
@@ -10,12 +10,10 @@ ghost use Rattle.cpu.specs.Views.{state_of};
 ghost use Rattle.flat_code.specs.Image.{number_of_kind};
 
 use crate::activations::Stand;
-use crate::beginning::{at_begin, ob_activation};
 use crate::parts::Parts;
 use crate::spots::spot_at;
-use frames::Activation;
 use image_file::Loaded;
-use ob_sched::{StartEvent, StartInfo};
+use ob_sched::StartEvent;
 use plc_base::{BlockKind, Spot};
 
 /// Stop cause: no OB 121.
@@ -55,8 +53,8 @@ fn kind_number(kind: BlockKind) -> u8
     }
 }
 
-// What failed.
-fn failure(code: u8, at: Option<Spot>) -> StartEvent
+/// What failed.
+pub(crate) fn failure(code: u8, at: Option<Spot>) -> StartEvent
     ensures value { result ≡ failure_of code at }
     ensures ob { ob_of result ≡ ob_of_error code }
     ensures event { IsEvent result }
@@ -77,26 +75,6 @@ fn failure(code: u8, at: Option<Spot>) -> StartEvent
     }
 }
 
-// The organization block of a synchronous error as it begins above the activation in which the error
-// came; none where it isn't loaded.
-fn error_activation(
-    program: &Loaded,
-    code: u8,
-    at: Option<Spot>,
-    a: &Activation,
-) -> Option<Activation>
-    ensures value { result ≡ error_in (code_of program.now.program) code at a.now }
-    ensures class { IfSome result (λ fresh. fresh.class ≡ a.now.class) }
-    ensures ob { IfSome result (λ fresh. fresh.ob ≡ ob_of_error code) }
-{
-    let event = failure(code, at);
-    let info = StartInfo::new(event, a.class);
-    let mut fresh = ob_activation(program, a.class, event.ob(), info)?;
-    fresh.delay = a.delay;
-    fresh.running.regs = at_begin(&a.running.regs);
-    Some(fresh)
-}
-
 impl Parts {
     /// A synchronous error of the statement that stood at `stand`: its organization block begins, or
     /// the controller stops.
@@ -112,17 +90,13 @@ impl Parts {
         let Some(running) = self.activations.running() else {
             return;
         };
-        let at = spot_at(program, stand.block, stand.at);
         let is_inside = is_synchronous(running.ob);
-        let fresh = error_activation(program, code, at, running);
+        let at = spot_at(program, stand.block, stand.at);
         self.diagnose(SYNCHRONOUS_ERROR, u16::from(code));
         if is_inside {
             self.halt_at(at, ERROR_INSIDE);
-            return;
-        }
-        match fresh {
-            None => self.halt_at(at, cause_without(failure(code, at).ob())),
-            Some(fresh) => self.activations.begin(fresh),
+        } else if !self.activations.begin_error(program, code, at) {
+            self.halt_at(at, cause_without(failure(code, at).ob()));
         }
     }
 }

@@ -107,7 +107,7 @@ fn find_changes(kept: &mut PeripheralArea, found: &mut Outputs, now: &Peripheral
         None => found.clear(),
         Some(_) => {
             found.find(kept, now);
-            *kept = *now;
+            kept.copy_from(now);
         }
     }
 }
@@ -132,7 +132,7 @@ impl Observer {
     {
         cpu.memory.law_of_areas();
         Observer {
-            outputs: *cpu.memory.outputs(),
+            outputs: cpu.memory.outputs().copied(),
             mode: cpu.mode,
             seen: Observed {
                 outputs: Outputs::new(),

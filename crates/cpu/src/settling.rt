@@ -10,7 +10,6 @@ ghost use Rattle.cpu.specs.Stack.{IsStanding, MayBegin};
 ghost use Rattle.cpu.specs.State.{is_stop as is_stop_of};
 ghost use Rattle.cpu.specs.Views.{state_of};
 
-use crate::beginning::ob_activation;
 use crate::parts::Parts;
 use crate::stopping::is_stop;
 use image_file::Loaded;
@@ -29,9 +28,7 @@ impl Parts {
             ≡ begun_above (ob_in (code_of program.now.program) class ob info) (state_of self.old) }
         ensures stack { IsStanding self.new.mode self.new.activations }
     {
-        if let Some(a) = ob_activation(program, class, ob, info) {
-            self.activations.begin(a);
-        }
+        self.activations.begin(program, class, ob, &info);
     }
 
     // A request leaves those that are pending, and its organization block begins.

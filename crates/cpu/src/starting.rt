@@ -9,7 +9,7 @@ ghost use Rattle.cpu.specs.Starting.{is_data_block as is_data_block_of, numbers_
 ghost use Rattle.cpu.specs.Views.{state_of};
 
 use crate::activations::Activations;
-use crate::beginning::{ob_activation, ob_block};
+use crate::beginning::ob_block;
 use crate::diagnostics::Diagnostics;
 use crate::parts::Parts;
 use image_file::Loaded;
@@ -118,12 +118,13 @@ impl Parts {
             ≡ started_up (startup_ob (code_of program.now.program)) (state_of self.old) }
     {
         let info = StartInfo::new(StartEvent::Startup, STARTUP_CLASS);
-        match ob_activation(program, STARTUP_CLASS, STARTUP_OB, info) {
-            None => self.start_run(),
-            Some(a) => {
-                self.mode = Mode::Startup;
-                self.activations.begin(a);
-            }
+        if self
+            .activations
+            .begin(program, STARTUP_CLASS, STARTUP_OB, &info)
+        {
+            self.mode = Mode::Startup;
+        } else {
+            self.start_run();
         }
     }
 

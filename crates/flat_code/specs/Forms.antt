@@ -11,6 +11,7 @@ use Rattle.flat_code.specs.declared.operands.Passed.{Passed}
 use Rattle.flat_code.specs.declared.operands.Passed.TheVariants as passed
 use Rattle.flat_code.specs.Coding.{Coding, u8, u16, u32, named, such_that, within, then_coding}
 
+-- the byte that names an area, 128 P to 134 L
 abbrev pub area_code : Area → ℕ
 area_code area.P = 128
 area_code area.I = 129
@@ -20,6 +21,7 @@ area_code area.Db = 132
 area_code area.Di = 133
 area_code area.L = 134
 
+-- the area that a byte names
 abbrev pub area_of_code : ℕ → Option Area
 area_of_code n =
     if n == 128 then Some area.P
@@ -31,12 +33,14 @@ area_of_code n =
     else if n == 134 then Some area.L
     else None
 
+-- the byte that names a width, 1 bit to 4 double word
 abbrev pub width_code : Width → ℕ
 width_code width.Bit = 1
 width_code width.Byte = 2
 width_code width.Word = 3
 width_code width.Dword = 4
 
+-- the width that a byte names
 abbrev pub width_of_code : ℕ → Option Width
 width_of_code n =
     if n == 1 then Some width.Bit

@@ -2,6 +2,7 @@
 use Rattle.std.specs.Prelude.{◌≡◌, ℕ, ◌+◌, nat_le, List, [], ◌∷◌, length, reverse, slice_get, Option, Some, None, Result, Ok, Err, Bool, true, false, ◌==◌, if◌then◌else◌}
 use Rattle.std.specs.Option.{option_map}
 use Rattle.std.specs.Borrow.{Bor}
+use Rattle.plc_base.specs.declared.BlockId.{BlockId}
 use Rattle.status_word.specs.Registers.{regs_at_rest}
 use Rattle.frames.specs.Locals.{opened, closed, no_locals, byte_at, byte_set}
 use Rattle.frames.specs.declared.activation.Activation.{Activation}
@@ -23,6 +24,19 @@ IsFrameIn frames place result = option_map (λ f. f.now) result ≡ slice_get (r
 
 abbrev pub IsFrame : Activation → ℕ → Option (Bor Frame) → Type 0
 IsFrame a place result = IsFrameIn (frames_of a) place result
+
+-- the frame of a block at its first statement: no data block in its registers, nothing open, no parameter
+abbrev pub frame_begun : BlockId → (local_len : ℕ) → Frame
+frame_begun block local_len = record {
+  block = block;
+  at = 0;
+  db = None;
+  di = None;
+  instance = None;
+  brackets = [];
+  local_len = local_len;
+  bindings = [];
+}
 
 -- an activation as its organization block begins: registers and status word 0, nothing delayed, one frame, its local bytes 0
 abbrev pub begun : (class ob : ℕ) → Frame → Activation

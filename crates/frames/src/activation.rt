@@ -20,6 +20,7 @@ ghost use Rattle.frames.specs.Activations.{
   IsFrameIn,
   begun,
   entered,
+  frame_begun,
   frames_of,
   local_byte,
   refused,
@@ -30,7 +31,7 @@ ghost use Rattle.frames.specs.Activations.{
 use crate::frame::Frame;
 use crate::locals::Locals;
 use crate::running::Running;
-use plc_base::Width;
+use plc_base::{BlockId, Width};
 use plc_mem::Missing;
 use status_word::Regs;
 use std::marker::Model;
@@ -162,19 +163,19 @@ impl Activation {
         }
     }
 
-    /// Begins an organization block in the place of another activation, as `new`: nothing is moved but what
-    /// is in use. `f` has at most 1,024 local bytes.
-    pub fn restart(&mut self, class: u8, ob: u16, f: &Frame)
-        requires { f.now.local_len ≤ 1024 }
-        ensures { self.new ≡ begun class ob f.now }
+    /// Begins an organization block in the place of an activation, as `new` with the frame of a block at its
+    /// first statement: the activation stays where it is. There are at most 1,024 local bytes.
+    pub fn restart(&mut self, class: u8, ob: u16, block: BlockId, local_len: u16)
+        requires { local_len ≤ 1024 }
+        ensures { self.new ≡ begun class ob (frame_begun block local_len) }
     {
         self.class = class;
         self.ob = ob;
         self.delay = 0;
         self.running.regs = Regs::new();
-        self.running.frame.copy_from(f);
+        self.running.frame.begin(block, local_len);
         self.running.locals.clear();
-        self.running.locals.open(f.local_len);
+        self.running.locals.open(local_len);
         self.below.clear();
         self.left = false;
     }

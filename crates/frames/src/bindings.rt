@@ -69,6 +69,13 @@ impl Bindings {
         }
     }
 
+    /// Binds nothing any more.
+    pub fn clear(&mut self)
+        ensures { self.new ≡ [] }
+    {
+        self.all.clear();
+    }
+
     /// How many parameters are bound.
     pub fn len(&self) -> usize
         ensures { result ≡ length self.now }

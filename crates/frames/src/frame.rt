@@ -1,4 +1,5 @@
 ghost use Rattle.std.specs.Prelude.{◌≡◌};
+ghost use Rattle.frames.specs.Activations.{frame_begun};
 
 use crate::bindings::Bindings;
 use plc_base::{BlockId, BlockKind};
@@ -43,6 +44,20 @@ impl Default for Frame {
 }
 
 impl Frame {
+    /// Becomes the frame of a block at its first statement, with so many local bytes.
+    pub fn begin(&mut self, block: BlockId, local_len: u16)
+        ensures { self.new ≡ frame_begun block local_len }
+    {
+        self.block = block;
+        self.at = 0;
+        self.db = None;
+        self.di = None;
+        self.instance = None;
+        self.brackets = Brackets::new();
+        self.local_len = local_len;
+        self.bindings.clear();
+    }
+
     /// Becomes the same as another one: of its bindings as many are copied as there are.
     pub fn copy_from(&mut self, other: &Frame)
         ensures { self.new ≡ other.now }

@@ -10,9 +10,11 @@ use Rattle.flat_code.specs.Placed.{Placed}
 use Rattle.image_file.specs.declared.surroundings.Surroundings.{Surroundings}
 use Rattle.image_file.specs.declared.verifying.Place.{Place}
 
+-- what the faults of a block depend on besides its ops, by the record of the code
 abbrev pub around_of : Surroundings → Around
 around_of s = record { kind = s.kind; local_len = s.local_len; params = s.params.now; blocks = s.blocks.now; data_lens = option_map (λ d. d.now) s.data_lens }
 
+-- what is called, by its kind, its instance bytes and its parameters as the code finds them
 abbrev pub callee_values : ℕ × ℕ × Bor (List ParameterRecord) → Callee
 callee_values r = (r.0, r.1, r.2.now)
 

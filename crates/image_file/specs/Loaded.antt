@@ -7,6 +7,7 @@ use Rattle.image_file.specs.declared.seats.Seating.{Seating}
 use Rattle.image_file.specs.Readers.{ids_of}
 use Rattle.image_file.specs.Seats.{AreSeated, HaveSlots, FindsBlocks}
 
+-- a loaded program stands for the program that its image holds
 pub record LoadedProgram : Type 0 where
   pub program : Program
 

@@ -20,6 +20,7 @@ use Rattle.image_file.specs.declared.stops.Stop.{Stop}
 use Rattle.image_file.specs.declared.stops.Stop.TheVariants as stop
 use Rattle.image_file.specs.Least.{with_fault, with_faults}
 
+-- the faults of a field that begins at an offset: one, or none
 abbrev pub judged : ℕ → Field → List (ℕ × ℕ)
 judged at field = faults_in (noted at (fault_of field))
 

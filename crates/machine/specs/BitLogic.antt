@@ -19,6 +19,7 @@ use Rattle.machine.specs.Parts.{Own, Scene, then_ok}
 use Rattle.machine.specs.Places.{located, number_in, absent}
 use Rattle.machine.specs.Values.{tested, write}
 
+-- the check of the status word that a word of bit logic is
 abbrev pub check_of : Joined → Check
 check_of joined.A = check.A
 check_of joined.An = check.An

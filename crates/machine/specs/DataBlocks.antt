@@ -12,6 +12,7 @@ use Rattle.machine.specs.Parts.{Own, then_ok}
 use Rattle.machine.specs.Places.{pointer, no_operand}
 use Rattle.machine.specs.Loads.{with_loaded}
 
+-- the data block of a number is loaded
 abbrev pub is_loaded : ℕ → Areas → Bool
 is_loaded number m = is_some (map.get m.data_blocks number)
 

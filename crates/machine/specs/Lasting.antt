@@ -5,7 +5,7 @@ use Rattle.plc_base.specs.declared.blocks.BlockKind.TheVariants as kinds
 use Rattle.plc_base.specs.declared.Width.{Width}
 use Rattle.plc_base.specs.Widths.{bit_count}
 use Rattle.plc_mem.specs.Areas.{Areas}
-use Rattle.frames.specs.Activations.{frames_of}
+use Rattle.frames.specs.Activations.{frame_begun, frames_of}
 use Rattle.frames.specs.declared.Activation.{Activation}
 use Rattle.frames.specs.declared.bindings.Binding.{Binding}
 use Rattle.frames.specs.declared.bindings.Binding.TheVariants as binding
@@ -40,16 +40,7 @@ ob_block number = record { kind = kinds.Ob; number = number }
 
 -- the frame with which an organization block begins: at its first statement, with nothing open
 abbrev pub first_frame : (ob local_len : ℕ) → Frame
-first_frame ob local_len = record {
-  block = ob_block ob;
-  at = 0;
-  db = None;
-  di = None;
-  instance = None;
-  brackets = [];
-  local_len = local_len;
-  bindings = [];
-}
+first_frame ob local_len = frame_begun (ob_block ob) local_len
 
 -- no area and no data block has become longer or shorter, and the activation fits
 pub record GoesOn (p : Program) (old new : Areas) (a : Activation) : Type 0 where

@@ -8,6 +8,7 @@ use Rattle.machine.specs.BitLogic.{check_of}
 use Rattle.machine.specs.Parts.{Own}
 use Rattle.machine.specs.Places.{no_operand}
 
+-- these brackets are open in the innermost frame
 abbrev pub with_brackets : List Bracket → Own → Own
 with_brackets brackets s = record s { inner = record s.inner { brackets = brackets } }
 

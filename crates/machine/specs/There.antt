@@ -6,15 +6,18 @@ use Rattle.machine.specs.Code.{Code, Fetched}
 use Rattle.machine.specs.Statement.{is_system}
 use Rattle.machine.specs.SystemCalls.{system_function}
 
+-- a called block is there: a system function of the profile, or a block of the program
 abbrev pub is_callee : Code → BlockId → Bool
 is_callee c block =
     if is_system block.kind then is_some (system_function block.number) else is_some (c.head block)
 
+-- what a CALL calls is there, and at a return the head of its own block
 abbrev pub is_there : Code → Instr → (own : BlockId) → Bool
 is_there c (Calls how block instance passings) own = is_callee c block
 is_there c (Returns how) own = is_some (c.head own)
 is_there c _ own = true
 
+-- the statement is there, and so is what it needs
 abbrev pub is_complete : Code → Option Fetched → (own : BlockId) → Bool
 is_complete c None own = false
 is_complete c (Some f) own = is_there c f.instr own

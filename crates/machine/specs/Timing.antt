@@ -16,6 +16,7 @@ use Rattle.machine.specs.Parts.{Own, then_ok}
 use Rattle.machine.specs.Outcomes.{Answer}
 use Rattle.machine.specs.Values.{faulty, number_named}
 
+-- the kind of timer that a start instruction starts
 abbrev pub kind_of : StartWord → TimerKind
 kind_of start.Sp = kind.Sp
 kind_of start.Se = kind.Se

@@ -211,8 +211,8 @@ static FUNCTION_BLOCKS: [Row; 18] = [
     // not before the return
     (
         "PASS 0 MW0, PASS 1 MW2, CALL FB1:5 | FB 1 0 4 IW@0.0 OW@2.0 { L DIW0; L #1; +I; T DIW2 | DB 5 1 { 00 00 00 00",
-        "MW0=9 STEPS=5",
-        "MW2=0 DB5.DBW0=9 DB5.DBW2=A A1=A A2=9 DI=5 STW=84",
+        "MW0=9 MW2=7 STEPS=5",
+        "MW2=7 DB5.DBW0=9 DB5.DBW2=A A1=A A2=9 DI=5 STW=84",
     ),
     (
         "PASS 0 MW0, CALL FB1:5 | FB 1 0 2 NW@0.0 { L DIW0; INC #1; T DIW0 | DB 5 1 { 00 00",

@@ -8,9 +8,11 @@ use Rattle.ob_sched.specs.declared.bins.Bins.{Bins}
 use Rattle.ob_sched.specs.declared.passed.Passed.{Passed}
 use Rattle.ob_sched.specs.declared.sched.Sched.{Sched}
 
+-- the requests that wait, by rank
 abbrev pub pending_of : Bins → List Request
 pending_of bins = ranked bins.bins.items
 
+-- the fields stand for a scheduler: what waits in the bins is its pending requests
 abbrev pub scheduler_of : Sched → Scheduler
 scheduler_of s = record {
   loaded = s.loaded.items;
@@ -21,5 +23,6 @@ scheduler_of s = record {
   cycle = s.cycle;
 }
 
+-- the fields with what passed so far
 abbrev pub course_of : Sched → Passed → Course
 course_of s passed = record { sched = scheduler_of s; passed = passed }

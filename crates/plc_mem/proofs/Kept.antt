@@ -14,7 +14,7 @@ use Rattle.plc_mem.specs.declared.faults.Missing.{Missing}
 use Rattle.plc_mem.specs.Number.{weights_of, plus_weight, number_at, number_of, region_read, operand_bit}
 use Rattle.plc_mem.specs.BitPlace.{Region}
 use Rattle.plc_mem.specs.Bits.{bit_at}
-use Rattle.plc_mem.specs.Places.{AreBlocks, AreBytes, IsRun, IsPeripheral, IsMemory}
+use Rattle.plc_mem.specs.Places.{AreBlocks, AreBytes, IsRun, IsPeripheral, HasParts, IsMemory}
 use Rattle.plc_mem.specs.Fresh.{clear_peripheral, cleared}
 use Rattle.plc_mem.specs.Run.{number_over, operand_bit_of}
 use Rattle.plc_mem.specs.Writing.{put, put_peripheral, put_in_block}
@@ -31,6 +31,9 @@ pub peripheral_kept : (old new : PeripheralBytes) (at bit : ℕ) (width : Width)
     → IsPeripheral old → value < 2 ^ bit_count width → ChangesOrStays (put_peripheral old at bit width value) old new r → IsPeripheral new
 peripheral_kept old new at bit width value (Ok _) is fits done = put_peripheral_run old new at bit width value is fits done
 peripheral_kept old new at bit width value (Err _) is fits stays = subst IsPeripheral (sym stays.1) is
+
+pub has_parts : (p : PeripheralBytes) → IsPeripheral p → HasParts p
+has_parts p is = record { low = is.low.count_is; high = is.high.count_is }
 
 pub blocks_kept : (old new : map.FinMap nat_cmp (List ℕ)) (number at bit : ℕ) (width : Width) (value : ℕ) (r : Result (Unit {0}) Missing)
     → AreBlocks old → value < 2 ^ bit_count width → ChangesOrStays (put_in_block old number at bit width value) old new r → AreBlocks new

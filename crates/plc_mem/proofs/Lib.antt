@@ -8,3 +8,4 @@ pub mod Extensional
 pub mod OneMemory
 pub mod Lawful
 pub mod Kept
+pub mod UpperLemmas

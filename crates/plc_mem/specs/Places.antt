@@ -1,5 +1,5 @@
 -- Which places exist, and which memories there can be.
-use Rattle.std.specs.Prelude.{◌≡◌, ℕ, ◌<◌, List, length, Some, is_some, slice_index}
+use Rattle.std.specs.Prelude.{◌≡◌, ℕ, ◌<◌, ◌≤◌, List, length, Some, is_some, slice_index}
 use Rattle.std.specs.FinMap as map
 use Rattle.std.specs.Ordering.{nat_cmp}
 use Rattle.plc_base.specs.AreaBytes.{image_size, bit_memory_size, upper_size}
@@ -20,6 +20,10 @@ pub record SamePlaces (old new : Areas) : Type 0 where
 -- Each number of the list is a byte.
 abbrev pub AreBytes : List ℕ → Type 0
 AreBytes bytes = (i : ℕ) → slice_index bytes i < 256
+
+-- From an index on, each byte is 0.
+abbrev pub IsClearFrom : ℕ → List ℕ → Type 0
+IsClearFrom start bytes = (i : ℕ) → start ≤ i → slice_index bytes i ≡ 0
 
 -- As many bytes.
 pub record IsRun (count : ℕ) (bytes : List ℕ) : Type 0 where

@@ -3,7 +3,7 @@ ghost use Rattle.std.specs.Prelude.{◌≡◌, ℕ, ◌+◌, ◌<◌, ◌≤◌,
 ghost use Rattle.plc_mem.specs.Changes.{IsFirstDifference};
 
 /// How many bytes are compared at once: outputs seldom change, so most of a walk finds them equal.
-const BLOCK: usize = 64;
+pub(crate) const BLOCK: usize = 64;
 
 /// The first index from `from` on at which two runs of the same length differ.
 pub(crate) fn first_difference(old: &[u8], new: &[u8], from: usize) -> Option<usize>
@@ -33,9 +33,9 @@ fn skip_equal_blocks(old: &[u8], new: &[u8], from: usize) -> usize
 
 // Whether a block of the two runs is the same.
 fn is_same_block(old: &[u8], new: &[u8], at: usize) -> bool
-    requires old { at + BLOCK ≤ length old.now }
-    requires new { at + BLOCK ≤ length new.now }
-    ensures { IsTrue result → (n : ℕ) → at ≤ n → n < at + BLOCK →
+    requires old { at + 64 ≤ length old.now }
+    requires new { at + 64 ≤ length new.now }
+    ensures { IsTrue result → (n : ℕ) → at ≤ n → n < at + 64 →
         slice_get new.now n ≡ slice_get old.now n }
 {
     let mut same = true;

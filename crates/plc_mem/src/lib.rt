@@ -9,6 +9,7 @@ pub mod laws;
 mod memories;
 pub mod operands;
 mod peripherals;
+mod upper_parts;
 
 pub use faults::Missing;
 pub use memories::Memory;

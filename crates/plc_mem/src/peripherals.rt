@@ -6,30 +6,27 @@ ghost use Rattle.plc_mem.specs.Fresh.{clear_peripheral};
 ghost use Rattle.plc_base.specs.Changes.{ChangesOrStays};
 ghost use Rattle.plc_base.specs.Widths.{bit_count};
 ghost use Rattle.plc_base.specs.AreaBytes.{is_peripheral_byte};
-ghost use Rattle.plc_mem.specs.Places.{HasParts};
 ghost use Rattle.plc_mem.specs.Run.{number_over};
 ghost use Rattle.plc_mem.specs.Writing.{put_peripheral};
 
 use crate::differences::first_difference;
 use crate::faults::Missing;
 use crate::operands;
+use crate::upper_parts::UpperPart;
 use plc_base::Width;
 use std::marker::Model;
 
 /// How many bytes the lower part has, and the process images with it.
 pub(crate) const LOW_BYTES: usize = 128;
 
-/// How many bytes the upper part has.
-const HIGH_BYTES: usize = 512;
-
 /// The number of the upper part's first byte.
 const HIGH_START: usize = 256;
 
 /// Peripheral inputs, or peripheral outputs: bytes 0 to 127, and bytes 256 to 767.
-#[derive(Clone, Copy)]
+#[derive(Drop)]
 pub struct PeripheralArea {
     pub(crate) low: [u8; LOW_BYTES],
-    pub(crate) high: [u8; HIGH_BYTES],
+    high: UpperPart,
 }
 
 impl Model for PeripheralArea {
@@ -40,8 +37,6 @@ impl Model for PeripheralArea {
     ghost coded = { peripheral_code };
 
     ghost view = { λ a. record { low = a.low; high = a.high } };
-
-    ghost inverse = { λ p. record { low = p.low; high = p.high } };
 }
 
 impl PeripheralArea {
@@ -51,8 +46,26 @@ impl PeripheralArea {
     {
         PeripheralArea {
             low: [0; LOW_BYTES],
-            high: [0; HIGH_BYTES],
+            high: UpperPart::clear(),
         }
+    }
+
+    /// A copy of the area.
+    pub fn copied(&self) -> PeripheralArea
+        ensures { result ≡ self.now }
+    {
+        PeripheralArea {
+            low: self.low,
+            high: self.high.copied(),
+        }
+    }
+
+    /// Becomes a copy of another area.
+    pub fn copy_from(&mut self, other: &PeripheralArea)
+        ensures { self.new ≡ other.now }
+    {
+        self.low = other.low;
+        self.high.copy_from(&other.high);
     }
 
     /// The byte of this number, if it exists.
@@ -64,7 +77,7 @@ impl PeripheralArea {
         if number < HIGH_START {
             self.low.get(number).copied()
         } else {
-            self.high.get(number - HIGH_START).copied()
+            self.high.byte(number - HIGH_START)
         }
     }
 
@@ -86,7 +99,7 @@ impl PeripheralArea {
         ensures first { IsFirstHighChange before.now self.now skip result }
         ensures exists { IfSome result (λ byte. IsTrue (is_peripheral_byte byte)) }
     {
-        let index = first_difference(&before.high, &self.high, skip)?;
+        let index = self.high.first_difference(&before.high, skip)?;
         Some((HIGH_START + index) as u16)
     }
 
@@ -99,7 +112,7 @@ impl PeripheralArea {
         if at < HIGH_START {
             operands::number(&self.low, at, bit, width)
         } else {
-            operands::number(&self.high, at - HIGH_START, bit, width)
+            self.high.number(at - HIGH_START, bit, width)
         }
     }
 
@@ -114,14 +127,13 @@ impl PeripheralArea {
     ) -> Result<(), Missing>
         requires near { at < 2 ^ 16 }
         requires fits { value < 2 ^ bit_count width }
-        ensures sizes { HasParts self.old }
         ensures cases { ChangesOrStays (put_peripheral self.old at bit width value)
             self.old self.new result }
     {
         if at < HIGH_START {
             operands::put(&mut self.low, at, bit, width, value)
         } else {
-            operands::put(&mut self.high, at - HIGH_START, bit, width, value)
+            self.high.put(at - HIGH_START, bit, width, value)
         }
     }
 }

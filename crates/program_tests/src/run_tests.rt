@@ -50,7 +50,7 @@ static DATA_BLOCKS: [Run; 4] = [
         "",
         "END 0 RUN\nDB 2 0 0000000000000000000000000000000000000000000000000000000000000000\nDB 9 0 A7A7A7A7A7A7A7A7A7A7A7A7A7A7A7A7A7A7A7A7A7A7A7A7A7A7A7A7A7A7A7A7\nDB 9 32 A700\n",
     ),
-    // A block that isn't opened: OB 121 isn't loaded.
+    // A word past the end of the open data block; OB 121 isn't loaded.
     (
         "DATA_BLOCK DB 10 STRUCT a : ARRAY [0..9] OF BYTE; END_STRUCT; BEGIN END_DATA_BLOCK\nORGANIZATION_BLOCK OB 1\nBEGIN\nOPN DB 10;\nL DBW 100;\nT MW 0;\nEND_ORGANIZATION_BLOCK\n",
         "step 3\n",
@@ -64,7 +64,7 @@ fn data_blocks(rt: HostRuntime) -> Result<(), Fail> {
 }
 
 /// Numbers, jumps, local data, brackets and timers in OB 1, and interrupts.
-static STATEMENTS: [Run; 10] = [
+static STATEMENTS: [Run; 11] = [
     (
         "ORGANIZATION_BLOCK OB 1\nBEGIN\nL 32767;\nL 1;\n+I;\nT QW 4;\nEND_ORGANIZATION_BLOCK\n",
         "step 7\n",
@@ -120,6 +120,12 @@ static STATEMENTS: [Run; 10] = [
         "ORGANIZATION_BLOCK OB 1\nBEGIN\nSET;\nJU over;\nCLR;\nover: = M 1.0;\nA M 1.0;\n= Q 0.7;\nEND_ORGANIZATION_BLOCK\n",
         "step 8\n",
         "@8 PQ 0 = 80\nEND 8 RUN\n",
+    ),
+    // 2 s are 200 units of 10 ms, 9,990 s are 999 units of 10 s.
+    (
+        "ORGANIZATION_BLOCK OB 1\nBEGIN\nL S5T#2S;\nT QW 4;\nL S5T#2H46M30S;\nT QW 6;\nEND_ORGANIZATION_BLOCK\n",
+        "step 7\n",
+        "@7 PQ 4 = 02\n@7 PQ 6 = 39\n@7 PQ 7 = 99\nEND 7 RUN\n",
     ),
 ];
 

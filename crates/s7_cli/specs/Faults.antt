@@ -7,11 +7,13 @@ use Rattle.s7_cli.specs.declared.failures.File.TheVariants.{Source, Symbols, His
 use Rattle.s7_cli.specs.declared.failures.Failure.{Failure}
 use Rattle.s7_cli.specs.declared.failures.Failure.TheVariants.{Refused, NoMemory}
 
+-- the symbols file or the source is refused, or there is no memory
 abbrev pub failure_of_compiling : CompileFault → Failure
 failure_of_compiling (compiling.Symbols refusal) = Refused Symbols refusal
 failure_of_compiling (compiling.Source refusal) = Refused Source refusal
 failure_of_compiling compiling.NoMemory = NoMemory
 
+-- the history is refused, or there is no memory
 abbrev pub failure_of_history : HistoryFault → Failure
 failure_of_history (history.Refused refusal) = Refused History refusal
 failure_of_history history.NoMemory = NoMemory

@@ -30,13 +30,18 @@ pub fn programs_run()
     kept_code::laws::programs_are_kept();
 }
 
-/// Law of resumption: an activation that is suspended has the same class, registers, delay count
-/// and frames after each further entry, up to the one after which it runs again, whatever the
-/// entries are, unless STOP ends it. It holds over the statements of a source, and over a loaded
-/// program.
-pub fn law_of_resumption()
-    ensures sources { SourcesResume }
-    ensures images { ImagesResume }
+/// Law of resumption over the statements of a source: an activation that is suspended has the same
+/// class, registers, delay count and frames after each further entry, up to the one after which it
+/// runs again, whatever the entries are, unless STOP ends it.
+pub fn resumes_source()
+    ensures { SourcesResume }
+{
+    cpu::laws::continues_replay();
+}
+
+/// The same over a loaded program.
+pub fn resumes_image()
+    ensures { ImagesResume }
 {
     cpu::laws::continues_replay();
 }

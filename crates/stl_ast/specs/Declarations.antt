@@ -10,6 +10,7 @@ use Rattle.stl_ast.specs.declared.declarations.Init.{Init}
 use Rattle.stl_ast.specs.Literals.{IsDecimal, IsLiteral}
 use Rattle.stl_ast.specs.Operands.{IsNumber, IsNameOf}
 
+-- the bounds of an array, each a decimal number
 abbrev pub AreBounds : Bounds → Type 0
 AreBounds b = IsDecimal b.low × IsDecimal b.high
 

@@ -20,6 +20,7 @@ use Rattle.stl_types.specs.declared.views.Register.TheVariants as register
 use Rattle.stl_types.specs.declared.views.View.{View}
 use Rattle.stl_types.specs.declared.views.View.TheVariants as view
 
+-- the area of the DB register
 abbrev pub is_db : Area → Bool
 is_db area.Db = true
 is_db _ = false

@@ -3,6 +3,7 @@ use Rattle.std.specs.Prelude.{ℕ, List, Option, find}
 use Rattle.stl_symbols.specs.Folding.{is_same_name}
 use Rattle.stl_symbols.specs.declared.targets.Target.{Target}
 
+-- a symbol: its name, and what it names
 pub record Symbol : Type 0 where
   pub name : List ℕ
   pub target : Target

@@ -2,7 +2,7 @@ use Rattle.std.proofs.Common.{arith, ℕ, subst, IsOk, IsTrue, ◌↔◌}
 use Rattle.plc_base.specs.declared.Width.TheVariants.{Byte}
 use Rattle.plc_base.specs.AreaBytes.{is_peripheral_byte}
 use Rattle.plc_mem.proofs.Lawful.{input_answers}
-use Rattle.plc_mem.proofs.Kept.{peripheral_kept}
+use Rattle.plc_mem.proofs.Kept.{peripheral_kept, has_parts}
 use Rattle.plc_mem.proofs.memories.Memory.set_input.Goals as goal
 
 pub returns-clause-exists : goal.returns-clause-exists
@@ -10,7 +10,7 @@ returns-clause-exists c =
     subst
     (λ (n : ℕ). IsOk c.put.result ↔ IsTrue (is_peripheral_byte n))
     c.from-at.ensures
-    (input_answers c.self.inside.peripheral_inputs c.put.new.self c.from-at.result c.into.result c.put.result c.put.ensures.sizes c.put.ensures.cases)
+    (input_answers c.self.inside.peripheral_inputs c.put.new.self c.from-at.result c.into.result c.put.result (has_parts c.self.inside.peripheral_inputs c.self.invariant.peripheral_inputs) c.put.ensures.cases)
 
 pub invariant_of-self : goal.invariant_of-self
 invariant_of-self c = record {

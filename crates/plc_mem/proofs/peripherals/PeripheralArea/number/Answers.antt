@@ -12,4 +12,4 @@ pub returns-else-at-lt-HIGH_START : goal.returns-else-at-lt-HIGH_START
 returns-else-at-lt-HIGH_START c =
     rw
     (← c.self.view_is)
-    (c.number-else-at-lt-HIGH_START.ensures.value ∙ sym (high_number (record { low = c.self.inside.low; high = c.self.inside.high }) c.args.at c.args.bit c.args.width (omega arith)))
+    (c.number-else-at-lt-HIGH_START.ensures ∙ sym (high_number (record { low = c.self.inside.low; high = c.self.inside.high }) c.args.at c.args.bit c.args.width (omega arith)))
