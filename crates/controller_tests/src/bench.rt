@@ -109,13 +109,14 @@ fn write_observed(alloc: Global, out: &mut String, n: u64, seen: &Observed) -> W
     Ok(())
 }
 
-fn write_end(alloc: Global, out: &mut String, controller: &Controller) -> Written {
+fn write_end(alloc: Global, rt: &impl Abort, out: &mut String, controller: &Controller) -> Written {
     out.push_str(format!(in alloc; "END {} ", controller.history_len())?.as_str())?;
     write_mode(alloc, out, controller.mode())?;
     for place in 0..256 {
         let Some((number, bytes)) = controller.data_block(place) else {
             break;
         };
+        assert_eq!(rt; controller.db_bytes(number), Some(bytes));
         out.push_str(format!(in alloc; " | DB {number} ")?.as_str())?;
         for byte in bytes {
             hexadecimal(alloc, out, *byte)?;
@@ -166,7 +167,7 @@ pub(crate) fn run_text(
     for line in history.split('|') {
         apply(alloc, rt, &mut controller, &mut out, line)?;
     }
-    write_end(alloc, &mut out, &controller)?;
+    write_end(alloc, rt, &mut out, &controller)?;
     Ok(out)
 }
 

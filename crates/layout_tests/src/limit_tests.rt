@@ -180,12 +180,21 @@ fn constants_that_fit(rt: HostRuntime) -> Result<(), Fail> {
     Ok(())
 }
 
-/// These pieces, with a number between them, so many times, with a line end behind each.
+/// A text so many times.
+fn repeated(alloc: Global, text: &[u8], count: u32) -> Result<Vec<u8>, AllocError> {
+    let mut all = Vec::new(alloc);
+    for _ in 0..count {
+        all.extend_from_slice(text)?;
+    }
+    Ok(all)
+}
+
+/// These pieces, with a number between them, so many times.
 fn numbered(alloc: Global, before: &str, behind: &str, count: u32) -> Result<Vec<u8>, AllocError> {
     let mut text = Vec::new(alloc);
     for n in 1..=count {
-        let line = format!(in alloc; "{before}{n}{behind}\n")?;
-        text.extend_from_slice(line.as_bytes())?;
+        let piece = format!(in alloc; "{before}{n}{behind}")?;
+        text.extend_from_slice(piece.as_bytes())?;
     }
     Ok(text)
 }
@@ -201,7 +210,7 @@ fn a_block_has_60_parameters(rt: HostRuntime) -> Result<(), Fail> {
         (b"\nFUNCTION FC 1 : INT VAR_IN_OUT\n", 60, (2, 52)),
         (b"\nFUNCTION FC 1 : INT VAR_TEMP\n", 61, (0, 0)),
     ] {
-        let names = numbered(alloc, "p", " : BOOL;", count)?;
+        let names = numbered(alloc, "p", " : BOOL;\n", count)?;
         let source = in_block(alloc, head, names.as_slice(), b"END_VAR BEGIN END_FUNCTION")?;
         assert_eq!(rt;
             verdict(alloc, source.as_slice()),
@@ -215,7 +224,7 @@ fn a_block_has_60_parameters(rt: HostRuntime) -> Result<(), Fail> {
 #[test]
 fn a_source_has_256_data_blocks(rt: HostRuntime) -> Result<(), Fail> {
     let alloc = rt.alloc();
-    let behind = " STRUCT a : BOOL; END_STRUCT BEGIN END_DATA_BLOCK";
+    let behind = " STRUCT a : BOOL; END_STRUCT BEGIN END_DATA_BLOCK\n";
     for (count, expected) in [(256, (0, 0)), (257, (257, 53)), (258, (257, 53))] {
         let source = numbered(alloc, "DATA_BLOCK DB ", behind, count)?;
         assert_eq!(rt; verdict(alloc, source.as_slice()), expected);
@@ -233,14 +242,17 @@ fn data_blocks_have_2097152_bytes(rt: HostRuntime) -> Result<(), Fail> {
     for (udt, count, expected) in [
         (large.as_slice(), 128, (0, 0)),
         (large.as_slice(), 129, (130, 54)),
+        (large.as_slice(), 130, (130, 54)),
         (half.as_slice(), 256, (0, 0)),
+        // The 257th breaks both rules.
+        (half.as_slice(), 257, (258, 53)),
         (more.as_slice(), 255, (0, 0)),
         (more.as_slice(), 256, (257, 54)),
     ] {
         let blocks = numbered(
             alloc,
             "DATA_BLOCK DB ",
-            " UDT 1 BEGIN END_DATA_BLOCK",
+            " UDT 1 BEGIN END_DATA_BLOCK\n",
             count,
         )?;
         let source = in_block(alloc, udt, blocks.as_slice(), b"")?;
@@ -254,13 +266,61 @@ fn data_blocks_have_2097152_bytes(rt: HostRuntime) -> Result<(), Fail> {
 fn a_block_has_65534_statements(rt: HostRuntime) -> Result<(), Fail> {
     let alloc = rt.alloc();
     for (count, expected) in [(65_534, (0, 0)), (65_535, (2, 55))] {
-        let mut source = Vec::new(alloc);
-        source.extend_from_slice(b"\nFUNCTION FC 1 : VOID BEGIN\n;;;")?;
-        for _ in 0..count {
-            source.extend_from_slice(b"SET;")?;
-        }
-        source.extend_from_slice(b";\nEND_FUNCTION")?;
+        let statements = repeated(alloc, b"SET;", count)?;
+        let source = in_block(
+            alloc,
+            b"\nFUNCTION FC 1 : VOID BEGIN\n;;;",
+            statements.as_slice(),
+            b";\nEND_FUNCTION",
+        )?;
         assert_eq!(rt; verdict(alloc, source.as_slice()), expected, "{count}");
+    }
+    Ok(())
+}
+
+// Each text breaks one rule; behind one with a greater rule, on one line, the lesser rule is named.
+#[test]
+fn the_least_rule_of_a_line(rt: HostRuntime) -> Result<(), Fail> {
+    let alloc = rt.alloc();
+    let large = b"TYPE UDT 1 STRUCT a : ARRAY [1 .. 16385] OF BYTE; END_STRUCT END_TYPE ";
+    let parameters = numbered(alloc, "p", " : BOOL; ", 61)?;
+    let function = in_block(
+        alloc,
+        b"FUNCTION FC 1 : VOID VAR_INPUT ",
+        parameters.as_slice(),
+        b"END_VAR BEGIN END_FUNCTION ",
+    )?;
+    let behind = " STRUCT a : BOOL; END_STRUCT BEGIN END_DATA_BLOCK ";
+    let data_blocks = numbered(alloc, "DATA_BLOCK DB ", behind, 257)?;
+    let statements = repeated(alloc, b"SET;", 65_535)?;
+    let long = in_block(
+        alloc,
+        b"FUNCTION FC 2 : VOID BEGIN ",
+        statements.as_slice(),
+        b" END_FUNCTION ",
+    )?;
+    let bounds = repeated(alloc, b"ARRAY [1 .. 1] OF ", 9)?;
+    let deep = in_block(
+        alloc,
+        b"FUNCTION FC 3 : VOID VAR_TEMP a : ",
+        bounds.as_slice(),
+        b"INT; END_VAR BEGIN END_FUNCTION ",
+    )?;
+    let texts = [
+        (large.as_slice(), 51),
+        (function.as_slice(), 52),
+        (data_blocks.as_slice(), 53),
+        (long.as_slice(), 55),
+        (deep.as_slice(), 56),
+    ];
+    for (text, rule) in texts {
+        assert_eq!(rt; verdict(alloc, text), (1, rule));
+    }
+    for at in 1..texts.len() {
+        let (lesser, rule) = texts[at - 1];
+        let (greater, _) = texts[at];
+        let source = in_block(alloc, greater, lesser, b"")?;
+        assert_eq!(rt; verdict(alloc, source.as_slice()), (1, rule));
     }
     Ok(())
 }

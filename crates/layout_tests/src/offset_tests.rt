@@ -341,7 +341,7 @@ fn sections_of_a_function_block(rt: HostRuntime) -> Result<(), Fail> {
 fn what_breaks_a_rule_takes_no_place(rt: HostRuntime) -> Result<(), Fail> {
     let alloc = rt.alloc();
     let source =
-        b"DATA_BLOCK DB 1 STRUCT a : INT; b : UDT 9; c : INT; END_STRUCT BEGIN END_DATA_BLOCK";
+        b"DATA_BLOCK DB 1 STRUCT a : INT; b : INT := 40000; c : INT; END_STRUCT BEGIN END_DATA_BLOCK";
     let layouts = laid_sound(alloc, source)?;
     let broken = offset(alloc, &layouts, BlockKind::Db, Section::Global, b"b")?;
     assert_eq!(rt; broken, None);

@@ -68,7 +68,7 @@ static ARRAYS: [Row; 7] = [
     (b"a : ARRAY [2 .. 1] OF UDT 9;", 3, 23),
 ];
 
-static DEPTHS: [Row; 6] = [
+static DEPTHS: [Row; 7] = [
     // With the structure of the data block itself eight are open, and nine.
     (
         b"a : STRUCT\nb : STRUCT\nc : STRUCT\nd : STRUCT\ne : STRUCT\nf : STRUCT\ng : STRUCT\nh : INT;\nEND_STRUCT;\nEND_STRUCT;\nEND_STRUCT;\nEND_STRUCT;\nEND_STRUCT;\nEND_STRUCT;\nEND_STRUCT;",
@@ -101,6 +101,12 @@ static DEPTHS: [Row; 6] = [
         0,
         0,
     ),
+    // A name twice in the ninth structure: the lesser rule of the line.
+    (
+        b"a : STRUCT b : STRUCT c : STRUCT d : STRUCT e : STRUCT f : STRUCT g : STRUCT h : STRUCT i : INT; i : INT; END_STRUCT; END_STRUCT; END_STRUCT; END_STRUCT; END_STRUCT; END_STRUCT; END_STRUCT; END_STRUCT;",
+        3,
+        21,
+    ),
 ];
 
 /// Settings of DB 1 with the components `n : INT`, `s` a structure with `n : BYTE`, and `l`, an array
@@ -123,7 +129,7 @@ static SETTINGS: [Row; 12] = [
 ];
 
 /// Whole sources.
-static BLOCKS: [Row; 37] = [
+static BLOCKS: [Row; 45] = [
     // A name in the sections of a block, and the return value.
     (
         b"FUNCTION FC 1 : VOID\nVAR_INPUT\na : BOOL;\nEND_VAR\nVAR_TEMP\nA : INT;\nEND_VAR\nBEGIN\nEND_FUNCTION",
@@ -304,6 +310,44 @@ static BLOCKS: [Row; 37] = [
         b"FUNCTION FC 1 : VOID\nVAR_TEMP\na : ARRAY [1 .. 2] OF INT;\nEND_VAR\nBEGIN\nL #a[3];\nEND_FUNCTION",
         6,
         42,
+    ),
+    // Of two rules that are broken on one line the lesser one, whichever is found first.
+    (
+        b"DATA_BLOCK DB 0 STRUCT a : INT; END_STRUCT BEGIN END_DATA_BLOCK DATA_BLOCK DB 0 STRUCT a : INT; END_STRUCT BEGIN END_DATA_BLOCK",
+        1,
+        22,
+    ),
+    (
+        b"TYPE UDT 0 STRUCT a : INT; A : INT; END_STRUCT END_TYPE",
+        1,
+        21,
+    ),
+    (b"TYPE UDT 1 STRUCT a : UDT 1; END_STRUCT END_TYPE", 1, 43),
+    (
+        b"ORGANIZATION_BLOCK OB 2 BEGIN L LB 1024; END_ORGANIZATION_BLOCK",
+        1,
+        44,
+    ),
+    (
+        b"FUNCTION_BLOCK FB 1 VAR a : ARRAY [1 .. 16385] OF BYTE; END_VAR BEGIN L LB 1024; END_FUNCTION_BLOCK",
+        1,
+        50,
+    ),
+    (
+        b"TYPE UDT 1 STRUCT a : ARRAY [1 .. 16385] OF BYTE; b : ARRAY [1 .. 1] OF ARRAY [1 .. 1] OF ARRAY [1 .. 1] OF ARRAY [1 .. 1] OF ARRAY [1 .. 1] OF ARRAY [1 .. 1] OF ARRAY [1 .. 1] OF ARRAY [1 .. 1] OF INT; END_STRUCT END_TYPE",
+        1,
+        51,
+    ),
+    // Of two blocks that break the same rule the first one.
+    (
+        b"\nFUNCTION FC 2048 : VOID BEGIN END_FUNCTION\nFUNCTION FC 2049 : VOID BEGIN END_FUNCTION",
+        2,
+        44,
+    ),
+    (
+        b"\nFUNCTION FC 1 : VOID BEGIN L LB 1024; END_FUNCTION\nFUNCTION FC 2 : VOID BEGIN L LB 1024; END_FUNCTION",
+        2,
+        50,
     ),
 ];
 

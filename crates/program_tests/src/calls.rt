@@ -1,6 +1,6 @@
 use arrayvec::ArrayVec;
 use plc_io::{MemFiles, MemSink, OpenGate};
-use s7_cli::s7_main;
+use s7_cli::{cmd_check, cmd_go, s7_main};
 use std::alloc::Global;
 use std::sync::Wait;
 use std::test::Fail;
@@ -44,7 +44,7 @@ pub(crate) fn call<R: Threads + Wait + Sync>(
 #[test]
 fn runs_and_refusals(rt: HostRuntime) -> Result<(), Fail> {
     // source, history, status, text
-    let table: [(&[u8], &[u8], u8, &[u8]); 14] = [
+    let table: [(&[u8], &[u8], u8, &[u8]); 15] = [
         (RUNG, ONE_RUN, 0, b"@7 PQ 4 = 01\nEND 7 RUN\n"),
         (RUNG, b"in 0 01\nstep 5\n", 0, b"END 6 RUN\n"),
         (b"", b"step 2\n", 0, b"END 2 RUN\n"),
@@ -52,6 +52,13 @@ fn runs_and_refusals(rt: HostRuntime) -> Result<(), Fail> {
         (
             b"ORGANIZATION_BLOCK OB 1\nBEGIN\nA I 0.0;\nA I 0.1;\nO;\nA I 0.2;\nA I 0.3;\n= Q 4.0;\nEND_ORGANIZATION_BLOCK\n",
             b"in 0 0E\nstep 9\n",
+            0,
+            b"@10 PQ 4 = 01\nEND 10 RUN\n",
+        ),
+        // The first branch alone: 0.0 is on, and 0.1 too.
+        (
+            b"ORGANIZATION_BLOCK OB 1\nBEGIN\nA I 0.0;\nA I 0.1;\nO;\nA I 0.2;\nA I 0.3;\n= Q 4.0;\nEND_ORGANIZATION_BLOCK\n",
+            b"in 0 03\nstep 9\n",
             0,
             b"@10 PQ 4 = 01\nEND 10 RUN\n",
         ),
@@ -115,6 +122,25 @@ fn runs_and_refusals(rt: HostRuntime) -> Result<(), Fail> {
         assert_eq!(rt; code, status);
         assert_eq!(rt; out.taken.as_slice(), text);
     }
+    Ok(())
+}
+
+// The commands by themselves, with the names of their files in place of words.
+#[test]
+fn the_two_commands(rt: HostRuntime) -> Result<(), Fail> {
+    let alloc = rt.alloc();
+    let mut files = two_files(alloc, RUNG, ONE_RUN)?;
+    let mut out = MemSink::new(alloc, 64);
+    let checked = cmd_check(alloc, "source", None, &mut files, &mut out);
+    assert_eq!(rt; checked.code, 0);
+    assert_eq!(rt; out.taken.as_slice(), b"OK\n".as_slice());
+    let mut out = MemSink::new(alloc, 64);
+    let run = cmd_go(alloc, "source", "history", None, &mut files, &mut out);
+    assert_eq!(rt; run.code, 0);
+    assert_eq!(rt;
+        out.taken.as_slice(),
+        b"@7 PQ 4 = 01\nEND 7 RUN\n".as_slice()
+    );
     Ok(())
 }
 

@@ -5,9 +5,6 @@ use std::marker::Model;
 /// The most bytes of a line. No line of a fixed form is longer.
 pub const LINE_LIMIT: usize = 256;
 
-/// The most bytes that one number takes in a line.
-const NUMBER_LIMIT: usize = 40;
-
 /// One line of text, kept without memory from an allocator.
 #[derive(Drop)]
 pub struct Line {
@@ -43,7 +40,7 @@ impl Line {
 
     /// Appends these bytes.
     pub fn add(&mut self, bytes: &[u8])
-        requires { length self.old + length bytes.now ≤ LINE_LIMIT }
+        requires { length self.old + length bytes.now ≤ 256 }
         ensures value { self.new ≡ self.old ++ bytes.now }
         ensures len { length self.new ≡ length self.old + length bytes.now }
     {
@@ -52,11 +49,11 @@ impl Line {
         }
     }
 
-    /// Appends a number in decimal digits.
+    /// Appends a number in decimal digits. It wants room for 40 bytes.
     pub fn add_number(&mut self, number: u64)
-        requires { length self.old + NUMBER_LIMIT ≤ LINE_LIMIT }
+        requires { length self.old + 40 ≤ 256 }
         ensures value { self.new ≡ self.old ++ decimal number }
-        ensures len { length self.new ≤ length self.old + NUMBER_LIMIT }
+        ensures len { length self.new ≤ length self.old + 40 }
     {
         let mut digits = Buffer::new();
         self.add(digits.format(number).as_bytes());

@@ -135,7 +135,7 @@ fn started(alloc: Global, program: Loaded, entries: u64) -> Result<Controller, I
 ///
 /// # Errors
 ///
-/// `Failed` where the sink fails, `NoMemory` for want of memory; a front of the text was taken
+/// `Failed` where the sink fails, `NoMemory` for want of memory; a prefix of the text was taken
 /// then.
 #[tactic(auto, unfolding(crate::specs::RunText::run_text))]
 pub fn replay_text<K: Sink>(

@@ -11,7 +11,7 @@ ghost use Rattle.run_text.specs.LineText.{
   hex_digit,
 };
 
-use crate::lines::{LINE_LIMIT, Line};
+use crate::lines::Line;
 use plc_base::{BlockKind, Mode, Spot};
 
 /// The most bytes of a data block that one line tells.
@@ -133,7 +133,7 @@ pub fn end_line(n: u64, mode: Mode) -> Line
 
 /// Appends bytes as hexadecimal digits.
 fn add_hex(line: &mut Line, bytes: &[u8])
-    requires { length line.old + 2 * length bytes.now ≤ LINE_LIMIT }
+    requires { length line.old + 2 * length bytes.now ≤ 256 }
     ensures value { line.new ≡ line.old ++ flat_map hex_text bytes.now }
     ensures len { length line.new ≡ length line.old + 2 * length bytes.now }
 {
@@ -145,7 +145,7 @@ fn add_hex(line: &mut Line, bytes: &[u8])
 /// The line `DB n at hh..` of at most 32 bytes of a data block, with the offset of the first one.
 #[tactic(auto, unfolding(crate::specs::LineText::row_text))]
 pub fn row_line(number: u16, at: usize, bytes: &[u8]) -> Line
-    requires { length bytes.now ≤ ROW_BYTES }
+    requires { length bytes.now ≤ 32 }
     ensures { result ≡ row_text number at bytes.now }
 {
     let mut line = Line::new();

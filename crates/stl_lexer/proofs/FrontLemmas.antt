@@ -76,7 +76,7 @@ listed_in tail test (entry ∷ table) text n never all some within e =
     ]
 
 -- a table lists nothing where its entries pass a test, and the text begins with no entry that does
-none_listed : (tail : Tail) (test : List ℕ → Bool) (table : List (List ℕ)) (text : List ℕ) → ((entry : List ℕ) → test entry ≡ true → begins_with entry text ≡ true → ⊥) → list_all test table ≡ true → HasNone (is_listed tail table) text
+pub none_listed : (tail : Tail) (test : List ℕ → Bool) (table : List (List ℕ)) (text : List ℕ) → ((entry : List ℕ) → test entry ≡ true → begins_with entry text ≡ true → ⊥) → list_all test table ≡ true → HasNone (is_listed tail table) text
 unfolding is_listed
 none_listed tail test table text never all n at = listed_in tail test table text n never all at.some at.within at.fits
 

@@ -3,6 +3,7 @@ pub mod FrontLemmas
 pub mod GapLemmas
 pub mod LineLemmas
 pub mod LongestLemmas
+pub mod MarkLemmas
 pub mod QuoteLemmas
 pub mod RankLemmas
 pub mod RuleLemmas

@@ -1,4 +1,4 @@
-ghost use Rattle.std.specs.Prelude.{◌≡◌, ◌<◌, ◌≤◌, IsTrue, drop, length, map};
+ghost use Rattle.std.specs.Prelude.{◌≡◌, ◌<◌, ◌≤◌, ◌∷◌, [], IsTrue, drop, get_or, length, map};
 ghost use Rattle.std.specs.Bool.{OnTrue};
 ghost use Rattle.std.specs.List.{list_all};
 ghost use Rattle.stl_lexer.specs.declared.tables.Tail.{Tail};
@@ -8,6 +8,7 @@ ghost use Rattle.stl_lexer.specs.Forms.{
   begins_with,
   behind_sign,
   count_prefixes,
+  entries_from,
   first_letter,
   goes_on,
   is_entry,
@@ -189,18 +190,55 @@ fn opens_title(letter: u8) -> bool
     letter == b't'
 }
 
+/// The second byte of a text, or 0 where there is none.
+fn second_byte(text: &[u8]) -> u8
+    ensures { result ≡ get_or text.now 1 0 }
+{
+    match text {
+        [_, second, ..] => *second,
+        _ => 0,
+    }
+}
+
+/// Whether the only mark that begins with this letter is the letter itself.
+#[tactic(auto, unfolding(crate::specs::Forms::entries_from, crate::specs::Forms::first_letter, crate::specs::Marks::mark_text, crate::specs::Marks::marks))]
+fn is_lone_mark(letter: u8) -> bool
+    ensures { OnTrue result (entries_from letter marks ≡ (letter ∷ []) ∷ []) }
+{
+    matches!(
+        letter,
+        b';' | b',' | b'(' | b')' | b'[' | b']' | b'=' | b'+' | b'-'
+    )
+}
+
 /// The length of the longest mark at the front of the text.
 pub(crate) fn longest_mark(text: &[u8]) -> Option<usize>
     ensures { FindsLongest (is_listed Nothing marks) text.now result }
 {
-    longest_entry(Tail::Nothing, marks_from(first_letter(text)), text)
+    let letter = first_letter(text);
+    if is_lone_mark(letter) {
+        return Some(1);
+    }
+    if letter == b'.' {
+        if second_byte(text) == b'.' {
+            return Some(2);
+        }
+        return Some(1);
+    }
+    longest_entry(Tail::Nothing, marks_from(letter), text)
 }
 
 /// The length of the longest sign word at the front of the text.
 pub(crate) fn longest_sign_word(text: &[u8]) -> Option<usize>
     ensures { FindsLongest (is_listed Apart sign_words) text.now result }
 {
-    longest_entry(Tail::Apart, sign_words_from(first_letter(text)), text)
+    let letter = first_letter(text);
+    if letter == b'=' {
+        if second_byte(text) != b'=' {
+            return None;
+        }
+    }
+    longest_entry(Tail::Apart, sign_words_from(letter), text)
 }
 
 /// The length of the longest binary or hexadecimal literal at the front of the text, right or wrong.
