@@ -4,10 +4,8 @@ use Rattle.std.specs.Option.{unwrap_or, IfSome}
 use Rattle.plc_base.specs.declared.refusals.Refusal.{Refusal}
 use Rattle.plc_base.specs.declared.refusals.SourceFault.{SourceFault}
 use Rattle.plc_base.specs.declared.refusals.SourceFault.TheVariants as found
-use Rattle.flat_code.specs.Image.{IsProgram}
 use Rattle.flat_code.specs.Programs.{Program}
 use Rattle.accepted_code.specs.Accepted.{program_in}
-use Rattle.image_file.specs.Loaded.{LoadedProgram}
 use Rattle.machine.specs.Flat.{code_of}
 use Rattle.stl_ast.specs.Literals.{AreBytes}
 use Rattle.stl_ast.specs.declared.blocks.Tree.{Tree}
@@ -23,10 +21,11 @@ use Rattle.block_layout.specs.Table.{layout_refusals}
 use Rattle.block_layout.specs.declared.blocks.BlockLayout.{BlockLayout}
 use Rattle.stl_types.specs.Table.{statement_refusals, Checks}
 use Rattle.stl_codegen.specs.Generated.{program_of}
-use Rattle.sem_kept.specs.Agreement.{AreFiles, ProgramsRun, RunsAs}
+use Rattle.sem_kept.specs.Agreement.{AreFiles, IsRunnable, ProgramsRun, RunsAs}
 use Rattle.sem_kept.specs.Stages.{InTurn}
 use Rattle.sem_kept.specs.Meaning.{HasSymbols, HasTokens, HasTree, refusals_of, sound_by, IsSound, IsJudgedWith, IsJudged}
-use Rattle.compiler.specs.Compiling.{RefusesBy, Finds, fault_in_symbols, fault_in_source, IsRefusedBy, IsMadeOf, RunsWhereSound}
+use Rattle.compiler.specs.declared.compiling.LaidSource.{LaidSource}
+use Rattle.compiler.specs.Compiling.{RefusesBy, Finds, fault_in_symbols, fault_in_source, HasProgram, IsLaid, IsRefusedBy}
 
 -- an empty symbols file has no symbols
 pub empty_file : symbols_of [] ≡ Ok []
@@ -157,42 +156,47 @@ all_bytes (b ∷ bytes) small =
     let first : b < 256 = small 0 in
     (omega (arith, first), all_bytes bytes (λ i. small (suc i)))
 
-pub runs_where_sound : ProgramsRun → (source : List ℕ) (symbols : Option (List ℕ))
-    (list : List Symbol) (tree : Tree)
-    → AreFiles source symbols → HasSymbols symbols (Ok list)
-    → InTurn HasTokens (HasTree source) source (Ok tree) → RunsWhereSound list tree
-runs_where_sound law source symbols list tree are has (tokens, lexed, is) sound =
-    (law source symbols list tokens tree are has lexed is sound).0
+-- ---- a source that is laid out
 
-pub program_runs : ProgramsRun → (source : List ℕ) (symbols : Option (List ℕ))
-    (list : List Symbol) (tree : Tree) (l : LoadedProgram)
-    → AreFiles source symbols → HasSymbols symbols (Ok list)
-    → InTurn HasTokens (HasTree source) source (Ok tree) → IsMadeOf list tree l
-    → RunsAs source symbols (code_of l.program)
-program_runs law source symbols list tree l are has (tokens, lexed, is) made =
-    subst (λ (p : Program). RunsAs source symbols (code_of p)) (sym made.is)
-    (law source symbols list tokens tree are has lexed is made.sound).1
+pub statements_fault : (source : List ℕ) (symbols : Option (List ℕ)) (laid : LaidSource)
+    (checked : Tree) (fault : SourceFault)
+    → IsLaid source symbols laid
+    → Checks (least (statement_refusals laid.tree laid.symbols laid.layouts)) checked (Err fault)
+    → RefusesBy source symbols (fault_in_source fault)
+statements_fault source symbols laid checked (found.Refused refusal) is h =
+    program_fault source symbols laid.symbols laid.tree (found.Refused refusal) is.list is.parsed
+    (refused_by_statements laid.symbols laid.tree laid.layouts refusal is.right is.layout h)
+statements_fault source symbols laid checked found.NoMemory is h = tt
 
--- ---- the program
+-- where its statements break no rule, its program runs
+accepted_runs : ProgramsRun → (source : List ℕ) (symbols : Option (List ℕ)) (laid : LaidSource)
+    → AreFiles source symbols → IsLaid source symbols laid
+    → least (statement_refusals laid.tree laid.symbols laid.layouts) ≡ None
+    → IsRunnable (program_in laid.symbols laid.tree)
+    × RunsAs source symbols (code_of (program_in laid.symbols laid.tree))
+accepted_runs law source symbols laid are is there =
+    law source symbols laid.symbols is.parsed.0 laid.tree are is.list is.parsed.1 is.parsed.2
+    (sound_both laid.symbols laid.tree laid.layouts is.right is.layout there)
 
-pub checked_fault : (list : List Symbol) (tree checked : Tree) (layouts : List BlockLayout)
-    (fault : SourceFault)
-    → least (layout_refusals tree list) ≡ None → layouts ≡ layouts_of tree list
-    → Checks (least (statement_refusals tree list layouts)) checked (Err fault)
-    → IsRefusedBy list tree fault
-checked_fault list tree checked layouts (found.Refused refusal) here laid h =
-    refused_by_statements list tree layouts refusal here laid h
-checked_fault list tree checked layouts found.NoMemory here laid h = tt
+pub has_program : ProgramsRun → (source : List ℕ) (symbols : Option (List ℕ)) (laid : LaidSource)
+    → AreFiles source symbols → IsLaid source symbols laid
+    → least (statement_refusals laid.tree laid.symbols laid.layouts) ≡ None
+    → HasProgram source symbols
+has_program law source symbols laid are is there =
+    let runs = accepted_runs law source symbols laid are is there in
+    (program_in laid.symbols laid.tree, runs.0, runs.1)
 
--- a tree that breaks no rule has an image
-pub has_image : (list : List Symbol) (tree t : Tree) (layouts : List BlockLayout)
-    → RunsWhereSound list tree
-    → least (layout_refusals tree list) ≡ None → layouts ≡ layouts_of tree list
-    → least (statement_refusals tree list layouts) ≡ None → t ≡ tree
-    → IsProgram (program_of t list layouts)
-has_image list tree t layouts runs here laid there same =
-    subst IsProgram (sym is) (runs (sound_both list tree layouts here laid there)).is
+-- and it is the one that is generated
+pub generated_runs : ProgramsRun → (source : List ℕ) (symbols : Option (List ℕ))
+    (laid : LaidSource) (checked : Tree)
+    → AreFiles source symbols → IsLaid source symbols laid → checked ≡ laid.tree
+    → least (statement_refusals laid.tree laid.symbols laid.layouts) ≡ None
+    → IsRunnable (program_of checked laid.symbols laid.layouts)
+    × RunsAs source symbols (code_of (program_of checked laid.symbols laid.layouts))
+generated_runs law source symbols laid checked are is same there =
+    subst (λ (p : Program). IsRunnable p × RunsAs source symbols (code_of p)) (sym generated)
+    (accepted_runs law source symbols laid are is there)
   where
-    is : program_of t list layouts ≡ program_in list tree
-    is = ap (λ (x : Tree). program_of x list layouts) same
-        ∙ ap (λ (z : List BlockLayout). program_of tree list z) laid
+    generated : program_of checked laid.symbols laid.layouts ≡ program_in laid.symbols laid.tree
+    generated = ap (λ (t : Tree). program_of t laid.symbols laid.layouts) same
+        ∙ ap (λ (z : List BlockLayout). program_of laid.tree laid.symbols z) is.layout

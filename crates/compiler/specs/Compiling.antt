@@ -1,7 +1,7 @@
 -- What compiling answers, stage by stage.
 use Rattle.std.specs.Prelude.{◌≡◌, ℕ, List, Option, None, Result, Ok, Err}
-use Rattle.accepted_code.specs.Accepted.{program_in}
-use Rattle.image_file.specs.Loaded.{LoadedProgram}
+use Rattle.flat_code.specs.Programs.{Program}
+use Rattle.machine.specs.Flat.{code_of}
 use Rattle.plc_base.specs.declared.refusals.Refusal.{Refusal}
 use Rattle.plc_base.specs.declared.refusals.SourceFault.{SourceFault}
 use Rattle.plc_base.specs.declared.refusals.SourceFault.TheVariants as found
@@ -11,8 +11,10 @@ use Rattle.stl_symbols.specs.Symbol.{Symbol}
 use Rattle.block_layout.specs.Layouts.{layouts_of}
 use Rattle.block_layout.specs.Table.{layout_refusals}
 use Rattle.block_layout.specs.declared.blocks.BlockLayout.{BlockLayout}
-use Rattle.sem_kept.specs.Agreement.{IsRunnable}
-use Rattle.sem_kept.specs.Meaning.{refusals_of, IsSound, InSymbols, InSource, IsRefusedSource}
+use Rattle.sem_kept.specs.Agreement.{IsRunnable, RunsAs}
+use Rattle.sem_kept.specs.Meaning.{HasSymbols, HasTokens, HasTree, IsSound, InSymbols, InSource, IsRefusedSource}
+use Rattle.sem_kept.specs.Stages.{InTurn}
+use Rattle.compiler.specs.declared.compiling.LaidSource.{LaidSource}
 use Rattle.compiler.specs.declared.faults.CompileFault.{CompileFault}
 use Rattle.compiler.specs.declared.faults.CompileFault.TheVariants as fault
 
@@ -51,16 +53,21 @@ Lays symbols tree (Ok layouts) =
     (least (layout_refusals tree symbols) ≡ None) × (layouts ≡ layouts_of tree symbols)
 Lays symbols tree (Err fault) = IsRefusedBy symbols tree fault
 
--- the program of a tree runs where the tree breaks no rule
-abbrev pub RunsWhereSound : List Symbol → Tree → Type 0
-RunsWhereSound symbols tree =
-    least (refusals_of symbols tree) ≡ None → IsRunnable (program_in symbols tree)
+-- a source with its symbols is laid out so, and breaks no rule on its symbols, tokens, clauses and
+-- layout
+pub record IsLaid (source : List ℕ) (symbols : Option (List ℕ)) (laid : LaidSource) : Type 0 where
+  pub list : HasSymbols symbols (Ok laid.symbols)
+  pub parsed : InTurn HasTokens (HasTree source) source (Ok laid.tree)
+  pub right : least (layout_refusals laid.tree laid.symbols) ≡ None
+  pub layout : laid.layouts ≡ layouts_of laid.tree laid.symbols
 
--- a loaded program is that of a tree which breaks no rule
-pub record IsMadeOf (symbols : List Symbol) (tree : Tree) (l : LoadedProgram) : Type 0 where
-  pub sound : least (refusals_of symbols tree) ≡ None
-  pub is : l.program ≡ program_in symbols tree
+-- each source with its symbols that is laid out so is refused so
+abbrev pub RefusesLaid : LaidSource → CompileFault → Type 0
+RefusesLaid laid fault =
+    (source : List ℕ) (symbols : Option (List ℕ))
+    → IsLaid source symbols laid → RefusesBy source symbols fault
 
-abbrev pub Makes : List Symbol → Tree → Result LoadedProgram SourceFault → Type 0
-Makes symbols tree (Ok l) = IsMadeOf symbols tree l
-Makes symbols tree (Err fault) = IsRefusedBy symbols tree fault
+-- a source with its symbols has a program, which has an image, verifies, and runs as it means
+abbrev pub HasProgram : (source : List ℕ) (symbols : Option (List ℕ)) → Type 0
+HasProgram source symbols =
+    (p : Program) × IsRunnable p × RunsAs source symbols (code_of p)

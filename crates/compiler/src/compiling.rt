@@ -1,31 +1,25 @@
 ghost use Rattle.std.specs.Prelude.{◌≡◌, ◌≤◌, length, IfOk, IfErr};
 ghost use Rattle.std.specs.Option.{option_map, IfSome};
+ghost use Rattle.flat_code.specs.Image.{IsProgram};
 ghost use Rattle.machine.specs.Flat.{code_of};
-ghost use Rattle.accepted_code.specs.Accepted.{program_in};
 ghost use Rattle.stl_ast.specs.Literals.{AreBytes};
 ghost use Rattle.stl_symbols.specs.Symbols.{symbols_limit};
 ghost use Rattle.stl_symbols.specs.Least.{least};
 ghost use Rattle.stl_lexer.specs.Limits.{source_limit};
 ghost use Rattle.stl_types.specs.Table.{statement_refusals};
-ghost use Rattle.block_layout.specs.Layouts.{layouts_of};
+ghost use Rattle.stl_codegen.specs.Generated.{program_of};
 ghost use Rattle.block_layout.specs.Table.{layout_refusals};
 ghost use Rattle.sem_kept.specs.Agreement.{AreFiles, IsRunnable, RunsAs};
-ghost use Rattle.sem_kept.specs.Meaning.{
-  HasSymbols,
-  HasTokens,
-  HasTree,
-  IsSound,
-  refusals_of,
-};
+ghost use Rattle.sem_kept.specs.Meaning.{HasSymbols, HasTokens, HasTree, IsSound};
 ghost use Rattle.plc_base.specs.declared.refusals.SourceFault.TheVariants.{NoMemory};
 ghost use Rattle.sem_kept.specs.Stages.{InTurn};
 ghost use Rattle.compiler.specs.Compiling.{
   RefusesBy,
+  RefusesLaid,
   Finds,
-  IsRefusedBy,
+  HasProgram,
+  IsLaid,
   Lays,
-  Makes,
-  RunsWhereSound,
 };
 
 use crate::faults::{CompileFault, in_source, in_symbols};
@@ -33,13 +27,21 @@ use block_layout::{Layouts, lay_out, lay_out_sound};
 use flat_code::Program;
 use image_file::{Loaded, VerifyError, verify};
 use plc_base::{Refusal, SourceFault};
-use std::alloc::Global;
+use std::alloc::{AllocError, Global};
 use stl_ast::Tree;
 use stl_codegen::generate;
 use stl_lexer::lex;
 use stl_parser::parse;
 use stl_symbols::{Symbols, lesser, read_symbols};
-use stl_types::check;
+use stl_types::{Checked, check};
+
+/// A source that breaks no rule on its symbols, tokens, clauses and layout.
+#[derive(Drop)]
+struct LaidSource {
+    symbols: Symbols,
+    tree: Tree,
+    layouts: Layouts,
+}
 
 /// The symbols of a symbols file. Without a file there are none, as in an empty one.
 fn symbols_of(alloc: Global, symbols: Option<&[u8]>) -> Result<Symbols, SourceFault>
@@ -114,25 +116,58 @@ fn layouts_of(alloc: Global, tree: &Tree, symbols: &Symbols) -> Result<Layouts, 
     }
 }
 
-/// The program of a tree, which breaks no rule on its layout.
-fn program_of(
+/// Lays out a source with its symbols file. The symbols are judged first, then the tokens of the
+/// source, its clauses, and its layout. Where a rule on the layout is broken, the refusal is the
+/// least one of these rules and of those on statements.
+fn laid_out(
     alloc: Global,
-    tree: &Tree,
-    symbols: &Symbols,
-    layouts: &Layouts,
-) -> Result<Program, SourceFault>
-    requires right { least (layout_refusals tree.now symbols.now) ≡ None }
-    requires layouts { layouts.now ≡ layouts_of tree.now symbols.now }
-    requires runs { RunsWhereSound symbols.now tree.now }
-    ensures sound { IfOk result (λ p. least (refusals_of symbols.now tree.now) ≡ None) }
-    ensures program { IfOk result (λ p. p ≡ program_in symbols.now tree.now) }
-    ensures refused { IfErr result (IsRefusedBy symbols.now tree.now) }
+    source: &[u8],
+    symbols: Option<&[u8]>,
+) -> Result<LaidSource, CompileFault>
+    requires source { length source.now ≤ source_limit }
+    requires symbols { IfSome symbols (λ s. length s.now ≤ symbols_limit) }
+    ensures laid { IfOk result (IsLaid source.now (option_map (λ s. s.now) symbols.entry)) }
+    ensures refused { IfErr result
+        (RefusesBy source.now (option_map (λ s. s.now) symbols.entry)) }
 {
-    let checked = match check(alloc, tree, symbols, layouts) {
-        Ok(checked) => checked,
-        Err(fault) => return Err(fault),
+    let list = match symbols_of(alloc, symbols) {
+        Ok(list) => list,
+        Err(fault) => return Err(in_symbols(fault)),
     };
-    let made = generate(alloc, &checked, layouts, symbols)?;
+    let tree = match tree_of(alloc, source) {
+        Ok(tree) => tree,
+        Err(fault) => return Err(in_source(fault)),
+    };
+    match layouts_of(alloc, &tree, &list) {
+        Ok(layouts) => Ok(LaidSource {
+            symbols: list,
+            tree,
+            layouts,
+        }),
+        Err(fault) => Err(in_source(fault)),
+    }
+}
+
+/// A source that is laid out, with its statements checked.
+fn checked_of<'a>(alloc: Global, laid: &'a LaidSource) -> Result<Checked<'a>, CompileFault>
+    ensures tree { IfOk result (λ checked. checked ≡ laid.now.tree) }
+    ensures sound { IfOk result (λ checked.
+        least (statement_refusals laid.now.tree laid.now.symbols laid.now.layouts) ≡ None) }
+    ensures refused { IfErr result (RefusesLaid laid.now) }
+{
+    match check(alloc, &laid.tree, &laid.symbols, &laid.layouts) {
+        Ok(checked) => Ok(checked),
+        Err(fault) => Err(in_source(fault)),
+    }
+}
+
+/// The program of a source that breaks no rule.
+fn program_of(alloc: Global, laid: &LaidSource, checked: &Checked) -> Result<Program, AllocError>
+    requires { IsProgram (program_of checked.now laid.now.symbols laid.now.layouts) }
+    ensures { IfOk result (λ p.
+        p ≡ program_of checked.now laid.now.symbols laid.now.layouts) }
+{
+    let made = generate(alloc, checked, &laid.layouts, &laid.symbols)?;
     match made {
         Some(program) => Ok(program),
         None => unreachable!(),
@@ -140,28 +175,16 @@ fn program_of(
 }
 
 /// A program that runs, verified.
-fn loaded(alloc: Global, program: Program) -> Result<Loaded, SourceFault>
+fn loaded(alloc: Global, program: Program) -> Result<Loaded, AllocError>
     requires { IsRunnable program }
-    ensures program { IfOk result (λ l. l.program ≡ program) }
-    ensures memory { IfErr result (λ e. e ≡ NoMemory) }
+    ensures { IfOk result (λ l. l.program ≡ program) }
 {
     image_file::laws::verified_or_refused();
     match verify(alloc, program) {
         Ok(loaded) => Ok(loaded),
         Err(VerifyError::Fault { fault: _ }) => unreachable!(),
-        Err(VerifyError::NoMemory) => Err(SourceFault::NoMemory),
+        Err(VerifyError::NoMemory) => Err(AllocError),
     }
-}
-
-/// The loaded program of a tree.
-fn program_in(alloc: Global, tree: &Tree, symbols: &Symbols) -> Result<Loaded, SourceFault>
-    requires { RunsWhereSound symbols.now tree.now }
-    ensures { Makes symbols.now tree.now result }
-{
-    let layouts = layouts_of(alloc, tree, symbols)?;
-    let program = program_of(alloc, tree, symbols, &layouts)?;
-    let loaded = loaded(alloc, program)?;
-    Ok(loaded)
 }
 
 /// A law: what a slice holds are bytes.
@@ -189,6 +212,29 @@ fn law_of_files(source: &[u8], symbols: Option<&[u8]>)
     law_of_file(symbols);
 }
 
+/// Judges a source of at most 1,048,576 bytes with its symbols file, which has at most as many, by
+/// the rules of `compiled`. No program is made: that a source which breaks no rule has one that
+/// verifies and runs as it means is proved.
+///
+/// # Errors
+///
+/// Those of `compiled`: `Symbols` or `Source` with the refusal exactly where the symbols file or the
+/// source with these symbols is refused; or `NoMemory`.
+pub fn judged(alloc: Global, source: &[u8], symbols: Option<&[u8]>) -> Result<(), CompileFault>
+    requires source { length source.now ≤ source_limit }
+    requires symbols { IfSome symbols (λ s. length s.now ≤ symbols_limit) }
+    ensures ok { IfOk result (λ done.
+        HasProgram source.now (option_map (λ s. s.now) symbols.entry)) }
+    ensures refused { IfErr result
+        (RefusesBy source.now (option_map (λ s. s.now) symbols.entry)) }
+{
+    sem_kept::laws::programs_run();
+    law_of_files(source, symbols);
+    let laid = laid_out(alloc, source, symbols)?;
+    let _checked = checked_of(alloc, &laid)?;
+    Ok(())
+}
+
 /// Compiles a source of at most 1,048,576 bytes with its symbols file, which has at most as many,
 /// into a loaded program that runs as it means. The symbols are judged first, then the tokens of
 /// the source, its clauses, and its layout together with its statements.
@@ -211,16 +257,8 @@ pub fn compiled(
 {
     sem_kept::laws::programs_run();
     law_of_files(source, symbols);
-    let list = match symbols_of(alloc, symbols) {
-        Ok(list) => list,
-        Err(fault) => return Err(in_symbols(fault)),
-    };
-    let tree = match tree_of(alloc, source) {
-        Ok(tree) => tree,
-        Err(fault) => return Err(in_source(fault)),
-    };
-    match program_in(alloc, &tree, &list) {
-        Ok(loaded) => Ok(loaded),
-        Err(fault) => Err(in_source(fault)),
-    }
+    let laid = laid_out(alloc, source, symbols)?;
+    let checked = checked_of(alloc, &laid)?;
+    let program = program_of(alloc, &laid, &checked)?;
+    Ok(loaded(alloc, program)?)
 }

@@ -4,5 +4,5 @@
 mod compiling;
 mod faults;
 
-pub use compiling::compiled;
+pub use compiling::{compiled, judged};
 pub use faults::CompileFault;

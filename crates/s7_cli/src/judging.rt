@@ -2,6 +2,7 @@ ghost use Rattle.std.specs.Prelude.{◌≡◌, All, IfOk, Ok};
 ghost use Rattle.var_access.specs.Entry.{IsValid};
 ghost use Rattle.machine.specs.Flat.{code_of};
 ghost use Rattle.sem_kept.specs.Agreement.{RunsAs};
+ghost use Rattle.compiler.specs.Compiling.{HasProgram};
 ghost use Rattle.event_text.specs.History.{history_of};
 ghost use Rattle.s7_cli.specs.Inner.{RefusedBy};
 ghost use Rattle.s7_cli.specs.Says.{CheckSays, GoSays};
@@ -9,20 +10,20 @@ ghost use Rattle.s7_cli.specs.Texts.{IsWithin, symbols_of};
 
 use crate::failures::Failure;
 use crate::files::ProgramText;
-use compiler::compiled;
+use compiler::{compiled, judged};
 use event_text::read_history;
 use image_file::Loaded;
 use std::alloc::Global;
 use var_access::Entry;
 
 /// Judges a source with its symbols.
-pub fn judge_program(alloc: Global, text: &ProgramText) -> Result<Loaded, Failure>
+pub fn judge_program(alloc: Global, text: &ProgramText) -> Result<(), Failure>
     requires { IsWithin text.now }
-    ensures runs { IfOk result
-        (λ l. RunsAs text.now.source.items (symbols_of text.now) (code_of l.program)) }
+    ensures accepted { IfOk result
+        (λ done. HasProgram text.now.source.items (symbols_of text.now)) }
     ensures refused { RefusedBy (CheckSays text.now.source.items (symbols_of text.now)) result }
 {
-    Ok(compiled(alloc, &text.source, text.symbols())?)
+    Ok(judged(alloc, &text.source, text.symbols())?)
 }
 
 /// Judges a source with its symbols, and then a history.

@@ -1,39 +1,31 @@
-use Rattle.std.proofs.Common.{ℕ, List, Option, option_map, sym, subst, Bor}
-use Rattle.compiler.specs.Compiling.{RefusesBy}
-use Rattle.compiler.specs.declared.faults.CompileFault.{CompileFault}
-use Rattle.compiler.proofs.CompileLemmas.{symbols_refused, tree_fault, program_fault, runs_where_sound, program_runs}
+use Rattle.std.proofs.Common.{ℕ, List, Option, option_map, sym, ap, ◌∙◌, subst, Bor}
+use Rattle.flat_code.specs.Programs.{Program}
+use Rattle.machine.specs.Flat.{code_of}
+use Rattle.sem_kept.specs.Agreement.{IsRunnable, RunsAs}
+use Rattle.compiler.proofs.CompileLemmas.{generated_runs}
 use Rattle.compiler.proofs.compiling.compiled.Goals as goal
 
-pub returns-in-Err-clause-refused : goal.returns-in-Err-clause-refused
-returns-in-Err-clause-refused c =
+pub program_of-requires : goal.program_of-requires
+program_of-requires c =
     let given : Option (List ℕ) = option_map (λ (s : Bor (List ℕ)). s.now) c.args.symbols in
-    subst (λ (f : CompileFault). RefusesBy c.args.source.now given f) (sym c.in_symbols.ensures)
-    (symbols_refused c.args.source.now given c.in-Err.fault c.in-Err.ensures)
+    let runs = generated_runs c.programs_run.ensures c.args.source.now given c.in_ok-laid.laid
+    c.in_ok-checked.checked c.law_of_files.ensures c.in_ok-laid.ensures
+    c.in_ok-checked.ensures.tree c.in_ok-checked.ensures.sound in
+    runs.0.is
 
-pub returns-in-Err-tree_of-clause-refused : goal.returns-in-Err-tree_of-clause-refused
-returns-in-Err-tree_of-clause-refused c =
+pub loaded-requires : goal.loaded-requires
+loaded-requires c =
     let given : Option (List ℕ) = option_map (λ (s : Bor (List ℕ)). s.now) c.args.symbols in
-    subst (λ (f : CompileFault). RefusesBy c.args.source.now given f) (sym c.in_source.ensures)
-    (tree_fault c.args.source.now given c.in-Ok.list c.in-Err-tree_of.fault c.in-Ok.ensures
-    c.in-Err-tree_of.ensures)
+    let runs = generated_runs c.programs_run.ensures c.args.source.now given c.in_ok-laid.laid
+    c.in_ok-checked.checked c.law_of_files.ensures c.in_ok-laid.ensures
+    c.in_ok-checked.ensures.tree c.in_ok-checked.ensures.sound in
+    subst IsRunnable (sym c.in_ok-program.ensures) runs.0
 
-pub program_in-requires : goal.program_in-requires
-program_in-requires c =
+pub returns-clause-ok : goal.returns-clause-ok
+returns-clause-ok c =
     let given : Option (List ℕ) = option_map (λ (s : Bor (List ℕ)). s.now) c.args.symbols in
-    runs_where_sound c.programs_run.ensures c.args.source.now given c.in-Ok.list
-    c.in-Ok-tree_of.tree c.law_of_files.ensures c.in-Ok.ensures c.in-Ok-tree_of.ensures
-
-pub returns-in-Ok-program_in-clause-ok : goal.returns-in-Ok-program_in-clause-ok
-returns-in-Ok-program_in-clause-ok c =
-    let given : Option (List ℕ) = option_map (λ (s : Bor (List ℕ)). s.now) c.args.symbols in
-    program_runs c.programs_run.ensures c.args.source.now given c.in-Ok.list
-    c.in-Ok-tree_of.tree c.in-Ok-program_in.loaded c.law_of_files.ensures c.in-Ok.ensures
-    c.in-Ok-tree_of.ensures c.in-Ok-program_in.ensures
-
-pub returns-clause-refused : goal.returns-clause-refused
-returns-clause-refused c =
-    let given : Option (List ℕ) = option_map (λ (s : Bor (List ℕ)). s.now) c.args.symbols in
-    subst (λ (f : CompileFault). RefusesBy c.args.source.now given f)
-    (sym c.in_source-in-Err-program_in.ensures)
-    (program_fault c.args.source.now given c.in-Ok.list c.in-Ok-tree_of.tree
-    c.in-Err-program_in.fault c.in-Ok.ensures c.in-Ok-tree_of.ensures c.in-Err-program_in.ensures)
+    let runs = generated_runs c.programs_run.ensures c.args.source.now given c.in_ok-laid.laid
+    c.in_ok-checked.checked c.law_of_files.ensures c.in_ok-laid.ensures
+    c.in_ok-checked.ensures.tree c.in_ok-checked.ensures.sound in
+    subst (λ (p : Program). RunsAs c.args.source.now given (code_of p))
+    (sym (c.in_ok-loaded.ensures ∙ c.in_ok-program.ensures)) runs.1

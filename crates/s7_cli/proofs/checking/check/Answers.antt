@@ -2,7 +2,6 @@ use Rattle.std.proofs.Common.{ap, refl, sym, ◌∙◌, List, [], ℕ, Option, O
 use Rattle.std.specs.Option.{option_map}
 use Rattle.std.proofs.lemmas.Result.{err_from_is_err_and}
 use Rattle.plc_io.specs.Contents.{Contents}
-use Rattle.image_file.specs.Loaded.{LoadedProgram}
 use Rattle.s7_cli.specs.Answer.{Answer}
 use Rattle.s7_cli.specs.Command.{Check, Input, program_inputs}
 use Rattle.s7_cli.specs.Lines.{ok_line}
@@ -29,7 +28,7 @@ returns-in_err-judge_program g c =
     let symbols : Option (List ℕ) = option_map (λ s. s.now) c.args.symbols in
     let contents : Contents = (g.F.Files.shown c.args.files.now).contents in
     let text = c.in_ok-text.text in
-    comes-refused LoadedProgram (Check c.args.src.now symbols) _ _ _ (contents_of text)
+    comes-refused Unit (Check c.args.src.now symbols) _ _ _ (contents_of text)
     (CheckSays text.source.items (symbols_of text)) _ _ (fault.1 ∙ ap Err fault.2) c.in_ok-text.ensures
     (λ (a : Answer) said. check-said contents c.args.src.now symbols text.source.items (symbols_of text) a c.in_ok-text.ensures.hold.1 said)
     c.in_err-judge_program.ensures.refused
@@ -40,7 +39,7 @@ returns g c =
     let symbols : Option (List ℕ) = option_map (λ s. s.now) c.args.symbols in
     let contents : Contents = (g.F.Files.shown c.args.files.now).contents in
     let text = c.in_ok-text.text in
-    let runs = c.in_ok-judge_program.ensures.runs in
+    let runs = c.in_ok-judge_program.ensures.accepted.2 in
     comes-written (Check c.args.src.now symbols) _ _ _ (contents_of text) ok_line _ refl c.in_ok-text.ensures
     (check-said contents c.args.src.now symbols text.source.items (symbols_of text) _ c.in_ok-text.ensures.hold.1 (Ok runs.0, runs.1, refl))
     c.write_text.ensures

@@ -1,0 +1,12 @@
+use Rattle.std.proofs.Common.{sym, subst}
+use Rattle.compiler.specs.Compiling.{RefusesLaid}
+use Rattle.compiler.specs.declared.faults.CompileFault.{CompileFault}
+use Rattle.compiler.proofs.CompileLemmas.{statements_fault}
+use Rattle.compiler.proofs.compiling.checked_of.Goals as goal
+
+pub returns-clause-refused : goal.returns-clause-refused
+returns-clause-refused c =
+    subst (λ (f : CompileFault). RefusesLaid c.args.laid.now f) (sym c.in_source.ensures)
+    (λ source symbols is.
+    statements_fault source symbols c.args.laid.now c.args.laid.now.tree c.in-Err.fault is
+    c.in-Err.ensures)
