@@ -4,8 +4,8 @@ use Rattle.compiler.specs.declared.faults.CompileFault.{CompileFault}
 use Rattle.compiler.proofs.CompileLemmas.{statements_fault}
 use Rattle.compiler.proofs.compiling.checked_of.Goals as goal
 
-pub returns-clause-refused : goal.returns-clause-refused
-returns-clause-refused c =
+pub returns-in-Err-clause-refused : goal.returns-in-Err-clause-refused
+returns-in-Err-clause-refused c =
     subst (λ (f : CompileFault). RefusesLaid c.args.laid.now f) (sym c.in_source.ensures)
     (λ source symbols is.
     statements_fault source symbols c.args.laid.now c.args.laid.now.tree c.in-Err.fault is

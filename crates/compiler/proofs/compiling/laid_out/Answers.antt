@@ -17,8 +17,8 @@ returns-in-Err-tree_of-clause-refused c =
     (tree_fault c.args.source.now given c.in-Ok.list c.in-Err-tree_of.fault c.in-Ok.ensures
     c.in-Err-tree_of.ensures)
 
-pub returns-clause-refused : goal.returns-clause-refused
-returns-clause-refused c =
+pub returns-in-Err-layouts_of-clause-refused : goal.returns-in-Err-layouts_of-clause-refused
+returns-in-Err-layouts_of-clause-refused c =
     let given : Option (List ℕ) = option_map (λ (s : Bor (List ℕ)). s.now) c.args.symbols in
     subst (λ (f : CompileFault). RefusesBy c.args.source.now given f)
     (sym c.in_source-in-Err-layouts_of.ensures)
