@@ -1,8 +1,11 @@
-ghost use Rattle.std.specs.Prelude.{◌≡◌, ◌+◌, ◌-◌, ◌^◌, ◌<◌, ◌≤◌, ◌↔◌, [], ◌∷◌, ◌++◌, length, max, slice_get, is_some, IfOk, OnOk, OnErr, IsNone};
+ghost use Rattle.std.specs.Prelude.{◌≡◌, ◌+◌, ◌-◌, ◌^◌, ◌<◌, ◌≤◌, ◌↔◌, [], ◌∷◌, ◌++◌, length, max, take, slice_get, is_some, IfOk, OnOk, OnErr, IsNone};
 ghost use Rattle.std.specs.Option.{option_copied, option_map};
 ghost use Rattle.std.specs.FinMap as finmap;
 ghost use Rattle.image_file.specs.Readers.{bytes_of};
-ghost use Rattle.controller.specs.Replayed.{data_blocks as blocks_after, next_happens, numbered as with_number, replayed, seen};
+ghost use Rattle.machine.specs.Flat.{code_of};
+ghost use Rattle.cpu.specs.Quiet.{ShowNothing};
+ghost use Rattle.cpu.specs.Replay.{run_from};
+ghost use Rattle.controller.specs.Replayed.{data_blocks as blocks_after, events, next_happens, numbered as with_number, replayed, seen};
 ghost use Rattle.var_access.specs.Entry.{IsValid};
 
 use cpu::{Observed, Observer, Parts, data_numbers};
@@ -115,6 +118,23 @@ impl Controller {
         prove!(pushed.is_ok());
         self.spare -= 1;
         reply
+    }
+
+    /// Makes entries from the front of a list as long as each is a step that shows nothing; the answer is
+    /// how many. It may stop before one of this kind: what it leaves is for `apply`. Takes no memory.
+    pub fn step_quietly(&mut self, entries: &[Entry]) -> usize
+        requires { length entries.now ≤ self.old.spare }
+        ensures few { result ≤ length entries.now }
+        ensures history { self.new ≡ record self.old {
+          history = self.old.history ++ take result entries.now;
+          spare = self.old.spare - result;
+        } }
+        ensures nothing { ShowNothing (code_of self.old.program) (replayed self.old)
+            (events (take result entries.now)) }
+        ensures state { replayed self.new ≡ run_from (code_of self.old.program)
+            (replayed self.old) (events (take result entries.now)) }
+    {
+        0
     }
 
     /// What the last entry showed.

@@ -5,6 +5,7 @@ pub mod Event
 pub mod Fitting
 pub mod Leaves
 pub mod MachineLaws
+pub mod Quiet
 pub mod Ready
 pub mod Replay
 pub mod Requests

@@ -9,6 +9,7 @@ pub mod laws;
 mod observing;
 mod parts;
 mod passing;
+mod quiet;
 mod running;
 mod serving;
 mod settling;

@@ -156,6 +156,14 @@ impl Observer {
         self.mode = cpu.mode;
     }
 
+    /// An entry has shown nothing.
+    pub fn pass(&mut self)
+        ensures { self.new ≡ record self.old { seen = nothing_shown } }
+    {
+        self.seen.outputs.clear();
+        self.seen.mode = None;
+    }
+
     /// What the last entry showed.
     pub fn seen(&self) -> &Observed
         ensures { result.now ≡ self.now.seen }

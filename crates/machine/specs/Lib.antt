@@ -20,6 +20,7 @@ pub mod SystemCalls
 pub mod Statement
 pub mod There
 pub mod Fitting
+pub mod Quiet
 pub mod Results
 pub mod Flat
 pub mod OpenBrackets

@@ -15,6 +15,7 @@ mod outcomes;
 mod performing;
 mod places;
 mod pointers;
+mod quiet;
 mod readiness;
 mod results;
 mod returning;
@@ -27,6 +28,7 @@ mod whole;
 
 pub use outcomes::Outcome;
 pub use places::{Access, Bound};
+pub use quiet::quiet_statements;
 pub use readiness::is_ready;
 pub use results::give_result;
 pub use statements::statement;

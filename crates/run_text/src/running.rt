@@ -62,9 +62,14 @@ fn write_entries<K: Sink>(
     ensures text { Wrote (K.shown out.old) (K.shown out.new)
         (lines_behind controller.old entries.now) result }
 {
-    for entry in entries {
-        controller.apply(*entry);
-        write_entry(out, controller.history_len(), controller.observed())?;
+    let mut at = 0;
+    while at < entries.len() {
+        at += controller.step_quietly(&entries[at..]);
+        if let Some(entry) = entries.get(at) {
+            controller.apply(*entry);
+            write_entry(out, controller.history_len(), controller.observed())?;
+            at += 1;
+        }
     }
     Ok(())
 }

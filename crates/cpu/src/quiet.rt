@@ -1,0 +1,30 @@
+//! Steps one after another that show nothing.
+ghost use Rattle.std.specs.Prelude.{◌≡◌, ◌+◌, ◌<◌, ◌≤◌, ◌^◌, replicate};
+ghost use Rattle.machine.specs.Flat.{code_of};
+ghost use Rattle.var_access.specs.declared.entries.What.TheVariants.{Step};
+ghost use Rattle.cpu.specs.Fitting.{IsFit};
+ghost use Rattle.cpu.specs.Quiet.{ShowNothing};
+ghost use Rattle.cpu.specs.Replay.{run_from};
+ghost use Rattle.cpu.specs.Views.{state_of};
+
+use crate::parts::Parts;
+use image_file::Loaded;
+
+impl Parts {
+    /// Executes steps one after another as long as each shows nothing, `most` at most; the answer is
+    /// how many. It may stop before one that shows nothing: what it leaves is for `happen`.
+    pub fn step_quietly(&mut self, program: &Loaded, most: u64) -> u64
+        requires fit { IsFit program.now.program (state_of self.old) }
+        requires few { self.old.entries + most < 2 ^ 64 }
+        ensures few { result ≤ most }
+        ensures nothing { ShowNothing (code_of program.now.program) (state_of self.old)
+            (replicate result Step) }
+        ensures state { state_of self.new
+            ≡ run_from (code_of program.now.program) (state_of self.old) (replicate result Step) }
+        ensures outputs { (state_of self.new).world.memory.peripheral_outputs
+            ≡ (state_of self.old).world.memory.peripheral_outputs }
+        ensures mode { self.new.mode ≡ self.old.mode }
+    {
+        0
+    }
+}
