@@ -21,4 +21,6 @@ pub mod Instructions
 pub mod Errors
 pub mod Beginning
 pub mod Lasting
+pub mod Outputs
+pub mod QuietLemmas
 mod MovedLemmas

@@ -12,7 +12,7 @@ use Rattle.machine.specs.Entering.{Call, Fails, Stops, Enters, Calls}
 use Rattle.machine.specs.Returning.{Return, GoesOn, Ends, Returns}
 use Rattle.machine.specs.Statement.{world, went_on, after_call, after_return, Comes}
 
-abbrev moved_to : ℕ → Activation → Running → Activation
+abbrev pub moved_to : ℕ → Activation → Running → Activation
 moved_to next a s =
     record a { running = record s { frame = record s.frame { at = next } } }
 

@@ -5,7 +5,7 @@ ghost use Rattle.timers_counters.specs.Counter.{Counter};
 ghost use Rattle.frames.specs.Activations.{frames_of};
 ghost use Rattle.machine.specs.Parts.{parts_of};
 ghost use Rattle.machine.specs.Does.{does_with as does_with_of};
-ghost use Rattle.machine.specs.Jumps.{rlo_tested};
+ghost use Rattle.machine.specs.Jumps.{after_jump, goes_to as goes_to_of, is_taken as is_taken_of, rlo_tested};
 ghost use Rattle.machine.specs.Entering.{going_on, called_with};
 ghost use Rattle.machine.specs.Returning.{returning};
 ghost use Rattle.machine.specs.SystemCalls.{given_now, count_inputs};
@@ -59,13 +59,21 @@ pub(crate) fn perform(
     }
 }
 
-/// A jump, JL apart.
-pub(crate) fn jump(word: JumpWord, target: u32, next: u32, a: &mut Activation) -> Outcome
-    ensures { (w : World) → Comes (jumped word target next a.old w) a.old a.new w w result }
+/// Where the block goes on after a jump, JL apart.
+pub(crate) fn jump_to(word: JumpWord, target: u32, next: u32, a: &mut Activation)
+    ensures { a.new ≡ going_on (goes_to_of (is_taken_of word a.old.running.regs) target next)
+        (after_jump word a.old.running.regs) a.old }
 {
     let taken = is_taken(word, &a.running.regs);
     put_jump(word, &mut a.running.regs);
     a.running.frame.at = goes_to(taken, target, next);
+}
+
+/// A jump, JL apart.
+pub(crate) fn jump(word: JumpWord, target: u32, next: u32, a: &mut Activation) -> Outcome
+    ensures { (w : World) → Comes (jumped word target next a.old w) a.old a.new w w result }
+{
+    jump_to(word, target, next, a);
     Outcome::Went
 }
 

@@ -1,13 +1,395 @@
 //! Statements one after another that leave the peripheral outputs as they are.
-ghost use Rattle.std.specs.Prelude.{◌≤◌};
-ghost use Rattle.machine.specs.Flat.{code_of};
-ghost use Rattle.machine.specs.Quiet.{RunsQuietly, StaysReady};
-ghost use Rattle.machine.specs.Statement.{world};
+ghost use Rattle.std.specs.Prelude.{◌≡◌, ◌≤◌, length, false, ℕ, List, Option, Some};
+ghost use Rattle.timers_counters.specs.Timer.{Timer};
+ghost use Rattle.timers_counters.specs.Counter.{Counter};
+ghost use Rattle.frames.specs.Activations.{frames_of};
+ghost use Rattle.flat_code.specs.Instr.{Calls, Passing, Returns};
+ghost use Rattle.flat_code.specs.Ops.{OpData};
+ghost use Rattle.machine.specs.Code.{Code};
+ghost use Rattle.machine.specs.Does.{does_with as does_with_of};
+ghost use Rattle.machine.specs.Entering.{call};
+ghost use Rattle.machine.specs.Flat.{code_of, head_of, instr_of, jump_instr, statement_at};
+ghost use Rattle.machine.specs.Lasting.{IsReady};
+ghost use Rattle.machine.specs.Parts.{parts_of};
+ghost use Rattle.machine.specs.Quiet.{GoesOrStays, RunsQuietly, StaysReady, has_place_inside as has_place_inside_of, is_bound_inside as is_bound_inside_of, is_inside as is_inside_of, is_named_inside as is_named_inside_of, keeps_outputs as keeps_outputs_of, may_write as may_write_of};
+ghost use Rattle.machine.specs.Statement.{Goes, World, after_call, callee_of, fetched, performed, statement as statement_of, went_on, world};
+ghost use Rattle.machine.specs.Walking.{Passes};
 
-use frames::Activation;
-use image_file::Loaded;
+use crate::entering::{Callee, enter_if_room};
+use crate::performing::jump_to;
+use crate::returning::return_from_block;
+use crate::statements::{instance_named, is_called, is_ended, is_jl, is_system, kind_called};
+use crate::walking::{bind_all, jump_of, walk_from};
+use crate::whole::does_with;
+use flat_code::{CallWord, EndWord, JumpWord, Operand, Word};
+use frames::{Activation, Binding, Bindings, Running};
+use image_file::{Loaded, LoadedCode};
+use plc_base::{Area, BlockId};
 use plc_mem::Memory;
 use timers_counters::{Counters, Timers};
+
+// Whether an instruction may write to the place of its operand.
+fn may_write(word: Word) -> bool
+    ensures { result ≡ may_write_of word }
+{
+    matches!(
+        word,
+        Word::Transfer
+            | Word::Assign
+            | Word::Set
+            | Word::Reset
+            | Word::Edge { .. }
+            | Word::Pointer(_)
+    )
+}
+
+fn is_inside(area: Area) -> bool
+    ensures { result ≡ is_inside_of area }
+{
+    !matches!(area, Area::P)
+}
+
+fn is_named_inside(area: Option<Area>) -> bool
+    ensures { result ≡ is_named_inside_of area }
+{
+    match area {
+        Some(area) => is_inside(area),
+        None => false,
+    }
+}
+
+fn is_bound_inside(binding: Option<Binding>) -> bool
+    ensures { result ≡ is_bound_inside_of binding }
+{
+    match binding {
+        Some(Binding::Bound { place, .. }) => is_inside(place.area),
+        _ => true,
+    }
+}
+
+// Whether no place in the peripheral area is written, by the operand alone.
+fn has_place_inside(operand: &Operand, s: &Running) -> bool
+    ensures { result ≡ has_place_inside_of operand.now s.now.frame.bindings }
+{
+    match *operand {
+        Operand::Direct { area, .. } => is_inside(area),
+        Operand::ByMemory { area, .. } => is_inside(area),
+        Operand::ByRegister { area, .. } => is_named_inside(area),
+        Operand::Parameter { index, .. } => is_bound_inside(s.frame.bindings.get(index)),
+        _ => true,
+    }
+}
+
+#[inline(always)]
+fn keeps_outputs(word: Word, operand: &Operand, s: &Running) -> bool
+    ensures { result ≡ keeps_outputs_of word operand.now s.now.frame.bindings }
+{
+    !may_write(word) || has_place_inside(operand, s)
+}
+
+// An instruction that touches no position, unless it may write peripheral outputs or fails.
+#[inline(always)]
+fn perform_quietly(
+    opens: Option<u16>,
+    word: Word,
+    operand: &Operand,
+    next: u32,
+    a: &mut Activation,
+    m: &mut Memory,
+    t: &mut Timers,
+    n: &mut Counters,
+) -> bool
+    ensures goes { GoesOrStays (went_on (does_with_of opens word operand.now
+        (parts_of a.old.running m.old t.old n.old)) next a.old)
+        a.old a.new (world m.old t.old n.old) (world m.new t.new n.new) result }
+    ensures block { a.new.running.frame.block ≡ a.old.running.frame.block }
+{
+    if !keeps_outputs(word, operand, &a.running) {
+        return false;
+    }
+    match does_with(opens, word, operand, &mut a.running, m, t, n) {
+        Ok(()) => {
+            a.running.frame.at = next;
+            true
+        }
+        Err(_) => false,
+    }
+}
+
+// A jump, unless it goes by a list.
+fn jump_quietly(word: JumpWord, target: u32, next: u32, a: &mut Activation) -> bool
+    ensures goes { (c : Code) (ops : List OpData) (w : World)
+        → GoesOrStays (performed c (jump_instr word target next ops) next a.old w)
+        a.old a.new w w result }
+    ensures block { a.new.running.frame.block ≡ a.old.running.frame.block }
+{
+    if is_jl(word) {
+        return false;
+    }
+    jump_to(word, target, next, a);
+    true
+}
+
+// The last op of a statement, unless it leaves the block or may change peripheral outputs.
+#[inline(always)]
+fn pass_op(
+    opens: Option<u16>,
+    word: Word,
+    operand: &Operand,
+    next: u32,
+    a: &mut Activation,
+    m: &mut Memory,
+    t: &mut Timers,
+    n: &mut Counters,
+) -> bool
+    ensures goes { (c : Code) (passings : List Passing) (ops : List OpData)
+        → GoesOrStays (performed c (instr_of word operand.now opens passings next ops) next a.old
+        (world m.old t.old n.old))
+        a.old a.new (world m.old t.old n.old) (world m.new t.new n.new) result }
+    ensures block { a.new.running.frame.block ≡ a.old.running.frame.block }
+{
+    match word {
+        Word::Jump => match *operand {
+            Operand::Jump { kind, target } => jump_quietly(jump_of(kind), target, next, a),
+            _ => false,
+        },
+        Word::Call(_) | Word::End(_) => false,
+        _ => perform_quietly(opens, word, operand, next, a, m, t, n),
+    }
+}
+
+// The statement of a block at which the innermost frame stands, under the same conditions.
+#[inline(always)]
+fn pass_statement(
+    code: &LoadedCode<'_>,
+    a: &mut Activation,
+    m: &mut Memory,
+    t: &mut Timers,
+    n: &mut Counters,
+) -> bool
+    ensures goes { (c : Code)
+        → Goes (fetched c (statement_at code.now a.old.running.frame.at) a.old
+        (world m.old t.old n.old))
+        → GoesOrStays (fetched c (statement_at code.now a.old.running.frame.at) a.old
+        (world m.old t.old n.old))
+        a.old a.new (world m.old t.old n.old) (world m.new t.new n.new) result }
+    ensures block { a.new.running.frame.block ≡ a.old.running.frame.block }
+{
+    match walk_from(code, a.running.frame.at) {
+        Some(walk) => {
+            let last = walk.last;
+            pass_op(walk.opens, last.word(), &last.operand, walk.next, a, m, t, n)
+        }
+        None => false,
+    }
+}
+
+// Statements of the running block, one after another.
+fn run_inside(
+    c: &Loaded,
+    m: &mut Memory,
+    t: &mut Timers,
+    n: &mut Counters,
+    a: &mut Activation,
+    most: u64,
+) -> u64
+    requires { StaysReady c.now.program a.old (world m.old t.old n.old) }
+    ensures few { result ≤ most }
+    ensures runs { RunsQuietly (code_of c.now.program) result a.old a.new
+        (world m.old t.old n.old) (world m.new t.new n.new) }
+{
+    let Some(code) = c.code(a.running.frame.block) else {
+        return 0;
+    };
+    let mut done = 0;
+    while done < most {
+        if !pass_statement(&code, a, m, t, n) {
+            return done;
+        }
+        done += 1;
+    }
+    done
+}
+
+// A call of a function or function block with these parameters, unless it fails.
+fn enter_quietly(
+    called: &Callee<'_>,
+    code: &LoadedCode<'_>,
+    at: u32,
+    next: u32,
+    a: &mut Activation,
+    m: &mut Memory,
+) -> bool
+    requires depth { length a.old.running.locals.starts ≡ length (frames_of a.old) }
+    requires params { length called.now.params ≤ 60 }
+    ensures { (passings : List Passing) (t : List Timer) (n : List Counter)
+        → Passes code.now.code at passings
+        → GoesOrStays (after_call (call called.now passings next a.old m.old) next a.old
+        (world m.old t n)) a.old a.new (world m.old t n) (world m.new t n) result }
+{
+    let mut bindings = Bindings::new();
+    match bind_all(code, at, called.params, &a.running, m, &mut bindings) {
+        Err(_) => false,
+        Ok(()) => enter_if_room(called, &bindings, next, a, m).is_ok(),
+    }
+}
+
+// A call of a function or function block that is loaded, unless it fails.
+fn enter_loaded(
+    callee: &LoadedCode<'_>,
+    code: &LoadedCode<'_>,
+    at: u32,
+    block: BlockId,
+    instance: Option<u16>,
+    next: u32,
+    a: &mut Activation,
+    m: &mut Memory,
+) -> bool
+    requires { length a.old.running.locals.starts ≡ length (frames_of a.old) }
+    ensures { (passings : List Passing) (t : List Timer) (n : List Counter)
+        → Passes code.now.code at passings
+        → GoesOrStays (after_call (call (callee_of block instance (head_of callee.now)) passings
+        next a.old m.old) next a.old
+        (world m.old t n)) a.old a.new (world m.old t n) (world m.new t n) result }
+{
+    let called = Callee {
+        block,
+        instance,
+        local_len: callee.local_len(),
+        params: callee.params(),
+    };
+    enter_quietly(&called, code, at, next, a, m)
+}
+
+// CALL, UC and CC of a function or function block, where they call and don't fail.
+fn call_quietly(
+    c: &Loaded,
+    code: &LoadedCode<'_>,
+    at: u32,
+    how: CallWord,
+    block: BlockId,
+    instance: Option<u16>,
+    next: u32,
+    a: &mut Activation,
+    m: &mut Memory,
+) -> bool
+    requires { length a.old.running.locals.starts ≡ length (frames_of a.old) }
+    ensures { (passings : List Passing) (t : List Timer) (n : List Counter)
+        → Passes code.now.code at passings
+        → GoesOrStays (performed (code_of c.now.program) (Calls how block instance passings) next
+        a.old (world m.old t n)) a.old a.new (world m.old t n) (world m.new t n) result }
+{
+    if !is_called(how, a.running.regs.status.rlo) {
+        return false;
+    }
+    if is_system(block.kind) {
+        return false;
+    }
+    match c.code(block) {
+        Some(callee) => enter_loaded(&callee, code, at, block, instance, next, a, m),
+        None => false,
+    }
+}
+
+// BE, BEU and BEC, where they return from a block without an instance to its caller.
+fn return_quietly(
+    code: &LoadedCode<'_>,
+    how: EndWord,
+    a: &mut Activation,
+    m: &mut Memory,
+) -> bool
+    requires { a.old.left ≡ false }
+    ensures { (c : Code) (next : ℕ) (t : List Timer) (n : List Counter)
+        → c.head a.old.running.frame.block ≡ Some (head_of code.now)
+        → GoesOrStays (performed c (Returns how) next a.old (world m.old t n))
+        a.old a.new (world m.old t n) (world m.new t n) result }
+{
+    if !is_ended(how, a.running.regs.status.rlo) {
+        return false;
+    }
+    if a.running.frame.instance.is_some() || a.depth() < 2 {
+        return false;
+    }
+    return_from_block(code.params(), a, m)
+}
+
+// The last op of a statement that leaves the block.
+fn cross_op(
+    c: &Loaded,
+    code: &LoadedCode<'_>,
+    at: u32,
+    word: Word,
+    operand: &Operand,
+    next: u32,
+    a: &mut Activation,
+    m: &mut Memory,
+) -> bool
+    requires stands { a.old.left ≡ false }
+    requires depth { length a.old.running.locals.starts ≡ length (frames_of a.old) }
+    requires block { (code_of c.now.program).head a.old.running.frame.block
+        ≡ Some (head_of code.now) }
+    ensures { (opens : Option ℕ) (passings : List Passing) (t : List Timer) (n : List Counter)
+        → Passes code.now.code at passings
+        → GoesOrStays (performed (code_of c.now.program)
+        (instr_of word operand.now opens passings next code.now.code) next a.old (world m.old t n))
+        a.old a.new (world m.old t n) (world m.new t n) result }
+{
+    match word {
+        Word::Call(how) => match *operand {
+            Operand::Called {
+                kind,
+                number,
+                instance,
+            } => match kind_called(kind) {
+                Some(kind) => {
+                    let block = BlockId { kind, number };
+                    let instance = instance_named(instance);
+                    call_quietly(c, code, at, how, block, instance, next, a, m)
+                }
+                None => false,
+            },
+            _ => false,
+        },
+        Word::End(how) => return_quietly(code, how, a, m),
+        _ => false,
+    }
+}
+
+// The statement of a block at which the innermost frame stands, where it leaves the block.
+fn cross_at(c: &Loaded, code: &LoadedCode<'_>, a: &mut Activation, m: &mut Memory) -> bool
+    requires stands { a.old.left ≡ false }
+    requires depth { length a.old.running.locals.starts ≡ length (frames_of a.old) }
+    requires block { (code_of c.now.program).head a.old.running.frame.block
+        ≡ Some (head_of code.now) }
+    ensures { (t : List Timer) (n : List Counter)
+        → Goes (fetched (code_of c.now.program) (statement_at code.now a.old.running.frame.at)
+        a.old (world m.old t n))
+        → GoesOrStays (fetched (code_of c.now.program)
+        (statement_at code.now a.old.running.frame.at) a.old (world m.old t n))
+        a.old a.new (world m.old t n) (world m.new t n) result }
+{
+    let at = a.running.frame.at;
+    match walk_from(code, at) {
+        Some(walk) => {
+            let last = walk.last;
+            cross_op(c, code, at, last.word(), &last.operand, walk.next, a, m)
+        }
+        None => false,
+    }
+}
+
+// The same of the running block.
+fn cross(c: &Loaded, a: &mut Activation, m: &mut Memory) -> bool
+    requires { IsReady c.now.program a.old }
+    ensures { (t : List Timer) (n : List Counter)
+        → GoesOrStays (statement_of (code_of c.now.program) a.old (world m.old t n))
+        a.old a.new (world m.old t n) (world m.new t n) result }
+{
+    match c.code(a.running.frame.block) {
+        Some(code) => cross_at(c, &code, a, m),
+        None => false,
+    }
+}
 
 /// Executes statements one after another as long as each lets the activation go on and leaves the
 /// peripheral outputs as they are, `most` at most; the answer is how many. It may stop before one
@@ -25,5 +407,13 @@ pub fn quiet_statements(
     ensures runs { RunsQuietly (code_of c.now.program) result a.old a.new
         (world m.old t.old n.old) (world m.new t.new n.new) }
 {
-    0
+    let mut done = run_inside(c, m, t, n, a, most);
+    while done < most {
+        if !cross(c, a, m) {
+            return done;
+        }
+        done += 1;
+        done += run_inside(c, m, t, n, a, most - done);
+    }
+    done
 }

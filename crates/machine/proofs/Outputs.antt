@@ -1,0 +1,432 @@
+-- Which instructions leave the peripheral outputs as they are.
+use Rattle.std.proofs.Common.{◌≡◌, ◌∙◌, ◌+◌, ◌/◌, ◌%◌, ◌^◌, ℕ, Bool, true, false, cond, if◌then◌else◌, ◌&&◌, List, [], ◌∷◌, slice_get, Option, Some, None, Result, Ok, Err, ok_or, refl, sym}
+use Rattle.std.specs.Prelude.{nat_eq}
+use Rattle.std.specs.Option.{option_map, option_and_then}
+use Rattle.std.specs.FinMap as finmap
+use Rattle.std.specs.Ordering.{nat_cmp}
+use Rattle.plc_base.specs.Widths.{bit_count}
+use Rattle.plc_base.specs.declared.Area.{Area}
+use Rattle.plc_base.specs.declared.Area.TheVariants as areas
+use Rattle.plc_base.specs.declared.Place.{Place}
+use Rattle.plc_base.specs.declared.Width.{Width}
+use Rattle.plc_base.specs.declared.Width.TheVariants as widths
+use Rattle.plc_mem.specs.Areas.{Areas, PeripheralBytes}
+use Rattle.plc_mem.specs.BitPlace.{Region, Inputs, Outputs, BitMemory, PeripheralInputs, PeripheralOutputs, DataBlock}
+use Rattle.plc_mem.specs.Number.{region_of, region_written}
+use Rattle.plc_mem.specs.Writing.{put as put_bytes, put_peripheral, put_in_block, written, written_in}
+use Rattle.plc_mem.proofs.Runs.{mapped, chained}
+use Rattle.status_word.specs.declared.Regs.{Regs}
+use Rattle.timers_counters.specs.Timer.{Timer}
+use Rattle.timers_counters.specs.Counter.{Counter}
+use Rattle.frames.specs.Locals.{LocalData, local_written}
+use Rattle.frames.specs.declared.bindings.Binding.{Binding}
+use Rattle.frames.specs.declared.bindings.Binding.TheVariants as binding
+use Rattle.flat_code.specs.declared.operands.Operand.{Operand}
+use Rattle.flat_code.specs.declared.operands.Operand.TheVariants as operand
+use Rattle.flat_code.specs.declared.programs.Param.{Param}
+use Rattle.flat_code.specs.declared.words.PointerWord.{PointerWord}
+use Rattle.flat_code.specs.declared.words.PointerWord.TheVariants as pointers
+use Rattle.flat_code.specs.declared.words.Word.{Word}
+use Rattle.flat_code.specs.declared.words.Word.TheVariants as word
+use Rattle.machine.specs.declared.places.Access.{Access}
+use Rattle.machine.specs.declared.places.Access.TheVariants.{Writing}
+use Rattle.machine.specs.declared.places.Bound.{Bound}
+use Rattle.machine.specs.Parts.{Own, Scene, Parts, then_ok}
+use Rattle.machine.specs.Places.{absent, address, at_pointer, by_pointer, error_of, in_area, in_register, is_aligned, is_bit, is_local, is_peripheral, located, moved, of_binding, pointer}
+use Rattle.machine.specs.Values.{is_timer, with_locals, stored_at, write}
+use Rattle.machine.specs.BitLogic.{put_bit, bit_number, with_regs, bit_before, assigned, assigned_at, bit_set, set_at, edge, edge_at}
+use Rattle.machine.specs.Copies.{comes_in, in_instance, scene_or, put, copied, passed_to, param_in, params_in}
+use Rattle.machine.specs.Loads.{transferred, transferring}
+use Rattle.machine.specs.Timing.{timer_reset, counter_reset, timer_freed, counter_freed}
+use Rattle.machine.specs.Pointers.{pointed, address_loaded, address_transferred}
+use Rattle.machine.specs.DataBlocks.{is_loaded}
+use Rattle.machine.specs.Does.{on_regs, on_own, on_scene, on_timers, on_counters, kind_named, set_of, reset_of, free_of, does, with_db, does_with}
+use Rattle.machine.specs.Quiet.{is_inside, is_bound_inside, has_place_inside, keeps_outputs}
+use Rattle.machine.proofs.Keeping.{IfDone, then_done, done_then}
+
+-- what is written outside the peripheral area
+abbrev pub Stay : (m n : Areas) → Type 0
+Stay m n = n.peripheral_outputs ≡ m.peripheral_outputs
+
+abbrev IsInsideRegion : Region → Type 0
+IsInsideRegion PeripheralOutputs = ⊥
+IsInsideRegion _ = Unit {0}
+
+region_stays :
+    (m n : Areas) (region : Region) (byte bit : ℕ) (width : Width) (value : ℕ) → IsInsideRegion region
+    → written_in m region byte bit width value ≡ Some n → Stay m n
+region_stays m n Inputs byte bit width value inside done =
+    let was = mapped (λ (s : List ℕ). let r : Areas = record m { inputs = s } in r) (put_bytes m.inputs byte bit width value) n done in
+    rw (sym was.2) refl
+region_stays m n Outputs byte bit width value inside done =
+    let was = mapped (λ (s : List ℕ). let r : Areas = record m { outputs = s } in r) (put_bytes m.outputs byte bit width value) n done in
+    rw (sym was.2) refl
+region_stays m n BitMemory byte bit width value inside done =
+    let was = mapped (λ (s : List ℕ). let r : Areas = record m { bit_memory = s } in r) (put_bytes m.bit_memory byte bit width value) n done in
+    rw (sym was.2) refl
+region_stays m n PeripheralInputs byte bit width value inside done =
+    let was = mapped (λ (p : PeripheralBytes). let r : Areas = record m { peripheral_inputs = p } in r)
+    (put_peripheral m.peripheral_inputs byte bit width value) n done in
+    rw (sym was.2) refl
+region_stays m n PeripheralOutputs byte bit width value inside done = absurd inside
+region_stays m n (DataBlock k) byte bit width value inside done =
+    let was = mapped (λ (blocks : finmap.FinMap nat_cmp (List ℕ)). let r : Areas = record m { data_blocks = blocks } in r)
+    (put_in_block m.data_blocks k byte bit width value) n done in
+    rw (sym was.2) refl
+
+if_zero :
+    (m n : Areas) (region : Region) (byte bit : ℕ) (width : Width) (value : ℕ) (is_zero : Bool) → IsInsideRegion region
+    → option_and_then (λ (r : Region). written_in m r byte bit width value) (cond is_zero (Some region) None) ≡ Some n
+    → Stay m n
+if_zero m n region byte bit width value true inside done = region_stays m n region byte bit width value inside done
+if_zero m n region byte bit width value false inside done = absurd cc
+
+by_area :
+    (m n : Areas) (area : Area) (number byte bit : ℕ) (width : Width) (value : ℕ) → is_peripheral area ≡ false
+    → option_and_then (λ (r : Region). written_in m r byte bit width value) (region_of PeripheralOutputs area number) ≡ Some n
+    → Stay m n
+by_area m n areas.I number byte bit width value inside done = if_zero m n Inputs byte bit width value (nat_eq number 0) tt done
+by_area m n areas.Q number byte bit width value inside done = if_zero m n Outputs byte bit width value (nat_eq number 0) tt done
+by_area m n areas.M number byte bit width value inside done = if_zero m n BitMemory byte bit width value (nat_eq number 0) tt done
+by_area m n areas.P number byte bit width value inside done = absurd cc
+by_area m n areas.Db number byte bit width value inside done = region_stays m n (DataBlock number) byte bit width value tt done
+by_area m n areas.Di number byte bit width value inside done = absurd cc
+by_area m n areas.L number byte bit width value inside done = absurd cc
+
+pub written_stays :
+    (m n : Areas) (place : Place) (width : Width) (value : ℕ) → is_peripheral place.area ≡ false
+    → written m place width value ≡ Some n → Stay m n
+unfolding written
+written_stays m n place width value inside done =
+    by_area m n place.area place.number place.byte place.bit width value inside done
+
+-- ---- what is written to the place of an operand
+
+abbrev pub SceneStays : Areas → Scene → Type 0
+SceneStays m c = Stay m c.memory
+
+either_stored :
+    (at : Bound) (value : ℕ) (s : Own) (m : Areas) (c : Scene) (local : Bool) → is_peripheral at.place.area ≡ false
+    → cond local
+    (option_map (λ (l : LocalData). let r : Scene = record { own = with_locals s l; memory = m } in r)
+    (local_written s.locals at.frame at.place.byte at.place.bit at.width value))
+    (option_map (λ (n : Areas). let r : Scene = record { own = s; memory = n } in r) (written m at.place at.width value))
+    ≡ Some c
+    → SceneStays m c
+either_stored at value s m c true inside done =
+    let was = mapped (λ (l : LocalData). let r : Scene = record { own = with_locals s l; memory = m } in r)
+    (local_written s.locals at.frame at.place.byte at.place.bit at.width value) c done in
+    rw (sym was.2) refl
+either_stored at value s m c false inside done =
+    let was = mapped (λ (n : Areas). let r : Scene = record { own = s; memory = n } in r) (written m at.place at.width value) c done in
+    rw (sym was.2) (written_stays m was.0 at.place at.width value inside was.1)
+
+stored_if :
+    (m : Areas) (o : Option Scene) (code : ℕ) → ((c : Scene) → o ≡ Some c → SceneStays m c)
+    → IfDone (SceneStays m) (ok_or o code)
+stored_if m (Some c) code h = h c refl
+stored_if m None code h = tt
+
+pub write_stays :
+    (at : Bound) (value : ℕ) (s : Own) (m : Areas) → is_peripheral at.place.area ≡ false
+    → IfDone (SceneStays m) (write at value s m)
+unfolding write
+write_stays at value s m inside =
+    stored_if m (stored_at at value s m) (absent Writing at.place.area)
+    (λ c is. either_stored at value s m c (is_local at.place.area) inside is)
+
+put_stays :
+    (at : Bound) (bit : Bool) (r : Regs) (s : Own) (m : Areas) → is_peripheral at.place.area ≡ false
+    → IfDone (SceneStays m) (put_bit at bit r s m)
+unfolding put_bit
+put_stays at bit r s m inside =
+    done_then (SceneStays m) (SceneStays m) (write at (bit_number bit) s m) (λ c. Ok (with_regs r c))
+    (write_stays at (bit_number bit) s m inside) (λ c stays. stays)
+
+-- ---- places
+
+abbrev IsPlacedInside : Bound → Type 0
+IsPlacedInside at = is_peripheral at.place.area ≡ false
+
+inside_is : (area : Area) → is_inside area ≡ true → is_peripheral area ≡ false
+inside_is areas.I h = refl
+inside_is areas.Q h = refl
+inside_is areas.M h = refl
+inside_is areas.P h = absurd cc
+inside_is areas.Db h = refl
+inside_is areas.Di h = refl
+inside_is areas.L h = refl
+
+register_inside :
+    (register : Option ℕ) (error byte bit : ℕ) (width : Width) → IfDone IsPlacedInside (in_register register error byte bit width)
+register_inside (Some number) error byte bit width = refl
+register_inside None error byte bit width = tt
+
+area_inside :
+    (area : Area) (byte bit : ℕ) (width : Width) (s : Own) → is_inside area ≡ true
+    → IfDone IsPlacedInside (in_area area byte bit width s)
+unfolding in_area
+area_inside areas.I byte bit width s h = refl
+area_inside areas.Q byte bit width s h = refl
+area_inside areas.M byte bit width s h = refl
+area_inside areas.P byte bit width s h = absurd cc
+area_inside areas.Db byte bit width s h = register_inside s.inner.db 0x32 byte bit width
+area_inside areas.Di byte bit width s h = register_inside s.inner.di 0x33 byte bit width
+area_inside areas.L byte bit width s h = refl
+
+unless_error :
+    (wrong : Bool) (e : ℕ) (x : Result Bound ℕ) → IfDone IsPlacedInside x
+    → IfDone IsPlacedInside (cond wrong (Err e) x)
+unless_error true e x h = tt
+unless_error false e x h = h
+
+where_right :
+    (right : Bool) (e : ℕ) (x : Result Bound ℕ) → IfDone IsPlacedInside x
+    → IfDone IsPlacedInside (cond right x (Err e))
+where_right true e x h = h
+where_right false e x h = tt
+
+pointer_inside :
+    (access : Access) (area : Area) (width : Width) (n : ℕ) (s : Own) → is_inside area ≡ true
+    → IfDone IsPlacedInside (by_pointer access area width n s)
+unfolding by_pointer
+pointer_inside access area width n s h =
+    where_right (is_aligned width n) (error_of access 0x28) (at_pointer area width n s)
+    (area_inside area (n / 2 ^ 3 % 2 ^ 16) (n % 2 ^ 3) width s h)
+
+binding_inside :
+    (b : Option Binding) → is_bound_inside b ≡ true → IfDone IsPlacedInside (of_binding b)
+binding_inside (Some (binding.Bound place width frame)) h = inside_is place.area h
+binding_inside (Some (binding.Constant value)) h = tt
+binding_inside (Some binding.Unsupplied) h = tt
+binding_inside None h = tt
+
+located_inside :
+    (access : Access) (o : Operand) (s : Own) (m : Areas) → has_place_inside o s.inner.bindings ≡ true
+    → IfDone IsPlacedInside (located access o s m)
+unfolding located
+located_inside access (operand.Direct area width byte bit) s m h =
+    unless_error (is_peripheral area && is_bit width) (error_of access 0x24) (in_area area byte bit width s)
+    (area_inside area byte bit width s h)
+located_inside access (operand.ByMemory area width from byte) s m h =
+    then_done IsPlacedInside (pointer from byte widths.Dword s m) (λ n. by_pointer access area width n s)
+    (λ n. pointer_inside access area width n s h)
+located_inside access (operand.ByRegister (Some area) width register bits) s m h =
+    pointer_inside access area width (moved (address register s) bits) s h
+located_inside access (operand.ByRegister None width register bits) s m h = absurd cc
+located_inside access (operand.Parameter index width) s m h = binding_inside (slice_get s.inner.bindings index) h
+located_inside access _ s m h = tt
+
+-- ---- instructions that write
+
+assigned_stays :
+    (o : Operand) (s : Own) (m : Areas) → has_place_inside o s.inner.bindings ≡ true
+    → IfDone (SceneStays m) (assigned o s m)
+unfolding assigned
+assigned_stays o s m h =
+    done_then IsPlacedInside (SceneStays m) (located Writing o s m) (λ at. assigned_at at s m)
+    (located_inside Writing o s m h) (λ at inside. put_stays at _ _ s m inside)
+
+set_stays :
+    (value : Bool) (o : Operand) (s : Own) (m : Areas) → has_place_inside o s.inner.bindings ≡ true
+    → IfDone (SceneStays m) (bit_set value o s m)
+unfolding bit_set
+set_stays value o s m h =
+    done_then IsPlacedInside (SceneStays m) (located Writing o s m)
+    (λ at. then_ok (bit_before at s m) (λ before. set_at value at before s m))
+    (located_inside Writing o s m h)
+    (λ at inside. then_done (SceneStays m) (bit_before at s m) (λ before. set_at value at before s m)
+    (λ before. put_stays at _ _ s m inside))
+
+edge_stays :
+    (rising : Bool) (o : Operand) (s : Own) (m : Areas) → has_place_inside o s.inner.bindings ≡ true
+    → IfDone (SceneStays m) (edge rising o s m)
+unfolding edge
+edge_stays rising o s m h =
+    done_then IsPlacedInside (SceneStays m) (located Writing o s m)
+    (λ at. then_ok (bit_before at s m) (λ before. edge_at rising at before s m))
+    (located_inside Writing o s m h)
+    (λ at inside. then_done (SceneStays m) (bit_before at s m) (λ before. edge_at rising at before s m)
+    (λ before. put_stays at _ _ s m inside))
+
+transferred_stays :
+    (n : ℕ) (o : Operand) (s : Own) (m : Areas) → has_place_inside o s.inner.bindings ≡ true
+    → IfDone (SceneStays m) (transferred n o s m)
+unfolding transferred
+transferred_stays n o s m h =
+    done_then IsPlacedInside (SceneStays m) (located Writing o s m) _
+    (located_inside Writing o s m h) (λ at inside. write_stays at _ s m inside)
+
+address_stays :
+    (n : ℕ) (o : Operand) (s : Own) (m : Areas) → has_place_inside o s.inner.bindings ≡ true
+    → IfDone (SceneStays m) (address_transferred n o s m)
+address_stays n operand.Nothing s m h = refl
+address_stays n (operand.Literal value) s m h = transferred_stays n (operand.Literal value) s m h
+address_stays n (operand.Direct area width byte bit) s m h = transferred_stays n (operand.Direct area width byte bit) s m h
+address_stays n (operand.ByMemory area width from byte) s m h = transferred_stays n (operand.ByMemory area width from byte) s m h
+address_stays n (operand.ByRegister area width register bits) s m h =
+    transferred_stays n (operand.ByRegister area width register bits) s m h
+address_stays n (operand.Parameter index width) s m h = transferred_stays n (operand.Parameter index width) s m h
+address_stays n (operand.Numbered kind number) s m h = transferred_stays n (operand.Numbered kind number) s m h
+address_stays n (operand.NumberedBy kind from byte) s m h = transferred_stays n (operand.NumberedBy kind from byte) s m h
+address_stays n (operand.Jump kind target) s m h = transferred_stays n (operand.Jump kind target) s m h
+address_stays n (operand.OfStatus condition) s m h = transferred_stays n (operand.OfStatus condition) s m h
+address_stays n (operand.UseDb number) s m h = transferred_stays n (operand.UseDb number) s m h
+address_stays n (operand.Pass index actual) s m h = transferred_stays n (operand.Pass index actual) s m h
+address_stays n (operand.Called kind number instance) s m h = transferred_stays n (operand.Called kind number instance) s m h
+address_stays n (operand.OpenBlock register number) s m h = transferred_stays n (operand.OpenBlock register number) s m h
+address_stays n (operand.OpenBy register from byte) s m h = transferred_stays n (operand.OpenBy register from byte) s m h
+
+pointed_stays :
+    (what : PointerWord) (o : Operand) (s : Own) (m : Areas) → has_place_inside o s.inner.bindings ≡ true
+    → IfDone (SceneStays m) (pointed what o s m)
+unfolding pointed
+pointed_stays pointers.Lar1 o s m h = then_done (SceneStays m) (address_loaded o s m) _ (λ n. refl)
+pointed_stays pointers.Lar2 o s m h = then_done (SceneStays m) (address_loaded o s m) _ (λ n. refl)
+pointed_stays pointers.Tar1 o s m h = address_stays s.regs.ar1 o s m h
+pointed_stays pointers.Tar2 o s m h = address_stays s.regs.ar2 o s m h
+pointed_stays pointers.Lar1Ar2 o s m h = refl
+pointed_stays pointers.Tar1Ar2 o s m h = refl
+pointed_stays pointers.Car o s m h = refl
+pointed_stays pointers.AddAr1 o s m h = refl
+pointed_stays pointers.AddAr2 o s m h = refl
+
+-- ---- all instructions
+
+abbrev pub PartsStay : (p q : Parts) → Type 0
+PartsStay p q = Stay p.memory q.memory
+
+regs_stay : (p : Parts) (r : Result Regs ℕ) → IfDone (PartsStay p) (on_regs p r)
+regs_stay p (Ok r) = refl
+regs_stay p (Err e) = tt
+
+own_stays : (p : Parts) (s : Result Own ℕ) → IfDone (PartsStay p) (on_own p s)
+own_stays p (Ok s) = refl
+own_stays p (Err e) = tt
+
+timers_stay : (p : Parts) (t : Result (List Timer) ℕ) → IfDone (PartsStay p) (on_timers p t)
+timers_stay p (Ok t) = refl
+timers_stay p (Err e) = tt
+
+counters_stay : (p : Parts) (n : Result (List Counter) ℕ) → IfDone (PartsStay p) (on_counters p n)
+counters_stay p (Ok n) = refl
+counters_stay p (Err e) = tt
+
+scene_stays : (p : Parts) (c : Result Scene ℕ) → IfDone (SceneStays p.memory) c → IfDone (PartsStay p) (on_scene p c)
+scene_stays p (Ok c) stays = stays
+scene_stays p (Err e) stays = tt
+
+set_of_stays :
+    (kind : Option ℕ) (o : Operand) (p : Parts) → has_place_inside o p.own.inner.bindings ≡ true
+    → IfDone (PartsStay p) (set_of kind o p)
+set_of_stays None o p h = scene_stays p (bit_set true o p.own p.memory) (set_stays true o p.own p.memory h)
+set_of_stays (Some kind) o p h = counters_stay p _
+
+reset_of_stays :
+    (kind : Option ℕ) (o : Operand) (p : Parts) → has_place_inside o p.own.inner.bindings ≡ true
+    → IfDone (PartsStay p) (reset_of kind o p)
+reset_of_stays None o p h = scene_stays p (bit_set false o p.own p.memory) (set_stays false o p.own p.memory h)
+reset_of_stays (Some kind) o p h = by (is_timer kind)
+  where
+    by : (timer : Bool)
+        → IfDone (PartsStay p) (if timer then on_timers p (timer_reset o p.own p.memory p.timers) else on_counters p (counter_reset o p.own p.memory p.counters))
+    by true = timers_stay p _
+    by false = counters_stay p _
+
+free_of_stays : (kind : Option ℕ) (o : Operand) (p : Parts) → IfDone (PartsStay p) (free_of kind o p)
+free_of_stays None o p = tt
+free_of_stays (Some kind) o p = by (is_timer kind)
+  where
+    by : (timer : Bool)
+        → IfDone (PartsStay p) (if timer then on_timers p (timer_freed o p.own p.memory p.timers) else on_counters p (counter_freed o p.own p.memory p.counters))
+    by true = timers_stay p _
+    by false = counters_stay p _
+
+does_stays :
+    (w : Word) (o : Operand) (p : Parts) → keeps_outputs w o p.own.inner.bindings ≡ true
+    → IfDone (PartsStay p) (does w o p)
+unfolding does
+does_stays word.Nop o p h = refl
+does_stays word.Bld o p h = refl
+does_stays (word.Check with) o p h = regs_stay p _
+does_stays word.OrBare o p h = refl
+does_stays (word.Nest with) o p h = own_stays p _
+does_stays word.Unnest o p h = own_stays p _
+does_stays word.Load o p h = regs_stay p _
+does_stays word.Transfer o p h = scene_stays p (transferring o p.own p.memory) (transferred_stays p.own.regs.a1 o p.own p.memory h)
+does_stays word.Assign o p h = scene_stays p (assigned o p.own p.memory) (assigned_stays o p.own p.memory h)
+does_stays word.Set o p h = set_of_stays (kind_named o) o p h
+does_stays word.Reset o p h = reset_of_stays (kind_named o) o p h
+does_stays (word.Edge rising) o p h = scene_stays p (edge rising o p.own p.memory) (edge_stays rising o p.own p.memory h)
+does_stays word.SetRlo o p h = refl
+does_stays word.ClearRlo o p h = refl
+does_stays word.NegateRlo o p h = refl
+does_stays word.SaveRlo o p h = refl
+does_stays word.LoadBcd o p h = regs_stay p _
+does_stays word.LoadStatus o p h = refl
+does_stays word.TransferStatus o p h = refl
+does_stays word.LoadOpenBlock o p h = regs_stay p _
+does_stays (word.Pointer what) o p h = scene_stays p (pointed what o p.own p.memory) (pointed_stays what o p.own p.memory h)
+does_stays (word.Number what) o p h = regs_stay p _
+does_stays (word.Add what) o p h = refl
+does_stays (word.CompareInt how) o p h = refl
+does_stays (word.CompareDint how) o p h = refl
+does_stays (word.Logic what) o p h = refl
+does_stays (word.Shift what) o p h = refl
+does_stays (word.Start how) o p h = timers_stay p _
+does_stays word.Free o p h = free_of_stays (kind_named o) o p
+does_stays word.CountUp o p h = counters_stay p _
+does_stays word.CountDown o p h = counters_stay p _
+does_stays word.OpenBlock o p h = own_stays p _
+does_stays word.Exchange o p h = refl
+does_stays word.Jump o p h = tt
+does_stays (word.Call how) o p h = tt
+does_stays (word.End how) o p h = tt
+does_stays word.UseDb o p h = tt
+does_stays word.Pass o p h = tt
+does_stays word.NoWord o p h = tt
+
+pub does_with_stays :
+    (use_db : Option ℕ) (w : Word) (o : Operand) (p : Parts) → keeps_outputs w o p.own.inner.bindings ≡ true
+    → IfDone (PartsStay p) (does_with use_db w o p)
+unfolding does_with
+does_with_stays None w o p h = does_stays w o p h
+does_with_stays (Some number) w o p h = by (is_loaded number p.memory)
+  where
+    by : (loaded : Bool) → IfDone (PartsStay p) (if loaded then does w o (with_db number p) else Err 0x3A)
+    by true = does_stays w o (with_db number p) h
+    by false = tt
+
+-- ---- parameters of a function block that come in
+
+put_in_stays :
+    (to : Bound) (n : ℕ) (c : Scene) → is_peripheral to.place.area ≡ false → Stay c.memory (put to n c).memory
+put_in_stays to n c inside = by (write to (n % 2 ^ bit_count to.width) c.own c.memory) (write_stays to _ c.own c.memory inside)
+  where
+    by : (r : Result Scene ℕ) → IfDone (SceneStays c.memory) r → Stay c.memory (scene_or c r).memory
+    by (Ok after) stays = stays
+    by (Err e) stays = refl
+
+passed_stays :
+    (b : Option Binding) (to : Bound) (c : Scene) → is_peripheral to.place.area ≡ false
+    → Stay c.memory (passed_to b to c).memory
+unfolding passed_to copied
+passed_stays (Some (binding.Bound place width frame)) to c inside = put_in_stays to _ c inside
+passed_stays (Some (binding.Constant value)) to c inside = put_in_stays to value c inside
+passed_stays (Some binding.Unsupplied) to c inside = refl
+passed_stays None to c inside = refl
+
+param_stays : (p : Param) (b : Option Binding) (instance : ℕ) (c : Scene) → Stay c.memory (param_in p b instance c).memory
+param_stays p b instance c = by (comes_in p)
+  where
+    by : (comes : Bool) → Stay c.memory (if comes then passed_to b (in_instance p instance) c else c).memory
+    by true = passed_stays b (in_instance p instance) c refl
+    by false = refl
+
+pub params_in_stay :
+    (params : List Param) (index : ℕ) (bindings : List Binding) (instance : ℕ) (c : Scene)
+    → Stay c.memory (params_in params index bindings instance c).memory
+params_in_stay [] index bindings instance c = refl
+params_in_stay (p ∷ rest) index bindings instance c =
+    params_in_stay rest (index + 1) bindings instance (param_in p (slice_get bindings index) instance c)
+    ∙ param_stays p (slice_get bindings index) instance c
