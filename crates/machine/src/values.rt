@@ -182,7 +182,8 @@ fn tested_elsewhere(
     }
 }
 
-// The bit at a fixed place. Each area has its arm, so that the compiler joins it with the memory's own.
+// The bit at a fixed place. Each area has its arm, so that the compiler joins it with the memory's
+// own.
 #[inline(always)]
 fn direct_bit(area: Area, byte: u16, bit: u8, s: &Running, m: &Memory) -> Result<bool, u8>
     ensures { result ≡ is_one (number_of (Operand.Direct area Width.Bit byte bit)
