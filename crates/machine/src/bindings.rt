@@ -101,13 +101,12 @@ pub(crate) fn bound_for(
 }
 
 /// Bindings of as many parameters, of which none is supplied.
-pub(crate) fn unsupplied(params: &[Param]) -> Bindings
+pub(crate) fn bind_none(params: &[Param], bindings: &mut Bindings)
     requires { length params.now ≤ 60 }
-    ensures { result ≡ unsupplied_of params.now }
+    ensures { bindings.new ≡ unsupplied_of params.now }
 {
-    let mut bindings = Bindings::new();
+    bindings.clear();
     for _ in 0..params.len() {
         bindings.push(Binding::Unsupplied);
     }
-    bindings
 }

@@ -76,21 +76,39 @@ fn put_bit(at: &Bound, bit: bool, regs: Regs, s: &mut Running, m: &mut Memory) -
     Ok(())
 }
 
-// = at a place.
+// = at a place. The status bits change in place once the bit is written, so no register is copied.
+#[tactic(auto, unfolding(crate::specs::BitLogic::put_bit))]
 #[inline(always)]
 fn assign_at(at: &Bound, s: &mut Running, m: &mut Memory) -> Result<(), u8>
     ensures { Acts (assigned_at at.now (own_of s.old) m.old) s.old s.new m.old m.new result }
 {
-    let mut regs = s.regs;
-    let value = regs.status.rlo;
-    regs.store(value);
-    put_bit(at, value, regs, s, m)
+    let value = s.regs.status.rlo;
+    write(at, bit_number(value), s, m)?;
+    s.regs.store(value);
+    Ok(())
 }
 
-// = with a fixed place.
-#[tactic(auto, unfolding(crate::specs::BitLogic::assigned, crate::specs::Places::located))]
+// = with a fixed place. Each area has its arm, so that the compiler joins it with the memory's own.
 #[inline(always)]
 fn assign_direct(area: Area, byte: u16, bit: u8, s: &mut Running, m: &mut Memory) -> Result<(), u8>
+    ensures { Acts (assigned (Operand.Direct area Width.Bit byte bit) (own_of s.old) m.old)
+        s.old s.new m.old m.new result }
+{
+    match area {
+        Area::I => assign_in(Area::I, byte, bit, s, m),
+        Area::Q => assign_in(Area::Q, byte, bit, s, m),
+        Area::M => assign_in(Area::M, byte, bit, s, m),
+        Area::Db => assign_in(Area::Db, byte, bit, s, m),
+        Area::Di => assign_in(Area::Di, byte, bit, s, m),
+        Area::L => assign_in(Area::L, byte, bit, s, m),
+        Area::P => assign_in(Area::P, byte, bit, s, m),
+    }
+}
+
+// = with a fixed place in an area that is known where this is called.
+#[tactic(auto, unfolding(crate::specs::BitLogic::assigned, crate::specs::Places::located))]
+#[inline(always)]
+fn assign_in(area: Area, byte: u16, bit: u8, s: &mut Running, m: &mut Memory) -> Result<(), u8>
     ensures { Acts (assigned (Operand.Direct area Width.Bit byte bit) (own_of s.old) m.old)
         s.old s.new m.old m.new result }
 {

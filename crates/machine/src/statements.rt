@@ -21,7 +21,7 @@ use crate::performing::{
 use crate::system_calls::system_function;
 use crate::walking::{bind_all, jump_of, pick, walk_from};
 use flat_code::{CallWord, EndWord, JumpWord, Operand, Param, Word};
-use frames::Activation;
+use frames::{Activation, Bindings};
 use image_file::{Loaded, LoadedCode};
 use plc_base::{BlockId, BlockKind};
 use plc_mem::Memory;
@@ -32,7 +32,7 @@ fn missing() -> Outcome {
     Outcome::Stop { cause: 0 }
 }
 
-fn is_jl(word: JumpWord) -> bool
+pub(crate) fn is_jl(word: JumpWord) -> bool
     ensures { result ≡ is_jl_of word }
 {
     matches!(word, JumpWord::Jl)
@@ -60,7 +60,7 @@ fn jump_or_list(
     }
 }
 
-fn is_called(how: CallWord, rlo: bool) -> bool
+pub(crate) fn is_called(how: CallWord, rlo: bool) -> bool
     ensures { result ≡ is_called_of how rlo }
 {
     match how {
@@ -69,7 +69,7 @@ fn is_called(how: CallWord, rlo: bool) -> bool
     }
 }
 
-fn is_ended(how: EndWord, rlo: bool) -> bool
+pub(crate) fn is_ended(how: EndWord, rlo: bool) -> bool
     ensures { result ≡ is_ended_of how rlo }
 {
     match how {
@@ -89,7 +89,7 @@ pub(crate) fn kind_called(kind: u8) -> Option<BlockKind>
     }
 }
 
-fn instance_named(number: u16) -> Option<u16>
+pub(crate) fn instance_named(number: u16) -> Option<u16>
     ensures { result ≡ instance_named_of number }
 {
     if number == 0 { None } else { Some(number) }
@@ -111,9 +111,10 @@ fn call_with(
         → Comes (after_call (call called.now passings next a.old m.old) next a.old
         (world m.old t n)) a.old a.new (world m.old t n) (world m.new t n) result }
 {
-    match bind_all(code, at, called.params, &a.running, m) {
+    let mut bindings = Bindings::new();
+    match bind_all(code, at, called.params, &a.running, m, &mut bindings) {
         Err(error) => fail(error, next, a),
-        Ok(bindings) => call_block(called, &bindings, next, a, m),
+        Ok(()) => call_block(called, &bindings, next, a, m),
     }
 }
 
@@ -186,9 +187,10 @@ fn call_system_with(
         → Comes (after_system_call (system_call params.now passings (own_of a.old.running) m.now)
         number next a.old) a.old a.new (world m.now t n) (world m.now t n) result }
 {
-    match bind_all(code, at, params, &a.running, m) {
+    let mut bindings = Bindings::new();
+    match bind_all(code, at, params, &a.running, m, &mut bindings) {
         Err(error) => fail(error, next, a),
-        Ok(bindings) => call_system(number, params, &bindings, next, a, m),
+        Ok(()) => call_system(number, params, &bindings, next, a, m),
     }
 }
 

@@ -182,13 +182,23 @@ fn tested_elsewhere(
     }
 }
 
-// The bit at a fixed place.
+// The bit at a fixed place. Each area has its arm, so that the compiler joins it with the memory's
+// own.
 #[inline(always)]
 fn direct_bit(area: Area, byte: u16, bit: u8, s: &Running, m: &Memory) -> Result<bool, u8>
     ensures { result ≡ is_one (number_of (Operand.Direct area Width.Bit byte bit)
         (own_of s.now) m.now) }
 {
-    Ok(direct_number(area, Width::Bit, byte, bit, s, m)? == 1)
+    let number = match area {
+        Area::I => direct_number(Area::I, Width::Bit, byte, bit, s, m),
+        Area::Q => direct_number(Area::Q, Width::Bit, byte, bit, s, m),
+        Area::M => direct_number(Area::M, Width::Bit, byte, bit, s, m),
+        Area::Db => direct_number(Area::Db, Width::Bit, byte, bit, s, m),
+        Area::Di => direct_number(Area::Di, Width::Bit, byte, bit, s, m),
+        Area::L => direct_number(Area::L, Width::Bit, byte, bit, s, m),
+        Area::P => direct_number(Area::P, Width::Bit, byte, bit, s, m),
+    };
+    Ok(number? == 1)
 }
 
 /// The bit that a check reads.
@@ -285,7 +295,9 @@ pub(crate) fn bcd_loaded(
 #[inline(always)]
 pub(crate) fn write(at: &Bound, value: u32, s: &mut Running, m: &mut Memory) -> Result<(), u8>
     requires { value < 2 ^ bit_count at.now.width }
-    ensures { Acts (write_of at.now value (own_of s.old) m.old) s.old s.new m.old m.new result }
+    ensures written { Acts (write_of at.now value (own_of s.old) m.old)
+        s.old s.new m.old m.new result }
+    ensures registers { s.new.regs ≡ s.old.regs }
 {
     let place = at.place;
     match place.area {

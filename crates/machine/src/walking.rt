@@ -9,7 +9,7 @@ ghost use Rattle.machine.specs.Flat.{run_at, most_ops, list_of, most_listed};
 ghost use Rattle.machine.specs.Jumps.{listed};
 ghost use Rattle.machine.specs.Walking.{walk_with, opens_after as opens_after_op, bound_by, bound_from};
 
-use crate::bindings::{bound_for, unsupplied};
+use crate::bindings::{bind_none, bound_for};
 use flat_code::{JUMPS, JumpWord, Op, Operand, Param};
 use frames::{Bindings, Running};
 use image_file::LoadedCode;
@@ -156,27 +156,28 @@ pub(crate) fn bind_all(
     params: &[Param],
     s: &Running,
     m: &Memory,
-) -> Result<Bindings, u8>
+    bindings: &mut Bindings,
+) -> Result<(), u8>
     requires { length params.now ≤ 60 }
     ensures { MatchResult result
-        (λ all. bound_from most_ops code.now.code at params.now (unsupplied_of params.now)
-        (own_of s.now) m.now ≡ Ok all)
+        (λ _. bound_from most_ops code.now.code at params.now (unsupplied_of params.now)
+        (own_of s.now) m.now ≡ Ok bindings.new)
         (λ code_of_error. bound_from most_ops code.now.code at params.now
         (unsupplied_of params.now) (own_of s.now) m.now ≡ Err code_of_error) }
 {
-    let mut bindings = unsupplied(params);
+    bind_none(params, bindings);
     let mut at = at;
     for _ in 0..MOST_OPS {
         match code.op(at) {
-            None => return Ok(bindings),
+            None => return Ok(()),
             Some((op, next)) => {
                 if op.last {
-                    return Ok(bindings);
+                    return Ok(());
                 }
-                bind(&op.operand, params, &mut bindings, s, m)?;
+                bind(&op.operand, params, bindings, s, m)?;
                 at = next;
             }
         }
     }
-    Ok(bindings)
+    Ok(())
 }

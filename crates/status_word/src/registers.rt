@@ -36,26 +36,34 @@ impl Regs {
         }
     }
 
-    /// A, AN, O, ON, X and XN, where `read` is the bit read, not inverted.
+    /// A, AN, O, ON, X and XN, where `read` is the bit read, not inverted. Only the status bits are
+    /// written, in place: most of what a program does is such checks.
     #[tactic(auto, unfolding(crate::specs::Check::checked))]
+    #[inline(always)]
     pub fn check(&mut self, code: Check, read: bool)
         ensures { self.new ≡ checked code read self.old }
     {
-        let before = self.status;
-        let value = code.value(read);
-        let base = if before.fc {
-            code.join(before.rlo, value)
-        } else {
-            value
-        };
-        let alone = before.fc && code.is_exclusive();
-        self.status = Status {
-            fc: true,
-            rlo: base || !alone && before.or,
-            sta: read,
-            or: code.is_and() && before.or,
-            ..before
-        };
+        let word = &mut self.status;
+        let first = !word.fc;
+        match code {
+            Check::A => word.rlo = (first || word.rlo) && read || word.or,
+            Check::An => word.rlo = (first || word.rlo) && !read || word.or,
+            Check::O => word.rlo = !first && word.rlo || read || word.or,
+            Check::On => word.rlo = !first && word.rlo || !read || word.or,
+            Check::X => word.rlo = if first {
+                read || word.or
+            } else {
+                word.rlo ^ read
+            },
+            Check::Xn => word.rlo = if first {
+                !read || word.or
+            } else {
+                word.rlo ^ !read
+            },
+        }
+        word.or = code.is_and() && word.or;
+        word.sta = read;
+        word.fc = true;
     }
 
     /// O without an operand: AND before OR.

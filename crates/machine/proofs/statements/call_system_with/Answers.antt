@@ -12,5 +12,5 @@ returns-in-Err c = λ passings t n pass.
 pub returns-in-Ok : goal.returns-in-Ok
 returns-in-Ok c = λ passings t n pass.
     rw (system_bound c.args.params.now passings (own_of c.args.a.now.running) c.args.m.now c.args.code.now.code c.args.at
-    c.in-Ok.bindings pass c.in-Ok.ensures)
+    c.bind_all.new.bindings pass c.in-Ok.ensures)
     (c.call_system.ensures (world c.args.m.now t n))

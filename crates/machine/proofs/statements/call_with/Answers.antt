@@ -13,5 +13,5 @@ returns-in-Err c = λ passings t n pass.
 pub returns-in-Ok : goal.returns-in-Ok
 returns-in-Ok c = λ passings t n pass.
     rw (call_bound c.args.called.now c.called.inside.params.now passings c.args.next c.args.a.now c.args.m.now c.args.code.now.code c.args.at
-    c.in-Ok.bindings (ap (λ (z : Callee). z.params) (sym c.called.view_is)) pass c.in-Ok.ensures)
+    c.bind_all.new.bindings (ap (λ (z : Callee). z.params) (sym c.called.view_is)) pass c.in-Ok.ensures)
     (c.call_block.ensures t n)
