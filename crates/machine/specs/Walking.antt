@@ -1,5 +1,5 @@
 -- How the machine goes along the ops of a statement, by their offsets.
-use Rattle.std.specs.Prelude.{◌≡◌, ℕ, true, zero, suc, List, slice_get, Option, Some, None, unwrap_or, Result, Ok, if◌then◌else◌}
+use Rattle.std.specs.Prelude.{◌≡◌, ℕ, Bool, zero, suc, List, slice_get, Option, Some, None, unwrap_or, Result, Ok, if◌then◌else◌}
 use Rattle.plc_mem.specs.Areas.{Areas}
 use Rattle.frames.specs.Bound.{set_at}
 use Rattle.frames.specs.declared.bindings.Binding.{Binding}
@@ -73,10 +73,9 @@ Passes ops at passings =
     (params : List Param) (bindings : List Binding) (s : Own) (m : Areas)
     → bound_from most_ops ops at params bindings s m ≡ bound_params params passings bindings s m
 
--- what the instruction of a statement needs is there, whatever the statement passes
-abbrev pub NeedsThere : Code → BlockId → Walk → List OpData → Type 0
-NeedsThere c own walk ops =
+-- the answer is whether what the instruction of a statement needs is there, whatever it passes
+abbrev pub TellsThere : Code → BlockId → Walk → List OpData → (answer : Bool) → Type 0
+TellsThere c own walk ops answer =
     (passings : List Passing)
-    → is_there c
+    → answer ≡ is_there c
     (instr_of (word_of walk.last.code) walk.last.operand walk.opens passings walk.next ops) own
-    ≡ true

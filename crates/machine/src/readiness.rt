@@ -5,8 +5,8 @@ ghost use Rattle.flat_code.specs.Instr.{Passing};
 ghost use Rattle.flat_code.specs.Ops.{OpData};
 ghost use Rattle.machine.specs.Flat.{code_of, head_of, instr_of, statement_at};
 ghost use Rattle.machine.specs.Statement.{World, statement as statement_of, Goes};
-ghost use Rattle.machine.specs.There.{is_callee as is_callee_of, is_there, is_complete};
-ghost use Rattle.machine.specs.Walking.{NeedsThere};
+ghost use Rattle.machine.specs.There.{is_callee as is_callee_of, is_there, is_complete, is_ready as is_ready_of};
+ghost use Rattle.machine.specs.Walking.{TellsThere};
 ghost use Rattle.flat_code.specs.Placed.{line_placed};
 
 use crate::statements::{is_system, kind_called};
@@ -30,11 +30,10 @@ fn is_callee(c: &Loaded, block: BlockId) -> bool
 
 // Whether what an instruction needs is there.
 fn is_op_there(c: &Loaded, own: BlockId, word: Word, operand: &Operand) -> bool
-    ensures { result ≡ true → ((use_db : Option ℕ) (passings : List Passing) (next : ℕ)
-        (ops : List OpData)
+    ensures { (use_db : Option ℕ) (passings : List Passing) (next : ℕ) (ops : List OpData)
         → is_some ((code_of c.now.program).head own) ≡ true
-        → is_there (code_of c.now.program)
-        (instr_of word operand.now use_db passings next ops) own ≡ true) }
+        → result ≡ is_there (code_of c.now.program)
+        (instr_of word operand.now use_db passings next ops) own }
 {
     match word {
         Word::Call(_) => match *operand {
@@ -48,9 +47,10 @@ fn is_op_there(c: &Loaded, own: BlockId, word: Word, operand: &Operand) -> bool
     }
 }
 
+// Whether what the statement needs is there, whatever it passes.
 fn is_walk_there(c: &Loaded, own: BlockId, walk: &Walk<'_>) -> bool
-    ensures { result ≡ true → (is_some ((code_of c.now.program).head own) ≡ true
-        → (ops : List OpData) → NeedsThere (code_of c.now.program) own walk.now ops) }
+    ensures { is_some ((code_of c.now.program).head own) ≡ true
+        → (ops : List OpData) → TellsThere (code_of c.now.program) own walk.now ops result }
 {
     let last = walk.last;
     is_op_there(c, own, last.word(), &last.operand)
@@ -65,8 +65,7 @@ fn has_line(code: &LoadedCode<'_>, at: u32) -> bool
 // Whether a statement begins at an offset of a block, with what it needs.
 fn is_complete_at(c: &Loaded, code: &LoadedCode<'_>, own: BlockId, at: u32) -> bool
     requires { (code_of c.now.program).head own ≡ Some (head_of code.now) }
-    ensures { result ≡ true →
-        (is_complete (code_of c.now.program) (statement_at code.now at) own ≡ true) }
+    ensures { result ≡ is_complete (code_of c.now.program) (statement_at code.now at) own }
 {
     if has_line(code, at) {
         match walk_from(code, at) {
@@ -78,9 +77,10 @@ fn is_complete_at(c: &Loaded, code: &LoadedCode<'_>, own: BlockId, at: u32) -> b
     }
 }
 
-/// Whether `statement` may be called: a frame stands, each frame has its local data, a statement
-/// begins where the innermost frame stands, and what it calls is there.
+/// Whether a frame stands, as many frames have local data as stand, a statement begins where the
+/// innermost frame stands, and what it calls is there. Then `statement` may be called.
 pub fn is_ready(c: &Loaded, a: &Activation) -> bool
+    ensures exact { result ≡ is_ready_of (code_of c.now.program) a.now }
     ensures stands { result ≡ true → (a.now.left ≡ false) }
     ensures depth { result ≡ true →
         (length a.now.running.locals.starts ≡ length (frames_of a.now)) }

@@ -1,4 +1,4 @@
-use Rattle.std.proofs.Common.{sym}
+use Rattle.std.proofs.Common.{sym, ◌∙◌}
 use Rattle.machine.specs.Flat.{code_of, statement_at}
 use Rattle.machine.specs.Statement.{statement}
 use Rattle.machine.proofs.Going.{fetched_goes}
@@ -9,4 +9,4 @@ unfolding statement
 returns-in-Some-clause-there c = λ yes w.
     rw (sym c.in-Some.ensures)
     (fetched_goes (code_of c.args.c.now.program) (statement_at c.in-Some.code c.args.a.now.running.frame.at) c.args.a.now w
-    (c.is_complete_at.ensures yes))
+    (sym c.is_complete_at.ensures ∙ yes))
