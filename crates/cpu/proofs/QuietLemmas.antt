@@ -1,6 +1,6 @@
 -- Quiet statements one after another, as entries.
-use Rattle.std.proofs.Common.{◌≡◌, ℕ, zero, suc, ◌+◌, Bool, true, false, List, [], ◌∷◌, Option, Some, None, refl, sym, ap, ◌∙◌, subst, arith}
-use Rattle.std.specs.Prelude.{replicate}
+use Rattle.std.proofs.Common.{◌≡◌, ℕ, zero, suc, ◌+◌, true, false, List, [], ◌∷◌, Option, Some, None, refl, sym, ap, ◌∙◌, subst, arith}
+use Rattle.std.specs.Prelude.{is_some, replicate}
 use Rattle.plc_base.specs.declared.Mode.{Mode}
 use Rattle.plc_base.specs.declared.Mode.TheVariants.{Run, Startup, Stop}
 use Rattle.plc_mem.specs.Areas.{Areas, PeripheralBytes}
@@ -13,14 +13,13 @@ use Rattle.machine.specs.Lasting.{FitsProgram, IsReady, Lasts}
 use Rattle.machine.specs.Quiet.{GoesQuietly, RunsQuietly, StaysReady}
 use Rattle.machine.specs.Statement.{World, Step, Went, statement}
 use Rattle.ob_sched.specs.Request.{best_of}
-use Rattle.var_access.specs.declared.What.{What}
 use Rattle.var_access.specs.declared.What.TheVariants as what
-use Rattle.cpu.specs.Event.{counted, effect, state_after}
+use Rattle.cpu.specs.Event.{state_after}
 use Rattle.cpu.specs.Fitting.{AllFit, IsFit}
 use Rattle.cpu.specs.Quiet.{GoesOnQuietly, GoesOnReady, ShowNothing}
 use Rattle.cpu.specs.Replay.{happens, run_from}
 use Rattle.cpu.specs.Settling.{settled}
-use Rattle.cpu.specs.Shown.{changed_mode, changed_outputs, changes, is_same_mode, nothing_shown, shown}
+use Rattle.cpu.specs.Shown.{changed_mode, changed_outputs, is_same_mode, nothing_shown, shown}
 use Rattle.cpu.specs.State.{State, is_stop}
 use Rattle.cpu.specs.Stepping.{stepped}
 use Rattle.cpu.proofs.ObservingLemmas.{none_changed}
@@ -84,9 +83,13 @@ gone_on s w activations count =
     record s { world = w; activations = activations; entries = s.entries + count }
 
 -- outside STOP, where no request waits
-record IsQuiet (s : State) : Type 0 where
+pub record IsQuiet (s : State) : Type 0 where
   pub running : is_stop s.mode ≡ false
   pub none : best_of s.mode s.sched.pending ≡ None
+
+pub none_there : {X : Type 0} (found : Option X) → is_some found ≡ false → found ≡ None
+none_there None h = refl
+none_there (Some x) h = absurd cc
 
 step_after : (code : Code) (s : State) (a next : Activation) (below : List Activation) (then : World)
     → IsQuiet s → s.activations ≡ a ∷ below → statement code a s.world ≡ Went next then
@@ -121,7 +124,8 @@ step_seen code s a next below then quiet were goes =
 -- ---- quiet statements one after another
 
 -- what so many steps come to
-pub record StepQuietly (code : Code) (s : State) (w : World) (activations : List Activation) (count : ℕ) : Type 0 where
+pub record StepQuietly (code : Code) (s : State) (w : World) (activations : List Activation)
+    (count : ℕ) : Type 0 where
   pub nothing : ShowNothing code s (replicate count what.Step)
   pub state : run_from code s (replicate count what.Step)
       ≡ record s { world = w; activations = activations; entries = s.entries + count }
@@ -183,7 +187,7 @@ goes_on code count s (a ∷ below) new w quiet were (b, are, runs) =
     runs_on code count s a b below new w quiet were are runs
 
 pub steps_quietly : (code : Code) (count : ℕ) (s : State) (new : List Activation) (w : World)
-    → is_stop s.mode ≡ false → best_of s.mode s.sched.pending ≡ None
-    → GoesOnQuietly code count s.activations new s.world w → StepQuietly code s w new count
-steps_quietly code count s new w running none runs =
-    goes_on code count s s.activations new w (record { running = running; none = none }) refl runs
+    → IsQuiet s → GoesOnQuietly code count s.activations new s.world w
+    → StepQuietly code s w new count
+steps_quietly code count s new w quiet runs =
+    goes_on code count s s.activations new w quiet refl runs

@@ -17,13 +17,14 @@ ShowNothing code s (what ∷ rest) =
     ((happens code s what).seen ≡ nothing_shown)
     × ShowNothing code (happens code s what).state rest
 
--- the running activation, if one runs, can go on after however many quiet statements
+-- the running activation, if one runs, stays ready through quiet statements
 abbrev pub GoesOnReady : Program → List Activation → World → Type 0
 GoesOnReady p [] w = Unit {0}
 GoesOnReady p (a ∷ below) w = StaysReady p a w
 
--- it has executed so many quiet statements, and those below it are as they were; none where none runs
-abbrev pub GoesOnQuietly : Code → (count : ℕ) → (old new : List Activation) (w w' : World) → Type 0
+-- it has executed so many of them, above the others; where none runs nothing was done
+abbrev pub GoesOnQuietly :
+    Code → (count : ℕ) → (old new : List Activation) (w w' : World) → Type 0
 GoesOnQuietly code count [] new w w' = (count ≡ 0) × (new ≡ []) × (w' ≡ w)
 GoesOnQuietly code count (a ∷ below) new w w' =
     (b : Activation) × (new ≡ b ∷ below) × RunsQuietly code count a b w w'

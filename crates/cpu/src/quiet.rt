@@ -12,8 +12,8 @@ use crate::stopping::is_stop;
 use image_file::Loaded;
 
 impl Parts {
-    /// Executes steps one after another as long as each shows nothing, `most` at most; the answer is
-    /// how many. It may stop before one that shows nothing: what it leaves is for `happen`.
+    /// Executes steps one after another as long as each shows nothing, `most` at most; the answer
+    /// is how many. It may stop before one that shows nothing: what it leaves is for `happen`.
     pub fn step_quietly(&mut self, program: &Loaded, most: u64) -> u64
         requires fit { IsFit program.now.program (state_of self.old) }
         requires few { self.old.entries + most < 2 ^ 64 }
