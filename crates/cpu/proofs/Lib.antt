@@ -4,6 +4,7 @@ pub mod FittingLemmas
 pub mod CountLemmas
 pub mod KeptLemmas
 pub mod ObservingLemmas
+pub mod QuietLemmas
 pub mod ReadyLemmas
 pub mod ReplayLemmas
 pub mod SameLemmas

@@ -8,6 +8,7 @@ ghost use Rattle.ob_sched.specs.Views.{scheduler_of};
 ghost use Rattle.cpu.specs.Beginning.{ob_block as block_of_ob, ob_in, told_from};
 ghost use Rattle.cpu.specs.Errors.{error_in};
 ghost use Rattle.cpu.specs.Leaves.{Begins, ErrorBegins, HandedOn, Steps, ServesRunning, running_of, stand_of};
+ghost use Rattle.cpu.specs.Quiet.{GoesOnQuietly, GoesOnReady};
 ghost use Rattle.cpu.specs.Ready.{CanGo, IsReady};
 ghost use Rattle.cpu.specs.Settling.{may_start};
 ghost use Rattle.cpu.specs.Stopping.{spot, spot_of as spot_of_frame};
@@ -20,7 +21,7 @@ use crate::spots::spot_at;
 use arrayvec::ArrayVec;
 use frames::{Activation, Binding, Frame};
 use image_file::Loaded;
-use machine::{Inputs, Outcome, give_result, statement};
+use machine::{Inputs, Outcome, give_result, quiet_statements, statement};
 use ob_sched::{Sched, StartInfo};
 use plc_base::{BlockId, NoMemory, Spot};
 use plc_mem::Memory;
@@ -256,7 +257,8 @@ impl Activations {
     /// it isn't loaded.
     pub(crate) fn begin_error(&mut self, program: &Loaded, code: u8, at: Option<Spot>) -> bool
         requires { length self.old < 48 }
-        ensures begins { ErrorBegins (code_of program.now.program) code at self.old self.new result }
+        ensures begins { ErrorBegins (code_of program.now.program) code at
+            self.old self.new result }
         ensures is { IfSome (running_of self.old)
             (λ a. IfSome (error_in (code_of program.now.program) code at a)
             (λ fresh. (fresh.class ≡ a.class) × (fresh.ob ≡ ob_of_error code))) }
@@ -295,6 +297,28 @@ impl Activations {
             self.standing = place;
         }
         Some((stand, outcome))
+    }
+
+    /// Executes statements of the running activation one after another, as `quiet_statements`; none
+    /// where nothing runs.
+    pub(crate) fn run_quietly(
+        &mut self,
+        program: &Loaded,
+        m: &mut Memory,
+        t: &mut Timers,
+        n: &mut Counters,
+        most: u64,
+    ) -> u64
+        requires { GoesOnReady program.now.program self.old (world m.old t.old n.old) }
+        ensures few { result ≤ most }
+        ensures runs { GoesOnQuietly (code_of program.now.program) result self.old self.new
+            (world m.old t.old n.old) (world m.new t.new n.new) }
+    {
+        let Some(place) = self.standing.checked_sub(1) else {
+            return 0;
+        };
+        let running = &mut self.all.as_mut_slice()[place];
+        quiet_statements(program, m, t, n, running, most)
     }
 
     /// The running activation calls a system function, whose result goes where it is bound. The

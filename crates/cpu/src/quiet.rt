@@ -8,11 +8,12 @@ ghost use Rattle.cpu.specs.Replay.{run_from};
 ghost use Rattle.cpu.specs.Views.{state_of};
 
 use crate::parts::Parts;
+use crate::stopping::is_stop;
 use image_file::Loaded;
 
 impl Parts {
-    /// Executes steps one after another as long as each shows nothing, `most` at most; the answer is
-    /// how many. It may stop before one that shows nothing: what it leaves is for `happen`.
+    /// Executes steps one after another as long as each shows nothing, `most` at most; the answer
+    /// is how many. It may stop before one that shows nothing: what it leaves is for `happen`.
     pub fn step_quietly(&mut self, program: &Loaded, most: u64) -> u64
         requires fit { IsFit program.now.program (state_of self.old) }
         requires few { self.old.entries + most < 2 ^ 64 }
@@ -25,6 +26,20 @@ impl Parts {
             ≡ (state_of self.old).world.memory.peripheral_outputs }
         ensures mode { self.new.mode ≡ self.old.mode }
     {
-        0
+        if is_stop(self.mode) || self.sched.best(self.mode).is_some() {
+            return 0;
+        }
+        program.law_of_verifying();
+        machine::laws::what_fits_goes();
+        machine::laws::what_fits_lasts();
+        let done = self.activations.run_quietly(
+            program,
+            &mut self.memory,
+            &mut self.timers,
+            &mut self.counters,
+            most,
+        );
+        self.entries += done;
+        done
     }
 }

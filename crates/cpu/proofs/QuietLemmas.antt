@@ -1,0 +1,193 @@
+-- Quiet statements one after another, as entries.
+use Rattle.std.proofs.Common.{◌≡◌, ℕ, zero, suc, ◌+◌, true, false, List, [], ◌∷◌, Option, Some, None, refl, sym, ap, ◌∙◌, subst, arith}
+use Rattle.std.specs.Prelude.{is_some, replicate}
+use Rattle.plc_base.specs.declared.Mode.{Mode}
+use Rattle.plc_base.specs.declared.Mode.TheVariants.{Run, Startup, Stop}
+use Rattle.plc_mem.specs.Areas.{Areas, PeripheralBytes}
+use Rattle.frames.specs.declared.Activation.{Activation}
+use Rattle.flat_code.specs.Loading.{Verifies}
+use Rattle.flat_code.specs.Programs.{Program}
+use Rattle.machine.specs.Code.{Code}
+use Rattle.machine.specs.Flat.{code_of}
+use Rattle.machine.specs.Lasting.{FitsProgram, IsReady, Lasts}
+use Rattle.machine.specs.Quiet.{GoesQuietly, RunsQuietly, StaysReady}
+use Rattle.machine.specs.Statement.{World, Step, Went, statement}
+use Rattle.ob_sched.specs.Request.{best_of}
+use Rattle.var_access.specs.declared.What.TheVariants as what
+use Rattle.cpu.specs.Event.{state_after}
+use Rattle.cpu.specs.Fitting.{AllFit, IsFit}
+use Rattle.cpu.specs.Quiet.{GoesOnQuietly, GoesOnReady, ShowNothing}
+use Rattle.cpu.specs.Replay.{happens, run_from}
+use Rattle.cpu.specs.Settling.{settled}
+use Rattle.cpu.specs.Shown.{changed_mode, changed_outputs, is_same_mode, nothing_shown, shown}
+use Rattle.cpu.specs.State.{State, is_stop}
+use Rattle.cpu.specs.Stepping.{stepped}
+use Rattle.cpu.proofs.ObservingLemmas.{none_changed}
+
+-- ---- what fits stays ready
+
+abbrev pub GoesLaw : Type 0
+GoesLaw = (p : Program) (m : Areas) (a : Activation) → Verifies p → FitsProgram p m a → IsReady p a
+
+abbrev pub LastsLaw : Type 0
+LastsLaw = (p : Program) (a : Activation) (w : World)
+    → Verifies p → FitsProgram p w.memory a → Lasts p w (statement (code_of p) a w)
+
+went_fits : (p : Program) (w then : World) (step : Step) (next : Activation) → step ≡ Went next then
+    → Lasts p w step → FitsProgram p then.memory next
+went_fits p w then step next goes lasts =
+    let on : Lasts p w (Went next then) = subst (λ (s : Step). Lasts p w s) goes lasts in
+    on.fits
+
+still_fits : LastsLaw → (p : Program) → Verifies p → (count : ℕ) (a b : Activation) (w after : World)
+    → FitsProgram p w.memory a → RunsQuietly (code_of p) count a b w after
+    → FitsProgram p after.memory b
+still_fits lasts p verifies zero a b w after fit runs =
+    subst (λ (v : World). FitsProgram p v.memory b) (sym runs.1)
+    (subst (λ (c : Activation). FitsProgram p w.memory c) (sym runs.0) fit)
+still_fits lasts p verifies (suc count) a b w after fit (next, then, quiet, rest) =
+    still_fits lasts p verifies count next b then after
+    (went_fits p w then (statement (code_of p) a w) next quiet.goes (lasts p a w verifies fit)) rest
+
+stays_ready : GoesLaw → LastsLaw → (p : Program) → Verifies p → (a : Activation) (w : World)
+    → FitsProgram p w.memory a → StaysReady p a w
+stays_ready goes lasts p verifies a w fit = λ count b after runs.
+    goes p after.memory b verifies (still_fits lasts p verifies count a b w after fit runs)
+
+all_ready : GoesLaw → LastsLaw → (p : Program) → Verifies p → (activations : List Activation) (w : World)
+    → AllFit p w.memory activations → GoesOnReady p activations w
+all_ready goes lasts p verifies [] w fit = tt
+all_ready goes lasts p verifies (a ∷ below) w fit = stays_ready goes lasts p verifies a w fit.0
+
+pub fit_goes_on : GoesLaw → LastsLaw → (p : Program) (s : State) → Verifies p → IsFit p s
+    → GoesOnReady p s.activations s.world
+fit_goes_on goes lasts p s verifies fit =
+    all_ready goes lasts p verifies s.activations s.world fit.activations
+
+-- ---- one quiet statement
+
+same_mode : (m : Mode) → is_same_mode m m ≡ true
+same_mode Run = refl
+same_mode Startup = refl
+same_mode (Stop cause at) = refl
+
+mode_kept : (m : Mode) → changed_mode m m ≡ None
+mode_kept m = rw (same_mode m) refl
+
+outputs_kept : (p : PeripheralBytes) → changed_outputs p p ≡ []
+outputs_kept p = none_changed p p (λ n h. refl)
+
+-- the state with another world and another running activation, so many entries later
+abbrev gone_on : State → World → List Activation → (count : ℕ) → State
+gone_on s w activations count =
+    record s { world = w; activations = activations; entries = s.entries + count }
+
+-- outside STOP, where no request waits
+pub record IsQuiet (s : State) : Type 0 where
+  pub running : is_stop s.mode ≡ false
+  pub none : best_of s.mode s.sched.pending ≡ None
+
+pub none_there : {X : Type 0} (found : Option X) → is_some found ≡ false → found ≡ None
+none_there None h = refl
+none_there (Some x) h = absurd cc
+
+step_after : (code : Code) (s : State) (a next : Activation) (below : List Activation) (then : World)
+    → IsQuiet s → s.activations ≡ a ∷ below → statement code a s.world ≡ Went next then
+    → state_after code what.Step s ≡ gone_on s then (next ∷ below) 1
+unfolding state_after stepped settled
+step_after code s a next below then quiet were goes =
+    rw (quiet.running, were, goes, quiet.running, quiet.none) refl
+
+shown_nothing : (code : Code) (s after : State)
+    → after.world.memory.peripheral_outputs ≡ s.world.memory.peripheral_outputs
+    → after.mode ≡ s.mode → shown code s what.Step after ≡ nothing_shown
+unfolding shown
+shown_nothing code s after outputs mode =
+    rw (outputs, mode, outputs_kept s.world.memory.peripheral_outputs, mode_kept s.mode) refl
+
+-- the entry of a step
+step_state : (code : Code) (s : State) (a next : Activation) (below : List Activation) (then : World)
+    → IsQuiet s → s.activations ≡ a ∷ below → GoesQuietly (statement code a s.world) s.world next then
+    → (happens code s what.Step).state ≡ gone_on s then (next ∷ below) 1
+unfolding happens
+step_state code s a next below then quiet were goes =
+    step_after code s a next below then quiet were goes.goes
+
+step_seen : (code : Code) (s : State) (a next : Activation) (below : List Activation) (then : World)
+    → IsQuiet s → s.activations ≡ a ∷ below → GoesQuietly (statement code a s.world) s.world next then
+    → (happens code s what.Step).seen ≡ nothing_shown
+unfolding happens
+step_seen code s a next below then quiet were goes =
+    ap (shown code s what.Step) (step_after code s a next below then quiet were goes.goes)
+    ∙ shown_nothing code s (gone_on s then (next ∷ below) 1) goes.outputs refl
+
+-- ---- quiet statements one after another
+
+-- what so many steps come to
+pub record StepQuietly (code : Code) (s : State) (w : World) (activations : List Activation)
+    (count : ℕ) : Type 0 where
+  pub nothing : ShowNothing code s (replicate count what.Step)
+  pub state : run_from code s (replicate count what.Step)
+      ≡ record s { world = w; activations = activations; entries = s.entries + count }
+  pub outputs : w.memory.peripheral_outputs ≡ s.world.memory.peripheral_outputs
+
+nothing_done : (code : Code) (s : State) (w : World) (activations : List Activation)
+    → activations ≡ s.activations → w ≡ s.world → StepQuietly code s w activations zero
+nothing_done code s w activations are is =
+    let same : s.entries ≡ s.entries + 0 = omega arith in
+    record {
+      nothing = tt;
+      state =
+          ap (λ (n : ℕ). let t : State = record s { entries = n } in t) same
+          ∙ ap (λ (v : World). gone_on s v s.activations 0) (sym is)
+          ∙ ap (λ (acts : List Activation). gone_on s w acts 0) (sym are);
+      outputs = ap (λ (v : World). v.memory.peripheral_outputs) is;
+    }
+
+one_more_step : (code : Code) (s : State) (a next : Activation) (below activations : List Activation)
+    (then w : World) (count : ℕ) → IsQuiet s → s.activations ≡ a ∷ below
+    → GoesQuietly (statement code a s.world) s.world next then
+    → StepQuietly code (gone_on s then (next ∷ below) 1) w activations count
+    → StepQuietly code s w activations (suc count)
+one_more_step code s a next below activations then w count quiet were goes rest =
+    let on : (happens code s what.Step).state ≡ gone_on s then (next ∷ below) 1 =
+    step_state code s a next below then quiet were goes in
+    let all : s.entries + 1 + count ≡ s.entries + suc count = omega arith in
+    record {
+      nothing = (
+        step_seen code s a next below then quiet were goes,
+        subst (λ (t : State). ShowNothing code t (replicate count what.Step)) (sym on) rest.nothing,
+      );
+      state =
+          ap (λ (t : State). run_from code t (replicate count what.Step)) on ∙ rest.state
+          ∙ ap
+          (λ (n : ℕ). let t : State = record s { world = w; activations = activations; entries = n } in t)
+          all;
+      outputs = rest.outputs ∙ goes.outputs;
+    }
+
+runs_on : (code : Code) (count : ℕ) (s : State) (a b : Activation) (below activations : List Activation)
+    (w : World) → IsQuiet s → s.activations ≡ a ∷ below → activations ≡ b ∷ below
+    → RunsQuietly code count a b s.world w → StepQuietly code s w activations count
+runs_on code zero s a b below activations w quiet were are runs =
+    nothing_done code s w activations
+    (are ∙ ap (λ (c : Activation). c ∷ below) runs.0 ∙ sym were) runs.1
+runs_on code (suc count) s a b below activations w quiet were are (next, then, goes, rest) =
+    one_more_step code s a next below activations then w count quiet were goes
+    (runs_on code count (gone_on s then (next ∷ below) 1) next b below activations w
+    (record { running = quiet.running; none = quiet.none }) refl are rest)
+
+goes_on : (code : Code) (count : ℕ) (s : State) (old new : List Activation) (w : World) → IsQuiet s
+    → s.activations ≡ old → GoesOnQuietly code count old new s.world w
+    → StepQuietly code s w new count
+goes_on code count s [] new w quiet were runs =
+    subst (λ (n : ℕ). StepQuietly code s w new n) (sym runs.0)
+    (nothing_done code s w new (runs.1 ∙ sym were) runs.2)
+goes_on code count s (a ∷ below) new w quiet were (b, are, runs) =
+    runs_on code count s a b below new w quiet were are runs
+
+pub steps_quietly : (code : Code) (count : ℕ) (s : State) (new : List Activation) (w : World)
+    → IsQuiet s → GoesOnQuietly code count s.activations new s.world w
+    → StepQuietly code s w new count
+steps_quietly code count s new w quiet runs =
+    goes_on code count s s.activations new w quiet refl runs
