@@ -14,14 +14,13 @@ use Rattle.frames.specs.declared.bindings.Binding.{Binding}
 use Rattle.frames.specs.declared.FrameFault.{FrameFault}
 use Rattle.machine.specs.Bindings.{bindings_of}
 use Rattle.machine.specs.Code.{Code, Fetched, Head}
-use Rattle.machine.specs.Copies.{params_in, params_out}
 use Rattle.machine.specs.Does.{does_with}
-use Rattle.machine.specs.Entering.{Callee, Call, Fails, Stops, Enters, fresh, going_on, caller_at, with_scene, supplied, entered_if, called_with, call, at_block}
+use Rattle.machine.specs.Entering.{Callee, Call, Fails, Stops, Enters, fresh, going_on, caller_at, supplied, entered_if, called_with, call}
 use Rattle.machine.specs.Jumps.{is_taken, after_jump, goes_to, listed, rlo_tested}
 use Rattle.machine.specs.Moved.{aimed_instr, moved_fetched, Follows, moved_frame, moved, moved_step, StatementsMove}
-use Rattle.machine.specs.Parts.{Parts, own_of, scene_of, parts_of}
-use Rattle.machine.specs.Returning.{Stage, Return, GoesOn, Ends, given_back, left, left_to, returning}
-use Rattle.machine.specs.Statement.{World, Step, Went, Ended, SyncError, SysCall, Stop, Stuck, went_on, jumped, after_call, callee_of, block_called, after_system_call, system_called, is_system, called, is_called, not_called, after_return, returned, is_ended, performed, fetched, statement, moved_on}
+use Rattle.machine.specs.Parts.{Parts, own_of, parts_of}
+use Rattle.machine.specs.Returning.{given_back, left, returning}
+use Rattle.machine.specs.Statement.{World, Step, Went, went_on, jumped, after_call, callee_of, block_called, after_system_call, system_called, is_system, called, is_called, not_called, after_return, returned, is_ended, performed, fetched, statement, moved_on}
 use Rattle.machine.specs.SystemCalls.{Given, system_call, system_function}
 
 -- the run goes on at the position of the next one

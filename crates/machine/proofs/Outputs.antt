@@ -12,9 +12,9 @@ use Rattle.plc_base.specs.declared.Width.{Width}
 use Rattle.plc_base.specs.declared.Width.TheVariants as widths
 use Rattle.plc_mem.specs.Areas.{Areas, PeripheralBytes}
 use Rattle.plc_mem.specs.BitPlace.{Region, Inputs, Outputs, BitMemory, PeripheralInputs, PeripheralOutputs, DataBlock}
-use Rattle.plc_mem.specs.Number.{region_of, region_written}
+use Rattle.plc_mem.specs.Number.{region_of}
 use Rattle.plc_mem.specs.Writing.{put as put_bytes, put_peripheral, put_in_block, written, written_in}
-use Rattle.plc_mem.proofs.Runs.{mapped, chained}
+use Rattle.plc_mem.proofs.Runs.{mapped}
 use Rattle.status_word.specs.declared.Regs.{Regs}
 use Rattle.timers_counters.specs.Timer.{Timer}
 use Rattle.timers_counters.specs.Counter.{Counter}

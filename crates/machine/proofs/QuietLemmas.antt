@@ -1,6 +1,6 @@
 -- Statements one after another that leave the peripheral outputs as they are.
 use Rattle.std.specs.Option.{option_map}
-use Rattle.std.proofs.Common.{◌≡◌, ◌∙◌, ◌+◌, ◌≤◌, ℕ, zero, suc, length, is_ok, is_some, arith, Bool, true, false, List, [], ◌∷◌, Option, Some, None, Result, Ok, Err, refl, sym, ap, subst, if◌then◌else◌}
+use Rattle.std.proofs.Common.{◌≡◌, ◌∙◌, ◌+◌, ◌≤◌, ℕ, zero, suc, length, is_ok, is_some, arith, Bool, true, false, List, [], ◌∷◌, Option, Some, None, Result, Ok, Err, refl, sym, ap, subst}
 use Rattle.plc_base.specs.declared.BlockId.{BlockId}
 use Rattle.plc_mem.specs.Areas.{Areas}
 use Rattle.timers_counters.specs.Timer.{Timer}
@@ -19,7 +19,7 @@ use Rattle.flat_code.specs.declared.words.Word.{Word}
 use Rattle.flat_code.specs.declared.programs.Param.{Param}
 use Rattle.image_file.specs.Readers.{block_of}
 use Rattle.machine.specs.declared.outcomes.Outcome.TheVariants as outcome
-use Rattle.machine.specs.Code.{Code, Head}
+use Rattle.machine.specs.Code.{Code}
 use Rattle.machine.specs.Entering.{Call, Fails, Stops, Enters, Callee, Calls, called_with, entered_if, supplied}
 use Rattle.machine.specs.Flat.{code_of, instr_of, most_ops, run_at, statement_at}
 use Rattle.machine.specs.Outcomes.{Meets}

@@ -1,6 +1,6 @@
 -- The same program at other positions: what a function of positions does to code, frames and what
 -- comes of a statement.
-use Rattle.std.specs.Prelude.{◌≡◌, ℕ, List, map, Option, Some, None}
+use Rattle.std.specs.Prelude.{◌≡◌, ℕ, map}
 use Rattle.std.specs.Option.{option_map}
 use Rattle.plc_base.specs.declared.blocks.BlockId.{BlockId}
 use Rattle.flat_code.specs.Instr.{Instr, Does, Jumps, JumpsByList, Calls, Returns}

@@ -178,7 +178,16 @@ fn pass_statement(
     match walk_from(code, a.running.frame.at) {
         Some(walk) => {
             let last = walk.last;
-            pass_op(walk.opens, last.word(), &last.operand, walk.next, a, m, t, n)
+            pass_op(
+                walk.opens,
+                last.word(),
+                &last.operand,
+                walk.next,
+                a,
+                m,
+                t,
+                n,
+            )
         }
         None => false,
     }
@@ -292,12 +301,7 @@ fn call_quietly(
 }
 
 // BE, BEU and BEC, where they return from a block without an instance to its caller.
-fn return_quietly(
-    code: &LoadedCode<'_>,
-    how: EndWord,
-    a: &mut Activation,
-    m: &mut Memory,
-) -> bool
+fn return_quietly(code: &LoadedCode<'_>, how: EndWord, a: &mut Activation, m: &mut Memory) -> bool
     requires { a.old.left ≡ false }
     ensures { (c : Code) (next : ℕ) (t : List Timer) (n : List Counter)
         → c.head a.old.running.frame.block ≡ Some (head_of code.now)

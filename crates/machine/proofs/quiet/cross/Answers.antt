@@ -7,7 +7,7 @@ use Rattle.machine.proofs.quiet.cross.Goals as goal
 pub returns-in-Some : goal.returns-in-Some
 returns-in-Some c = λ t n.
     let is : statement (code_of c.args.c.now.program) c.args.a.now (world c.args.m.now t n)
-        ≡ fetched (code_of c.args.c.now.program) (statement_at c.in-Some.code c.args.a.now.running.frame.at) c.args.a.now
-        (world c.args.m.now t n) =
+    ≡ fetched (code_of c.args.c.now.program) (statement_at c.in-Some.code c.args.a.now.running.frame.at) c.args.a.now
+    (world c.args.m.now t n) =
     statement_in c.args.c.now.program c.in-Some.code c.args.a.now (world c.args.m.now t n) (sym c.in-Some.ensures) in
     rw is (c.cross_at.ensures t n (subst Goes is (c.requires.there (world c.args.m.now t n))))

@@ -1,6 +1,5 @@
-use Rattle.std.proofs.Common.{◌≡◌, ◌+◌, false, true, rules}
+use Rattle.std.proofs.Common.{◌+◌, rules}
 use Rattle.machine.specs.Flat.{code_of}
-use Rattle.machine.specs.Quiet.{RunsQuietly}
 use Rattle.machine.specs.Statement.{world}
 use Rattle.machine.proofs.QuietLemmas.{runs_next, runs_on, runs_still, stays_ready}
 use Rattle.machine.proofs.quiet.quiet_statements.Goals as goal

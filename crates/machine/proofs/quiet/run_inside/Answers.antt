@@ -1,4 +1,4 @@
-use Rattle.std.proofs.Common.{◌≡◌, sym, rules}
+use Rattle.std.proofs.Common.{rules}
 use Rattle.machine.specs.Flat.{code_of}
 use Rattle.machine.specs.Quiet.{GoesOrStays}
 use Rattle.machine.specs.Statement.{statement, world}
@@ -8,8 +8,8 @@ use Rattle.machine.proofs.quiet.run_inside.Goals as goal
 pub returns-then-not-pass_statement-clause-runs : goal.returns-then-not-pass_statement-clause-runs
 returns-then-not-pass_statement-clause-runs c =
     let gone : GoesOrStays (statement (code_of c.args.c.now.program) c.loop-done.a (world c.loop-done.m c.loop-done.t c.loop-done.n))
-        c.loop-done.a c.pass_statement.new.a (world c.loop-done.m c.loop-done.t c.loop-done.n)
-        (world c.pass_statement.new.m c.pass_statement.new.t c.pass_statement.new.n) c.pass_statement.result =
+    c.loop-done.a c.pass_statement.new.a (world c.loop-done.m c.loop-done.t c.loop-done.n)
+    (world c.pass_statement.new.m c.pass_statement.new.t c.pass_statement.new.n) c.pass_statement.result =
     tried c.args.c.now.program c.in-Some.code c.loop-done.done c.args.a.now c.loop-done.a c.pass_statement.new.a
     (world c.args.m.now c.args.t.now c.args.n.now) (world c.loop-done.m c.loop-done.t c.loop-done.n)
     (world c.pass_statement.new.m c.pass_statement.new.t c.pass_statement.new.n) c.pass_statement.result
@@ -20,8 +20,8 @@ returns-then-not-pass_statement-clause-runs c =
 pub loop-done-preserved : goal.loop-done-preserved
 loop-done-preserved c =
     let gone : GoesOrStays (statement (code_of c.args.c.now.program) c.loop-done.a (world c.loop-done.m c.loop-done.t c.loop-done.n))
-        c.loop-done.a c.pass_statement.new.a (world c.loop-done.m c.loop-done.t c.loop-done.n)
-        (world c.pass_statement.new.m c.pass_statement.new.t c.pass_statement.new.n) c.pass_statement.result =
+    c.loop-done.a c.pass_statement.new.a (world c.loop-done.m c.loop-done.t c.loop-done.n)
+    (world c.pass_statement.new.m c.pass_statement.new.t c.pass_statement.new.n) c.pass_statement.result =
     tried c.args.c.now.program c.in-Some.code c.loop-done.done c.args.a.now c.loop-done.a c.pass_statement.new.a
     (world c.args.m.now c.args.t.now c.args.n.now) (world c.loop-done.m c.loop-done.t c.loop-done.n)
     (world c.pass_statement.new.m c.pass_statement.new.t c.pass_statement.new.n) c.pass_statement.result
