@@ -140,7 +140,8 @@ impl Controller {
         reply
     }
 
-    // Makes entries from the front of a list, of which so many are steps, as long as each shows nothing.
+    // Makes entries from the front of a list as long as each shows nothing, of the first ones, which are
+    // steps.
     fn pass_steps(&mut self, entries: &[Entry], ahead: usize) -> usize
         requires within { ahead ≤ length entries.now }
         requires steps { events (take ahead entries.now) ≡ replicate ahead Step }

@@ -6,7 +6,7 @@ use Rattle.var_access.specs.declared.Entry.{Entry}
 use Rattle.var_access.specs.declared.What.TheVariants.{Step}
 use Rattle.cpu.specs.Quiet.{ShowNothing}
 use Rattle.cpu.specs.Replay.{last_seen, replay}
-use Rattle.cpu.specs.Shown.{nothing_shown, watched}
+use Rattle.cpu.specs.Shown.{watched}
 use Rattle.cpu.specs.State.{State}
 use Rattle.cpu.specs.Views.{state_of}
 use Rattle.cpu.specs.declared.Observed.{Observed}

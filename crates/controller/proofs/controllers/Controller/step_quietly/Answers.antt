@@ -1,4 +1,4 @@
-use Rattle.std.proofs.Common.{◌+◌, ◌≤◌, length, arith}
+use Rattle.std.proofs.Common.{◌+◌, arith}
 use Rattle.std.proofs.lemmas.List.{take_rest}
 use Rattle.controller.proofs.QuietLemmas.{Passed, passed-more, passed-none, passed-state}
 use Rattle.controller.proofs.controllers.Controller.step_quietly.Goals as goal
