@@ -1,8 +1,7 @@
 -- The entries of a history, applied one by one, or in a row where they show nothing.
-use Rattle.std.proofs.Common.{◌≡◌, ◌<◌, ◌≤◌, refl, sym, ◌∙◌, ap, subst, ℕ, ◌+◌, ◌-◌, List, [], ◌∷◌, ◌++◌, length, take, drop, get_or, Ok, None, arith, append-nil, append_assoc, length-append, length-drop}
-use Rattle.std.specs.Prelude.{slice_get}
+use Rattle.std.proofs.Common.{◌≡◌, ◌<◌, ◌≤◌, refl, sym, ◌∙◌, ap, subst, ℕ, ◌+◌, ◌-◌, List, [], ◌∷◌, ◌++◌, length, take, drop, get_or, Ok, arith, append-nil, append_assoc, length-append, length-drop}
 use Rattle.std.proofs.Math.Seq.{take-add}
-use Rattle.std.proofs.lemmas.List.{drop-drop, take-append-drop, take_all}
+use Rattle.std.proofs.lemmas.List.{drop-drop, drop_all, take-append-drop}
 use Rattle.plc_io.specs.Moments.{SinkAt}
 use Rattle.plc_io.specs.Taken.{Wrote}
 use Rattle.flat_code.specs.Programs.{Program}
@@ -19,8 +18,8 @@ use Rattle.controller.specs.Recorded.{Recorded}
 use Rattle.controller.specs.Replayed.{events, next_happens, replayed, seen}
 use Rattle.run_text.specs.Behind.{closing_of, lines_behind}
 use Rattle.run_text.specs.RunText.{closing_text, lines_from, run_text, shown_text}
-use Rattle.run_text.proofs.ListLemmas.{drop-next, found-end}
-use Rattle.run_text.proofs.WritingLemmas.{GoesOn, goes-end, goes-first}
+use Rattle.run_text.proofs.ListLemmas.{drop-next}
+use Rattle.run_text.proofs.WritingLemmas.{GoesOn, goes-end, goes-first, goes-next}
 
 -- the controller after the first i entries, and after one more
 abbrev pub Applied : Recorded → List Entry → ℕ → Recorded → Type 0
@@ -29,8 +28,13 @@ Applied start es i now = now ≡ record start { history = start.history ++ take 
 abbrev pub Applies : Recorded → Entry → Recorded → Type 0
 Applies old e new = new ≡ record old { history = old.history ++ e ∷ []; spare = old.spare - 1 }
 
-applied-none : (start : Recorded) (es : List Entry) → Applied start es 0 start
-applied-none start es = ap (λ (h : List Entry). record start { history = h }) (sym (append-nil start.history))
+applied-none : (s : Recorded) (es : List Entry) → Applied s es 0 s
+applied-none s es =
+    ap (λ (h : List Entry). record s { history = h }) (sym (append-nil s.history))
+    ∙ ap (λ (n : ℕ). record s { history = s.history ++ []; spare = n }) none
+  where
+    none : s.spare ≡ s.spare - 0
+    none = omega arith
 
 -- after entries of the rest
 applied-more : (s0 s1 s2 : Recorded) (es : List Entry) (i k : ℕ) → Applied s0 es i s1 → Applied s1 (drop i es) k s2
@@ -49,7 +53,7 @@ applied-more s0 s1 s2 es i k before more =
     less : s0.spare - i - k ≡ s0.spare - (i + k)
     less = omega arith
 
-pub applied-next : (s0 s1 s2 : Recorded) (es : List Entry) (i : ℕ) (e : Entry) → Applied s0 es i s1 → Applies s1 e s2
+applied-next : (s0 s1 s2 : Recorded) (es : List Entry) (i : ℕ) (e : Entry) → Applied s0 es i s1 → Applies s1 e s2
     → i < length es → e ≡ get_or es i e → Applied s0 es (i + 1) s2
 applied-next s0 s1 s2 es i e before one within at =
     applied-more s0 s1 s2 es i 1 before
@@ -88,7 +92,10 @@ no-text n = refl
 
 lines-quiet : (code : Code) (n : ℕ) (s : State) (front back : List Entry) → ShowNothing code s (events front)
     → lines_from code n s (front ++ back) ≡ lines_from code (n + length front) (run_from code s (events front)) back
-lines-quiet code n s [] back quiet = refl
+lines-quiet code n s [] back quiet = ap (λ (m : ℕ). lines_from code m s back) none
+  where
+    none : n ≡ n + length {A = Entry} []
+    none = omega arith
 lines-quiet code n s (e ∷ front) back quiet =
     ap (λ (o : Observed). shown_text (n + 1) o ++ lines_from code (n + 1) t (front ++ back)) quiet.0
     ∙ ap (λ (text : List ℕ). text ++ lines_from code (n + 1) t (front ++ back)) (no-text (n + 1))
@@ -159,29 +166,32 @@ follows-quiet s0 s1 s2 es rest i k a b so_far is few more nothing state = record
     further : Applied s1 (drop i es) k s2
     further = more ∙ ap (λ (l : List Entry). record s1 { history = s1.history ++ take k l; spare = s1.spare - k }) is
 
+-- after an entry more, whose lines were written
+pub follows-next : (s0 s1 s2 : Recorded) (es : List Entry) (i n : ℕ) (e : Entry) (shown : Observed) (a b c : SinkAt) (u : Unit)
+    → Follows s0 es i s1 a b → i < length es → e ≡ get_or es i e → Applies s1 e s2
+    → lines_behind s1 (drop i es) ≡ shown_text n shown ++ lines_behind s2 (drop (i + 1) es)
+    → Wrote {X = Unit {0}} b c (shown_text n shown) (Ok u) → Follows s0 es (i + 1) s2 a c
+follows-next s0 s1 s2 es i n e shown a b c u so_far within at one lines wrote = record {
+  within = omega arith;
+  applied = applied-next s0 s1 s2 es i e so_far.applied one within at;
+  goes_on = goes-next (lines_behind s0 es) (lines_behind s1 (drop i es)) (shown_text n shown) (lines_behind s2 (drop (i + 1) es)) (shown_text n shown) a b c u
+      so_far.goes_on lines refl wrote;
+}
+
 -- after all entries
-abbrev pub HasRun : Recorded → List Entry → Recorded → Type 0
-HasRun s es s' = s' ≡ record s { history = s.history ++ es; spare = s.spare - length es }
-
-pub follows-all : (s0 s1 : Recorded) (es : List Entry) (i : ℕ) (a b : SinkAt) → Follows s0 es i s1 a b → None ≡ slice_get es i
-    → HasRun s0 es s1
-follows-all s0 s1 es i a b so_far none =
-    so_far.applied
-    ∙ ap (λ (n : ℕ). record s0 { history = s0.history ++ take n es; spare = s0.spare - n }) whole
-    ∙ ap (λ (l : List Entry). record s0 { history = s0.history ++ l; spare = s0.spare - length es }) (take_all (length es) es (omega arith))
-  where
-    whole : i ≡ length es
-    whole = omega (arith, so_far.within, length-drop i es, ap (λ (l : List Entry). length l) (found-end es i none))
-
 pub follows-end : (s0 s1 : Recorded) (es : List Entry) (i : ℕ) (a b : SinkAt) (u : Unit) → Follows s0 es i s1 a b
-    → None ≡ slice_get es i → Wrote {X = Unit {0}} a b (lines_behind s0 es) (Ok u)
-follows-end s0 s1 es i a b u so_far none =
+    → length es ≤ i → Wrote {X = Unit {0}} a b (lines_behind s0 es) (Ok u)
+follows-end s0 s1 es i a b u so_far past =
     goes-end (lines_behind s0 es) (lines_behind s1 (drop i es)) a b u so_far.goes_on
-    (ap (lines_behind s1) (found-end es i none))
+    (ap (lines_behind s1) (drop_all i es past))
 
 -- a controller as it begins, with room for all entries
 abbrev pub Begins : Program → List Entry → Recorded → Type 0
 Begins program es s = s ≡ record { program = program; history = []; spare = length es }
+
+-- after all entries
+abbrev pub HasRun : Recorded → List Entry → Recorded → Type 0
+HasRun s es s' = s' ≡ record s { history = s.history ++ es; spare = s.spare - length es }
 
 pub run-splits : (program : Program) (s s' : Recorded) (es : List Entry) → Begins program es s → HasRun s es s'
     → run_text (code_of program) es ≡ lines_behind s es ++ closing_of s'

@@ -49,14 +49,11 @@ pub found-next : {A : Type 0} (f : A → List ℕ) (xs : List A) (i : ℕ) (x : 
 found-next {A} f xs i x found =
     texts-next f xs i x (slice_get_within xs i x (sym found)) (sym (get_or_from_slice_get xs i x x (sym found)))
 
-pub found-end : {A : Type 0} (xs : List A) (i : ℕ) → None ≡ slice_get xs i → drop i xs ≡ []
-found-end {A} [] zero found = refl
-found-end {A} [] (suc i) found = refl
-found-end {A} (x ∷ xs) zero found = absurd cc
-found-end {A} (x ∷ xs) (suc i) found = found-end xs i found
-
 pub found-last : {A : Type 0} (f : A → List ℕ) (xs : List A) (i : ℕ) → None ≡ slice_get xs i → flat_map f (drop i xs) ≡ []
-found-last {A} f xs i found = ap (flat_map f) (found-end xs i found)
+found-last {A} f [] zero found = refl
+found-last {A} f [] (suc i) found = refl
+found-last {A} f (x ∷ xs) zero found = absurd cc
+found-last {A} f (x ∷ xs) (suc i) found = found-last f xs i found
 
 -- so there are more than so many
 pub found-more : {A : Type 0} (xs : List A) (i : ℕ) (x : A) → Some x ≡ slice_get xs i → i < length xs
