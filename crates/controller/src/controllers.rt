@@ -1,4 +1,4 @@
-ghost use Rattle.std.specs.Prelude.{◌≡◌, ◌+◌, ◌-◌, ◌^◌, ◌<◌, ◌≤◌, ◌↔◌, [], ◌∷◌, ◌++◌, length, max, take, slice_get, is_some, IfOk, OnOk, OnErr, IsNone};
+ghost use Rattle.std.specs.Prelude.{◌≡◌, ◌+◌, ◌-◌, ◌^◌, ◌<◌, ◌≤◌, ◌↔◌, [], ◌∷◌, ◌++◌, length, max, take, slice_get, is_some, replicate, IfOk, OnOk, OnErr, IsNone};
 ghost use Rattle.std.specs.Option.{option_copied, option_map};
 ghost use Rattle.std.specs.FinMap as finmap;
 ghost use Rattle.image_file.specs.Readers.{bytes_of};
@@ -7,13 +7,14 @@ ghost use Rattle.cpu.specs.Quiet.{ShowNothing};
 ghost use Rattle.cpu.specs.Replay.{run_from};
 ghost use Rattle.controller.specs.Replayed.{data_blocks as blocks_after, events, next_happens, numbered as with_number, replayed, seen};
 ghost use Rattle.var_access.specs.Entry.{IsValid};
+ghost use Rattle.var_access.specs.declared.What.TheVariants.{Step};
 
 use cpu::{Observed, Observer, Parts, data_numbers};
 use image_file::Loaded;
 use plc_base::{Mode, NoMemory};
 use std::alloc::Global;
 use std::marker::Model;
-use var_access::{Entry, Reply};
+use var_access::{Entry, Reply, What};
 
 /// A controller: a program, and the history of all entries so far, from which its state follows.
 /// A contract sees the program, the history, and `spare`, for how many further entries there is
@@ -49,6 +50,25 @@ fn number_at(numbers: &[u16], place: usize) -> Option<u16>
     ensures { result ≡ slice_get numbers.now place }
 {
     numbers.get(place).copied()
+}
+
+/// How many steps are looked for at once.
+const LOOK_AHEAD: usize = 32;
+
+// How many of the first entries are steps, `LOOK_AHEAD` at most.
+fn steps_ahead(entries: &[Entry]) -> usize
+    ensures few { result ≤ length entries.now }
+    ensures steps { events (take result entries.now) ≡ replicate result Step }
+{
+    let most = entries.len().min(LOOK_AHEAD);
+    let mut ahead = 0;
+    while ahead < most {
+        match entries[ahead].what {
+            What::Step => ahead += 1,
+            _ => return ahead,
+        }
+    }
+    ahead
 }
 
 impl Controller {
@@ -120,6 +140,33 @@ impl Controller {
         reply
     }
 
+    // Makes entries from the front of a list as long as each shows nothing, of the first ones, which are
+    // steps.
+    fn pass_steps(&mut self, entries: &[Entry], ahead: usize) -> usize
+        requires within { ahead ≤ length entries.now }
+        requires steps { events (take ahead entries.now) ≡ replicate ahead Step }
+        requires room { ahead ≤ self.old.spare }
+        ensures few { result ≤ ahead }
+        ensures history { self.new ≡ record self.old {
+          history = self.old.history ++ take result entries.now;
+          spare = self.old.spare - result;
+        } }
+        ensures nothing { ShowNothing (code_of self.old.program) (replayed self.old)
+            (events (take result entries.now)) }
+    {
+        cpu::laws::counts_entries();
+        cpu::laws::what_runs_goes_on();
+        let made = self.cpu.step_quietly(&self.program, ahead as u64) as usize;
+        if made == 0 {
+            return 0;
+        }
+        self.observer.pass();
+        let pushed = self.history.extend_from_slice(&entries[..made]);
+        prove!(pushed.is_ok());
+        self.spare -= made as u64;
+        made
+    }
+
     /// Makes entries from the front of a list as long as each is a step that shows nothing; the answer is
     /// how many. It may stop before one of this kind: what it leaves is for `apply`. Takes no memory.
     pub fn step_quietly(&mut self, entries: &[Entry]) -> usize
@@ -134,7 +181,15 @@ impl Controller {
         ensures state { replayed self.new ≡ run_from (code_of self.old.program)
             (replayed self.old) (events (take result entries.now)) }
     {
-        0
+        let mut done = 0;
+        loop {
+            let ahead = steps_ahead(&entries[done..]);
+            let made = self.pass_steps(&entries[done..], ahead);
+            done += made;
+            if made == 0 || made < ahead {
+                return done;
+            }
+        }
     }
 
     /// What the last entry showed.

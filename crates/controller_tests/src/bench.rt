@@ -109,7 +109,12 @@ fn write_observed(alloc: Global, out: &mut String, n: u64, seen: &Observed) -> W
     Ok(())
 }
 
-fn write_end(alloc: Global, rt: &impl Abort, out: &mut String, controller: &Controller) -> Written {
+pub(crate) fn write_end(
+    alloc: Global,
+    rt: &impl Abort,
+    out: &mut String,
+    controller: &Controller,
+) -> Written {
     out.push_str(format!(in alloc; "END {} ", controller.history_len())?.as_str())?;
     write_mode(alloc, out, controller.mode())?;
     for place in 0..256 {
@@ -125,6 +130,22 @@ fn write_end(alloc: Global, rt: &impl Abort, out: &mut String, controller: &Cont
     Ok(())
 }
 
+/// Applies an entry, and writes what it showed.
+pub(crate) fn apply_entry(
+    alloc: Global,
+    rt: &impl Abort,
+    controller: &mut Controller,
+    out: &mut String,
+    entry: Entry,
+) -> Result<(), Fail> {
+    assert!(rt; entry.is_valid());
+    assert!(rt; controller.history_len() < MOST_ENTRIES);
+    controller.reserve(1)?;
+    assert!(rt; controller.apply(entry) == Reply::Done);
+    write_observed(alloc, out, controller.history_len(), controller.observed())?;
+    Ok(())
+}
+
 /// Applies the entries of a line.
 fn apply(
     alloc: Global,
@@ -135,12 +156,7 @@ fn apply(
 ) -> Result<(), Fail> {
     let (what, count) = line_of(line);
     for _ in 0..count {
-        let entry = Entry { who: 1, what };
-        assert!(rt; entry.is_valid(), "{line}");
-        assert!(rt; controller.history_len() < MOST_ENTRIES);
-        controller.reserve(1)?;
-        assert!(rt; controller.apply(entry) == Reply::Done);
-        write_observed(alloc, out, controller.history_len(), controller.observed())?;
+        apply_entry(alloc, rt, controller, out, Entry { who: 1, what })?;
     }
     Ok(())
 }
@@ -156,13 +172,18 @@ fn loaded(alloc: Global, program: &str) -> Result<Loaded, Fail> {
     }
 }
 
+/// A controller of a program.
+pub(crate) fn controller_of(alloc: Global, program: &str) -> Result<Controller, Fail> {
+    Ok(Controller::new(alloc, loaded(alloc, program)?)?)
+}
+
 pub(crate) fn run_text(
     alloc: Global,
     rt: &impl Abort,
     program: &str,
     history: &str,
 ) -> Result<String, Fail> {
-    let mut controller = Controller::new(alloc, loaded(alloc, program)?)?;
+    let mut controller = controller_of(alloc, program)?;
     let mut out = String::new(alloc);
     for line in history.split('|') {
         apply(alloc, rt, &mut controller, &mut out, line)?;

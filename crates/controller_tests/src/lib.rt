@@ -11,4 +11,6 @@ mod error_rows;
 #[cfg(test)]
 mod interrupt_rows;
 #[cfg(test)]
+mod quiet_rows;
+#[cfg(test)]
 mod tick_rows;

@@ -1,13 +1,17 @@
--- The entries of a history, applied one by one.
-use Rattle.std.proofs.Common.{◌≡◌, ◌<◌, sym, ◌∙◌, ap, ℕ, ◌+◌, ◌-◌, List, [], ◌∷◌, ◌++◌, length, take, drop, get_or, arith, length-append}
-use Rattle.std.proofs.lemmas.List.{take_more}
-use Rattle.std.proofs.lemmas.Grind.{common_steps}
+-- The entries of a history, applied one by one, or in a row where they show nothing.
+use Rattle.std.proofs.Common.{◌≡◌, ◌<◌, ◌≤◌, refl, sym, ◌∙◌, ap, subst, ℕ, ◌+◌, ◌-◌, List, [], ◌∷◌, ◌++◌, length, take, drop, get_or, Ok, arith, append-nil, append_assoc, length-append, length-drop}
+use Rattle.std.proofs.Math.Seq.{take-add}
+use Rattle.std.proofs.lemmas.List.{drop-drop, drop_all, take-append-drop}
+use Rattle.plc_io.specs.Moments.{SinkAt}
+use Rattle.plc_io.specs.Taken.{Wrote}
 use Rattle.flat_code.specs.Programs.{Program}
 use Rattle.machine.specs.Code.{Code}
 use Rattle.machine.specs.Flat.{code_of}
 use Rattle.var_access.specs.declared.Entry.{Entry}
 use Rattle.cpu.specs.declared.Observed.{Observed}
-use Rattle.cpu.specs.Replay.{replay}
+use Rattle.cpu.specs.Quiet.{ShowNothing}
+use Rattle.cpu.specs.Replay.{happens, replay, run_from}
+use Rattle.cpu.specs.Shown.{nothing_shown}
 use Rattle.cpu.specs.Start.{start}
 use Rattle.cpu.specs.State.{State}
 use Rattle.controller.specs.Recorded.{Recorded}
@@ -15,6 +19,7 @@ use Rattle.controller.specs.Replayed.{events, next_happens, replayed, seen}
 use Rattle.run_text.specs.Behind.{closing_of, lines_behind}
 use Rattle.run_text.specs.RunText.{closing_text, lines_from, run_text, shown_text}
 use Rattle.run_text.proofs.ListLemmas.{drop-next}
+use Rattle.run_text.proofs.WritingLemmas.{GoesOn, goes-end, goes-first, goes-next}
 
 -- the controller after the first i entries, and after one more
 abbrev pub Applied : Recorded → List Entry → ℕ → Recorded → Type 0
@@ -23,26 +28,37 @@ Applied start es i now = now ≡ record start { history = start.history ++ take 
 abbrev pub Applies : Recorded → Entry → Recorded → Type 0
 Applies old e new = new ≡ record old { history = old.history ++ e ∷ []; spare = old.spare - 1 }
 
-pub applied-next : (s0 s1 s2 : Recorded) (es : List Entry) (i : ℕ) (e : Entry) → Applied s0 es i s1 → Applies s1 e s2
+applied-none : (s : Recorded) (es : List Entry) → Applied s es 0 s
+applied-none s es =
+    ap (λ (h : List Entry). record s { history = h }) (sym (append-nil s.history))
+    ∙ ap (λ (n : ℕ). record s { history = s.history ++ []; spare = n }) none
+  where
+    none : s.spare ≡ s.spare - 0
+    none = omega arith
+
+-- after entries of the rest
+applied-more : (s0 s1 s2 : Recorded) (es : List Entry) (i k : ℕ) → Applied s0 es i s1 → Applied s1 (drop i es) k s2
+    → Applied s0 es (i + k) s2
+applied-more s0 s1 s2 es i k before more =
+    more
+    ∙ ap (λ (s : Recorded). record s { history = s.history ++ take k (drop i es); spare = s.spare - k }) before
+    ∙ ap (λ (h : List Entry). record s0 { history = h; spare = s0.spare - i - k }) grown
+    ∙ ap (λ (n : ℕ). record s0 { history = s0.history ++ take (i + k) es; spare = n }) less
+  where
+    grown : (s0.history ++ take i es) ++ take k (drop i es) ≡ s0.history ++ take (i + k) es
+    grown =
+        append_assoc s0.history (take i es) (take k (drop i es))
+        ∙ ap (λ (l : List Entry). s0.history ++ l) (sym (take-add i k es))
+
+    less : s0.spare - i - k ≡ s0.spare - (i + k)
+    less = omega arith
+
+applied-next : (s0 s1 s2 : Recorded) (es : List Entry) (i : ℕ) (e : Entry) → Applied s0 es i s1 → Applies s1 e s2
     → i < length es → e ≡ get_or es i e → Applied s0 es (i + 1) s2
 applied-next s0 s1 s2 es i e before one within at =
-    one
-    ∙ ap (λ (s : Recorded). record s { history = s.history ++ e ∷ []; spare = s.spare - 1 }) before
-    ∙ ap (λ (h : List Entry). made h (s0.spare - i - 1)) grown
-    ∙ ap (made (s0.history ++ take (i + 1) es)) less
-  where
-    made : List Entry → ℕ → Recorded
-    made h n = record s0 { history = h; spare = n }
-
-    grown : (s0.history ++ take i es) ++ e ∷ [] ≡ s0.history ++ take (i + 1) es
-    grown =
-        let more : take (i + 1) es ≡ take i es ++ e ∷ [] =
-        take_more es i e within ∙ ap (λ (f : Entry). take i es ++ f ∷ []) (sym at) in
-        let joined : (s0.history ++ take i es) ++ e ∷ [] ≡ s0.history ++ (take i es ++ e ∷ []) = grind (arith, common_steps) in
-        joined ∙ ap (λ (t : List Entry). s0.history ++ t) (sym more)
-
-    less : s0.spare - i - 1 ≡ s0.spare - (i + 1)
-    less = omega arith
+    applied-more s0 s1 s2 es i 1 before
+    (one ∙ ap (λ (l : List Entry). record s1 { history = s1.history ++ take 1 l; spare = s1.spare - 1 })
+    (sym (drop-next es i e within at)))
 
 -- the lines of a further entry and of those behind it
 pub lines-next : (old new : Recorded) (es : List Entry) (i n : ℕ) (e : Entry) (shown : Observed) → Applies old e new
@@ -68,6 +84,106 @@ lines-next old new es i n e shown one count is shows state within at =
 
     counted : n ≡ length old.history + 1
     counted = count ∙ ap (λ (r : Recorded). length r.history) one ∙ length-append old.history (e ∷ [])
+
+-- entries that show nothing have no line
+no-text : (n : ℕ) → shown_text n nothing_shown ≡ []
+unfolding shown_text
+no-text n = refl
+
+lines-quiet : (code : Code) (n : ℕ) (s : State) (front back : List Entry) → ShowNothing code s (events front)
+    → lines_from code n s (front ++ back) ≡ lines_from code (n + length front) (run_from code s (events front)) back
+lines-quiet code n s [] back quiet = ap (λ (m : ℕ). lines_from code m s back) none
+  where
+    none : n ≡ n + length {A = Entry} []
+    none = omega arith
+lines-quiet code n s (e ∷ front) back quiet =
+    ap (λ (o : Observed). shown_text (n + 1) o ++ lines_from code (n + 1) t (front ++ back)) quiet.0
+    ∙ ap (λ (text : List ℕ). text ++ lines_from code (n + 1) t (front ++ back)) (no-text (n + 1))
+    ∙ lines-quiet code (n + 1) t front back quiet.1
+    ∙ ap (λ (m : ℕ). lines_from code m (run_from code t (events front)) back) count
+  where
+    t : State
+    t = (happens code s e.what).state
+
+    count : n + 1 + length front ≡ n + length (e ∷ front)
+    count = omega arith
+
+lines-more : (old new : Recorded) (es : List Entry) (i k : ℕ) → Applied old (drop i es) k new
+    → ShowNothing (code_of old.program) (replayed old) (events (take k (drop i es)))
+    → replayed new ≡ run_from (code_of old.program) (replayed old) (events (take k (drop i es)))
+    → lines_behind old (drop i es) ≡ lines_behind new (drop (i + k) es)
+lines-more old new es i k more nothing state =
+    ap (lines_behind old) (sym (take-append-drop k (drop i es)) ∙ ap (λ (l : List Entry). front ++ l) (drop-drop k i es))
+    ∙ lines-quiet code (length old.history) (replayed old) front back nothing
+    ∙ ap (λ (s : State). lines_from code (length old.history + length front) s back) (sym state)
+    ∙ ap (λ (m : ℕ). lines_from code m (replayed new) back) (sym counted)
+    ∙ ap (λ (p : Program). lines_from (code_of p) (length new.history) (replayed new) back) (sym program)
+  where
+    code : Code
+    code = code_of old.program
+
+    front : List Entry
+    front = take k (drop i es)
+
+    back : List Entry
+    back = drop (i + k) es
+
+    program : new.program ≡ old.program
+    program = ap (λ (r : Recorded). r.program) more
+
+    counted : length new.history ≡ length old.history + length front
+    counted = ap (λ (r : Recorded). length r.history) more ∙ length-append old.history front
+
+-- the first i entries were applied, and what they showed was written
+pub record Follows (start : Recorded) (es : List Entry) (i : ℕ) (now : Recorded) (before at : SinkAt) : Type 0 where
+  pub within : i ≤ length es
+  pub applied : Applied start es i now
+  pub goes_on : GoesOn (lines_behind start es) (lines_behind now (drop i es)) before at
+
+pub follows-none : (start : Recorded) (es : List Entry) (at : SinkAt) → Follows start es 0 start at at
+follows-none start es at = record {
+  within = omega arith;
+  applied = applied-none start es;
+  goes_on = goes-first (lines_behind start es) at;
+}
+
+-- after entries of the rest that show nothing
+pub follows-quiet : (s0 s1 s2 : Recorded) (es rest : List Entry) (i k : ℕ) (a b : SinkAt) → Follows s0 es i s1 a b
+    → rest ≡ drop i es → k ≤ length rest → Applied s1 rest k s2
+    → ShowNothing (code_of s1.program) (replayed s1) (events (take k rest))
+    → replayed s2 ≡ run_from (code_of s1.program) (replayed s1) (events (take k rest))
+    → Follows s0 es (i + k) s2 a b
+follows-quiet s0 s1 s2 es rest i k a b so_far is few more nothing state = record {
+  within = omega (arith, length-drop i es, ap (λ (l : List Entry). length l) is);
+  applied = applied-more s0 s1 s2 es i k so_far.applied further;
+  goes_on = subst (λ (text : List ℕ). GoesOn (lines_behind s0 es) text a b)
+      (lines-more s1 s2 es i k further
+      (subst (λ (l : List Entry). ShowNothing (code_of s1.program) (replayed s1) (events (take k l))) is nothing)
+      (state ∙ ap (λ (l : List Entry). run_from (code_of s1.program) (replayed s1) (events (take k l))) is))
+      so_far.goes_on;
+}
+  where
+    further : Applied s1 (drop i es) k s2
+    further = more ∙ ap (λ (l : List Entry). record s1 { history = s1.history ++ take k l; spare = s1.spare - k }) is
+
+-- after an entry more, whose lines were written
+pub follows-next : (s0 s1 s2 : Recorded) (es : List Entry) (i n : ℕ) (e : Entry) (shown : Observed) (a b c : SinkAt) (u : Unit)
+    → Follows s0 es i s1 a b → i < length es → e ≡ get_or es i e → Applies s1 e s2
+    → lines_behind s1 (drop i es) ≡ shown_text n shown ++ lines_behind s2 (drop (i + 1) es)
+    → Wrote {X = Unit {0}} b c (shown_text n shown) (Ok u) → Follows s0 es (i + 1) s2 a c
+follows-next s0 s1 s2 es i n e shown a b c u so_far within at one lines wrote = record {
+  within = omega arith;
+  applied = applied-next s0 s1 s2 es i e so_far.applied one within at;
+  goes_on = goes-next (lines_behind s0 es) (lines_behind s1 (drop i es)) (shown_text n shown) (lines_behind s2 (drop (i + 1) es)) (shown_text n shown) a b c u
+      so_far.goes_on lines refl wrote;
+}
+
+-- after all entries
+pub follows-end : (s0 s1 : Recorded) (es : List Entry) (i : ℕ) (a b : SinkAt) (u : Unit) → Follows s0 es i s1 a b
+    → length es ≤ i → Wrote {X = Unit {0}} a b (lines_behind s0 es) (Ok u)
+follows-end s0 s1 es i a b u so_far past =
+    goes-end (lines_behind s0 es) (lines_behind s1 (drop i es)) a b u so_far.goes_on
+    (ap (lines_behind s1) (drop_all i es past))
 
 -- a controller as it begins, with room for all entries
 abbrev pub Begins : Program → List Entry → Recorded → Type 0

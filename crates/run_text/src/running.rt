@@ -47,7 +47,7 @@ fn write_entry<K: Sink>(out: &mut K, n: u64, seen: &Observed) -> Result<(), IoFa
     write_mode(out, n, seen.mode)
 }
 
-/// Applies the entries one by one, and writes what each showed.
+/// Applies the entries, and writes what each showed. Steps that show nothing are passed in a row.
 fn write_entries<K: Sink>(
     controller: &mut Controller,
     entries: &[Entry],
@@ -63,15 +63,15 @@ fn write_entries<K: Sink>(
         (lines_behind controller.old entries.now) result }
 {
     let mut at = 0;
-    while at < entries.len() {
+    loop {
         at += controller.step_quietly(&entries[at..]);
-        if let Some(entry) = entries.get(at) {
-            controller.apply(*entry);
-            write_entry(out, controller.history_len(), controller.observed())?;
-            at += 1;
-        }
+        let Some(entry) = entries.get(at) else {
+            return Ok(());
+        };
+        controller.apply(*entry);
+        write_entry(out, controller.history_len(), controller.observed())?;
+        at += 1;
     }
-    Ok(())
 }
 
 /// The bytes of a row: 32, or as many as are left.

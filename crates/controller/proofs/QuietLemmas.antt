@@ -1,0 +1,194 @@
+-- Entries one after another that show nothing.
+use Rattle.std.proofs.Common.{◌≡◌, ◌+◌, ◌-◌, ◌<◌, ◌≤◌, ℕ, zero, suc, List, [], ◌∷◌, ◌++◌, length, take, drop, get_or, replicate, refl, sym, ap, subst, ◌∙◌, arith, append_assoc, append-nil, length-drop}
+use Rattle.std.proofs.Math.Seq.{take-add}
+use Rattle.std.proofs.lemmas.List.{map-append, map_more, replicate_more, take-map, take-replicate, take-take}
+use Rattle.flat_code.specs.Loading.{Verifies}
+use Rattle.flat_code.specs.Programs.{Program}
+use Rattle.machine.specs.Code.{Code}
+use Rattle.machine.specs.Flat.{code_of}
+use Rattle.var_access.specs.declared.Entry.{Entry}
+use Rattle.var_access.specs.declared.What.{What}
+use Rattle.var_access.specs.declared.What.TheVariants.{Step}
+use Rattle.cpu.specs.Fitting.{EntriesKeepFit, IsFit}
+use Rattle.cpu.specs.Quiet.{ShowNothing}
+use Rattle.cpu.specs.Replay.{happens, last_seen, replay, run_from, seen_from}
+use Rattle.cpu.specs.Shown.{Watched, nothing_shown, watched}
+use Rattle.cpu.specs.Start.{start}
+use Rattle.cpu.specs.State.{State}
+use Rattle.cpu.specs.declared.Observed.{Observed}
+use Rattle.controller.specs.Recorded.{Recorded}
+use Rattle.controller.specs.Replayed.{events, replayed}
+
+-- ---- entries behind others
+
+run-append : (code : Code) (s : State) (front back : List What)
+    → run_from code s (front ++ back) ≡ run_from code (run_from code s front) back
+run-append code s [] back = refl
+run-append code s (what ∷ rest) back = run-append code (happens code s what).state rest back
+
+seen-append : (code : Code) (s : State) (seen : Observed) (front back : List What)
+    → seen_from code s seen (front ++ back) ≡ seen_from code (run_from code s front) (seen_from code s seen front) back
+seen-append code s seen [] back = refl
+seen-append code s seen (what ∷ rest) back =
+    seen-append code (happens code s what).state (happens code s what).seen rest back
+
+quiet-append : (code : Code) (s : State) (front back : List What) → ShowNothing code s front
+    → ShowNothing code (run_from code s front) back → ShowNothing code s (front ++ back)
+quiet-append code s [] back first second = second
+quiet-append code s (what ∷ rest) back first second =
+    (first.0, quiet-append code (happens code s what).state rest back first.1 second)
+
+pub replay-more : (code : Code) (history more : List Entry)
+    → replay code (events (history ++ more)) ≡ run_from code (replay code (events history)) (events more)
+unfolding replay
+replay-more code history more =
+    ap (λ (es : List What). run_from code (start code) es) (map-append (λ (e : Entry). e.what) history more)
+    ∙ run-append code (start code) (events history) (events more)
+
+-- ---- what is seen after them
+
+-- nothing, if nothing was seen before
+none-still : (code : Code) (s : State) (whats : List What) → ShowNothing code s whats
+    → seen_from code s nothing_shown whats ≡ nothing_shown
+none-still code s [] quiet = refl
+none-still code s (what ∷ rest) quiet =
+    ap (λ (o : Observed). seen_from code (happens code s what).state o rest) quiet.0
+    ∙ none-still code (happens code s what).state rest quiet.1
+
+-- nothing, if they are some
+none-now : (code : Code) (s : State) (seen : Observed) (n : ℕ) → ShowNothing code s (replicate n Step) → 1 ≤ n
+    → seen_from code s seen (replicate n Step) ≡ nothing_shown
+none-now code s seen zero quiet some = absurd (omega arith)
+none-now code s seen (suc n) quiet some =
+    ap (λ (o : Observed). seen_from code (happens code s Step).state o (replicate n Step)) quiet.0
+    ∙ none-still code (happens code s Step).state (replicate n Step) quiet.1
+
+-- ---- steps
+
+pub steps-next : (es : List Entry) (i : ℕ) (d : Entry) → i < length es → events (take i es) ≡ replicate i Step
+    → (get_or es i d).what ≡ Step → events (take (i + 1) es) ≡ replicate (i + 1) Step
+steps-next es i d within steps next =
+    map_more (λ (e : Entry). e.what) es i d within
+    ∙ ap (λ (whats : List What). whats ++ (get_or es i d).what ∷ []) steps
+    ∙ ap (λ (what : What). replicate i Step ++ what ∷ []) next
+    ∙ replicate_more i Step
+
+-- the first of so many steps are steps
+pub fewer-steps : (es : List Entry) (k n : ℕ) → k ≤ n → events (take n es) ≡ replicate n Step
+    → events (take k es) ≡ replicate k Step
+fewer-steps es k n few steps =
+    ap (λ (front : List Entry). events front) (sym (take-take k n es few))
+    ∙ sym (take-map (λ (e : Entry). e.what) k (take n es))
+    ∙ ap (λ (whats : List What). take k whats) steps
+    ∙ take-replicate k n Step few
+
+fits-steps : (p : Program) (s : State) (n : ℕ) → EntriesKeepFit → Verifies p → IsFit p s
+    → IsFit p (run_from (code_of p) s (replicate n Step))
+fits-steps p s zero keeps h fit = fit
+fits-steps p s (suc n) keeps h fit =
+    fits-steps p (happens (code_of p) s Step).state n keeps h (keeps p s Step h tt fit)
+
+pub fits-behind : (p : Program) (s t : State) (n : ℕ) → EntriesKeepFit → Verifies p → IsFit p s
+    → t ≡ run_from (code_of p) s (replicate n Step) → IsFit p t
+fits-behind p s t n keeps h fit after = subst (IsFit p) (sym after) (fits-steps p s n keeps h fit)
+
+pub quiet-behind : (code : Code) (history more : List Entry) (s : State) (n : ℕ) → s ≡ replay code (events history)
+    → events more ≡ replicate n Step → ShowNothing code s (replicate n Step)
+    → ShowNothing code (replay code (events history)) (events more)
+quiet-behind code history more s n before steps quiet =
+    subst (λ (whats : List What). ShowNothing code (replay code (events history)) whats) (sym steps)
+    (subst (λ (u : State). ShowNothing code u (replicate n Step)) before quiet)
+
+pub state-behind : (code : Code) (history more : List Entry) (s t : State) (n : ℕ) → s ≡ replay code (events history)
+    → events more ≡ replicate n Step → t ≡ run_from code s (replicate n Step)
+    → t ≡ replay code (events (history ++ more))
+state-behind code history more s t n before steps after =
+    after
+    ∙ ap (λ (u : State). run_from code u (replicate n Step)) before
+    ∙ ap (λ (whats : List What). run_from code (replay code (events history)) whats) (sym steps)
+    ∙ sym (replay-more code history more)
+
+pub seen-behind : (code : Code) (history more : List Entry) (s : State) (n : ℕ) → s ≡ replay code (events history)
+    → events more ≡ replicate n Step → ShowNothing code s (replicate n Step) → 1 ≤ n
+    → nothing_shown ≡ last_seen code (events (history ++ more))
+unfolding replay last_seen
+seen-behind code history more s n before steps quiet some = sym (
+    ap (λ (es : List What). last_seen code es) (map-append (λ (e : Entry). e.what) history more)
+    ∙ seen-append code (start code) nothing_shown (events history) (events more)
+    ∙ ap (λ (u : State). seen_from code u (last_seen code (events history)) (events more)) (sym before)
+    ∙ ap (λ (whats : List What). seen_from code s (last_seen code (events history)) whats) steps
+    ∙ none-now code s (last_seen code (events history)) n quiet some)
+
+-- outputs and mode are as before
+pub observer-behind : (s t : State) (w w' : Watched) (seen : Observed) → w ≡ watched s seen
+    → w' ≡ record w { seen = nothing_shown }
+    → t.world.memory.peripheral_outputs ≡ s.world.memory.peripheral_outputs → t.mode ≡ s.mode
+    → w' ≡ watched t nothing_shown
+observer-behind s t w w' seen before passed outputs mode =
+    passed
+    ∙ ap (λ (v : Watched). record v { seen = nothing_shown }) before
+    ∙ cc
+
+-- ---- some of the entries of a list, and then further ones
+
+-- so many entries of a list were made, and showed nothing
+pub record Passed (old : Recorded) (es : List Entry) (i : ℕ) (now : Recorded) : Type 0 where
+  pub within : i ≤ length es
+  pub made : now ≡ record old { history = old.history ++ take i es; spare = old.spare - i }
+  pub nothing : ShowNothing (code_of old.program) (replayed old) (events (take i es))
+
+pub passed-none : (old : Recorded) (es : List Entry) → Passed old es 0 old
+passed-none old es = record {
+  within = omega arith;
+  made =
+      ap (λ (h : List Entry). record old { history = h }) (sym (append-nil old.history))
+      ∙ ap (λ (n : ℕ). record old { history = old.history ++ []; spare = n }) none;
+  nothing = tt;
+}
+  where
+    none : old.spare ≡ old.spare - 0
+    none = omega arith
+
+pub passed-state : (old now : Recorded) (es : List Entry) (i : ℕ) → Passed old es i now
+    → replayed now ≡ run_from (code_of old.program) (replayed old) (events (take i es))
+passed-state old now es i so_far =
+    ap (λ (r : Recorded). replayed r) so_far.made ∙ replay-more (code_of old.program) old.history (take i es)
+
+pub passed-more : (old now next : Recorded) (es rest : List Entry) (i k : ℕ) → Passed old es i now
+    → rest ≡ drop i es → k ≤ length rest
+    → next ≡ record now { history = now.history ++ take k rest; spare = now.spare - k }
+    → ShowNothing (code_of now.program) (replayed now) (events (take k rest))
+    → Passed old es (i + k) next
+passed-more old now next es rest i k so_far is few made nothing = record {
+  within = omega (arith, length-drop i es, ap (λ (l : List Entry). length l) is);
+  made =
+      made
+      ∙ ap (λ (l : List Entry). record now { history = now.history ++ take k l; spare = now.spare - k }) is
+      ∙ ap (λ (r : Recorded). record r { history = r.history ++ take k (drop i es); spare = r.spare - k }) so_far.made
+      ∙ ap (λ (h : List Entry). record old { history = h; spare = old.spare - i - k }) grown
+      ∙ ap (λ (n : ℕ). record old { history = old.history ++ take (i + k) es; spare = n }) less;
+  nothing = subst (λ (whats : List What). ShowNothing code (replayed old) whats) (sym whole)
+      (quiet-append code (replayed old) (events (take i es)) (events (take k (drop i es))) so_far.nothing behind);
+}
+  where
+    code : Code
+    code = code_of old.program
+
+    less : old.spare - i - k ≡ old.spare - (i + k)
+    less = omega arith
+
+    grown : (old.history ++ take i es) ++ take k (drop i es) ≡ old.history ++ take (i + k) es
+    grown =
+        append_assoc old.history (take i es) (take k (drop i es))
+        ∙ ap (λ (l : List Entry). old.history ++ l) (sym (take-add i k es))
+
+    whole : events (take (i + k) es) ≡ events (take i es) ++ events (take k (drop i es))
+    whole =
+        ap (λ (l : List Entry). events l) (take-add i k es)
+        ∙ map-append (λ (e : Entry). e.what) (take i es) (take k (drop i es))
+
+    behind : ShowNothing code (run_from code (replayed old) (events (take i es))) (events (take k (drop i es)))
+    behind =
+        subst (λ (s : State). ShowNothing code s (events (take k (drop i es)))) (passed-state old now es i so_far)
+        (subst (λ (r : Recorded). ShowNothing (code_of r.program) (replayed now) (events (take k (drop i es)))) so_far.made
+        (subst (λ (l : List Entry). ShowNothing (code_of now.program) (replayed now) (events (take k l))) is nothing))

@@ -1,0 +1,58 @@
+use Rattle.std.proofs.Common.{rules, ◌≡◌, ◌≤◌, ℕ, List, ◌++◌, ap, sym, ◌∙◌, arith, take, replicate, subst}
+use Rattle.flat_code.specs.Programs.{Program}
+use Rattle.machine.specs.Code.{Code}
+use Rattle.machine.specs.Flat.{code_of}
+use Rattle.var_access.specs.declared.Entry.{Entry}
+use Rattle.var_access.specs.declared.What.TheVariants.{Step}
+use Rattle.cpu.specs.Quiet.{ShowNothing}
+use Rattle.cpu.specs.Replay.{last_seen, replay}
+use Rattle.cpu.specs.Shown.{watched}
+use Rattle.cpu.specs.State.{State}
+use Rattle.cpu.specs.Views.{state_of}
+use Rattle.cpu.specs.declared.Observed.{Observed}
+use Rattle.controller.specs.Recorded.{Recorded}
+use Rattle.controller.specs.Replayed.{events, replayed}
+use Rattle.controller.proofs.QuietLemmas.{fewer-steps, fits-behind, observer-behind, quiet-behind, seen-behind, state-behind}
+use Rattle.controller.proofs.controllers.Controller.pass_steps.Goals as goal
+
+pub invariant_of-self-2 : goal.invariant_of-self-2
+invariant_of-self-2 c =
+    let p : Program = c.self.inside.program.program in
+    let code : Code = code_of p in
+    let history : List Entry = c.self.inside.history.items in
+    let made : ℕ = c.step_quietly-made.result in
+    let more : List Entry = take made c.args.entries.now in
+    let s : State = state_of c.self.inside.cpu in
+    let t : State = state_of c.step_quietly-made.new.self in
+    let steps : events more ≡ replicate made Step =
+    fewer-steps c.args.entries.now made c.args.ahead c.step_quietly-made.ensures.few c.requires.steps in
+    let items : c.extend_from_slice-pushed.new.self.items ≡ history ++ more = search rules in
+    let some : 1 ≤ made = omega arith in
+    record {
+      verifies = c.self.invariant.verifies;
+      state =
+          state-behind code history more s t made c.self.invariant.state steps c.step_quietly-made.ensures.state
+          ∙ ap (λ (es : List Entry). replay code (events es)) (sym items);
+      fit =
+          fits-behind p s t made c.what_runs_goes_on.ensures.entry c.self.invariant.verifies c.self.invariant.fit
+          c.step_quietly-made.ensures.state;
+      observer =
+          observer-behind s t c.self.inside.observer c.pass.new.self _ c.self.invariant.observer c.pass.ensures
+          c.step_quietly-made.ensures.outputs c.step_quietly-made.ensures.mode
+          ∙ ap (λ (o : Observed). watched t o)
+          (seen-behind code history more s made c.self.invariant.state steps c.step_quietly-made.ensures.nothing some
+          ∙ ap (λ (es : List Entry). last_seen code (events es)) (sym items));
+      numbers = c.self.invariant.numbers;
+      room = search rules;
+      bounded = search rules;
+    }
+
+pub returns-clause-nothing : goal.returns-clause-nothing
+returns-clause-nothing c =
+    subst (λ (r : Recorded). ShowNothing (code_of r.program) (replayed r) (events (take c.step_quietly-made.result c.args.entries.now)))
+    c.self.view_is
+    (quiet-behind (code_of c.self.inside.program.program) c.self.inside.history.items
+    (take c.step_quietly-made.result c.args.entries.now) (state_of c.self.inside.cpu) c.step_quietly-made.result
+    c.self.invariant.state
+    (fewer-steps c.args.entries.now c.step_quietly-made.result c.args.ahead c.step_quietly-made.ensures.few c.requires.steps)
+    c.step_quietly-made.ensures.nothing)

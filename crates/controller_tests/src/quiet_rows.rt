@@ -1,0 +1,93 @@
+//! Steps that show nothing are passed in a row, and all comes out as one by one.
+use crate::bench::{apply_entry, controller_of, write_end};
+use plc_base::Mode;
+use std::alloc::{AllocError, Global};
+use std::process::Abort;
+use std::test::Fail;
+use var_access::{Entry, What};
+
+/// A program, so many steps, an input and so many steps more; and what all of them show. No program
+/// comes to RUN in the first steps.
+type Row = (&'static str, u8, u8, &'static str);
+
+static ROWS: [Row; 3] = [
+    (
+        "OB 100 20 0 { L #1; x: INC 1; JU x",
+        100,
+        3,
+        "END 104 STARTUP",
+    ),
+    (
+        "OB 100 20 0 { L #7; T PB256; x: L PB0; T PB257; JU x",
+        50,
+        4,
+        "@2 PQ 256 = 07 | @53 PQ 257 = 01 | END 55 STARTUP",
+    ),
+    ("OB 100 20 0 { NOP #0; NOP #0", 2, 2, "@4 MODE RUN | END 5 RUN"),
+];
+
+fn entry_of(what: What) -> Entry {
+    Entry { who: 1, what }
+}
+
+fn entries_of(alloc: Global, first: u8, then: u8) -> Result<Vec<Entry>, AllocError> {
+    let mut entries = Vec::new(alloc);
+    for _ in 0..first {
+        entries.push(entry_of(What::Step))?;
+    }
+    entries.push(entry_of(What::Input { byte: 0, value: 1 }))?;
+    for _ in 0..then {
+        entries.push(entry_of(What::Step))?;
+    }
+    Ok(entries)
+}
+
+/// The text of all entries, the first steps in a row as far as they show nothing.
+fn quiet_text(
+    alloc: Global,
+    rt: &impl Abort,
+    program: &str,
+    entries: &[Entry],
+    steps: u8,
+) -> Result<String, Fail> {
+    let mut controller = controller_of(alloc, program)?;
+    controller.reserve(entries.len() as u64)?;
+    let made = controller.step_quietly(entries);
+    assert!(rt; made <= steps as usize, "{program}");
+    assert_eq!(rt; controller.history_len(), made as u64);
+    assert!(rt; controller.mode() == Mode::Startup, "{program}");
+    let mut out = String::new(alloc);
+    for entry in &entries[made..] {
+        apply_entry(alloc, rt, &mut controller, &mut out, *entry)?;
+    }
+    write_end(alloc, rt, &mut out, &controller)?;
+    Ok(out)
+}
+
+fn text(
+    alloc: Global,
+    rt: &impl Abort,
+    program: &str,
+    entries: &[Entry],
+) -> Result<String, Fail> {
+    let mut controller = controller_of(alloc, program)?;
+    let mut out = String::new(alloc);
+    for entry in entries {
+        apply_entry(alloc, rt, &mut controller, &mut out, *entry)?;
+    }
+    write_end(alloc, rt, &mut out, &controller)?;
+    Ok(out)
+}
+
+#[test]
+fn steps_are_passed(rt: HostRuntime) -> Result<(), Fail> {
+    let alloc = rt.alloc();
+    for (program, first, then, shown) in &ROWS {
+        let entries = entries_of(alloc, *first, *then)?;
+        let one_by_one = text(alloc, &rt, program, entries.as_slice())?;
+        assert_eq!(rt; one_by_one.as_str(), *shown, "{program}");
+        let in_a_row = quiet_text(alloc, &rt, program, entries.as_slice(), *first)?;
+        assert_eq!(rt; in_a_row.as_str(), *shown, "{program}");
+    }
+    Ok(())
+}
