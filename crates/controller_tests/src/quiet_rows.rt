@@ -12,7 +12,7 @@ type Row = (&'static str, u8, u8, &'static str);
 
 static ROWS: [Row; 3] = [
     (
-        "OB 100 20 0 { L #1; x: INC 1; JU x",
+        "OB 100 20 0 { L #1; x: INC #1; JU x",
         100,
         3,
         "END 104 STARTUP",
@@ -23,7 +23,12 @@ static ROWS: [Row; 3] = [
         4,
         "@2 PQ 256 = 07 | @53 PQ 257 = 01 | END 55 STARTUP",
     ),
-    ("OB 100 20 0 { NOP #0; NOP #0", 2, 2, "@4 MODE RUN | END 5 RUN"),
+    (
+        "OB 100 20 0 { NOP #0; NOP #0",
+        2,
+        2,
+        "@4 MODE RUN | END 5 RUN",
+    ),
 ];
 
 fn entry_of(what: What) -> Entry {
@@ -64,12 +69,7 @@ fn quiet_text(
     Ok(out)
 }
 
-fn text(
-    alloc: Global,
-    rt: &impl Abort,
-    program: &str,
-    entries: &[Entry],
-) -> Result<String, Fail> {
+fn text(alloc: Global, rt: &impl Abort, program: &str, entries: &[Entry]) -> Result<String, Fail> {
     let mut controller = controller_of(alloc, program)?;
     let mut out = String::new(alloc);
     for entry in entries {
