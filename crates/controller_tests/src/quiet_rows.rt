@@ -72,12 +72,7 @@ fn quiet_text(
     Ok(out)
 }
 
-fn text(
-    alloc: Global,
-    rt: &impl Abort,
-    program: &str,
-    entries: &[Entry],
-) -> Result<String, Fail> {
+fn text(alloc: Global, rt: &impl Abort, program: &str, entries: &[Entry]) -> Result<String, Fail> {
     let mut controller = controller_of(alloc, program)?;
     let mut out = String::new(alloc);
     for entry in entries {
