@@ -6,13 +6,14 @@ use std::process::Abort;
 use std::test::Fail;
 use var_access::{Entry, What};
 
-/// A program, so many steps, an input and so many steps more; and what all of them show. No program
-/// comes to RUN in the first steps.
-type Row = (&'static str, u8, u8, &'static str);
+/// A program, so many steps, of which so many are taken in a row, an input and so many steps more; and
+/// what all of them show. No program comes to RUN in the first steps.
+type Row = (&'static str, u8, usize, u8, &'static str);
 
 static ROWS: [Row; 3] = [
     (
-        "OB 100 20 0 { L #1; x: INC 1; JU x",
+        "OB 100 20 0 { L #1; x: INC #1; JU x",
+        100,
         100,
         3,
         "END 104 STARTUP",
@@ -20,10 +21,17 @@ static ROWS: [Row; 3] = [
     (
         "OB 100 20 0 { L #7; T PB256; x: L PB0; T PB257; JU x",
         50,
+        1,
         4,
         "@2 PQ 256 = 07 | @53 PQ 257 = 01 | END 55 STARTUP",
     ),
-    ("OB 100 20 0 { NOP #0; NOP #0", 2, 2, "@4 MODE RUN | END 5 RUN"),
+    (
+        "OB 100 20 0 { NOP #0; NOP #0",
+        2,
+        2,
+        2,
+        "@4 MODE RUN | END 5 RUN",
+    ),
 ];
 
 fn entry_of(what: What) -> Entry {
@@ -48,12 +56,12 @@ fn quiet_text(
     rt: &impl Abort,
     program: &str,
     entries: &[Entry],
-    steps: u8,
+    in_a_row: usize,
 ) -> Result<String, Fail> {
     let mut controller = controller_of(alloc, program)?;
     controller.reserve(entries.len() as u64)?;
     let made = controller.step_quietly(entries);
-    assert!(rt; made <= steps as usize, "{program}");
+    assert_eq!(rt; made, in_a_row, "{program}");
     assert_eq!(rt; controller.history_len(), made as u64);
     assert!(rt; controller.mode() == Mode::Startup, "{program}");
     let mut out = String::new(alloc);
@@ -64,12 +72,7 @@ fn quiet_text(
     Ok(out)
 }
 
-fn text(
-    alloc: Global,
-    rt: &impl Abort,
-    program: &str,
-    entries: &[Entry],
-) -> Result<String, Fail> {
+fn text(alloc: Global, rt: &impl Abort, program: &str, entries: &[Entry]) -> Result<String, Fail> {
     let mut controller = controller_of(alloc, program)?;
     let mut out = String::new(alloc);
     for entry in entries {
@@ -82,12 +85,12 @@ fn text(
 #[test]
 fn steps_are_passed(rt: HostRuntime) -> Result<(), Fail> {
     let alloc = rt.alloc();
-    for (program, first, then, shown) in &ROWS {
+    for (program, first, in_a_row, then, shown) in &ROWS {
         let entries = entries_of(alloc, *first, *then)?;
         let one_by_one = text(alloc, &rt, program, entries.as_slice())?;
         assert_eq!(rt; one_by_one.as_str(), *shown, "{program}");
-        let in_a_row = quiet_text(alloc, &rt, program, entries.as_slice(), *first)?;
-        assert_eq!(rt; in_a_row.as_str(), *shown, "{program}");
+        let quiet = quiet_text(alloc, &rt, program, entries.as_slice(), *in_a_row)?;
+        assert_eq!(rt; quiet.as_str(), *shown, "{program}");
     }
     Ok(())
 }
