@@ -1,6 +1,5 @@
 -- Entries one after another that show nothing.
-use Rattle.std.proofs.Common.{◌≡◌, ◌+◌, ◌-◌, ◌<◌, ◌≤◌, ℕ, zero, suc, List, [], ◌∷◌, ◌++◌, length, take, drop, get_or, replicate, refl, sym, ap, subst, ◌∙◌, arith, append_assoc, append-nil, length-drop}
-use Rattle.std.proofs.Math.Seq.{take-add}
+use Rattle.std.proofs.Common.{◌≡◌, ◌+◌, ◌<◌, ◌≤◌, ℕ, zero, suc, List, [], ◌∷◌, ◌++◌, length, take, get_or, replicate, refl, sym, ap, subst, ◌∙◌, arith}
 use Rattle.std.proofs.lemmas.List.{map-append, map_more, replicate_more, take-map, take-replicate, take-take}
 use Rattle.flat_code.specs.Loading.{Verifies}
 use Rattle.flat_code.specs.Programs.{Program}
@@ -16,8 +15,7 @@ use Rattle.cpu.specs.Shown.{Watched, nothing_shown, watched}
 use Rattle.cpu.specs.Start.{start}
 use Rattle.cpu.specs.State.{State}
 use Rattle.cpu.specs.declared.Observed.{Observed}
-use Rattle.controller.specs.Recorded.{Recorded}
-use Rattle.controller.specs.Replayed.{events, replayed}
+use Rattle.controller.specs.Replayed.{events}
 
 -- ---- entries behind others
 
@@ -128,67 +126,3 @@ observer-behind s t w w' seen before passed outputs mode =
     passed
     ∙ ap (λ (v : Watched). record v { seen = nothing_shown }) before
     ∙ cc
-
--- ---- some of the entries of a list, and then further ones
-
--- so many entries of a list were made, and showed nothing
-pub record Passed (old : Recorded) (es : List Entry) (i : ℕ) (now : Recorded) : Type 0 where
-  pub within : i ≤ length es
-  pub made : now ≡ record old { history = old.history ++ take i es; spare = old.spare - i }
-  pub nothing : ShowNothing (code_of old.program) (replayed old) (events (take i es))
-
-pub passed-none : (old : Recorded) (es : List Entry) → Passed old es 0 old
-passed-none old es = record {
-  within = omega arith;
-  made =
-      ap (λ (h : List Entry). record old { history = h }) (sym (append-nil old.history))
-      ∙ ap (λ (n : ℕ). record old { history = old.history ++ []; spare = n }) none;
-  nothing = tt;
-}
-  where
-    none : old.spare ≡ old.spare - 0
-    none = omega arith
-
-pub passed-state : (old now : Recorded) (es : List Entry) (i : ℕ) → Passed old es i now
-    → replayed now ≡ run_from (code_of old.program) (replayed old) (events (take i es))
-passed-state old now es i so_far =
-    ap (λ (r : Recorded). replayed r) so_far.made ∙ replay-more (code_of old.program) old.history (take i es)
-
-pub passed-more : (old now next : Recorded) (es rest : List Entry) (i k : ℕ) → Passed old es i now
-    → rest ≡ drop i es → k ≤ length rest
-    → next ≡ record now { history = now.history ++ take k rest; spare = now.spare - k }
-    → ShowNothing (code_of now.program) (replayed now) (events (take k rest))
-    → Passed old es (i + k) next
-passed-more old now next es rest i k so_far is few made nothing = record {
-  within = omega (arith, length-drop i es, ap (λ (l : List Entry). length l) is);
-  made =
-      made
-      ∙ ap (λ (l : List Entry). record now { history = now.history ++ take k l; spare = now.spare - k }) is
-      ∙ ap (λ (r : Recorded). record r { history = r.history ++ take k (drop i es); spare = r.spare - k }) so_far.made
-      ∙ ap (λ (h : List Entry). record old { history = h; spare = old.spare - i - k }) grown
-      ∙ ap (λ (n : ℕ). record old { history = old.history ++ take (i + k) es; spare = n }) less;
-  nothing = subst (λ (whats : List What). ShowNothing code (replayed old) whats) (sym whole)
-      (quiet-append code (replayed old) (events (take i es)) (events (take k (drop i es))) so_far.nothing behind);
-}
-  where
-    code : Code
-    code = code_of old.program
-
-    less : old.spare - i - k ≡ old.spare - (i + k)
-    less = omega arith
-
-    grown : (old.history ++ take i es) ++ take k (drop i es) ≡ old.history ++ take (i + k) es
-    grown =
-        append_assoc old.history (take i es) (take k (drop i es))
-        ∙ ap (λ (l : List Entry). old.history ++ l) (sym (take-add i k es))
-
-    whole : events (take (i + k) es) ≡ events (take i es) ++ events (take k (drop i es))
-    whole =
-        ap (λ (l : List Entry). events l) (take-add i k es)
-        ∙ map-append (λ (e : Entry). e.what) (take i es) (take k (drop i es))
-
-    behind : ShowNothing code (run_from code (replayed old) (events (take i es))) (events (take k (drop i es)))
-    behind =
-        subst (λ (s : State). ShowNothing code s (events (take k (drop i es)))) (passed-state old now es i so_far)
-        (subst (λ (r : Recorded). ShowNothing (code_of r.program) (replayed now) (events (take k (drop i es)))) so_far.made
-        (subst (λ (l : List Entry). ShowNothing (code_of now.program) (replayed now) (events (take k l))) is nothing))

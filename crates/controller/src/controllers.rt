@@ -1,4 +1,4 @@
-ghost use Rattle.std.specs.Prelude.{◌≡◌, ◌+◌, ◌-◌, ◌^◌, ◌<◌, ◌≤◌, ◌↔◌, [], ◌∷◌, ◌++◌, length, max, take, slice_get, is_some, replicate, IfOk, OnOk, OnErr, IsNone};
+ghost use Rattle.std.specs.Prelude.{◌≡◌, ◌+◌, ◌-◌, ◌^◌, ◌<◌, ◌≤◌, ◌↔◌, [], ◌∷◌, ◌++◌, length, max, take, slice_get, is_some, replicate, IfOk, OnOk, OnErr, IsNone, IsTrue};
 ghost use Rattle.std.specs.Option.{option_copied, option_map};
 ghost use Rattle.std.specs.FinMap as finmap;
 ghost use Rattle.image_file.specs.Readers.{bytes_of};
@@ -52,23 +52,29 @@ fn number_at(numbers: &[u16], place: usize) -> Option<u16>
     numbers.get(place).copied()
 }
 
-/// How many steps are looked for at once.
-const LOOK_AHEAD: usize = 32;
+fn is_step(entry: &Entry) -> bool
+    ensures { IsTrue result ↔ (entry.now.what ≡ Step) }
+{
+    matches!(entry.what, What::Step)
+}
 
-// How many of the first entries are steps, `LOOK_AHEAD` at most.
-fn steps_ahead(entries: &[Entry]) -> usize
+/// How many of the first entries of a list are steps.
+pub fn leading_steps(entries: &[Entry]) -> usize
     ensures few { result ≤ length entries.now }
     ensures steps { events (take result entries.now) ≡ replicate result Step }
 {
-    let most = entries.len().min(LOOK_AHEAD);
-    let mut ahead = 0;
-    while ahead < most {
-        match entries[ahead].what {
-            What::Step => ahead += 1,
-            _ => return ahead,
+    let mut steps = 0;
+    // Two at a time: a history is steps for the most part.
+    while steps + 1 < entries.len() {
+        if !is_step(&entries[steps]) || !is_step(&entries[steps + 1]) {
+            break;
         }
+        steps += 2;
     }
-    ahead
+    if steps < entries.len() && is_step(&entries[steps]) {
+        steps += 1;
+    }
+    steps
 }
 
 impl Controller {
@@ -134,44 +140,19 @@ impl Controller {
         cpu::laws::what_runs_goes_on();
         let reply = self.cpu.happen(&self.program, e.what);
         self.observer.look(&self.cpu);
-        let pushed = self.history.push(e);
-        prove!(pushed.is_ok());
+        self.history.push_reserved(e);
         self.spare -= 1;
         reply
     }
 
-    // Makes entries from the front of a list as long as each shows nothing, of the first ones, which are
-    // steps.
-    fn pass_steps(&mut self, entries: &[Entry], ahead: usize) -> usize
-        requires within { ahead ≤ length entries.now }
-        requires steps { events (take ahead entries.now) ≡ replicate ahead Step }
-        requires room { ahead ≤ self.old.spare }
-        ensures few { result ≤ ahead }
-        ensures history { self.new ≡ record self.old {
-          history = self.old.history ++ take result entries.now;
-          spare = self.old.spare - result;
-        } }
-        ensures nothing { ShowNothing (code_of self.old.program) (replayed self.old)
-            (events (take result entries.now)) }
-    {
-        cpu::laws::counts_entries();
-        cpu::laws::what_runs_goes_on();
-        let made = self.cpu.step_quietly(&self.program, ahead as u64) as usize;
-        if made == 0 {
-            return 0;
-        }
-        self.observer.pass();
-        let pushed = self.history.extend_from_slice(&entries[..made]);
-        prove!(pushed.is_ok());
-        self.spare -= made as u64;
-        made
-    }
-
-    /// Makes entries from the front of a list as long as each is a step that shows nothing; the answer is
-    /// how many. It may stop before one of this kind: what it leaves is for `apply`. Takes no memory.
-    pub fn step_quietly(&mut self, entries: &[Entry]) -> usize
-        requires { length entries.now ≤ self.old.spare }
-        ensures few { result ≤ length entries.now }
+    /// Makes entries from the front of a list, of which so many are steps, as long as each is a step that
+    /// shows nothing; the answer is how many. It may stop before one of this kind: what it leaves is for
+    /// `apply`. Takes no memory.
+    pub fn step_quietly(&mut self, entries: &[Entry], steps: usize) -> usize
+        requires within { steps ≤ length entries.now }
+        requires steps { events (take steps entries.now) ≡ replicate steps Step }
+        requires room { steps ≤ self.old.spare }
+        ensures few { result ≤ steps }
         ensures history { self.new ≡ record self.old {
           history = self.old.history ++ take result entries.now;
           spare = self.old.spare - result;
@@ -181,15 +162,17 @@ impl Controller {
         ensures state { replayed self.new ≡ run_from (code_of self.old.program)
             (replayed self.old) (events (take result entries.now)) }
     {
-        let mut done = 0;
-        loop {
-            let ahead = steps_ahead(&entries[done..]);
-            let made = self.pass_steps(&entries[done..], ahead);
-            done += made;
-            if made == 0 || made < ahead {
-                return done;
-            }
+        cpu::laws::counts_entries();
+        cpu::laws::what_runs_goes_on();
+        let made = self.cpu.step_quietly(&self.program, steps as u64) as usize;
+        if made == 0 {
+            return 0;
         }
+        self.observer.pass();
+        let pushed = self.history.extend_from_slice(&entries[..made]);
+        prove!(pushed.is_ok());
+        self.spare -= made as u64;
+        made
     }
 
     /// What the last entry showed.

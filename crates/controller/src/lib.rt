@@ -3,5 +3,5 @@
 
 mod controllers;
 
-pub use controllers::Controller;
+pub use controllers::{Controller, leading_steps};
 pub use cpu::{Observed, Outputs};

@@ -1,5 +1,6 @@
 //! Steps that show nothing are passed in a row, and all comes out as one by one.
 use crate::bench::{apply_entry, controller_of, write_end};
+use controller::leading_steps;
 use plc_base::Mode;
 use std::alloc::{AllocError, Global};
 use std::process::Abort;
@@ -60,7 +61,7 @@ fn quiet_text(
 ) -> Result<String, Fail> {
     let mut controller = controller_of(alloc, program)?;
     controller.reserve(entries.len() as u64)?;
-    let made = controller.step_quietly(entries);
+    let made = controller.step_quietly(entries, leading_steps(entries));
     assert_eq!(rt; made, in_a_row, "{program}");
     assert_eq!(rt; controller.history_len(), made as u64);
     assert!(rt; controller.mode() == Mode::Startup, "{program}");

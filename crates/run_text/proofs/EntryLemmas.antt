@@ -1,6 +1,7 @@
 -- The entries of a history, applied one by one, or in a row where they show nothing.
-use Rattle.std.proofs.Common.{◌≡◌, ◌<◌, ◌≤◌, refl, sym, ◌∙◌, ap, subst, ℕ, ◌+◌, ◌-◌, List, [], ◌∷◌, ◌++◌, length, take, drop, get_or, Ok, arith, append-nil, append_assoc, length-append, length-drop}
+use Rattle.std.proofs.Common.{◌≡◌, ◌<◌, ◌≤◌, ◌⊎◌, inl, inr, refl, sym, ◌∙◌, ap, subst, ℕ, zero, suc, ◌+◌, ◌-◌, List, [], ◌∷◌, ◌++◌, length, take, drop, replicate, get_or, Ok, arith, append-nil, append_assoc, length-append, length-drop}
 use Rattle.std.proofs.Math.Seq.{take-add}
+use Rattle.std.proofs.lemmas.Bool.{cases_lt}
 use Rattle.std.proofs.lemmas.List.{drop-drop, drop_all, take-append-drop}
 use Rattle.plc_io.specs.Moments.{SinkAt}
 use Rattle.plc_io.specs.Taken.{Wrote}
@@ -8,6 +9,8 @@ use Rattle.flat_code.specs.Programs.{Program}
 use Rattle.machine.specs.Code.{Code}
 use Rattle.machine.specs.Flat.{code_of}
 use Rattle.var_access.specs.declared.Entry.{Entry}
+use Rattle.var_access.specs.declared.What.{What}
+use Rattle.var_access.specs.declared.What.TheVariants.{Step}
 use Rattle.cpu.specs.declared.Observed.{Observed}
 use Rattle.cpu.specs.Quiet.{ShowNothing}
 use Rattle.cpu.specs.Replay.{happens, replay, run_from}
@@ -133,6 +136,67 @@ lines-more old new es i k more nothing state =
 
     counted : length new.history ≡ length old.history + length front
     counted = ap (λ (r : Recorded). length r.history) more ∙ length-append old.history front
+
+-- ---- what is known of the entries to come
+
+-- so many entries from a place on are steps
+pub record KnownSteps (es : List Entry) (i n : ℕ) : Type 0 where
+  pub few : n ≤ length (drop i es)
+  pub steps : events (take n (drop i es)) ≡ replicate n Step
+
+pub known-none : (es : List Entry) (i : ℕ) → KnownSteps es i 0
+known-none es i = record { few = omega arith; steps = refl }
+
+steps-behind : (es : List Entry) (k m : ℕ) → events (take (k + m) es) ≡ replicate (k + m) Step
+    → events (take m (drop k es)) ≡ replicate m Step
+steps-behind es zero m h =
+    let none : 0 + m ≡ m = omega arith in
+    subst (λ (n : ℕ). events (take n es) ≡ replicate n Step) none h
+steps-behind [] (suc k) m h = absurd (never (subst (λ (n : ℕ). events (take n []) ≡ replicate n Step) more h))
+  where
+    more : suc k + m ≡ suc (k + m)
+    more = omega arith
+
+    never : ◌≡◌ {A = List What} [] (Step ∷ replicate (k + m) Step) → ⊥
+    never e = cc
+steps-behind (e ∷ es) (suc k) m h =
+    steps-behind es k m (rest (subst (λ (n : ℕ). events (take n (e ∷ es)) ≡ replicate n Step) more h))
+  where
+    more : suc k + m ≡ suc (k + m)
+    more = omega arith
+
+    rest : e.what ∷ events (take (k + m) es) ≡ Step ∷ replicate (k + m) Step
+        → events (take (k + m) es) ≡ replicate (k + m) Step
+    rest same = cc
+
+-- behind some of them, and a further entry
+pub known-later : (es rest : List Entry) (i n k left : ℕ) → rest ≡ drop i es → n ≤ length rest
+    → events (take n rest) ≡ replicate n Step → k ≤ n → i + k < length es → left ≡ n - k - 1
+    → KnownSteps es (i + k + 1) left
+known-later es rest i n k left is few steps made within count = by (cases_lt k n)
+  where
+    there : drop (k + 1) rest ≡ drop (i + k + 1) es
+    there =
+        ap (λ (l : List Entry). drop (k + 1) l) is
+        ∙ drop-drop (k + 1) i es
+        ∙ ap (λ (m : ℕ). drop m es) (omega arith)
+
+    by : (k < n) ⊎ (n ≤ k) → KnownSteps es (i + k + 1) left
+    by (inl more) = record {
+      few = omega (arith, length-drop (i + k + 1) es, length-drop i es, ap (λ (l : List Entry). length l) is);
+      steps = subst (λ (l : List Entry). events (take left l) ≡ replicate left Step) there
+          (steps-behind rest (k + 1) left
+          (subst (λ (m : ℕ). events (take m rest) ≡ replicate m Step) whole steps));
+    }
+      where
+        whole : n ≡ k + 1 + left
+        whole = omega arith
+    by (inr none) = subst (λ (m : ℕ). KnownSteps es (i + k + 1) m) nothing (known-none es (i + k + 1))
+      where
+        nothing : 0 ≡ left
+        nothing = omega arith
+
+-- ---- what was applied and written
 
 -- the first i entries were applied, and what they showed was written
 pub record Follows (start : Recorded) (es : List Entry) (i : ℕ) (now : Recorded) (before at : SinkAt) : Type 0 where

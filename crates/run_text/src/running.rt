@@ -1,16 +1,17 @@
-ghost use Rattle.std.specs.Prelude.{◌≡◌, ◌*◌, ◌≤◌, ◌-◌, [], ◌++◌, length, take, drop, All, IfOk, IfErr, OnOk};
+ghost use Rattle.std.specs.Prelude.{◌≡◌, ◌*◌, ◌≤◌, ◌-◌, [], ◌++◌, length, take, drop, replicate, All, IfOk, IfErr, OnOk};
 ghost use Rattle.std.specs.List.{flat_map};
 ghost use Rattle.plc_io.specs.Taken.{Wrote};
 ghost use Rattle.plc_io.specs.declared.faults.IoFault.TheVariants.{NoMemory};
 ghost use Rattle.var_access.specs.Entry.{IsValid};
 ghost use Rattle.machine.specs.Flat.{code_of};
-ghost use Rattle.controller.specs.Replayed.{data_blocks as blocks_after};
+ghost use Rattle.var_access.specs.declared.What.TheVariants.{Step};
+ghost use Rattle.controller.specs.Replayed.{data_blocks as blocks_after, events};
 ghost use Rattle.run_text.specs.Behind.{closing_of, lines_behind};
 ghost use Rattle.run_text.specs.LineText.{end_text, output_text};
 ghost use Rattle.run_text.specs.RunText.{block_text, changed_mode_text, run_text, shown_text};
 
 use crate::texts::{ROW_BYTES, end_line, mode_line, output_line, row_line};
-use controller::{Controller, Observed};
+use controller::{Controller, Observed, leading_steps};
 use image_file::Loaded;
 use plc_base::Mode;
 use plc_io::{IoFault, Sink, push_all};
@@ -47,6 +48,20 @@ fn write_entry<K: Sink>(out: &mut K, n: u64, seen: &Observed) -> Result<(), IoFa
     write_mode(out, n, seen.mode)
 }
 
+/// How many of the first entries are steps, where so many are known to be.
+fn known_steps(entries: &[Entry], known: usize) -> usize
+    requires few { known ≤ length entries.now }
+    requires steps { events (take known entries.now) ≡ replicate known Step }
+    ensures few { result ≤ length entries.now }
+    ensures steps { events (take result entries.now) ≡ replicate result Step }
+{
+    if known == 0 {
+        leading_steps(entries)
+    } else {
+        known
+    }
+}
+
 /// Applies the entries, and writes what each showed. Steps that show nothing are passed in a row.
 fn write_entries<K: Sink>(
     controller: &mut Controller,
@@ -63,14 +78,18 @@ fn write_entries<K: Sink>(
         (lines_behind controller.old entries.now) result }
 {
     let mut at = 0;
+    let mut known = 0;
     loop {
-        at += controller.step_quietly(&entries[at..]);
+        let steps = known_steps(&entries[at..], known);
+        let made = controller.step_quietly(&entries[at..], steps);
+        at += made;
         let Some(entry) = entries.get(at) else {
             return Ok(());
         };
         controller.apply(*entry);
         write_entry(out, controller.history_len(), controller.observed())?;
         at += 1;
+        known = (steps - made).saturating_sub(1);
     }
 }
 

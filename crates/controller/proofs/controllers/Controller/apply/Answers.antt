@@ -24,8 +24,8 @@ invariant_of-self c =
     let history : List Entry = c.self.inside.history.items in
     let s : State = state_of c.self.inside.cpu in
     let t : State = state_of c.happen-reply.new.self in
-    let items : c.push-pushed.new.self.items ≡ history ++ c.args.e ∷ [] = search rules in
-    let seen : (happens code s c.args.e.what).seen ≡ last_seen code (events c.push-pushed.new.self.items) =
+    let items : c.push_reserved.new.self.items ≡ history ++ c.args.e ∷ [] = search rules in
+    let seen : (happens code s c.args.e.what).seen ≡ last_seen code (events c.push_reserved.new.self.items) =
     seen_next code history c.args.e s c.continues_replay.ensures.seen c.self.invariant.state
     ∙ ap (λ (es : List Entry). last_seen code (events es)) (sym items) in
     record {

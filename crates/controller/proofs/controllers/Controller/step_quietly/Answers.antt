@@ -1,26 +1,68 @@
-use Rattle.std.proofs.Common.{◌+◌, arith}
-use Rattle.std.proofs.lemmas.List.{take_rest}
-use Rattle.controller.proofs.QuietLemmas.{Passed, passed-more, passed-none, passed-state}
+use Rattle.std.proofs.Common.{rules, ◌≡◌, ◌≤◌, ℕ, List, ◌++◌, ap, sym, ◌∙◌, arith, take, replicate, subst}
+use Rattle.flat_code.specs.Programs.{Program}
+use Rattle.machine.specs.Code.{Code}
+use Rattle.machine.specs.Flat.{code_of}
+use Rattle.var_access.specs.declared.Entry.{Entry}
+use Rattle.var_access.specs.declared.What.TheVariants.{Step}
+use Rattle.cpu.specs.Quiet.{ShowNothing}
+use Rattle.cpu.specs.Replay.{last_seen, replay, run_from}
+use Rattle.cpu.specs.Shown.{watched}
+use Rattle.cpu.specs.State.{State}
+use Rattle.cpu.specs.Views.{state_of}
+use Rattle.cpu.specs.declared.Observed.{Observed}
+use Rattle.controller.specs.Recorded.{Recorded}
+use Rattle.controller.specs.Replayed.{events, replayed}
+use Rattle.controller.proofs.QuietLemmas.{fewer-steps, fits-behind, observer-behind, quiet-behind, replay-more, seen-behind, state-behind}
 use Rattle.controller.proofs.controllers.Controller.step_quietly.Goals as goal
 
-pub loop-done-init : goal.loop-done-init
-loop-done-init c = passed-none c.args.self.now c.args.entries.now
-
-pub returns-then-made-eq0 : goal.returns-then-made-eq0
-returns-then-made-eq0 c =
-    let passed : Passed c.args.self.now c.args.entries.now (c.loop-done.done + c.pass_steps-made.result) c.pass_steps-made.new.self =
-    passed-more c.args.self.now c.loop-done.self c.pass_steps-made.new.self c.args.entries.now _ c.loop-done.done _
-    c.loop-done.invariant (take_rest c.args.entries.now c.loop-done.done) (omega (arith, c.steps_ahead-ahead.ensures.few, c.pass_steps-made.ensures.few))
-    c.pass_steps-made.ensures.history c.pass_steps-made.ensures.nothing in
+pub invariant_of-self-2 : goal.invariant_of-self-2
+invariant_of-self-2 c =
+    let p : Program = c.self.inside.program.program in
+    let code : Code = code_of p in
+    let history : List Entry = c.self.inside.history.items in
+    let made : ℕ = c.step_quietly-made.result in
+    let more : List Entry = take made c.args.entries.now in
+    let s : State = state_of c.self.inside.cpu in
+    let t : State = state_of c.step_quietly-made.new.self in
+    let steps : events more ≡ replicate made Step =
+    fewer-steps c.args.entries.now made c.args.steps c.step_quietly-made.ensures.few c.requires.steps in
+    let items : c.extend_from_slice-pushed.new.self.items ≡ history ++ more = search rules in
+    let some : 1 ≤ made = omega arith in
     record {
-      few = passed.within;
-      history = passed.made;
-      nothing = passed.nothing;
-      state = passed-state c.args.self.now c.pass_steps-made.new.self c.args.entries.now _ passed;
+      verifies = c.self.invariant.verifies;
+      state =
+          state-behind code history more s t made c.self.invariant.state steps c.step_quietly-made.ensures.state
+          ∙ ap (λ (es : List Entry). replay code (events es)) (sym items);
+      fit =
+          fits-behind p s t made c.what_runs_goes_on.ensures.entry c.self.invariant.verifies c.self.invariant.fit
+          c.step_quietly-made.ensures.state;
+      observer =
+          observer-behind s t c.self.inside.observer c.pass.new.self _ c.self.invariant.observer c.pass.ensures
+          c.step_quietly-made.ensures.outputs c.step_quietly-made.ensures.mode
+          ∙ ap (λ (o : Observed). watched t o)
+          (seen-behind code history more s made c.self.invariant.state steps c.step_quietly-made.ensures.nothing some
+          ∙ ap (λ (es : List Entry). last_seen code (events es)) (sym items));
+      numbers = c.self.invariant.numbers;
+      room = search rules;
+      bounded = search rules;
     }
 
-pub loop-done-preserved : goal.loop-done-preserved
-loop-done-preserved c =
-    passed-more c.args.self.now c.loop-done.self c.pass_steps-made.new.self c.args.entries.now _ c.loop-done.done _
-    c.loop-done.invariant (take_rest c.args.entries.now c.loop-done.done) (omega (arith, c.steps_ahead-ahead.ensures.few, c.pass_steps-made.ensures.few))
-    c.pass_steps-made.ensures.history c.pass_steps-made.ensures.nothing
+pub returns-clause-nothing : goal.returns-clause-nothing
+returns-clause-nothing c =
+    subst (λ (r : Recorded). ShowNothing (code_of r.program) (replayed r) (events (take c.step_quietly-made.result c.args.entries.now)))
+    c.self.view_is
+    (quiet-behind (code_of c.self.inside.program.program) c.self.inside.history.items
+    (take c.step_quietly-made.result c.args.entries.now) (state_of c.self.inside.cpu) c.step_quietly-made.result
+    c.self.invariant.state
+    (fewer-steps c.args.entries.now c.step_quietly-made.result c.args.steps c.step_quietly-made.ensures.few c.requires.steps)
+    c.step_quietly-made.ensures.nothing)
+
+pub returns-clause-state : goal.returns-clause-state
+returns-clause-state c =
+    let code : Code = code_of c.self.inside.program.program in
+    let history : List Entry = c.self.inside.history.items in
+    let more : List Entry = take c.step_quietly-made.result c.args.entries.now in
+    let items : c.extend_from_slice-pushed.new.self.items ≡ history ++ more = search rules in
+    ap (λ (es : List Entry). replay code (events es)) items
+    ∙ replay-more code history more
+    ∙ ap (λ (r : Recorded). run_from (code_of r.program) (replayed r) (events more)) c.self.view_is
