@@ -173,7 +173,8 @@ fn behind(bytes: &[u8], at: usize) -> &[u8]
 fn op_behind(bytes: &[u8], at: u32) -> Option<(Op, u32)>
     requires short { length bytes.now < 2 ^ 32 }
     requires within { at ≤ length bytes.now }
-    ensures found { IfSome result (λ r. (op_at (drop at bytes.now) ≡ Some (r.0, drop r.1 bytes.now))
+    ensures found { IfSome result (λ r. (op_at (drop at bytes.now)
+        ≡ Some (r.0, drop r.1 bytes.now))
         × (at < r.1) × (r.1 ≤ length bytes.now)) }
     ensures none { IfNone result (op_at (drop at bytes.now) ≡ None) }
 {

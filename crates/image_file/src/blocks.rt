@@ -121,7 +121,8 @@ impl Reader<'_> {
             (place_of self.old) (log_of self.old)) }
         ensures all { OnOk result (self.new.at + length self.new.rest.now
             ≡ self.old.at + length self.old.rest.now) }
-        ensures room { IfOk result (λ v. length (code_bytes v.items) ≤ length self.old.rest.now) }
+        ensures room { IfOk result (λ v. length (code_bytes v.items)
+            ≤ length self.old.rest.now) }
     {
         if self.rest.len() < size as usize {
             self.note(self.at, 3);
@@ -201,7 +202,8 @@ impl Reader<'_> {
             (code_and_lines true start (head_values head)) (place_of self.old) (log_of self.old)) }
         ensures all { OnOk result (self.new.at + length self.new.rest.now
             ≡ self.old.at + length self.old.rest.now) }
-        ensures room { IfOk result (λ r. length (code_bytes r.0.items) ≤ length self.old.rest.now) }
+        ensures room { IfOk result (λ r. length (code_bytes r.0.items)
+            ≤ length self.old.rest.now) }
     {
         let ops = self.code(alloc, head.size)?;
         let lines = self.counted_lines(alloc, start, head, &ops)?;

@@ -283,7 +283,8 @@ fn found_callee<'a>(
 
 /// The block at a place of a list.
 fn callee_at(blocks: &[SignatureRead], place: usize) -> Option<(u8, u16, &[ParameterRecord])>
-    ensures { option_map callee_values result ≡ option_map callee_of (slice_get blocks.now place) }
+    ensures { option_map callee_values result
+        ≡ option_map callee_of (slice_get blocks.now place) }
 {
     let block = blocks.get(place)?;
     Some((block.kind, block.instance_len, block.params.as_slice()))

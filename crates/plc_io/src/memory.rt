@@ -113,7 +113,8 @@ impl Files for MemFiles {
             let after = memory_files self.new.files self.new.reads.failed self.new.writes.failed in
             LeavesWritten before after name.now bytes.now result }
         // Exactly when and what.
-        ensures fails { (result ≡ Err IoFault.Failed) ↔ IsTrue (is_next_to_fail self.old.writes) }
+        ensures fails { (result ≡ Err IoFault.Failed)
+            ↔ IsTrue (is_next_to_fail self.old.writes) }
         ensures ok { OnOk result (self.new.files ≡ with_file self.old.files name.now bytes.now) }
         ensures err { OnErr result (self.new.files ≡ self.old.files) }
         ensures after { let writes = after_call self.old.writes (is_next_to_fail self.old.writes) in
@@ -186,7 +187,8 @@ impl Sink for MemSink {
             let after = told_sink self.new.taken self.new.pushes.failed in
             Offered before after bytes.now result }
         // Exactly when and what.
-        ensures fails { (result ≡ Err IoFault.Failed) ↔ IsTrue (is_next_to_fail self.old.pushes) }
+        ensures fails { (result ≡ Err IoFault.Failed)
+            ↔ IsTrue (is_next_to_fail self.old.pushes) }
         ensures count { IfOk result (λ n. n ≡ min self.old.most (length bytes.now)) }
         ensures ok { IfOk result (λ n. self.new.taken ≡ self.old.taken ++ take n bytes.now) }
         ensures err { OnErr result (self.new.taken ≡ self.old.taken) }

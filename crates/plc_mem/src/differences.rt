@@ -22,7 +22,8 @@ pub(crate) fn first_difference(old: &[u8], new: &[u8], from: usize) -> Option<us
 fn skip_equal_blocks(old: &[u8], new: &[u8], from: usize) -> usize
     requires { length old.now ≡ length new.now }
     ensures ahead { from ≤ result }
-    ensures same { (n : ℕ) → from ≤ n → n < result → slice_get new.now n ≡ slice_get old.now n }
+    ensures same { (n : ℕ) → from ≤ n → n < result →
+        slice_get new.now n ≡ slice_get old.now n }
 {
     let mut at = from;
     while at < old.len() && old.len() - at >= BLOCK && is_same_block(old, new, at) {

@@ -44,7 +44,8 @@ fn ordered_data_blocks(
     layouts: &Layouts,
     symbols: &Symbols,
 ) -> Result<Vec<DataBlock>, NoMemory>
-    ensures { IfOk result (λ list. list.items ≡ data_blocks_of tree.now symbols.now layouts.now) }
+    ensures { IfOk result (λ list. list.items
+        ≡ data_blocks_of tree.now symbols.now layouts.now) }
 {
     let scope = Scope::new(symbols, tree, layouts);
     let mut list = data_blocks(alloc, &scope, tree.blocks.as_slice(), layouts.list())?;

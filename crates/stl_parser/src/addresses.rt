@@ -102,7 +102,8 @@ pub(crate) fn address<'a>(source: &[u8], tokens: &'a [Token]) -> Option<(Address
 /// A block by kind and number, as `DB 10`, with what follows.
 #[tactic(auto, unfolding(crate::specs::Addresses::block_number_at, crate::specs::Tables::block_kinds))]
 fn block_number<'a>(source: &[u8], tokens: &'a [Token]) -> Option<(BlockKind, u16, &'a [Token])>
-    ensures { option_map (λ r. (r.0, r.1, r.2.now)) result ≡ block_number_at source.now tokens.now }
+    ensures { option_map (λ r. (r.0, r.1, r.2.now)) result
+        ≡ block_number_at source.now tokens.now }
 {
     numbered(&BLOCK_KINDS, source, tokens)
 }

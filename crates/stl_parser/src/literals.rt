@@ -180,7 +180,8 @@ fn long_literal<'a>(
     token: &Token,
     rest: &'a [Token],
 ) -> Option<(Literal, &'a [Token])>
-    ensures { option_map (λ r. (r.0, r.1.now)) result ≡ long_literal source.now token.now rest.now }
+    ensures { option_map (λ r. (r.0, r.1.now)) result
+        ≡ long_literal source.now token.now rest.now }
 {
     if is_mark(source, token, Mark::Bytes) {
         bytes_at(source, rest)

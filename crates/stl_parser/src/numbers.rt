@@ -61,7 +61,8 @@ pub(crate) fn signed<'a>(
     sign: &Token,
     tokens: &'a [Token],
 ) -> Option<(i32, &'a [Token])>
-    ensures { option_map (λ r. (r.0, r.1.now)) result ≡ signed_at source.now sign.now tokens.now }
+    ensures { option_map (λ r. (r.0, r.1.now)) result
+        ≡ signed_at source.now sign.now tokens.now }
 {
     let [token, rest @ ..] = tokens else {
         return None;

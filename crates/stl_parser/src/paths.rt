@@ -129,7 +129,8 @@ pub(crate) fn all_steps(
     first: Vec<PathStep>,
     tokens: &[Token],
 ) -> Result<Option<Sequence<PathStep>>, AllocError>
-    ensures { IfOk result (λ found. found ≡ whole (steps_from source.now first.items tokens.now)) }
+    ensures { IfOk result (λ found. found
+        ≡ whole (steps_from source.now first.items tokens.now)) }
 {
     match steps(alloc, source, first, tokens)? {
         Some((steps, [])) => Ok(Some(steps)),

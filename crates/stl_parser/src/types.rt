@@ -41,7 +41,8 @@ fn array_end<'a>(
     high: i32,
     tokens: &'a [Token],
 ) -> Option<(Bounds, &'a [Token])>
-    ensures { option_map (λ r. (r.0, r.1.now)) result ≡ array_end source.now low high tokens.now }
+    ensures { option_map (λ r. (r.0, r.1.now)) result
+        ≡ array_end source.now low high tokens.now }
 {
     let [close, of, rest @ ..] = tokens else {
         return None;
@@ -56,7 +57,8 @@ fn array_end<'a>(
 /// The upper bound and `] OF`, behind the `..`.
 fn array_rest<'a>(source: &[u8], low: i32, tokens: &'a [Token]) -> Option<(Bounds, &'a [Token])>
     ensures { option_map (λ r. (r.0, r.1.now)) result
-        ≡ option_and_then (λ r. array_end source.now low r.0 r.1) (int_at source.now tokens.now) }
+        ≡ option_and_then (λ r. array_end source.now low r.0 r.1)
+        (int_at source.now tokens.now) }
 {
     let (high, rest) = int(source, tokens)?;
     array_end(source, low, high, rest)
@@ -359,7 +361,8 @@ pub(crate) fn inits(
     element: &ElementType,
     tokens: &[Token],
 ) -> Result<Option<Sequence<Init>>, AllocError>
-    ensures { IfOk result (λ found. found ≡ init_of source.now arrays.now element.now tokens.now) }
+    ensures { IfOk result (λ found. found
+        ≡ init_of source.now arrays.now element.now tokens.now) }
 {
     match arrays {
         [_] => match element {

@@ -102,7 +102,8 @@ impl Symbols {
     /// What the symbol of this name names, whatever the case of ASCII letters; `None` exactly where
     /// no symbol has the name.
     pub fn lookup(&self, name: &[u8]) -> Option<Target>
-        ensures { result ≡ option_map (λ symbol. symbol.target) (symbol_named name.now self.now) }
+        ensures { result
+            ≡ option_map (λ symbol. symbol.target) (symbol_named name.now self.now) }
     {
         target_of(self.list.as_slice(), &self.names, name)
     }

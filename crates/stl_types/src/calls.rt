@@ -78,7 +78,8 @@ fn is_supplied_twice(
     before: &Names,
     actual: &Actual,
 ) -> Result<bool, AllocError>
-    ensures { IfOk result (λ twice. twice ≡ is_supplied_twice formals.now before.now actual.now) }
+    ensures { IfOk result (λ twice. twice
+        ≡ is_supplied_twice formals.now before.now actual.now) }
 {
     if names_none(formals, alloc, actual)? {
         return Ok(false);

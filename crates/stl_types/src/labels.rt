@@ -51,7 +51,8 @@ fn is_unknown_label(labels: &Names, operand: &Operand) -> bool
 }
 
 fn unknown_labels(alloc: Global, body: &[Statement]) -> Result<Option<Refusal>, AllocError>
-    ensures { IfOk result (λ found. found ≡ least (unknown_labels (labels_of body.now) body.now)) }
+    ensures { IfOk result (λ found. found
+        ≡ least (unknown_labels (labels_of body.now) body.now)) }
 {
     let labels = labels_of(alloc, body)?;
     Ok(least_of(body, |s: &Statement| {

@@ -118,7 +118,8 @@ impl<V: Storied + Drop> TrackedLock<V> {
     pub fn new(alloc: Global, value: V, n: u8) -> Result<(TrackedLock<V>, Vec<Pass<V>>), NoMemory>
         requires some { 1 ≤ n }
         requires empty { V.story value ≡ [] }
-        ensures lock { IfOk result (λ r. (r.0.origin ≡ V.origin value ∷ []) × (r.0.passes ≡ n)) }
+        ensures lock { IfOk result (λ r. (r.0.origin ≡ V.origin value ∷ [])
+            × (r.0.passes ≡ n)) }
         ensures passes { IfOk result (λ r. r.1.items ≡ fresh_passes r.0 0 n) }
     {
         let key = Key {
