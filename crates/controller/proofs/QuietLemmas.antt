@@ -1,6 +1,6 @@
 -- Entries one after another that show nothing.
-use Rattle.std.proofs.Common.{◌≡◌, ◌+◌, ◌<◌, ◌≤◌, ℕ, zero, suc, List, [], ◌∷◌, ◌++◌, length, take, get_or, replicate, refl, sym, ap, subst, ◌∙◌, arith}
-use Rattle.std.proofs.lemmas.List.{map-append, map_more, replicate_more, take-map, take-replicate, take-take}
+use Rattle.std.proofs.Common.{◌≡◌, ◌≤◌, ℕ, zero, suc, List, [], ◌∷◌, ◌++◌, length, take, replicate, refl, sym, ap, subst, ◌∙◌, arith}
+use Rattle.std.proofs.lemmas.List.{map-append, take-map, take-replicate}
 use Rattle.flat_code.specs.Loading.{Verifies}
 use Rattle.flat_code.specs.Programs.{Program}
 use Rattle.machine.specs.Code.{Code}
@@ -63,22 +63,13 @@ none-now code s seen (suc n) quiet some =
 
 -- ---- steps
 
-pub steps-next : (es : List Entry) (i : ℕ) (d : Entry) → i < length es → events (take i es) ≡ replicate i Step
-    → (get_or es i d).what ≡ Step → events (take (i + 1) es) ≡ replicate (i + 1) Step
-steps-next es i d within steps next =
-    map_more (λ (e : Entry). e.what) es i d within
-    ∙ ap (λ (whats : List What). whats ++ (get_or es i d).what ∷ []) steps
-    ∙ ap (λ (what : What). replicate i Step ++ what ∷ []) next
-    ∙ replicate_more i Step
-
 -- the first of so many steps are steps
-pub fewer-steps : (es : List Entry) (k n : ℕ) → k ≤ n → events (take n es) ≡ replicate n Step
+pub fewer-steps : (es : List Entry) (k : ℕ) → k ≤ length es → events es ≡ replicate (length es) Step
     → events (take k es) ≡ replicate k Step
-fewer-steps es k n few steps =
-    ap (λ (front : List Entry). events front) (sym (take-take k n es few))
-    ∙ sym (take-map (λ (e : Entry). e.what) k (take n es))
+fewer-steps es k few steps =
+    sym (take-map (λ (e : Entry). e.what) k es)
     ∙ ap (λ (whats : List What). take k whats) steps
-    ∙ take-replicate k n Step few
+    ∙ take-replicate k (length es) Step few
 
 fits-steps : (p : Program) (s : State) (n : ℕ) → EntriesKeepFit → Verifies p → IsFit p s
     → IsFit p (run_from (code_of p) s (replicate n Step))

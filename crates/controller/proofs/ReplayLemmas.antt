@@ -1,6 +1,5 @@
 -- One more entry at the end of a history.
-use Rattle.std.proofs.Common.{◌≡◌, List, [], ◌∷◌, ◌++◌, length, refl, sym, ap, subst, ◌∙◌}
-use Rattle.std.proofs.lemmas.List.{length-map}
+use Rattle.std.proofs.Common.{◌≡◌, List, [], ◌∷◌, ◌++◌, refl, sym, ap, subst, ◌∙◌}
 use Rattle.flat_code.specs.Loading.{Verifies}
 use Rattle.flat_code.specs.Programs.{Program}
 use Rattle.machine.specs.Code.{Code}
@@ -9,7 +8,7 @@ use Rattle.var_access.specs.declared.Entry.{Entry}
 use Rattle.var_access.specs.declared.What.{What}
 use Rattle.var_access.specs.Entry.{IsInRange}
 use Rattle.cpu.specs.Fitting.{EntriesKeepFit, IsFit, StartIsFit}
-use Rattle.cpu.specs.Replay.{ContinuesReplay, ContinuesSeen, CountsHistory, happens, last_seen, replay}
+use Rattle.cpu.specs.Replay.{ContinuesReplay, ContinuesSeen, happens, last_seen, replay}
 use Rattle.cpu.specs.Shown.{Watched, changes, nothing_shown, shown, watched, watched_on}
 use Rattle.cpu.specs.Start.{start}
 use Rattle.cpu.specs.State.{State}
@@ -70,9 +69,3 @@ observer_next code s t what w w' seen before looked after =
 pub fits_next : (p : Program) (s t : State) (what : What) → EntriesKeepFit → Verifies p → IsInRange what → IsFit p s
     → t ≡ (happens (code_of p) s what).state → IsFit p t
 fits_next p s t what keeps h range fit after = subst (IsFit p) (sym after) (keeps p s what h range fit)
-
--- the entries are as many as the history has
-pub count_is : (code : Code) (history : List Entry) (s : State) → CountsHistory → s ≡ replay code (events history)
-    → s.entries ≡ length history
-count_is code history s counts is =
-    ap (λ (u : State). u.entries) is ∙ counts code (events history) ∙ length-map history (λ (e : Entry). e.what)

@@ -1,12 +1,13 @@
-ghost use Rattle.std.specs.Prelude.{◌≡◌, ◌+◌, ◌-◌, ◌^◌, ◌<◌, ◌≤◌, ◌↔◌, [], ◌∷◌, ◌++◌, length, max, take, slice_get, is_some, replicate, IfOk, OnOk, OnErr, IsNone, IsTrue};
+ghost use Rattle.std.specs.Prelude.{◌≡◌, ◌+◌, ◌-◌, ◌^◌, ◌<◌, ◌≤◌, ◌↔◌, [], ◌∷◌, ◌++◌, length, max, take, slice_get, is_some, replicate, false, Some, IfOk, OnOk, OnErr, IsNone, IsTrue};
 ghost use Rattle.std.specs.Option.{option_copied, option_map};
 ghost use Rattle.std.specs.FinMap as finmap;
 ghost use Rattle.image_file.specs.Readers.{bytes_of};
 ghost use Rattle.machine.specs.Flat.{code_of};
-ghost use Rattle.cpu.specs.Quiet.{ShowNothing};
+ghost use Rattle.cpu.specs.Quiet.{ShowNothing, steps_quietly};
 ghost use Rattle.cpu.specs.Replay.{run_from};
 ghost use Rattle.controller.specs.Replayed.{data_blocks as blocks_after, events, next_happens, numbered as with_number, replayed, seen};
 ghost use Rattle.var_access.specs.Entry.{IsValid};
+ghost use Rattle.var_access.specs.declared.Entry.{Entry};
 ghost use Rattle.var_access.specs.declared.What.TheVariants.{Step};
 
 use cpu::{Observed, Observer, Parts, data_numbers};
@@ -58,20 +59,37 @@ fn is_step(entry: &Entry) -> bool
     matches!(entry.what, What::Step)
 }
 
-/// How many of the first entries of a list are steps.
-pub fn leading_steps(entries: &[Entry]) -> usize
+// How many of the first entries of a list are steps, by fours: up to three more may follow.
+fn leading_fours(entries: &[Entry]) -> usize
     ensures few { result ≤ length entries.now }
     ensures steps { events (take result entries.now) ≡ replicate result Step }
 {
     let mut steps = 0;
-    // Two at a time: a history is steps for the most part.
-    while steps + 1 < entries.len() {
-        if !is_step(&entries[steps]) || !is_step(&entries[steps + 1]) {
-            break;
+    while steps + 3 < entries.len() {
+        if !is_step(&entries[steps])
+            || !is_step(&entries[steps + 1])
+            || !is_step(&entries[steps + 2])
+            || !is_step(&entries[steps + 3])
+        {
+            return steps;
         }
-        steps += 2;
+        steps += 4;
     }
-    if steps < entries.len() && is_step(&entries[steps]) {
+    steps
+}
+
+/// How many of the first entries of a list are steps.
+pub fn leading_steps(entries: &[Entry]) -> usize
+    ensures few { result ≤ length entries.now }
+    ensures steps { events (take result entries.now) ≡ replicate result Step }
+    ensures ends { (e : Entry) → slice_get entries.now result ≡ Some e → e.what ≡ Step → ⊥ }
+{
+    // By fours first: a history is steps for the most part.
+    let mut steps = leading_fours(entries);
+    while steps < entries.len() {
+        if !is_step(&entries[steps]) {
+            return steps;
+        }
         steps += 1;
     }
     steps
@@ -145,31 +163,33 @@ impl Controller {
         reply
     }
 
-    /// Makes entries from the front of a list, of which so many are steps, as long as each is a step that
-    /// shows nothing; the answer is how many. It may stop before one of this kind: what it leaves is for
-    /// `apply`. Takes no memory.
-    pub fn step_quietly(&mut self, entries: &[Entry], steps: usize) -> usize
-        requires within { steps ≤ length entries.now }
-        requires steps { events (take steps entries.now) ≡ replicate steps Step }
-        requires room { steps ≤ self.old.spare }
-        ensures few { result ≤ steps }
+    /// Makes steps from the front of a list of them as long as each shows nothing; the answer is how
+    /// many. It stops only before a step that isn't a statement of the quiet kind
+    /// (`machine::quiet_statements`) with which the running activation goes on, in STOP, or where a
+    /// request waits: what it leaves is for `apply`. Takes no memory.
+    pub fn step_quietly(&mut self, steps: &[Entry]) -> usize
+        requires steps { events steps.now ≡ replicate (length steps.now) Step }
+        requires room { length steps.now ≤ self.old.spare }
+        ensures few { result ≤ length steps.now }
         ensures history { self.new ≡ record self.old {
-          history = self.old.history ++ take result entries.now;
+          history = self.old.history ++ take result steps.now;
           spare = self.old.spare - result;
         } }
         ensures nothing { ShowNothing (code_of self.old.program) (replayed self.old)
-            (events (take result entries.now)) }
+            (events (take result steps.now)) }
         ensures state { replayed self.new ≡ run_from (code_of self.old.program)
-            (replayed self.old) (events (take result entries.now)) }
+            (replayed self.old) (events (take result steps.now)) }
+        ensures stops { result < length steps.now
+            → steps_quietly (code_of self.old.program) (replayed self.new) ≡ false }
     {
         cpu::laws::counts_entries();
         cpu::laws::what_runs_goes_on();
-        let made = self.cpu.step_quietly(&self.program, steps as u64) as usize;
+        let made = self.cpu.step_quietly(&self.program, steps.len() as u64) as usize;
         if made == 0 {
             return 0;
         }
         self.observer.pass();
-        let pushed = self.history.extend_from_slice(&entries[..made]);
+        let pushed = self.history.extend_from_slice(&steps[..made]);
         prove!(pushed.is_ok());
         self.spare -= made as u64;
         made

@@ -61,7 +61,7 @@ fn quiet_text(
 ) -> Result<String, Fail> {
     let mut controller = controller_of(alloc, program)?;
     controller.reserve(entries.len() as u64)?;
-    let made = controller.step_quietly(entries, leading_steps(entries));
+    let made = controller.step_quietly(&entries[..leading_steps(entries)]);
     assert_eq!(rt; made, in_a_row, "{program}");
     assert_eq!(rt; controller.history_len(), made as u64);
     assert!(rt; controller.mode() == Mode::Startup, "{program}");

@@ -1,5 +1,5 @@
 -- Quiet statements one after another, as entries.
-use Rattle.std.proofs.Common.{◌≡◌, ℕ, zero, suc, ◌+◌, true, false, List, [], ◌∷◌, Option, Some, None, refl, sym, ap, ◌∙◌, subst, arith}
+use Rattle.std.proofs.Common.{◌≡◌, ℕ, zero, suc, ◌+◌, ◌&&◌, ◌||◌, Bool, true, false, not, List, [], ◌∷◌, Option, Some, None, refl, sym, ap, ◌∙◌, subst, arith}
 use Rattle.std.specs.Prelude.{is_some, replicate}
 use Rattle.plc_base.specs.declared.Mode.{Mode}
 use Rattle.plc_base.specs.declared.Mode.TheVariants.{Run, Startup, Stop}
@@ -191,3 +191,15 @@ pub steps_quietly : (code : Code) (count : ℕ) (s : State) (new : List Activati
     → StepQuietly code s w new count
 steps_quietly code count s new w quiet runs =
     goes_on code count s s.activations new w quiet refl runs
+
+-- ---- where it stops
+
+pub no_quiet_step : (running none quiet : Bool) → quiet ≡ false → (running && (none && quiet)) ≡ false
+no_quiet_step true true quiet h = h
+no_quiet_step true false quiet h = refl
+no_quiet_step false none quiet h = refl
+
+pub stands_still : (stop waits quiet : Bool) → (stop || waits) ≡ true → (not stop && (not waits && quiet)) ≡ false
+stands_still true waits quiet h = refl
+stands_still false true quiet h = refl
+stands_still false false quiet h = absurd cc

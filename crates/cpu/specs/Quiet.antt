@@ -1,14 +1,15 @@
 -- Entries one after another that show nothing.
-use Rattle.std.specs.Prelude.{◌≡◌, ℕ, List, [], ◌∷◌}
+use Rattle.std.specs.Prelude.{◌≡◌, ◌&&◌, ℕ, Bool, false, not, is_some, List, [], ◌∷◌}
 use Rattle.frames.specs.declared.Activation.{Activation}
 use Rattle.flat_code.specs.Programs.{Program}
 use Rattle.machine.specs.Code.{Code}
-use Rattle.machine.specs.Quiet.{RunsQuietly, StaysReady}
+use Rattle.machine.specs.Quiet.{RunsQuietly, StaysReady, goes_as, is_quiet}
 use Rattle.machine.specs.Statement.{World}
+use Rattle.ob_sched.specs.Request.{best_of}
 use Rattle.var_access.specs.declared.What.{What}
 use Rattle.cpu.specs.Replay.{happens}
 use Rattle.cpu.specs.Shown.{nothing_shown}
-use Rattle.cpu.specs.State.{State}
+use Rattle.cpu.specs.State.{State, is_stop}
 
 -- none of these entries shows anything, from a state on
 abbrev pub ShowNothing : Code → State → List What → Type 0
@@ -28,3 +29,16 @@ abbrev pub GoesOnQuietly :
 GoesOnQuietly code count [] new w w' = (count ≡ 0) × (new ≡ []) × (w' ≡ w)
 GoesOnQuietly code count (a ∷ below) new w w' =
     (b : Activation) × (new ≡ b ∷ below) × RunsQuietly code count a b w w'
+
+-- ---- before which steps it stops
+
+-- the running activation goes on with a statement of the quiet kind
+abbrev pub goes_on_quietly : Code → List Activation → World → Bool
+goes_on_quietly code [] w = false
+goes_on_quietly code (a ∷ below) w = goes_as is_quiet code a w
+
+-- the next step is such a statement, outside STOP and where no request waits
+abbrev pub steps_quietly : Code → State → Bool
+steps_quietly code s =
+    not (is_stop s.mode) && not (is_some (best_of s.mode s.sched.pending))
+    && goes_on_quietly code s.activations s.world

@@ -1,4 +1,4 @@
-ghost use Rattle.std.specs.Prelude.{◌≡◌, ◌<◌, ◌≤◌, [], ◌∷◌, ◌+◌, ◌++◌, length, map, set, take, vec_capacity, IfOk, IfSome};
+ghost use Rattle.std.specs.Prelude.{◌≡◌, ◌<◌, ◌≤◌, false, [], ◌∷◌, ◌+◌, ◌++◌, length, map, set, take, vec_capacity, IfOk, IfSome};
 ghost use Rattle.std.specs.Option.{option_map};
 ghost use Rattle.frames.specs.Activations.{begun, frame_begun};
 ghost use Rattle.machine.specs.Flat.{code_of};
@@ -8,7 +8,7 @@ ghost use Rattle.ob_sched.specs.Views.{scheduler_of};
 ghost use Rattle.cpu.specs.Beginning.{ob_block as block_of_ob, ob_in, told_from};
 ghost use Rattle.cpu.specs.Errors.{error_in};
 ghost use Rattle.cpu.specs.Leaves.{Begins, ErrorBegins, HandedOn, Steps, ServesRunning, running_of, stand_of};
-ghost use Rattle.cpu.specs.Quiet.{GoesOnQuietly, GoesOnReady};
+ghost use Rattle.cpu.specs.Quiet.{GoesOnQuietly, GoesOnReady, goes_on_quietly};
 ghost use Rattle.cpu.specs.Ready.{CanGo, IsReady};
 ghost use Rattle.cpu.specs.Settling.{may_start};
 ghost use Rattle.cpu.specs.Stopping.{spot, spot_of as spot_of_frame};
@@ -313,6 +313,8 @@ impl Activations {
         ensures few { result ≤ most }
         ensures runs { GoesOnQuietly (code_of program.now.program) result self.old self.new
             (world m.old t.old n.old) (world m.new t.new n.new) }
+        ensures stops { result < most → goes_on_quietly (code_of program.now.program) self.new
+            (world m.new t.new n.new) ≡ false }
     {
         let Some(place) = self.standing.checked_sub(1) else {
             return 0;

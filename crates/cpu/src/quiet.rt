@@ -1,9 +1,9 @@
 //! Steps one after another that show nothing.
-ghost use Rattle.std.specs.Prelude.{◌≡◌, ◌+◌, ◌<◌, ◌≤◌, ◌^◌, replicate};
+ghost use Rattle.std.specs.Prelude.{◌≡◌, ◌+◌, ◌<◌, ◌≤◌, ◌^◌, false, replicate};
 ghost use Rattle.machine.specs.Flat.{code_of};
 ghost use Rattle.var_access.specs.declared.entries.What.TheVariants.{Step};
 ghost use Rattle.cpu.specs.Fitting.{IsFit};
-ghost use Rattle.cpu.specs.Quiet.{ShowNothing};
+ghost use Rattle.cpu.specs.Quiet.{ShowNothing, steps_quietly};
 ghost use Rattle.cpu.specs.Replay.{run_from};
 ghost use Rattle.cpu.specs.Views.{state_of};
 
@@ -13,7 +13,9 @@ use image_file::Loaded;
 
 impl Parts {
     /// Executes steps one after another as long as each shows nothing, `most` at most; the answer
-    /// is how many. It may stop before one that shows nothing: what it leaves is for `happen`.
+    /// is how many. It stops only before a step that isn't a statement of the quiet kind
+    /// (`machine::quiet_statements`) with which the running activation goes on, in STOP, or where a
+    /// request waits: what it leaves is for `happen`.
     pub fn step_quietly(&mut self, program: &Loaded, most: u64) -> u64
         requires fit { IsFit program.now.program (state_of self.old) }
         requires few { self.old.entries + most < 2 ^ 64 }
@@ -25,6 +27,8 @@ impl Parts {
         ensures outputs { (state_of self.new).world.memory.peripheral_outputs
             ≡ (state_of self.old).world.memory.peripheral_outputs }
         ensures mode { self.new.mode ≡ self.old.mode }
+        ensures stops { result < most
+            → steps_quietly (code_of program.now.program) (state_of self.new) ≡ false }
     {
         if is_stop(self.mode) || self.sched.best(self.mode).is_some() {
             return 0;

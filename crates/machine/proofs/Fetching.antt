@@ -1,5 +1,5 @@
 -- The statement that was found along the ops is the statement at the offset.
-use Rattle.std.proofs.Common.{◌≡◌, ◌∙◌, [], if◌then◌else◌, ℕ, zero, suc, true, false, Bool, List, Option, Some, None, Result, Ok, Err, slice_get, refl, sym}
+use Rattle.std.proofs.Common.{◌≡◌, ◌∙◌, [], if◌then◌else◌, ℕ, zero, suc, true, false, Bool, List, Option, Some, None, Result, Ok, Err, slice_get, refl, sym, ap}
 use Rattle.std.specs.Option.{option_map, option_and_then}
 use Rattle.plc_mem.specs.Areas.{Areas}
 use Rattle.frames.specs.declared.Activation.{Activation}
@@ -12,7 +12,7 @@ use Rattle.flat_code.specs.declared.operands.Operand.{Operand}
 use Rattle.flat_code.specs.declared.operands.Operand.TheVariants as operand
 use Rattle.flat_code.specs.declared.programs.Param.{Param}
 use Rattle.flat_code.specs.Instr.{Passing}
-use Rattle.machine.specs.Code.{Code}
+use Rattle.machine.specs.Code.{Code, Fetched}
 use Rattle.frames.specs.Bound.{set_at}
 use Rattle.machine.specs.Parts.{Own, then_ok}
 use Rattle.machine.specs.Bindings.{bound_params, bound_for}
@@ -120,31 +120,52 @@ run_passes (suc most) ops at r params bindings s m h =
 with_line :
     (b : CodeBlock) (line : Option ℕ) (r : Run) (c : Code) (a : Activation) (w : World)
     → Goes (fetched c (option_and_then (λ line. option_map (fetched_of b.code line) (Some r)) line) a w)
-    → fetched c (option_and_then (λ line. option_map (fetched_of b.code line) (Some r)) line) a w
-    ≡ performed c (instr_of (word_of r.last.code) r.last.operand (use_db_of r.before) (passings_of r.before) r.next b.code) r.next a w
+    → (number : ℕ)
+    × (option_and_then (λ line. option_map (fetched_of b.code line) (Some r)) line ≡ Some (fetched_of b.code number r))
 with_line b None r c a w there = absurd there
-with_line b (Some line) r c a w there = refl
+with_line b (Some line) r c a w there = (line, refl)
 
-abbrev IsFound : CodeBlock → ℕ → Walk → Code → Activation → World → Option Run → Type 0
-IsFound b at walk c a w found =
+-- the statement that a walk finds in a line
+abbrev pub walked : CodeBlock → Walk → List Passing → (line : ℕ) → Fetched
+walked b walk passings line = record {
+  instr = instr_of (word_of walk.last.code) walk.last.operand walk.opens passings walk.next b.code;
+  next = walk.next;
+  line = line;
+}
+
+abbrev IsFound : CodeBlock → ℕ → Walk → Option Run → Type 0
+IsFound b at walk found =
     (passings : List Passing) × Passes b.code at passings
-    × (fetched c (option_and_then (λ line. option_map (fetched_of b.code line) found) (line_placed 0 true b.code b.lines at)) a w
-    ≡ performed c (instr_of (word_of walk.last.code) walk.last.operand walk.opens passings walk.next b.code) walk.next a w)
+    × (line : ℕ)
+    × (option_and_then (λ line. option_map (fetched_of b.code line) found) (line_placed 0 true b.code b.lines at)
+    ≡ Some (walked b walk passings line))
 
 with_run :
     (b : CodeBlock) (at : ℕ) (found : Option Run) (walk : Walk) (c : Code) (a : Activation) (w : World)
     → run_at most_ops b.code at ≡ found → Some walk ≡ option_map (walk_with None) found
     → Goes (fetched c (option_and_then (λ line. option_map (fetched_of b.code line) found) (line_placed 0 true b.code b.lines at)) a w)
-    → IsFound b at walk c a w found
+    → IsFound b at walk found
 with_run b at None walk c a w is h there = absurd (none_some walk h)
 with_run b at (Some r) walk c a w is h there =
+    let found = with_line b (line_placed 0 true b.code b.lines at) r c a w there in
     rw (some_is walk (walk_with None r) h) (
       passings_of r.before,
       (λ params bindings s m. run_passes most_ops b.code at r params bindings s m is),
-      with_line b (line_placed 0 true b.code b.lines at) r c a w there,
+      found.0,
+      found.1,
     )
 
 -- what the machine finds is the statement there
+pub found_walk :
+    (b : CodeBlock) (at : ℕ) (walk : Walk) (c : Code) (a : Activation) (w : World)
+    → Some walk ≡ option_map (walk_with None) (run_at most_ops b.code at)
+    → Goes (fetched c (statement_at b at) a w)
+    → (passings : List Passing) × Passes b.code at passings
+    × (line : ℕ) × (statement_at b at ≡ Some (walked b walk passings line))
+unfolding statement_at
+found_walk b at walk c a w h there =
+    with_run b at (run_at most_ops b.code at) walk c a w refl h there
+
 pub fetched_walk :
     (b : CodeBlock) (at : ℕ) (walk : Walk) (c : Code) (a : Activation) (w : World)
     → Some walk ≡ option_map (walk_with None) (run_at most_ops b.code at)
@@ -152,9 +173,9 @@ pub fetched_walk :
     → (passings : List Passing) × Passes b.code at passings
     × (fetched c (statement_at b at) a w
     ≡ performed c (instr_of (word_of walk.last.code) walk.last.operand walk.opens passings walk.next b.code) walk.next a w)
-unfolding statement_at
 fetched_walk b at walk c a w h there =
-    with_run b at (run_at most_ops b.code at) walk c a w refl h there
+    let found = found_walk b at walk c a w h there in
+    (found.0, found.1, ap (λ (f : Option Fetched). fetched c f a w) found.3)
 
 -- and where it finds none, no statement is there
 no_run :

@@ -1,7 +1,8 @@
 -- Statements one after another that leave the peripheral outputs as they are.
 use Rattle.std.specs.Option.{option_map}
-use Rattle.std.proofs.Common.{◌≡◌, ◌∙◌, ◌+◌, ◌≤◌, ℕ, zero, suc, length, is_ok, is_some, arith, Bool, true, false, List, [], ◌∷◌, Option, Some, None, Result, Ok, Err, refl, sym, ap, subst}
+use Rattle.std.proofs.Common.{◌≡◌, ◌∙◌, ◌+◌, ◌<◌, ◌≤◌, ◌&&◌, ◌||◌, ℕ, zero, suc, length, is_ok, is_some, arith, Bool, true, false, List, [], ◌∷◌, Option, Some, None, Result, Ok, Err, refl, sym, ap, subst}
 use Rattle.plc_base.specs.declared.BlockId.{BlockId}
+use Rattle.plc_base.specs.declared.blocks.BlockKind.{BlockKind}
 use Rattle.plc_mem.specs.Areas.{Areas}
 use Rattle.timers_counters.specs.Timer.{Timer}
 use Rattle.timers_counters.specs.Counter.{Counter}
@@ -11,24 +12,28 @@ use Rattle.frames.specs.declared.bindings.Binding.{Binding}
 use Rattle.frames.specs.declared.frame.Frame.{Frame}
 use Rattle.frames.specs.declared.FrameFault.{FrameFault}
 use Rattle.frames.specs.declared.running.Running.{Running}
-use Rattle.flat_code.specs.Instr.{Passing}
+use Rattle.flat_code.specs.Instr.{Instr, Does, Passing}
+use Rattle.flat_code.specs.Ops.{OpData}
 use Rattle.flat_code.specs.Programs.{CodeBlock, Program}
 use Rattle.flat_code.specs.Words.{word_of}
 use Rattle.flat_code.specs.declared.operands.Operand.{Operand}
+use Rattle.flat_code.specs.declared.operands.Operand.TheVariants as operand
+use Rattle.flat_code.specs.declared.words.CallWord.{CallWord}
 use Rattle.flat_code.specs.declared.words.Word.{Word}
+use Rattle.flat_code.specs.declared.words.Word.TheVariants as word
 use Rattle.flat_code.specs.declared.programs.Param.{Param}
 use Rattle.image_file.specs.Readers.{block_of}
 use Rattle.machine.specs.declared.outcomes.Outcome.TheVariants as outcome
-use Rattle.machine.specs.Code.{Code}
+use Rattle.machine.specs.Code.{Code, Fetched}
 use Rattle.machine.specs.Entering.{Call, Fails, Stops, Enters, Callee, Calls, called_with, entered_if, supplied}
-use Rattle.machine.specs.Flat.{code_of, instr_of, most_ops, run_at, statement_at}
+use Rattle.machine.specs.Flat.{call_instr, code_of, instr_of, kind_called, most_ops, run_at, statement_at}
 use Rattle.machine.specs.Outcomes.{Meets}
 use Rattle.machine.specs.Parts.{Parts, scene_of}
-use Rattle.machine.specs.Quiet.{GoesQuietly, GoesOrStays, RunsQuietly, StaysReady}
+use Rattle.machine.specs.Quiet.{GoesQuietly, GoesOrStays, RunsQuietly, StaysReady, goes_as, goes_on, has_caller as has_caller_of, is_of, is_quiet, is_quiet_across, is_quiet_inside}
 use Rattle.machine.specs.Returning.{Return, Returns, GoesOn, Ends, given_back, left, returning}
 use Rattle.machine.specs.Statement.{Comes, Goes, Step, Went, Ended, SyncError, SysCall, Stop, Stuck, World, after_call, after_return, fetched, performed, statement, went_on, world}
 use Rattle.machine.specs.Walking.{Passes, Walk, walk_with}
-use Rattle.machine.proofs.Fetching.{fetched_walk}
+use Rattle.machine.proofs.Fetching.{fetched_nowhere, found_walk, walked}
 use Rattle.machine.proofs.Keeping.{IfDone}
 use Rattle.machine.proofs.Outputs.{Stay, params_in_stay}
 use Rattle.machine.proofs.Steps.{call_comes, moved_to, return_comes, went_comes}
@@ -77,20 +82,42 @@ statement_in p b a w is = rw is refl
 -- what the machine finds along the ops is the statement there
 pub found_there :
     (b : CodeBlock) (at : ℕ) (walk : Walk) (word : Word) (operand : Operand) (opens : Option ℕ) (next : ℕ) (c : Code)
-    (a after : Activation) (w v : World) (answer : Bool)
+    (kind : Instr → Activation → Bool) (a after : Activation) (w v : World) (answer : Bool)
     → word ≡ word_of walk.last.code → operand ≡ walk.last.operand → opens ≡ walk.opens → next ≡ walk.next
     → Some walk ≡ option_map (walk_with None) (run_at most_ops b.code at) → Goes (fetched c (statement_at b at) a w)
     → ((passings : List Passing) → Passes b.code at passings
-    → GoesOrStays (performed c (instr_of word operand opens passings next b.code) next a w) a after w v answer)
-    → GoesOrStays (fetched c (statement_at b at) a w) a after w v answer
-found_there b at walk word operand opens next c a after w v answer words operands opened behind h there goes =
-    let found = fetched_walk b at walk c a w h there in
-    rw found.2 (at_walk found.0 found.1)
+    → GoesOrStays (performed c (instr_of word operand opens passings next b.code) next a w)
+    (kind (instr_of word operand opens passings next b.code) a) a after w v answer)
+    → GoesOrStays (fetched c (statement_at b at) a w) (is_of kind (statement_at b at) a) a after w v answer
+found_there b at walk word operand opens next c kind a after w v answer words operands opened behind h there goes =
+    let found = found_walk b at walk c a w h there in
+    subst (λ (f : Option Fetched). GoesOrStays (fetched c f a w) (is_of kind f a) a after w v answer) (sym found.3)
+    (at_walk found.0 found.1)
   where
     at_walk : (passings : List Passing) → Passes b.code at passings
         → GoesOrStays (performed c (instr_of (word_of walk.last.code) walk.last.operand walk.opens passings walk.next b.code) walk.next a w)
-        a after w v answer
+        (kind (instr_of (word_of walk.last.code) walk.last.operand walk.opens passings walk.next b.code) a) a after w v answer
     at_walk passings pass = rw (sym words, sym operands, sym opened, sym behind) (goes passings pass)
+
+-- and where it finds none, no statement is there
+pub found_nowhere :
+    (b : CodeBlock) (at : ℕ) (c : Code) (kind : Instr → Activation → Bool) (a : Activation) (w : World)
+    → None ≡ option_map (walk_with None) (run_at most_ops b.code at) → Goes (fetched c (statement_at b at) a w)
+    → GoesOrStays (fetched c (statement_at b at) a w) (is_of kind (statement_at b at) a) a a w w false
+found_nowhere b at c kind a w h there = absurd (fetched_nowhere b at c a w h there)
+
+-- a call or a return is none of the instructions that stay in their block
+pub calls_leave :
+    (how : CallWord) (operand : Operand) (opens : Option ℕ) (passings : List Passing) (next : ℕ) (ops : List OpData) (a : Activation)
+    → is_quiet_inside (instr_of (word.Call how) operand opens passings next ops) a ≡ false
+calls_leave how (operand.Called kind number instance) opens passings next ops a = by (kind_called kind)
+  where
+    by : (found : Option BlockKind)
+        → is_quiet_inside (call_instr found how number instance passings
+        (Does opens (word.Call how) (operand.Called kind number instance))) a ≡ false
+    by None = refl
+    by (Some found) = refl
+calls_leave how _ opens passings next ops a = refl
 
 -- ---- calls and returns
 
@@ -122,24 +149,25 @@ calls_quietly (Enters to memory) next a after m m' t n stays h = record {
 }
 
 refused_stays :
-    (c : Call) (a after : Activation) (m m' : Areas) (t : List Timer) (n : List Counter) (fault : FrameFault)
-    → Calls c a after m m' (Err fault) → (after ≡ a) × (world m' t n ≡ world m t n)
-refused_stays (Fails code) a after m m' t n fault h = absurd h
-refused_stays (Stops why) a after m m' t n fault h = (h.1, ap (λ (z : Areas). world z t n) h.2)
-refused_stays (Enters to memory) a after m m' t n fault h = absurd h
+    (c : Call) (next : ℕ) (a after : Activation) (m m' : Areas) (t : List Timer) (n : List Counter) (fault : FrameFault)
+    → Calls c a after m m' (Err fault)
+    → (after ≡ a) × (world m' t n ≡ world m t n) × (goes_on (after_call c next a (world m t n)) ≡ false)
+refused_stays (Fails code) next a after m m' t n fault h = absurd h
+refused_stays (Stops why) next a after m m' t n fault h = (h.1, ap (λ (z : Areas). world z t n) h.2, refl)
+refused_stays (Enters to memory) next a after m m' t n fault h = absurd h
 
 -- a call whose parameters are bound
 pub enters_or_stays :
     (called : Callee) (bindings : List Binding) (next : ℕ) (a after : Activation) (m m' : Areas)
     (t : List Timer) (n : List Counter) (answer : Result (Unit {0}) FrameFault)
     → Calls (entered_if (refused called.local_len a) called bindings next a m) a after m m' answer
-    → GoesOrStays (after_call (called_with (Ok bindings) called next a m) next a (world m t n))
+    → GoesOrStays (after_call (called_with (Ok bindings) called next a m) next a (world m t n)) true
     a after (world m t n) (world m' t n) (is_ok answer)
 enters_or_stays called bindings next a after m m' t n (Ok done) h =
     calls_quietly (entered_if (refused called.local_len a) called bindings next a m) next a after m m' t n
     (entered_stays (refused called.local_len a) called bindings next a m) h
 enters_or_stays called bindings next a after m m' t n (Err fault) h =
-    refused_stays (entered_if (refused called.local_len a) called bindings next a m) a after m m' t n fault h
+    refused_stays (entered_if (refused called.local_len a) called bindings next a m) next a after m m' t n fault h
 
 -- a return from a block without an instance to its caller
 abbrev ReturnStays : Areas → Return → Type 0
@@ -166,7 +194,7 @@ return_stays params a m has none = left_stays a.below params a.running.frame.ins
 returned_by :
     (r : Return) (a after : Activation) (m m' : Areas) (t : List Timer) (n : List Counter) (answer : Bool)
     → ReturnStays m r → Returns r a after m' answer
-    → GoesOrStays (after_return r (world m t n)) a after (world m t n) (world m' t n) answer
+    → GoesOrStays (after_return r (world m t n)) true a after (world m t n) (world m' t n) answer
 returned_by (Ends regs memory) a after m m' t n answer stays h = absurd stays
 returned_by (GoesOn to memory) a after m m' t n false stays h = absurd h
 returned_by (GoesOn to memory) a after m m' t n true stays h = record {
@@ -182,7 +210,7 @@ has_caller (caller ∷ rest) h = tt
 pub returns_or_stays :
     (params : List Param) (a after : Activation) (m m' : Areas) (t : List Timer) (n : List Counter) (answer : Bool)
     → 1 ≤ length a.below → a.running.frame.instance ≡ None → Returns (returning params a m) a after m' answer
-    → GoesOrStays (after_return (returning params a m) (world m t n)) a after (world m t n) (world m' t n) answer
+    → GoesOrStays (after_return (returning params a m) (world m t n)) true a after (world m t n) (world m' t n) answer
 returns_or_stays params a after m m' t n answer has none h =
     returned_by (returning params a m) a after m m' t n answer (return_stays params a m (has_caller a.below has) none) h
 
@@ -218,28 +246,102 @@ pub stays_ready :
 stays_ready p i a b w v ready runs =
     λ j c u more. ready (i + j) c u (runs_on (code_of p) i j a b c w v u runs more)
 
+-- the statement of a block that is there was tried
+pub here_of :
+    (p : Program) (b : CodeBlock) (a after : Activation) (w v : World) (answer : Bool) (kind : Instr → Activation → Bool)
+    → block_of a.running.frame.block p.code_blocks ≡ Some b
+    → GoesOrStays (fetched (code_of p) (statement_at b a.running.frame.at) a w)
+    (is_of kind (statement_at b a.running.frame.at) a) a after w v answer
+    → GoesOrStays (statement (code_of p) a w)
+    (is_of kind ((code_of p).fetch a.running.frame.block a.running.frame.at) a) a after w v answer
+unfolding statement
+here_of p b a after w v answer kind is goes = rw is goes
+
 -- one more statement of a block that was tried
 pub tried :
     (p : Program) (b : CodeBlock) (i : ℕ) (a c d : Activation) (w v u : World) (answer : Bool)
     → block_of a.running.frame.block p.code_blocks ≡ Some b → c.running.frame.block ≡ a.running.frame.block
     → StaysReady p a w → RunsQuietly (code_of p) i a c w v
     → ((code : Code) → Goes (fetched code (statement_at b c.running.frame.at) c v)
-    → GoesOrStays (fetched code (statement_at b c.running.frame.at) c v) c d v u answer)
-    → GoesOrStays (statement (code_of p) c v) c d v u answer
+    → GoesOrStays (fetched code (statement_at b c.running.frame.at) c v)
+    (is_of is_quiet_inside (statement_at b c.running.frame.at) c) c d v u answer)
+    → GoesOrStays (statement (code_of p) c v)
+    (is_of is_quiet_inside ((code_of p).fetch c.running.frame.block c.running.frame.at) c) c d v u answer
 tried p b i a c d w v u answer found same ready runs pass =
-    let is : statement (code_of p) c v ≡ fetched (code_of p) (statement_at b c.running.frame.at) c v =
-    statement_in p b c v (ap (λ (block : BlockId). block_of block p.code_blocks) same ∙ found) in
+    let here : block_of c.running.frame.block p.code_blocks ≡ Some b =
+    ap (λ (block : BlockId). block_of block p.code_blocks) same ∙ found in
+    let is : statement (code_of p) c v ≡ fetched (code_of p) (statement_at b c.running.frame.at) c v = statement_in p b c v here in
     let there : Goes (statement (code_of p) c v) = (ready i c v runs).there v in
-    subst (λ (step : Step). GoesOrStays step c d v u answer) (sym is) (pass (code_of p) (subst Goes is there))
+    here_of p b c d v u answer is_quiet_inside here (pass (code_of p) (subst Goes is there))
 
 pub runs_next :
-    (code : Code) (i : ℕ) (a c d : Activation) (w v u : World) (answer : Bool) → answer ≡ true
-    → GoesOrStays (statement code c v) c d v u answer → RunsQuietly code i a c w v → RunsQuietly code (i + 1) a d w u
-runs_next code i a c d w v u true is goes runs = runs_on code i 1 a c d w v u runs (runs_one code c d v u goes)
-runs_next code i a c d w v u false is goes runs = absurd cc
+    (code : Code) (i : ℕ) (a c d : Activation) (w v u : World) (kind answer : Bool) → answer ≡ true
+    → GoesOrStays (statement code c v) kind c d v u answer → RunsQuietly code i a c w v → RunsQuietly code (i + 1) a d w u
+runs_next code i a c d w v u kind true is goes runs = runs_on code i 1 a c d w v u runs (runs_one code c d v u goes)
+runs_next code i a c d w v u kind false is goes runs = absurd cc
 
 pub runs_still :
-    (code : Code) (i : ℕ) (a c d : Activation) (w v u : World) (answer : Bool) → answer ≡ false
-    → GoesOrStays (statement code c v) c d v u answer → RunsQuietly code i a c w v → RunsQuietly code i a d w u
-runs_still code i a c d w v u true is goes runs = absurd cc
-runs_still code i a c d w v u false is goes runs = rw (goes.0, goes.1) runs
+    (code : Code) (i : ℕ) (a c d : Activation) (w v u : World) (kind answer : Bool) → answer ≡ false
+    → GoesOrStays (statement code c v) kind c d v u answer → RunsQuietly code i a c w v → RunsQuietly code i a d w u
+runs_still code i a c d w v u kind true is goes runs = absurd cc
+runs_still code i a c d w v u kind false is goes runs = rw (goes.0, goes.1) runs
+
+-- ---- where it stops
+
+-- nothing was done since the statement isn't of the kind or doesn't go on, and so it is still
+pub stops_at :
+    (code : Code) (kind : Instr → Activation → Bool) (a b : Activation) (w v : World) (answer : Bool) → answer ≡ false
+    → GoesOrStays (statement code a w) (is_of kind (code.fetch a.running.frame.block a.running.frame.at) a) a b w v answer
+    → goes_as kind code b v ≡ false
+stops_at code kind a b w v true is goes = absurd cc
+stops_at code kind a b w v false is goes = rw (goes.0, goes.1) goes.2
+
+pub stops_nowhere :
+    (p : Program) (kind : Instr → Activation → Bool) (a : Activation) (w : World)
+    → block_of a.running.frame.block p.code_blocks ≡ None → goes_as kind (code_of p) a w ≡ false
+stops_nowhere p kind a w none = rw none refl
+
+either_kind : (i j goes : Bool) → (i && goes) ≡ false → (j && goes) ≡ false → ((i || j) && goes) ≡ false
+either_kind true j goes first second = first
+either_kind false j goes first second = second
+
+is_either :
+    (f : Option Fetched) (a : Activation) → is_of is_quiet f a ≡ (is_of is_quiet_inside f a || is_of is_quiet_across f a)
+is_either None a = refl
+is_either (Some f) a = refl
+
+pub stops_all :
+    (code : Code) (a : Activation) (w : World) → goes_as is_quiet_inside code a w ≡ false → goes_as is_quiet_across code a w ≡ false
+    → goes_as is_quiet code a w ≡ false
+stops_all code a w inside across =
+    ap (λ (kind : Bool). kind && goes_on (statement code a w)) (is_either (code.fetch a.running.frame.block a.running.frame.at) a)
+    ∙ either_kind (is_of is_quiet_inside (code.fetch a.running.frame.block a.running.frame.at) a)
+    (is_of is_quiet_across (code.fetch a.running.frame.block a.running.frame.at) a) (goes_on (statement code a w)) inside across
+
+-- neither kind, at the same place
+pub stops_both :
+    (code : Code) (a b : Activation) (w v : World) (answer : Bool) → answer ≡ false
+    → GoesOrStays (statement code a w) (is_of is_quiet_across (code.fetch a.running.frame.block a.running.frame.at) a) a b w v answer
+    → goes_as is_quiet_inside code a w ≡ false → goes_as is_quiet code b v ≡ false
+stops_both code a b w v true is goes inside = absurd cc
+stops_both code a b w v false is goes inside = rw (goes.0, goes.1) (stops_all code a w inside goes.2)
+
+-- how many frames there are, and whether the innermost has a caller
+pub some_below :
+    (a : Activation) (depth : ℕ) → a.left ≡ false → depth ≡ length (frames_of a) → 2 ≤ depth → has_caller_of a.below ≡ true
+some_below a depth stands is two = by a.below (has_below a depth stands is two)
+  where
+    by : (below : List Frame) → 1 ≤ length below → has_caller_of below ≡ true
+    by [] some = absurd (omega arith)
+    by (caller ∷ rest) some = refl
+
+pub has_none :
+    (a : Activation) (depth : ℕ) → a.left ≡ false → depth ≡ length (frames_of a) → depth < 2 → has_caller_of a.below ≡ false
+has_none a depth stands is few = by a.below refl
+  where
+    by : (below : List Frame) → a.below ≡ below → has_caller_of below ≡ false
+    by [] same = refl
+    by (caller ∷ rest) same =
+        let frames : length (frames_of a) ≡ suc (length a.below) = rw stands refl in
+        let some : length a.below ≡ suc (length rest) = ap (λ (l : List Frame). length l) same in
+        absurd (omega (arith, is, frames, few, some))

@@ -1,20 +1,22 @@
 -- Statements one after another that leave the peripheral outputs as they are, and after each of which
 -- the activation goes on.
-use Rattle.std.specs.Prelude.{◌≡◌, ℕ, zero, suc, Bool, true, false, not, ◌||◌, List, slice_get, Option, Some, None}
+use Rattle.std.specs.Prelude.{◌≡◌, ℕ, zero, suc, Bool, true, false, not, ◌||◌, ◌&&◌, List, [], ◌∷◌, slice_get, Option, Some, None, is_some}
 use Rattle.plc_base.specs.declared.Area.{Area}
 use Rattle.frames.specs.declared.Activation.{Activation}
+use Rattle.frames.specs.declared.frame.Frame.{Frame}
 use Rattle.frames.specs.declared.bindings.Binding.{Binding}
 use Rattle.frames.specs.declared.bindings.Binding.TheVariants as binding
+use Rattle.flat_code.specs.Instr.{Instr, Does, Jumps, Calls, Returns}
 use Rattle.flat_code.specs.Programs.{Program}
 use Rattle.flat_code.specs.declared.operands.Operand.{Operand}
 use Rattle.flat_code.specs.declared.operands.Operand.TheVariants as operand
 use Rattle.flat_code.specs.declared.words.Word.{Word}
 use Rattle.flat_code.specs.declared.words.Word.TheVariants as word
-use Rattle.machine.specs.Code.{Code}
+use Rattle.machine.specs.Code.{Code, Fetched}
 use Rattle.machine.specs.Flat.{code_of}
 use Rattle.machine.specs.Lasting.{IsReady}
 use Rattle.machine.specs.Places.{is_peripheral}
-use Rattle.machine.specs.Statement.{World, Step, Went, statement}
+use Rattle.machine.specs.Statement.{World, Step, Went, is_called, is_ended, is_system, statement}
 
 -- the activation goes on, with no change of the peripheral outputs
 pub record GoesQuietly (step : Step) (w : World) (next : Activation) (after : World) : Type 0 where
@@ -33,11 +35,6 @@ abbrev pub StaysReady : Program → Activation → World → Type 0
 StaysReady p a w =
     (count : ℕ) (b : Activation) (after : World)
     → RunsQuietly (code_of p) count a b w after → IsReady p b
-
--- one such statement was executed, or nothing was done
-abbrev pub GoesOrStays : Step → (old new : Activation) (w after : World) → Bool → Type 0
-GoesOrStays step old new w after true = GoesQuietly step w new after
-GoesOrStays step old new w after false = (new ≡ old) × (after ≡ w)
 
 -- the instructions that write to the place of their operand
 abbrev pub may_write : Word → Bool
@@ -74,3 +71,57 @@ has_place_inside _ bindings = true
 -- an instruction that surely leaves the peripheral outputs as they are
 abbrev pub keeps_outputs : Word → Operand → List Binding → Bool
 keeps_outputs w o bindings = not (may_write w) || has_place_inside o bindings
+
+-- ---- before which statements it stops
+
+abbrev pub goes_on : Step → Bool
+goes_on (Went a w) = true
+goes_on _ = false
+
+-- an instruction that jumps, calls or returns
+abbrev pub moves : Word → Bool
+moves word.Jump = true
+moves (word.Call how) = true
+moves (word.End how) = true
+moves _ = false
+
+-- an instruction that stays in its block and surely leaves the peripheral outputs as they are; a JL
+-- is none of them
+abbrev pub is_quiet_inside : Instr → Activation → Bool
+is_quiet_inside (Does use_db w o) a = not (moves w) && keeps_outputs w o a.running.frame.bindings
+is_quiet_inside (Jumps w target) a = true
+is_quiet_inside _ a = false
+
+abbrev pub has_caller : List Frame → Bool
+has_caller [] = false
+has_caller (caller ∷ rest) = true
+
+-- a call that is made of a function or function block, and a return that is made from a block without
+-- an instance to its caller
+abbrev pub is_quiet_across : Instr → Activation → Bool
+is_quiet_across (Calls how block instance passings) a =
+    is_called how a.running.regs.status.rlo && not (is_system block.kind)
+is_quiet_across (Returns how) a =
+    is_ended how a.running.regs.status.rlo && not (is_some a.running.frame.instance)
+    && has_caller a.below
+is_quiet_across _ a = false
+
+abbrev pub is_quiet : Instr → Activation → Bool
+is_quiet i a = is_quiet_inside i a || is_quiet_across i a
+
+-- the statement has an instruction of a kind
+abbrev pub is_of : (Instr → Activation → Bool) → Option Fetched → Activation → Bool
+is_of kind None a = false
+is_of kind (Some f) a = kind f.instr a
+
+-- the next statement is of a kind, and the activation goes on after it
+abbrev pub goes_as : (Instr → Activation → Bool) → Code → Activation → World → Bool
+goes_as kind code a w =
+    is_of kind (code.fetch a.running.frame.block a.running.frame.at) a
+    && goes_on (statement code a w)
+
+-- one such statement was executed, or nothing was done, since it isn't of the kind or doesn't go on
+abbrev pub GoesOrStays : Step → (kind : Bool) → (old new : Activation) (w after : World) → Bool → Type 0
+GoesOrStays step kind old new w after true = GoesQuietly step w new after
+GoesOrStays step kind old new w after false =
+    (new ≡ old) × (after ≡ w) × ((kind && goes_on step) ≡ false)

@@ -1,5 +1,5 @@
 //! Statements one after another that leave the peripheral outputs as they are.
-ghost use Rattle.std.specs.Prelude.{◌≡◌, ◌≤◌, length, false, ℕ, List, Option, Some};
+ghost use Rattle.std.specs.Prelude.{◌≡◌, ◌<◌, ◌≤◌, length, true, false, ℕ, List, Option, Some};
 ghost use Rattle.timers_counters.specs.Timer.{Timer};
 ghost use Rattle.timers_counters.specs.Counter.{Counter};
 ghost use Rattle.frames.specs.Activations.{frames_of};
@@ -11,7 +11,7 @@ ghost use Rattle.machine.specs.Entering.{call};
 ghost use Rattle.machine.specs.Flat.{code_of, head_of, instr_of, jump_instr, statement_at};
 ghost use Rattle.machine.specs.Lasting.{IsReady};
 ghost use Rattle.machine.specs.Parts.{parts_of};
-ghost use Rattle.machine.specs.Quiet.{GoesOrStays, RunsQuietly, StaysReady, has_place_inside as has_place_inside_of, is_bound_inside as is_bound_inside_of, is_inside as is_inside_of, is_named_inside as is_named_inside_of, keeps_outputs as keeps_outputs_of, may_write as may_write_of};
+ghost use Rattle.machine.specs.Quiet.{GoesOrStays, RunsQuietly, StaysReady, goes_as, has_place_inside as has_place_inside_of, is_bound_inside as is_bound_inside_of, is_inside as is_inside_of, is_named_inside as is_named_inside_of, is_of, is_quiet, is_quiet_across, is_quiet_inside, keeps_outputs as keeps_outputs_of, may_write as may_write_of};
 ghost use Rattle.machine.specs.Statement.{Goes, World, after_call, callee_of, fetched, performed, statement as statement_of, went_on, world};
 ghost use Rattle.machine.specs.Walking.{Passes};
 
@@ -101,6 +101,7 @@ fn perform_quietly(
 ) -> bool
     ensures goes { GoesOrStays (went_on (does_with_of opens word operand.now
         (parts_of a.old.running m.old t.old n.old)) next a.old)
+        (keeps_outputs_of word operand.now a.old.running.frame.bindings)
         a.old a.new (world m.old t.old n.old) (world m.new t.new n.new) result }
     ensures block { a.new.running.frame.block ≡ a.old.running.frame.block }
 {
@@ -120,6 +121,7 @@ fn perform_quietly(
 fn jump_quietly(word: JumpWord, target: u32, next: u32, a: &mut Activation) -> bool
     ensures goes { (c : Code) (ops : List OpData) (w : World)
         → GoesOrStays (performed c (jump_instr word target next ops) next a.old w)
+        (is_quiet_inside (jump_instr word target next ops) a.old)
         a.old a.new w w result }
     ensures block { a.new.running.frame.block ≡ a.old.running.frame.block }
 {
@@ -145,6 +147,7 @@ fn pass_op(
     ensures goes { (c : Code) (passings : List Passing) (ops : List OpData)
         → GoesOrStays (performed c (instr_of word operand.now opens passings next ops) next a.old
         (world m.old t.old n.old))
+        (is_quiet_inside (instr_of word operand.now opens passings next ops) a.old)
         a.old a.new (world m.old t.old n.old) (world m.new t.new n.new) result }
     ensures block { a.new.running.frame.block ≡ a.old.running.frame.block }
 {
@@ -172,6 +175,7 @@ fn pass_statement(
         (world m.old t.old n.old))
         → GoesOrStays (fetched c (statement_at code.now a.old.running.frame.at) a.old
         (world m.old t.old n.old))
+        (is_of is_quiet_inside (statement_at code.now a.old.running.frame.at) a.old)
         a.old a.new (world m.old t.old n.old) (world m.new t.new n.new) result }
     ensures block { a.new.running.frame.block ≡ a.old.running.frame.block }
 {
@@ -206,6 +210,9 @@ fn run_inside(
     ensures few { result ≤ most }
     ensures runs { RunsQuietly (code_of c.now.program) result a.old a.new
         (world m.old t.old n.old) (world m.new t.new n.new) }
+    ensures stops { result < most
+        → goes_as is_quiet_inside (code_of c.now.program) a.new (world m.new t.new n.new)
+        ≡ false }
 {
     let Some(code) = c.code(a.running.frame.block) else {
         return 0;
@@ -234,7 +241,7 @@ fn enter_quietly(
     ensures { (passings : List Passing) (t : List Timer) (n : List Counter)
         → Passes code.now.code at passings
         → GoesOrStays (after_call (call called.now passings next a.old m.old) next a.old
-        (world m.old t n)) a.old a.new (world m.old t n) (world m.new t n) result }
+        (world m.old t n)) true a.old a.new (world m.old t n) (world m.new t n) result }
 {
     let mut bindings = Bindings::new();
     match bind_all(code, at, called.params, &a.running, m, &mut bindings) {
@@ -259,7 +266,7 @@ fn enter_loaded(
         → Passes code.now.code at passings
         → GoesOrStays (after_call (call (callee_of block instance (head_of callee.now)) passings
         next a.old m.old) next a.old
-        (world m.old t n)) a.old a.new (world m.old t n) (world m.new t n) result }
+        (world m.old t n)) true a.old a.new (world m.old t n) (world m.new t n) result }
 {
     let called = Callee {
         block,
@@ -286,7 +293,8 @@ fn call_quietly(
     ensures { (passings : List Passing) (t : List Timer) (n : List Counter)
         → Passes code.now.code at passings
         → GoesOrStays (performed (code_of c.now.program) (Calls how block instance passings) next
-        a.old (world m.old t n)) a.old a.new (world m.old t n) (world m.new t n) result }
+        a.old (world m.old t n)) (is_quiet_across (Calls how block instance passings) a.old)
+        a.old a.new (world m.old t n) (world m.new t n) result }
 {
     if !is_called(how, a.running.regs.status.rlo) {
         return false;
@@ -306,7 +314,7 @@ fn return_quietly(code: &LoadedCode<'_>, how: EndWord, a: &mut Activation, m: &m
     ensures { (c : Code) (next : ℕ) (t : List Timer) (n : List Counter)
         → c.head a.old.running.frame.block ≡ Some (head_of code.now)
         → GoesOrStays (performed c (Returns how) next a.old (world m.old t n))
-        a.old a.new (world m.old t n) (world m.new t n) result }
+        (is_quiet_across (Returns how) a.old) a.old a.new (world m.old t n) (world m.new t n) result }
 {
     if !is_ended(how, a.running.regs.status.rlo) {
         return false;
@@ -336,6 +344,7 @@ fn cross_op(
         → Passes code.now.code at passings
         → GoesOrStays (performed (code_of c.now.program)
         (instr_of word operand.now opens passings next code.now.code) next a.old (world m.old t n))
+        (is_quiet_across (instr_of word operand.now opens passings next code.now.code) a.old)
         a.old a.new (world m.old t n) (world m.new t n) result }
 {
     match word {
@@ -370,6 +379,7 @@ fn cross_at(c: &Loaded, code: &LoadedCode<'_>, a: &mut Activation, m: &mut Memor
         a.old (world m.old t n))
         → GoesOrStays (fetched (code_of c.now.program)
         (statement_at code.now a.old.running.frame.at) a.old (world m.old t n))
+        (is_of is_quiet_across (statement_at code.now a.old.running.frame.at) a.old)
         a.old a.new (world m.old t n) (world m.new t n) result }
 {
     let at = a.running.frame.at;
@@ -387,6 +397,8 @@ fn cross(c: &Loaded, a: &mut Activation, m: &mut Memory) -> bool
     requires { IsReady c.now.program a.old }
     ensures { (t : List Timer) (n : List Counter)
         → GoesOrStays (statement_of (code_of c.now.program) a.old (world m.old t n))
+        (is_of is_quiet_across ((code_of c.now.program).fetch a.old.running.frame.block
+        a.old.running.frame.at) a.old)
         a.old a.new (world m.old t n) (world m.new t n) result }
 {
     match c.code(a.running.frame.block) {
@@ -396,8 +408,11 @@ fn cross(c: &Loaded, a: &mut Activation, m: &mut Memory) -> bool
 }
 
 /// Executes statements one after another as long as each lets the activation go on and leaves the
-/// peripheral outputs as they are, `most` at most; the answer is how many. It may stop before one
-/// that does both: what it leaves is for `statement`.
+/// peripheral outputs as they are, `most` at most; the answer is how many. It stops only before one
+/// that isn't of the quiet kind or doesn't go on: what it leaves is for `statement`. Quiet are the
+/// instructions inside a block that don't write to a peripheral place, by their operand or what a
+/// parameter stands for; jumps but JL; a call that is made, but of a system function; and a return
+/// to a caller from a block without an instance.
 pub fn quiet_statements(
     c: &Loaded,
     m: &mut Memory,
@@ -410,6 +425,8 @@ pub fn quiet_statements(
     ensures few { result ≤ most }
     ensures runs { RunsQuietly (code_of c.now.program) result a.old a.new
         (world m.old t.old n.old) (world m.new t.new n.new) }
+    ensures stops { result < most
+        → goes_as is_quiet (code_of c.now.program) a.new (world m.new t.new n.new) ≡ false }
 {
     let mut done = run_inside(c, m, t, n, a, most);
     while done < most {

@@ -1,8 +1,7 @@
 -- The entries of a history, applied one by one, or in a row where they show nothing.
-use Rattle.std.proofs.Common.{◌≡◌, ◌<◌, ◌≤◌, ◌⊎◌, inl, inr, refl, sym, ◌∙◌, ap, subst, ℕ, zero, suc, ◌+◌, ◌-◌, List, [], ◌∷◌, ◌++◌, length, take, drop, replicate, get_or, Ok, arith, append-nil, append_assoc, length-append, length-drop}
+use Rattle.std.proofs.Common.{◌≡◌, ◌<◌, ◌≤◌, refl, sym, ◌∙◌, ap, subst, ℕ, zero, suc, ◌+◌, ◌-◌, List, [], ◌∷◌, ◌++◌, length, take, drop, replicate, get_or, Ok, arith, append-nil, append_assoc, length-append, length-drop}
 use Rattle.std.proofs.Math.Seq.{take-add}
-use Rattle.std.proofs.lemmas.Bool.{cases_lt}
-use Rattle.std.proofs.lemmas.List.{drop-drop, drop_all, take-append-drop}
+use Rattle.std.proofs.lemmas.List.{drop-drop, drop_all, map-append, take-append-drop}
 use Rattle.plc_io.specs.Moments.{SinkAt}
 use Rattle.plc_io.specs.Taken.{Wrote}
 use Rattle.flat_code.specs.Programs.{Program}
@@ -137,64 +136,88 @@ lines-more old new es i k more nothing state =
     counted : length new.history ≡ length old.history + length front
     counted = ap (λ (r : Recorded). length r.history) more ∙ length-append old.history front
 
--- ---- what is known of the entries to come
+-- ---- entries in two parts
 
--- so many entries from a place on are steps
-pub record KnownSteps (es : List Entry) (i n : ℕ) : Type 0 where
-  pub few : n ≤ length (drop i es)
-  pub steps : events (take n (drop i es)) ≡ replicate n Step
-
-pub known-none : (es : List Entry) (i : ℕ) → KnownSteps es i 0
-known-none es i = record { few = omega arith; steps = refl }
-
-steps-behind : (es : List Entry) (k m : ℕ) → events (take (k + m) es) ≡ replicate (k + m) Step
-    → events (take m (drop k es)) ≡ replicate m Step
-steps-behind es zero m h =
-    let none : 0 + m ≡ m = omega arith in
-    subst (λ (n : ℕ). events (take n es) ≡ replicate n Step) none h
-steps-behind [] (suc k) m h = absurd (never (subst (λ (n : ℕ). events (take n []) ≡ replicate n Step) more h))
+lines-split : (code : Code) (n : ℕ) (s : State) (front back : List Entry)
+    → lines_from code n s (front ++ back)
+    ≡ lines_from code n s front ++ lines_from code (n + length front) (run_from code s (events front)) back
+lines-split code n s [] back = ap (λ (m : ℕ). lines_from code m s back) none
   where
-    more : suc k + m ≡ suc (k + m)
-    more = omega arith
-
-    never : ◌≡◌ {A = List What} [] (Step ∷ replicate (k + m) Step) → ⊥
-    never e = cc
-steps-behind (e ∷ es) (suc k) m h =
-    steps-behind es k m (rest (subst (λ (n : ℕ). events (take n (e ∷ es)) ≡ replicate n Step) more h))
+    none : n ≡ n + length {A = Entry} []
+    none = omega arith
+lines-split code n s (e ∷ front) back =
+    ap (λ (text : List ℕ). shown_text (n + 1) (happens code s e.what).seen ++ text) (lines-split code (n + 1) t front back)
+    ∙ ap (λ (m : ℕ). shown_text (n + 1) (happens code s e.what).seen
+    ++ (lines_from code (n + 1) t front ++ lines_from code m (run_from code t (events front)) back)) count
+    ∙ sym (append_assoc (shown_text (n + 1) (happens code s e.what).seen) (lines_from code (n + 1) t front)
+    (lines_from code (n + length (e ∷ front)) (run_from code t (events front)) back))
   where
-    more : suc k + m ≡ suc (k + m)
-    more = omega arith
+    t : State
+    t = (happens code s e.what).state
 
-    rest : e.what ∷ events (take (k + m) es) ≡ Step ∷ replicate (k + m) Step
-        → events (take (k + m) es) ≡ replicate (k + m) Step
-    rest same = cc
+    count : n + 1 + length front ≡ n + length (e ∷ front)
+    count = omega arith
 
--- behind some of them, and a further entry
-pub known-later : (es rest : List Entry) (i n k left : ℕ) → rest ≡ drop i es → n ≤ length rest
-    → events (take n rest) ≡ replicate n Step → k ≤ n → i + k < length es → left ≡ n - k - 1
-    → KnownSteps es (i + k + 1) left
-known-later es rest i n k left is few steps made within count = by (cases_lt k n)
+run-append : (code : Code) (s : State) (front back : List What)
+    → run_from code s (front ++ back) ≡ run_from code (run_from code s front) back
+run-append code s [] back = refl
+run-append code s (what ∷ rest) back = run-append code (happens code s what).state rest back
+
+replay-more : (code : Code) (history more : List Entry)
+    → replay code (events (history ++ more)) ≡ run_from code (replay code (events history)) (events more)
+unfolding replay
+replay-more code history more =
+    ap (λ (es : List What). run_from code (start code) es) (map-append (λ (e : Entry). e.what) history more)
+    ∙ run-append code (start code) (events history) (events more)
+
+-- the lines of the rest of the entries, when some of them stand before the others
+abbrev lines_after : Recorded → (front back : List Entry) → List ℕ
+lines_after r front back =
+    lines_from (code_of r.program) (length r.history + length front)
+    (run_from (code_of r.program) (replayed r) (events front)) back
+
+pub lines-cut : (old : Recorded) (es rest : List Entry) (i k : ℕ) → rest ≡ drop i es
+    → lines_behind old (drop i es) ≡ lines_behind old (take k rest) ++ lines_after old (take k rest) (drop k rest)
+lines-cut old es rest i k is =
+    ap (lines_behind old) (sym (take-append-drop k rest ∙ is))
+    ∙ lines-split (code_of old.program) (length old.history) (replayed old) (take k rest) (drop k rest)
+
+lines-written : (old new : Recorded) (es rest : List Entry) (i k : ℕ) → rest ≡ drop i es → Applied old rest k new → k ≤ length rest
+    → lines_after old (take k rest) (drop k rest) ≡ lines_behind new (drop (i + k) es)
+lines-written old new es rest i k is more within =
+    ap (λ (l : List Entry). lines_after old front l) (ap (λ (l : List Entry). drop k l) is ∙ drop-drop k i es)
+    ∙ ap (λ (s : State). lines_from code (length old.history + length front) s back) (sym state)
+    ∙ ap (λ (m : ℕ). lines_from code m (replayed new) back) (sym counted)
+    ∙ ap (λ (p : Program). lines_from (code_of p) (length new.history) (replayed new) back) (sym program)
   where
-    there : drop (k + 1) rest ≡ drop (i + k + 1) es
-    there =
-        ap (λ (l : List Entry). drop (k + 1) l) is
-        ∙ drop-drop (k + 1) i es
-        ∙ ap (λ (m : ℕ). drop m es) (omega arith)
+    code : Code
+    code = code_of old.program
 
-    by : (k < n) ⊎ (n ≤ k) → KnownSteps es (i + k + 1) left
-    by (inl more) = record {
-      few = omega (arith, length-drop (i + k + 1) es, length-drop i es, ap (λ (l : List Entry). length l) is);
-      steps = subst (λ (l : List Entry). events (take left l) ≡ replicate left Step) there
-          (steps-behind rest (k + 1) left
-          (subst (λ (m : ℕ). events (take m rest) ≡ replicate m Step) whole steps));
-    }
-      where
-        whole : n ≡ k + 1 + left
-        whole = omega arith
-    by (inr none) = subst (λ (m : ℕ). KnownSteps es (i + k + 1) m) nothing (known-none es (i + k + 1))
-      where
-        nothing : 0 ≡ left
-        nothing = omega arith
+    front : List Entry
+    front = take k rest
+
+    back : List Entry
+    back = drop (i + k) es
+
+    program : new.program ≡ old.program
+    program = ap (λ (r : Recorded). r.program) more
+
+    counted : length new.history ≡ length old.history + length front
+    counted = ap (λ (r : Recorded). length r.history) more ∙ length-append old.history front
+
+    state : replayed new ≡ run_from code (replayed old) (events front)
+    state = ap replayed more ∙ replay-more code old.history front
+
+-- the rest of some steps are steps
+pub steps-behind : (es rest : List Entry) (i : ℕ) → events es ≡ replicate (length es) Step → rest ≡ drop i es
+    → events rest ≡ replicate (length rest) Step
+steps-behind es rest i steps is = subst (λ (l : List Entry). events l ≡ replicate (length l) Step) (sym is) (by es i steps)
+  where
+    by : (es : List Entry) (i : ℕ) → events es ≡ replicate (length es) Step
+        → events (drop i es) ≡ replicate (length (drop i es)) Step
+    by es zero steps = steps
+    by [] (suc i) steps = refl
+    by (e ∷ es) (suc i) steps = by es i cc
 
 -- ---- what was applied and written
 
@@ -229,6 +252,20 @@ follows-quiet s0 s1 s2 es rest i k a b so_far is few more nothing state = record
   where
     further : Applied s1 (drop i es) k s2
     further = more ∙ ap (λ (l : List Entry). record s1 { history = s1.history ++ take k l; spare = s1.spare - k }) is
+
+-- after entries of the rest whose lines were written
+pub follows-written : (s0 s1 s2 : Recorded) (es rest : List Entry) (i k : ℕ) (a b c : SinkAt) (u : Unit) → Follows s0 es i s1 a b
+    → rest ≡ drop i es → k ≤ length rest → Applied s1 rest k s2
+    → Wrote {X = Unit {0}} b c (lines_behind s1 (take k rest)) (Ok u) → Follows s0 es (i + k) s2 a c
+follows-written s0 s1 s2 es rest i k a b c u so_far is few more wrote = record {
+  within = omega (arith, length-drop i es, ap (λ (l : List Entry). length l) is);
+  applied = applied-more s0 s1 s2 es i k so_far.applied
+      (more ∙ ap (λ (l : List Entry). record s1 { history = s1.history ++ take k l; spare = s1.spare - k }) is);
+  goes_on = goes-next (lines_behind s0 es) (lines_behind s1 (drop i es)) (lines_behind s1 (take k rest)) (lines_behind s2 (drop (i + k) es))
+      (lines_behind s1 (take k rest)) a b c u so_far.goes_on
+      (lines-cut s1 es rest i k is ∙ ap (λ (text : List ℕ). lines_behind s1 (take k rest) ++ text) (lines-written s1 s2 es rest i k is more few))
+      refl wrote;
+}
 
 -- after an entry more, whose lines were written
 pub follows-next : (s0 s1 s2 : Recorded) (es : List Entry) (i n : ℕ) (e : Entry) (shown : Observed) (a b c : SinkAt) (u : Unit)

@@ -1,11 +1,11 @@
-ghost use Rattle.std.specs.Prelude.{◌≡◌, ◌*◌, ◌≤◌, ◌-◌, [], ◌++◌, length, take, drop, replicate, All, IfOk, IfErr, OnOk};
+ghost use Rattle.std.specs.Prelude.{◌≡◌, ◌*◌, ◌≤◌, ◌-◌, [], ◌∷◌, ◌++◌, length, take, drop, replicate, All, IfOk, IfErr, OnOk};
 ghost use Rattle.std.specs.List.{flat_map};
 ghost use Rattle.plc_io.specs.Taken.{Wrote};
 ghost use Rattle.plc_io.specs.declared.faults.IoFault.TheVariants.{NoMemory};
 ghost use Rattle.var_access.specs.Entry.{IsValid};
 ghost use Rattle.machine.specs.Flat.{code_of};
 ghost use Rattle.var_access.specs.declared.What.TheVariants.{Step};
-ghost use Rattle.controller.specs.Replayed.{data_blocks as blocks_after, events};
+ghost use Rattle.controller.specs.Replayed.{data_blocks as blocks_after, events, next_happens, replayed, seen};
 ghost use Rattle.run_text.specs.Behind.{closing_of, lines_behind};
 ghost use Rattle.run_text.specs.LineText.{end_text, output_text};
 ghost use Rattle.run_text.specs.RunText.{block_text, changed_mode_text, run_text, shown_text};
@@ -48,21 +48,55 @@ fn write_entry<K: Sink>(out: &mut K, n: u64, seen: &Observed) -> Result<(), IoFa
     write_mode(out, n, seen.mode)
 }
 
-/// How many of the first entries are steps, where so many are known to be.
-fn known_steps(entries: &[Entry], known: usize) -> usize
-    requires few { known ≤ length entries.now }
-    requires steps { events (take known entries.now) ≡ replicate known Step }
-    ensures few { result ≤ length entries.now }
-    ensures steps { events (take result entries.now) ≡ replicate result Step }
+/// Applies an entry, and writes what it showed.
+fn write_applied<K: Sink>(
+    controller: &mut Controller,
+    entry: Entry,
+    out: &mut K,
+) -> Result<(), IoFault>
+    requires room { 1 ≤ controller.old.spare }
+    requires valid { IsValid entry }
+    ensures history { controller.new ≡ record controller.old {
+      history = controller.old.history ++ entry ∷ [];
+      spare = controller.old.spare - 1;
+    } }
+    ensures shown { seen controller.new ≡ (next_happens controller.old entry).seen }
+    ensures state { replayed controller.new ≡ (next_happens controller.old entry).state }
+    ensures text { Wrote (K.shown out.old) (K.shown out.new)
+        (shown_text (length controller.new.history) (seen controller.new)) result }
 {
-    if known == 0 {
-        leading_steps(entries)
-    } else {
-        known
+    controller.apply(entry);
+    write_entry(out, controller.history_len(), controller.observed())
+}
+
+/// Applies steps, and writes what each showed. Those that show nothing are passed in a row.
+fn write_steps<K: Sink>(
+    controller: &mut Controller,
+    steps: &[Entry],
+    out: &mut K,
+) -> Result<(), IoFault>
+    requires room { length steps.now ≤ controller.old.spare }
+    requires valid { All IsValid steps.now }
+    requires steps { events steps.now ≡ replicate (length steps.now) Step }
+    ensures ok { OnOk result (controller.new ≡ record controller.old {
+      history = controller.old.history ++ steps.now;
+      spare = controller.old.spare - length steps.now;
+    }) }
+    ensures text { Wrote (K.shown out.old) (K.shown out.new)
+        (lines_behind controller.old steps.now) result }
+{
+    let mut at = 0;
+    loop {
+        at += controller.step_quietly(&steps[at..]);
+        let Some(entry) = steps.get(at) else {
+            return Ok(());
+        };
+        write_applied(controller, *entry, out)?;
+        at += 1;
     }
 }
 
-/// Applies the entries, and writes what each showed. Steps that show nothing are passed in a row.
+/// Applies the entries, and writes what each showed. Steps are made in a row.
 fn write_entries<K: Sink>(
     controller: &mut Controller,
     entries: &[Entry],
@@ -78,18 +112,16 @@ fn write_entries<K: Sink>(
         (lines_behind controller.old entries.now) result }
 {
     let mut at = 0;
-    let mut known = 0;
     loop {
-        let steps = known_steps(&entries[at..], known);
-        let made = controller.step_quietly(&entries[at..], steps);
-        at += made;
+        let rest = &entries[at..];
+        let steps = leading_steps(rest);
+        write_steps(controller, &rest[..steps], out)?;
+        at += steps;
         let Some(entry) = entries.get(at) else {
             return Ok(());
         };
-        controller.apply(*entry);
-        write_entry(out, controller.history_len(), controller.observed())?;
+        write_applied(controller, *entry, out)?;
         at += 1;
-        known = (steps - made).saturating_sub(1);
     }
 }
 

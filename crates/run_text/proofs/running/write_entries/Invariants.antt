@@ -1,12 +1,11 @@
 use Rattle.std.proofs.Common.{◌-◌, length}
-use Rattle.run_text.proofs.EntryLemmas.{Follows, KnownSteps}
+use Rattle.run_text.proofs.EntryLemmas.{Follows}
 use Rattle.run_text.proofs.running.write_entries.Given as goal
 
 -- the entries so far were applied, and what they showed was written
 abbrev pub invariant-loop-entry : goal.invariant-loop-entry
 invariant-loop-entry g l = record {
   follows : Follows l.fn.controller l.entries l.at l.controller (g.K.Sink.shown l.fn.out) (g.K.Sink.shown l.out);
-  known : KnownSteps l.entries l.at l.known;
 }
 
 abbrev pub decreases-loop-entry : goal.decreases-loop-entry

@@ -21,11 +21,11 @@ invariant_of-self-2 c =
     let code : Code = code_of p in
     let history : List Entry = c.self.inside.history.items in
     let made : ℕ = c.step_quietly-made.result in
-    let more : List Entry = take made c.args.entries.now in
+    let more : List Entry = take made c.args.steps.now in
     let s : State = state_of c.self.inside.cpu in
     let t : State = state_of c.step_quietly-made.new.self in
     let steps : events more ≡ replicate made Step =
-    fewer-steps c.args.entries.now made c.args.steps c.step_quietly-made.ensures.few c.requires.steps in
+    fewer-steps c.args.steps.now made c.step_quietly-made.ensures.few c.requires.steps in
     let items : c.extend_from_slice-pushed.new.self.items ≡ history ++ more = search rules in
     let some : 1 ≤ made = omega arith in
     record {
@@ -49,19 +49,19 @@ invariant_of-self-2 c =
 
 pub returns-clause-nothing : goal.returns-clause-nothing
 returns-clause-nothing c =
-    subst (λ (r : Recorded). ShowNothing (code_of r.program) (replayed r) (events (take c.step_quietly-made.result c.args.entries.now)))
+    subst (λ (r : Recorded). ShowNothing (code_of r.program) (replayed r) (events (take c.step_quietly-made.result c.args.steps.now)))
     c.self.view_is
     (quiet-behind (code_of c.self.inside.program.program) c.self.inside.history.items
-    (take c.step_quietly-made.result c.args.entries.now) (state_of c.self.inside.cpu) c.step_quietly-made.result
+    (take c.step_quietly-made.result c.args.steps.now) (state_of c.self.inside.cpu) c.step_quietly-made.result
     c.self.invariant.state
-    (fewer-steps c.args.entries.now c.step_quietly-made.result c.args.steps c.step_quietly-made.ensures.few c.requires.steps)
+    (fewer-steps c.args.steps.now c.step_quietly-made.result c.step_quietly-made.ensures.few c.requires.steps)
     c.step_quietly-made.ensures.nothing)
 
 pub returns-clause-state : goal.returns-clause-state
 returns-clause-state c =
     let code : Code = code_of c.self.inside.program.program in
     let history : List Entry = c.self.inside.history.items in
-    let more : List Entry = take c.step_quietly-made.result c.args.entries.now in
+    let more : List Entry = take c.step_quietly-made.result c.args.steps.now in
     let items : c.extend_from_slice-pushed.new.self.items ≡ history ++ more = search rules in
     ap (λ (es : List Entry). replay code (events es)) items
     ∙ replay-more code history more

@@ -2,7 +2,7 @@ use Rattle.std.proofs.Common.{refl, sym, ◌∙◌}
 use Rattle.machine.specs.Flat.{code_of}
 use Rattle.machine.specs.Statement.{world}
 use Rattle.cpu.specs.Views.{state_of}
-use Rattle.cpu.proofs.QuietLemmas.{fit_goes_on, none_there, steps_quietly, IsQuiet}
+use Rattle.cpu.proofs.QuietLemmas.{fit_goes_on, no_quiet_step, none_there, stands_still, steps_quietly, IsQuiet}
 use Rattle.cpu.proofs.parts.Parts.step_quietly.Goals as goal
 
 pub run_quietly-done-requires : goal.run_quietly-done-requires
@@ -28,4 +28,5 @@ returns c =
       state = sym steps.state;
       outputs = steps.outputs;
       mode = refl;
+      stops = λ less. no_quiet_step _ _ _ (c.run_quietly-done.ensures.stops less);
     }
