@@ -1,5 +1,5 @@
 -- Quiet statements one after another, as entries.
-use Rattle.std.proofs.Common.{◌≡◌, ℕ, zero, suc, ◌+◌, ◌&&◌, ◌||◌, Bool, true, false, not, List, [], ◌∷◌, Option, Some, None, refl, sym, ap, ◌∙◌, subst, arith}
+use Rattle.std.proofs.Common.{◌≡◌, ℕ, zero, suc, ◌+◌, ◌&&◌, Bool, true, false, List, [], ◌∷◌, Option, Some, None, refl, sym, ap, ◌∙◌, subst, arith}
 use Rattle.std.specs.Prelude.{is_some, replicate}
 use Rattle.plc_base.specs.declared.Mode.{Mode}
 use Rattle.plc_base.specs.declared.Mode.TheVariants.{Run, Startup, Stop}
@@ -194,12 +194,7 @@ steps_quietly code count s new w quiet runs =
 
 -- ---- where it stops
 
-pub no_quiet_step : (running none quiet : Bool) → quiet ≡ false → (running && (none && quiet)) ≡ false
+pub no_quiet_step : (running none quiet : Bool) → quiet ≡ false → (running && none && quiet) ≡ false
 no_quiet_step true true quiet h = h
 no_quiet_step true false quiet h = refl
 no_quiet_step false none quiet h = refl
-
-pub stands_still : (stop waits quiet : Bool) → (stop || waits) ≡ true → (not stop && (not waits && quiet)) ≡ false
-stands_still true waits quiet h = refl
-stands_still false true quiet h = refl
-stands_still false false quiet h = absurd cc

@@ -1,8 +1,10 @@
-use Rattle.std.proofs.Common.{refl, sym, ◌∙◌}
+use Rattle.std.proofs.Common.{refl, sym, ◌∙◌, is_some, not}
 use Rattle.machine.specs.Flat.{code_of}
 use Rattle.machine.specs.Statement.{world}
+use Rattle.ob_sched.specs.Request.{best_of}
+use Rattle.cpu.specs.State.{is_stop}
 use Rattle.cpu.specs.Views.{state_of}
-use Rattle.cpu.proofs.QuietLemmas.{fit_goes_on, no_quiet_step, none_there, stands_still, steps_quietly, IsQuiet}
+use Rattle.cpu.proofs.QuietLemmas.{fit_goes_on, no_quiet_step, none_there, steps_quietly, IsQuiet}
 use Rattle.cpu.proofs.parts.Parts.step_quietly.Goals as goal
 
 pub run_quietly-done-requires : goal.run_quietly-done-requires
@@ -28,5 +30,7 @@ returns c =
       state = sym steps.state;
       outputs = steps.outputs;
       mode = refl;
-      stops = λ less. no_quiet_step _ _ _ (c.run_quietly-done.ensures.stops less);
+      stops = λ less. no_quiet_step (not (is_stop c.args.self.now.mode))
+          (not (is_some (best_of c.args.self.now.mode (state_of c.args.self.now).sched.pending))) _
+          (c.run_quietly-done.ensures.stops less);
     }
