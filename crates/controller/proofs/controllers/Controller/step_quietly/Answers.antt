@@ -1,10 +1,10 @@
-use Rattle.std.proofs.Common.{rules, ◌≡◌, ◌≤◌, ℕ, List, ◌++◌, ap, sym, ◌∙◌, arith, take, replicate, subst}
+use Rattle.std.proofs.Common.{rules, false, ◌≡◌, ◌≤◌, ℕ, List, ◌++◌, ap, sym, ◌∙◌, arith, take, replicate, subst}
 use Rattle.flat_code.specs.Programs.{Program}
 use Rattle.machine.specs.Code.{Code}
 use Rattle.machine.specs.Flat.{code_of}
 use Rattle.var_access.specs.declared.Entry.{Entry}
 use Rattle.var_access.specs.declared.What.TheVariants.{Step}
-use Rattle.cpu.specs.Quiet.{ShowNothing}
+use Rattle.cpu.specs.Quiet.{ShowNothing, steps_quietly}
 use Rattle.cpu.specs.Replay.{last_seen, replay, run_from}
 use Rattle.cpu.specs.Shown.{watched}
 use Rattle.cpu.specs.State.{State}
@@ -66,3 +66,18 @@ returns-clause-state c =
     ap (λ (es : List Entry). replay code (events es)) items
     ∙ replay-more code history more
     ∙ ap (λ (r : Recorded). run_from (code_of r.program) (replayed r) (events more)) c.self.view_is
+
+pub returns-clause-stops : goal.returns-clause-stops
+returns-clause-stops c = λ less.
+    let code : Code = code_of c.self.inside.program.program in
+    let history : List Entry = c.self.inside.history.items in
+    let made : ℕ = c.step_quietly-made.result in
+    let more : List Entry = take made c.args.steps.now in
+    let items : c.extend_from_slice-pushed.new.self.items ≡ history ++ more = search rules in
+    let is : state_of c.step_quietly-made.new.self ≡ replay code (events c.extend_from_slice-pushed.new.self.items) =
+    state-behind code history more (state_of c.self.inside.cpu) (state_of c.step_quietly-made.new.self) made c.self.invariant.state
+    (fewer-steps c.args.steps.now made c.step_quietly-made.ensures.few c.requires.steps) c.step_quietly-made.ensures.state
+    ∙ ap (λ (es : List Entry). replay code (events es)) (sym items) in
+    subst (λ (r : Recorded). steps_quietly (code_of r.program) (replay code (events c.extend_from_slice-pushed.new.self.items)) ≡ false)
+    c.self.view_is
+    (subst (λ (s : State). steps_quietly code s ≡ false) is (c.step_quietly-made.ensures.stops less))
