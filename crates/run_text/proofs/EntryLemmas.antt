@@ -1,5 +1,5 @@
 -- The entries of a history, applied one by one, or in a row where they show nothing.
-use Rattle.std.proofs.Common.{◌≡◌, ◌<◌, ◌≤◌, refl, sym, ◌∙◌, ap, subst, ℕ, zero, suc, ◌+◌, ◌-◌, List, [], ◌∷◌, ◌++◌, length, take, drop, replicate, get_or, Ok, arith, append-nil, append_assoc, length-append, length-drop}
+use Rattle.std.proofs.Common.{◌≡◌, ◌<◌, ◌≤◌, refl, sym, ◌∙◌, ap, subst, ℕ, zero, suc, ◌+◌, ◌-◌, List, [], ◌∷◌, ◌++◌, length, take, drop, replicate, get_or, Ok, arith, append-nil, append_assoc, length-append, length-drop, length-take-le}
 use Rattle.std.proofs.Math.Seq.{take-add}
 use Rattle.std.proofs.lemmas.List.{drop-drop, drop_all, map-append, take-append-drop}
 use Rattle.plc_io.specs.Moments.{SinkAt}
@@ -253,11 +253,15 @@ follows-quiet s0 s1 s2 es rest i k a b so_far is few more nothing state = record
     further : Applied s1 (drop i es) k s2
     further = more ∙ ap (λ (l : List Entry). record s1 { history = s1.history ++ take k l; spare = s1.spare - k }) is
 
+-- after all entries
+abbrev pub HasRun : Recorded → List Entry → Recorded → Type 0
+HasRun s es s' = s' ≡ record s { history = s.history ++ es; spare = s.spare - length es }
+
 -- after entries of the rest whose lines were written
 pub follows-written : (s0 s1 s2 : Recorded) (es rest : List Entry) (i k : ℕ) (a b c : SinkAt) (u : Unit) → Follows s0 es i s1 a b
-    → rest ≡ drop i es → k ≤ length rest → Applied s1 rest k s2
+    → rest ≡ drop i es → k ≤ length rest → HasRun s1 (take k rest) s2
     → Wrote {X = Unit {0}} b c (lines_behind s1 (take k rest)) (Ok u) → Follows s0 es (i + k) s2 a c
-follows-written s0 s1 s2 es rest i k a b c u so_far is few more wrote = record {
+follows-written s0 s1 s2 es rest i k a b c u so_far is few run wrote = record {
   within = omega (arith, length-drop i es, ap (λ (l : List Entry). length l) is);
   applied = applied-more s0 s1 s2 es i k so_far.applied
       (more ∙ ap (λ (l : List Entry). record s1 { history = s1.history ++ take k l; spare = s1.spare - k }) is);
@@ -266,6 +270,9 @@ follows-written s0 s1 s2 es rest i k a b c u so_far is few more wrote = record {
       (lines-cut s1 es rest i k is ∙ ap (λ (text : List ℕ). lines_behind s1 (take k rest) ++ text) (lines-written s1 s2 es rest i k is more few))
       refl wrote;
 }
+  where
+    more : Applied s1 rest k s2
+    more = run ∙ ap (λ (n : ℕ). record s1 { history = s1.history ++ take k rest; spare = s1.spare - n }) (length-take-le k rest few)
 
 -- after an entry more, whose lines were written
 pub follows-next : (s0 s1 s2 : Recorded) (es : List Entry) (i n : ℕ) (e : Entry) (shown : Observed) (a b c : SinkAt) (u : Unit)
@@ -289,10 +296,6 @@ follows-end s0 s1 es i a b u so_far past =
 -- a controller as it begins, with room for all entries
 abbrev pub Begins : Program → List Entry → Recorded → Type 0
 Begins program es s = s ≡ record { program = program; history = []; spare = length es }
-
--- after all entries
-abbrev pub HasRun : Recorded → List Entry → Recorded → Type 0
-HasRun s es s' = s' ≡ record s { history = s.history ++ es; spare = s.spare - length es }
 
 pub run-splits : (program : Program) (s s' : Recorded) (es : List Entry) → Begins program es s → HasRun s es s'
     → run_text (code_of program) es ≡ lines_behind s es ++ closing_of s'

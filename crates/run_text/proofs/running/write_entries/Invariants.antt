@@ -3,10 +3,10 @@ use Rattle.run_text.proofs.EntryLemmas.{Follows}
 use Rattle.run_text.proofs.running.write_entries.Given as goal
 
 -- the entries so far were applied, and what they showed was written
-abbrev pub invariant-loop-entry : goal.invariant-loop-entry
-invariant-loop-entry g l = record {
+abbrev pub invariant-loop-at : goal.invariant-loop-at
+invariant-loop-at g l = record {
   follows : Follows l.fn.controller l.entries l.at l.controller (g.K.Sink.shown l.fn.out) (g.K.Sink.shown l.out);
 }
 
-abbrev pub decreases-loop-entry : goal.decreases-loop-entry
-decreases-loop-entry g l = length l.entries - l.at
+abbrev pub decreases-loop-at : goal.decreases-loop-at
+decreases-loop-at g l = length l.entries - l.at

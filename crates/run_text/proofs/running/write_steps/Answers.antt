@@ -10,8 +10,8 @@ loop-entry-init g c = record {
   follows = follows-none c.args.controller.now c.args.steps.now _;
 }
 
-pub step_quietly-at-requires-in-loop-entry-steps : goal.step_quietly-at-requires-in-loop-entry-steps
-step_quietly-at-requires-in-loop-entry-steps g c =
+pub step_quietly-at-requires-clause-steps : goal.step_quietly-at-requires-clause-steps
+step_quietly-at-requires-clause-steps g c =
     steps-behind c.args.steps.now _ c.loop-entry.at c.requires.steps (take_rest c.args.steps.now c.loop-entry.at)
 
 pub returns-in_default-clause-text : goal.returns-in_default-clause-text
@@ -35,7 +35,7 @@ returns-in_err-write_applied-clause-text g c =
     _ _ _ c.write_applied.ensures.history refl refl c.write_applied.ensures.shown
     c.write_applied.ensures.state (omega (arith, c.in-Some.ensures.lookup)) c.in-Some.ensures.lookup.1)
     refl
-    c.in_err-write_applied.ensures
+    c.in_err-write_applied.ensures.text
     (handed.1 ∙ ap Err handed.2)
 
 pub loop-entry-preserved : goal.loop-entry-preserved
@@ -51,5 +51,5 @@ loop-entry-preserved g c = record {
       (lines-next c.step_quietly-at.new.self c.write_applied.new.controller c.args.steps.now (c.loop-entry.at + c.step_quietly-at.result)
       _ _ _ c.write_applied.ensures.history refl refl c.write_applied.ensures.shown
       c.write_applied.ensures.state (omega (arith, c.in-Some.ensures.lookup)) c.in-Some.ensures.lookup.1)
-      c.in_ok-write_applied.ensures;
+      c.in_ok-write_applied.ensures.text;
 }
