@@ -59,21 +59,30 @@ fn is_step(entry: &Entry) -> bool
     matches!(entry.what, What::Step)
 }
 
-// How many of the first entries of a list are steps, by fours: up to three more may follow.
-fn leading_fours(entries: &[Entry]) -> usize
+// Whether all of four entries from a place on are steps.
+fn are_steps(entries: &[Entry], at: usize) -> bool
+    requires { at + 3 < length entries.now }
+    ensures { IsTrue result → events (take at entries.now) ≡ replicate at Step
+        → events (take (at + 4) entries.now) ≡ replicate (at + 4) Step }
+{
+    is_step(&entries[at])
+        & is_step(&entries[at + 1])
+        & is_step(&entries[at + 2])
+        & is_step(&entries[at + 3])
+}
+
+// How many of the first entries of a list are steps, by eights: up to seven more may follow.
+fn leading_eights(entries: &[Entry]) -> usize
     ensures few { result ≤ length entries.now }
     ensures steps { events (take result entries.now) ≡ replicate result Step }
 {
     let mut steps = 0;
-    while steps + 3 < entries.len() {
-        if !is_step(&entries[steps])
-            || !is_step(&entries[steps + 1])
-            || !is_step(&entries[steps + 2])
-            || !is_step(&entries[steps + 3])
-        {
+    // All eight are looked at, so that the compiler tests them at once.
+    while steps + 7 < entries.len() {
+        if !(are_steps(entries, steps) & are_steps(entries, steps + 4)) {
             return steps;
         }
-        steps += 4;
+        steps += 8;
     }
     steps
 }
@@ -84,8 +93,8 @@ pub fn leading_steps(entries: &[Entry]) -> usize
     ensures steps { events (take result entries.now) ≡ replicate result Step }
     ensures ends { (e : Entry) → slice_get entries.now result ≡ Some e → e.what ≡ Step → ⊥ }
 {
-    // By fours first: a history is steps for the most part.
-    let mut steps = leading_fours(entries);
+    // By eights first: a history is steps for the most part.
+    let mut steps = leading_eights(entries);
     while steps < entries.len() {
         if !is_step(&entries[steps]) {
             return steps;

@@ -1,7 +1,7 @@
 use Rattle.std.proofs.Common.{◌≡◌, ◌≤◌, ◌-◌, length, take, replicate}
 use Rattle.var_access.specs.declared.What.TheVariants.{Step}
 use Rattle.controller.specs.Replayed.{events}
-use Rattle.controller.proofs.controllers.leading_fours.Given as goal
+use Rattle.controller.proofs.controllers.leading_eights.Given as goal
 
 abbrev pub invariant-loop-steps : goal.invariant-loop-steps
 invariant-loop-steps l = record {
