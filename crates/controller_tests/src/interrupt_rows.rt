@@ -2,14 +2,14 @@
 use crate::bench::{Row, all_hold};
 use std::test::Fail;
 
-const ROW_1: &str = "A I0.0; AN I0.1; = Q4.0";
+const TWO_INPUTS: &str = "A I0.0; AN I0.1; = Q4.0";
 /// OB 10, 40, 41 and 47 tell their numbers.
 const NESTED: &str =
     "NOP #0 | OB 10 20 0 { L #A; T PB256 | OB 40 20 0 { L #28; T PB256 | OB 41 20 0 { L #29; T PB256 | OB 47 20 0 { L #2F; T PB256";
 
 static ROWS: [Row; 20] = [
-    (ROW_1, "in 0 01 | step 6", "@7 PQ 4 = 01 | END 7 RUN"),
-    (ROW_1, "in 0 01 | step 5", "END 6 RUN"),
+    (TWO_INPUTS, "in 0 01 | step 6", "@7 PQ 4 = 01 | END 7 RUN"),
+    (TWO_INPUTS, "in 0 01 | step 5", "END 6 RUN"),
     // the RLO comes back after OB 40
     (
         "A I0.0; = Q4.0 | OB 40 20 0 { A I0.1; = Q5.0",
@@ -77,7 +77,7 @@ static ROWS: [Row; 20] = [
         "@3 PQ 256 = 28 | END 3 RUN",
     ),
     (
-        ROW_1,
+        TWO_INPUTS,
         "in 0 01 | step 6 | arrive 40",
         "@7 PQ 4 = 01 | @8 PQ 4 = 00 | @8 MODE STOP 8 AT OB 1 LINE 1 | END 8 STOP 8",
     ),

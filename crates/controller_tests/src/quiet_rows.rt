@@ -11,7 +11,7 @@ use var_access::{Entry, What};
 /// what all of them show. No program comes to RUN in the first steps.
 type Row = (&'static str, u8, usize, u8, &'static str);
 
-static ROWS: [Row; 3] = [
+static ROWS: [Row; 5] = [
     (
         "OB 100 20 0 { L #1; x: INC #1; JU x",
         100,
@@ -33,7 +33,25 @@ static ROWS: [Row; 3] = [
         2,
         "@4 MODE RUN | END 5 RUN",
     ),
+    // a call and the return from it, and a call that isn't made
+    (
+        "OB 100 20 0 { x: UC FC1; JU x | FC 1 0 0 { NOP #0",
+        100,
+        100,
+        3,
+        "END 104 STARTUP",
+    ),
+    (
+        "OB 100 20 0 { CLR; CC FC1; x: JU x | FC 1 0 0 { NOP #0",
+        50,
+        1,
+        4,
+        "END 55 STARTUP",
+    ),
 ];
+
+/// OB 40 interrupts OB 1, and then OB 10 waits for its end.
+const WAITS: &str = "x: JU x | OB 10 20 0 { NOP #0 | OB 40 20 0 { y: JU y";
 
 fn entry_of(what: What) -> Entry {
     Entry { who: 1, what }
@@ -93,5 +111,23 @@ fn steps_are_passed(rt: HostRuntime) -> Result<(), Fail> {
         let quiet = quiet_text(alloc, &rt, program, entries.as_slice(), *in_a_row)?;
         assert_eq!(rt; quiet.as_str(), *shown, "{program}");
     }
+    Ok(())
+}
+
+#[test]
+fn a_request_that_waits_ends_the_row(rt: HostRuntime) -> Result<(), Fail> {
+    let alloc = rt.alloc();
+    let entries = entries_of(alloc, 5, 0)?;
+    let steps = &entries[..leading_steps(entries.as_slice())];
+    let mut controller = controller_of(alloc, WAITS)?;
+    let mut out = String::new(alloc);
+    apply_entry(alloc, &rt, &mut controller, &mut out, entry_of(What::Step))?;
+    let arrival = |ob: u16| entry_of(What::Arrive { ob, value: 0 });
+    apply_entry(alloc, &rt, &mut controller, &mut out, arrival(40))?;
+    controller.reserve(10)?;
+    assert_eq!(&rt; controller.step_quietly(steps), 5);
+    apply_entry(alloc, &rt, &mut controller, &mut out, arrival(10))?;
+    controller.reserve(5)?;
+    assert_eq!(&rt; controller.step_quietly(steps), 0);
     Ok(())
 }
