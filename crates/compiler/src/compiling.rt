@@ -1,13 +1,11 @@
 ghost use Rattle.std.specs.Prelude.{◌≡◌, ◌≤◌, length, IfOk, IfErr};
 ghost use Rattle.std.specs.Option.{option_map, IfSome};
-ghost use Rattle.flat_code.specs.Image.{IsProgram};
 ghost use Rattle.machine.specs.Flat.{code_of};
 ghost use Rattle.stl_ast.specs.Literals.{AreBytes};
 ghost use Rattle.stl_symbols.specs.Symbols.{symbols_limit};
 ghost use Rattle.stl_symbols.specs.Least.{least};
 ghost use Rattle.stl_lexer.specs.Limits.{source_limit};
 ghost use Rattle.stl_types.specs.Table.{statement_refusals};
-ghost use Rattle.stl_codegen.specs.Generated.{program_of};
 ghost use Rattle.block_layout.specs.Table.{layout_refusals};
 ghost use Rattle.sem_kept.specs.Agreement.{AreFiles, IsRunnable, RunsAs};
 ghost use Rattle.sem_kept.specs.Meaning.{HasSymbols, HasTokens, HasTree, IsSound};
@@ -161,19 +159,6 @@ fn checked_of<'a>(alloc: Global, laid: &'a LaidSource) -> Result<Checked<'a>, Co
     }
 }
 
-/// The program of a source that breaks no rule.
-fn program_of(alloc: Global, laid: &LaidSource, checked: &Checked) -> Result<Program, AllocError>
-    requires { IsProgram (program_of checked.now laid.now.symbols laid.now.layouts) }
-    ensures { IfOk result (λ p.
-        p ≡ program_of checked.now laid.now.symbols laid.now.layouts) }
-{
-    let made = generate(alloc, checked, &laid.layouts, &laid.symbols)?;
-    match made {
-        Some(program) => Ok(program),
-        None => unreachable!(),
-    }
-}
-
 /// A program that runs, verified.
 fn loaded(alloc: Global, program: Program) -> Result<Loaded, AllocError>
     requires { IsRunnable program }
@@ -259,6 +244,6 @@ pub fn compiled(
     law_of_files(source, symbols);
     let laid = laid_out(alloc, source, symbols)?;
     let checked = checked_of(alloc, &laid)?;
-    let program = program_of(alloc, &laid, &checked)?;
+    let program = generate(alloc, &checked, &laid.layouts, &laid.symbols)?;
     Ok(loaded(alloc, program)?)
 }

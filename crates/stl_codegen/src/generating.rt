@@ -61,15 +61,9 @@ fn ordered_names(alloc: Global, symbols: &Symbols) -> Result<Vec<NameEntry>, NoM
     Ok(list)
 }
 
-/// The program of a source that breaks no rule: its code blocks with a statement at each line, its
-/// data blocks with their initial bytes, and the names of its variables in I, Q and M. `None` where
-/// the code has no image, because a number doesn't fit its field or the image is too long; no source
-/// that breaks no rule is so, by a law of `accepted_code`.
-///
-/// # Errors
-///
-/// Want of memory.
-pub fn generate(
+/// The program of a source, if it is one: `None` where an op isn't of the table, a number doesn't fit
+/// its field of an image, or the image is too long.
+fn program_in(
     alloc: Global,
     checked: &Checked,
     layouts: &Layouts,
@@ -87,4 +81,26 @@ pub fn generate(
     let data_blocks = ordered_data_blocks(alloc, tree, layouts, symbols)?;
     let names = ordered_names(alloc, symbols)?;
     Ok(Program::new(code_blocks, data_blocks, names))
+}
+
+/// The program of a source that breaks no rule: its code blocks with a statement at each line, its
+/// data blocks with their initial bytes, and the names of its variables in I, Q and M. It has an
+/// image (`IsProgram`): so it is with every source that breaks no rule, by a law of `accepted_code`.
+///
+/// # Errors
+///
+/// Want of memory.
+pub fn generate(
+    alloc: Global,
+    checked: &Checked,
+    layouts: &Layouts,
+    symbols: &Symbols,
+) -> Result<Program, NoMemory>
+    requires { IsProgram (program_of checked.now symbols.now layouts.now) }
+    ensures { IfOk result (λ p. p ≡ program_of checked.now symbols.now layouts.now) }
+{
+    match program_in(alloc, checked, layouts, symbols)? {
+        Some(program) => Ok(program),
+        None => unreachable!(),
+    }
 }

@@ -18,8 +18,8 @@ returns-in_err-checked-clause-refused c =
     (sym (fault.1 ∙ ap Err fault.2))
     (c.in_err-checked.ensures.refused c.args.source.now given c.in_ok-laid.ensures.laid)
 
-pub program_of-requires : goal.program_of-requires
-program_of-requires c =
+pub generate-requires : goal.generate-requires
+generate-requires c =
     let given : Option (List ℕ) = option_map (λ (s : Bor (List ℕ)). s.now) c.args.symbols in
     let runs = generated_runs c.programs_run.ensures c.args.source.now given c.in_ok-laid.laid
     c.in_ok-checked.checked c.law_of_files.ensures c.in_ok-laid.ensures.laid
