@@ -124,10 +124,10 @@ fn a_request_that_waits_ends_the_row(rt: HostRuntime) -> Result<(), Fail> {
     apply_entry(alloc, &rt, &mut controller, &mut out, entry_of(What::Step))?;
     let arrival = |ob: u16| entry_of(What::Arrive { ob, value: 0 });
     apply_entry(alloc, &rt, &mut controller, &mut out, arrival(40))?;
-    controller.reserve(10)?;
+    controller.reserve(steps.len() as u64)?;
     assert_eq!(&rt; controller.step_quietly(steps), 5);
     apply_entry(alloc, &rt, &mut controller, &mut out, arrival(10))?;
-    controller.reserve(5)?;
+    controller.reserve(steps.len() as u64)?;
     assert_eq!(&rt; controller.step_quietly(steps), 0);
     Ok(())
 }
