@@ -243,7 +243,7 @@ states_right c blocks e46 =
 
 -- ---- at each place of the source
 
--- what a block of a place is judged by
+-- what a block of a place is checked by
 abbrev pub context_at : List Symbol → Tree → ℕ → Context
 context_at symbols t k = record {
   symbols = symbols;
@@ -337,7 +337,7 @@ pub record IsSoundActual (y : Types) (c : Context) (a : Actual) : Type 0 where
   pub inside : operand_is_outside y c.layouts c.block a.value ≡ false  -- 42
   pub undated : sees_date (seen c a.value) ≡ false  -- 24
 
--- a call of a block that is judged
+-- a call of a block that is checked
 pub record IsSoundCall (c : Context) (callee : Callee) (s : Statement) : Type 0 where
   pub named : AllByRecursion (λ a. names_none callee.formals a ≡ false) s.actuals  -- 34
   pub once : supplied_twice callee.formals [] s.actuals ≡ []  -- 35

@@ -603,7 +603,7 @@ either_second : (a b : Bool) → (a || b) ≡ false → b ≡ false
 either_second true b e = absurd cc
 either_second false b e = e
 
--- how a call's instance is judged
+-- how a call's instance is checked
 no_instance_right : (lens : List (ℕ × ℕ)) (kind il : ℕ) (params : List ParameterRecord)
     → (kind == 3) ≡ false → is_bad_instance lens (kind, il, params) 0 ≡ false
 no_instance_right lens kind il params e =

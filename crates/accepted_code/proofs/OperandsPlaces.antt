@@ -3,13 +3,12 @@
 use Rattle.std.proofs.Common.{ℕ, zero, suc, ◌≡◌, ◌≤◌, ◌+◌, ◌-◌, ◌*◌, ◌/◌, ◌%◌, ℤ, ◌-ℤ◌, unsigned_abs, List, [], ◌∷◌, ◌++◌, Option, Some, None, is_some, Bool, true, false, ◌||◌, not, nat_eq, nat_lt, refl, sym, ◌∙◌, ap, subst, arith, length, drop, drop_of_length-le, if◌then◌else◌, eqb-true, le-ltb, le-leb, eq-eqb, ne_eqb}
 use Rattle.std.specs.Prelude.{◌==◌}
 use Rattle.std.specs.List.{AllByRecursion, flat_map, slice_get}
+use Rattle.plc_base.specs.Widths.{byte_count}
 use Rattle.plc_base.specs.declared.blocks.BlockKind.{BlockKind}
 use Rattle.plc_base.specs.declared.blocks.BlockKind.TheVariants as kinds
 use Rattle.plc_base.specs.declared.places.Area.{Area}
 use Rattle.plc_base.specs.declared.places.Area.TheVariants as area
 use Rattle.flat_code.specs.Blocks.{Around, is_bad_place, is_odd_bit}
-use Rattle.flat_code.specs.Faults.{size_of_width}
-use Rattle.flat_code.specs.Forms.{width_code}
 use Rattle.stl_ast.specs.Blocks.{is_parameter, may_have}
 use Rattle.stl_ast.specs.Declarations.{is_plain}
 use Rattle.stl_ast.specs.WellFormed.{AreDeclaredIn, AreSections, IsBlock, IsSection, IsShapeOf}
@@ -125,7 +124,7 @@ place_even offset simple.Time e = zero_even (offset % 8) (omega (arith, e))
 
 pub place_within : (offset limit local : ℕ) (kind : Simple) → offset + plain_bits kind ≤ limit
     → limit % 16 ≡ 0 → limit / 8 ≤ local
-    → nat_lt local (offset / 8 + size_of_width (width_code (width_of kind))) ≡ false
+    → nat_lt local (offset / 8 + byte_count (width_of kind)) ≡ false
 place_within offset limit local simple.Bool h e f = le-ltb local (offset / 8 + 1) (omega (arith, h, e, f))
 place_within offset limit local simple.Byte h e f = le-ltb local (offset / 8 + 1) (omega (arith, h, e, f))
 place_within offset limit local simple.Char h e f = le-ltb local (offset / 8 + 1) (omega (arith, h, e, f))
@@ -146,7 +145,7 @@ pub local_fits : (a : Around) (offset limit : ℕ) (kind : Simple) → IsPlaced 
     → is_bad_place a area.L (width_of kind) (offset / 8) (offset % 8) ≡ false
 local_fits a offset limit kind h e f =
     either_false (is_odd_bit (width_of kind) (offset % 8))
-    (nat_lt a.local_len (offset / 8 + size_of_width (width_code (width_of kind))))
+    (nat_lt a.local_len (offset / 8 + byte_count (width_of kind)))
     (place_even offset kind h.even) (place_within offset limit a.local_len kind h.within e f)
 
 -- and in a data block

@@ -12,7 +12,6 @@ use Rattle.plc_base.specs.declared.places.Area.TheVariants as area
 use Rattle.plc_base.specs.declared.places.Width.{Width}
 use Rattle.plc_base.specs.declared.places.Width.TheVariants as width
 use Rattle.flat_code.specs.Blocks.{Around, is_bad_place, is_input as is_input_parameter, is_odd_bit, is_past_locals, lacks_own, own_parameter}
-use Rattle.flat_code.specs.Faults.{size_of_width}
 use Rattle.flat_code.specs.Forms.{width_code}
 use Rattle.flat_code.specs.Image.{number_of_kind, record_of_param}
 use Rattle.flat_code.specs.declared.image_fields.ParameterRecord.{ParameterRecord}
@@ -316,18 +315,10 @@ no_odd_bit width.Byte bit h = ap not (eq-eqb bit 0 h)
 no_odd_bit width.Word bit h = ap not (eq-eqb bit 0 h)
 no_odd_bit width.Dword bit h = ap not (eq-eqb bit 0 h)
 
-width_bytes : (w : Width) → size_of_width (width_code w) ≡ byte_count w
-width_bytes width.Bit = refl
-width_bytes width.Byte = refl
-width_bytes width.Word = refl
-width_bytes width.Dword = refl
-
 no_past : (a : Around) (ar : Letters) (w : Width) (byte : ℕ)
     → (if is_local ar then byte + byte_count w else 0) ≤ a.local_len
     → is_past_locals a (area_of ar) w byte ≡ false
-no_past a letters.L w byte h =
-    le-ltb a.local_len (byte + size_of_width (width_code w))
-    (let same = width_bytes w in omega (arith, h, same))
+no_past a letters.L w byte h = le-ltb a.local_len (byte + byte_count w) h
 no_past a letters.I w byte h = refl
 no_past a letters.Q w byte h = refl
 no_past a letters.M w byte h = refl

@@ -83,7 +83,7 @@ rise_sorted lt (x ∷ xs) apart =
     rise_inserted lt x (sorted lt xs) (rise_sorted lt xs apart.1)
     (all_sorted (Differ lt x) lt xs apart.0)
 
--- ---- records that are judged by the one before
+-- ---- records that are checked by the one before
 
 pub good_behind : {S A B : Type 0} (l : S → Layout B) (next : S → B → S) (of : A → B) (after : A → S)
     (lt : A → A → Bool) (P : A → Type 0)

@@ -11,6 +11,9 @@ use Rattle.std.proofs.lemmas.List.Sums.{sum_by-cons, sum_by-append}
 use Rattle.plc_base.specs.declared.blocks.BlockId.{BlockId}
 use Rattle.plc_base.specs.declared.blocks.BlockKind.{BlockKind}
 use Rattle.plc_base.specs.declared.blocks.BlockKind.TheVariants as kinds
+use Rattle.plc_base.specs.Widths.{byte_count}
+use Rattle.plc_base.specs.declared.places.Width.{Width}
+use Rattle.plc_base.specs.declared.places.Width.TheVariants as width
 use Rattle.plc_base.specs.declared.refusals.Refusal.{Refusal}
 use Rattle.stl_ast.specs.Blocks.{is_parameter, may_have}
 use Rattle.stl_ast.specs.Declarations.{is_plain, is_elementary}
@@ -53,7 +56,7 @@ use Rattle.block_layout.specs.declared.cells.Element.TheVariants as element
 use Rattle.block_layout.specs.Sizes.{largest}
 use Rattle.block_layout.specs.declared.members.Member.{Member}
 use Rattle.flat_code.specs.Checking.{good_params}
-use Rattle.flat_code.specs.Faults.{fault_of, size_of_width}
+use Rattle.flat_code.specs.Faults.{fault_of}
 use Rattle.flat_code.specs.Forms.{width_code}
 use Rattle.flat_code.specs.Image.{number_of_kind, parameter, parameter_bit, parameter_byte, raw_parameter, record_of_param, section_field}
 use Rattle.flat_code.specs.declared.programs.Param.{Param}
@@ -379,7 +382,7 @@ end_behind at (c ∷ cs) near =
 -- a parameter of this kind lies before the end, by its bytes
 placed_fits : (k : Simple) (opens : Bool) (at end len : ℕ) → end ≤ 8 * len
     → up at (if opens then 16 else min (plain_bits k) 16) + plain_bits k ≤ end
-    → up at (if opens then 16 else min (plain_bits k) 16) / 8 + size_of_width (width_code (width_of k)) ≤ len
+    → up at (if opens then 16 else min (plain_bits k) 16) / 8 + byte_count (width_of k) ≤ len
 unfolding up
 placed_fits simple.Bool true at end len fits h = omega (arith, fits, h)
 placed_fits simple.Bool false at end len fits h = omega (arith, fits, h)
@@ -404,7 +407,7 @@ placed_fits simple.Time false at end len fits h = omega (arith, fits, h)
 abbrev IsPlacedIn : (look : List ℕ → Option Member) → (len : ℕ) → Cell → Type 0
 IsPlacedIn look len c =
     is_parameter c.section ≡ true → (k : Simple) → c.of ≡ element.Plain k
-    → offset_named (look c.name) / 8 + size_of_width (width_code (width_of k)) ≤ len
+    → offset_named (look c.name) / 8 + byte_count (width_of k) ≤ len
 
 same_bytes : (n : List ℕ) → bytes_eq n n ≡ true
 same_bytes [] = refl
@@ -467,7 +470,7 @@ parameters_placed look len at place seen (c ∷ cs) near below fits finds once a
         let past_it : next ≡ capped (up at (alignment c) + cell_bits c cs) = stepped_past level is_parameter_cell.1 in
         let ends = end_behind next cs step.1 in
         let within : up at (alignment c) + plain_bits k ≤ end_of 0 at (c ∷ cs) = omega (arith, past_it, bits, ends, same, below) in
-        subst (λ (o : ℕ). o / 8 + size_of_width (width_code (width_of k)) ≤ len) (sym (offset ∙ ap (up at) align))
+        subst (λ (o : ℕ). o / 8 + byte_count (width_of k) ≤ len) (sym (offset ∙ ap (up at) align))
         (placed_fits k c.opens at (end_of 0 at (c ∷ cs)) len fits (subst (λ (a : ℕ). up at a + plain_bits k ≤ end_of 0 at (c ∷ cs)) align within))
       where
         aligned : c.bounds ≡ [] → c.of ≡ element.Plain k → alignment c ≡ (if c.opens then 16 else min (plain_bits k) 16)
@@ -599,7 +602,7 @@ record IsGood (kind instance : ℕ) (p : Param) : Type 0 where
   low : 1 ≤ p.section
   high : p.section ≤ 3
   near : p.byte < 65536
-  byte : (if eqb kind 3 then leb (p.byte + size_of_width (width_code p.width)) instance else eqb p.byte 0) ≡ true
+  byte : (if eqb kind 3 then leb (p.byte + byte_count p.width) instance else eqb p.byte 0) ≡ true
   bit : p.bit ≤ 7
   whole : (eqb kind 3 || eqb p.bit 0) ≡ true
 
@@ -607,10 +610,14 @@ section_good : (n : ℕ) → 1 ≤ n → n ≤ 3 → section_field.good n ≡ tr
 unfolding section_field fault_of
 section_good n low high = grind (arith, nat_tests)
 
-byte_good : (kind instance w byte : ℕ) → byte < 65536 → (if eqb kind 3 then leb (byte + size_of_width w) instance else eqb byte 0) ≡ true
-    → (parameter_byte kind instance w).good byte ≡ true
+byte_good : (kind instance : ℕ) (w : Width) (byte : ℕ) → byte < 65536
+    → (if eqb kind 3 then leb (byte + byte_count w) instance else eqb byte 0) ≡ true
+    → (parameter_byte kind instance (width_code w)).good byte ≡ true
 unfolding parameter_byte fault_of
-byte_good kind instance w byte near h = and_from _ _ (lt-ltb byte 65536 near) (rw h refl)
+byte_good kind instance width.Bit byte near h = and_from _ _ (lt-ltb byte 65536 near) (rw h refl)
+byte_good kind instance width.Byte byte near h = and_from _ _ (lt-ltb byte 65536 near) (rw h refl)
+byte_good kind instance width.Word byte near h = and_from _ _ (lt-ltb byte 65536 near) (rw h refl)
+byte_good kind instance width.Dword byte near h = and_from _ _ (lt-ltb byte 65536 near) (rw h refl)
 
 bit_good : (kind bit : ℕ) → bit ≤ 7 → (eqb kind 3 || eqb bit 0) ≡ true → (parameter_bit kind).good bit ≡ true
 unfolding parameter_bit fault_of
@@ -621,7 +628,7 @@ unfolding parameter raw_parameter
 param_good kind instance p h =
     and_from _ _ (section_good p.section h.low h.high)
     (and_from _ _ (width_good p.width)
-    (and_from _ _ (byte_good kind instance (width_code p.width) p.byte h.near h.byte)
+    (and_from _ _ (byte_good kind instance p.width p.byte h.near h.byte)
     (and_from _ _ (bit_good kind p.bit h.bit h.whole) zero_byte_good)))
 
 all_good_params : (kind instance : ℕ) (ps : List Param) → AllByRecursion (IsGood kind instance) ps → good_params kind instance ps ≡ true

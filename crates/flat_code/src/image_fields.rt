@@ -1,7 +1,9 @@
 ghost use Rattle.std.specs.Prelude.{◌≡◌, ◌≤◌};
-ghost use Rattle.flat_code.specs.Faults.{fault_of, has_number, holds_parameter, is_ob_number, size_of_width, unless};
+ghost use Rattle.flat_code.specs.Faults.{fault_of, has_number, holds_parameter, is_ob_number, unless};
 
-/// A field of an image, with what of the fields before it is needed to judge it. Numbers are as
+use crate::record_numbers::width_of_number;
+
+/// A field of an image, with what of the fields before it is needed to check it. Numbers are as
 /// written in the image: kinds 1 OB, 2 FC, 3 FB; sections 1 IN, 2 OUT, 3 IN_OUT; widths 1 bit,
 /// 2 byte, 3 word, 4 double word; areas 0x81 I, 0x82 Q, 0x83 M.
 #[derive(Clone, Copy)]
@@ -136,24 +138,13 @@ fn is_block_number(kind: u8, number: u16) -> bool
     }
 }
 
-/// How many bytes a width takes; a bit stands in one.
-fn bytes_of_width(width: u8) -> u32
-    ensures result { result ≡ size_of_width width }
-    ensures small { result ≤ 4 }
-{
-    match width {
-        3 => 2,
-        4 => 4,
-        _ => 1,
-    }
-}
-
 /// Whether a parameter may stand at the byte.
 fn is_parameter_byte(kind: u8, instance: u16, width: u8, byte: u16) -> bool
     ensures { result ≡ holds_parameter kind instance width byte }
 {
     if kind == 3 {
-        u32::from(byte) + bytes_of_width(width) <= u32::from(instance)
+        let bytes = width_of_number(width).byte_count();
+        usize::from(byte) + bytes <= usize::from(instance)
     } else {
         byte == 0
     }

@@ -1,8 +1,9 @@
 //! Kinds, areas and widths as an image has them.
 ghost use Rattle.std.specs.Prelude.{◌≡◌};
-ghost use Rattle.flat_code.specs.Forms.{width_code};
+ghost use Rattle.flat_code.specs.Forms.{width_code, width_of_number};
 ghost use Rattle.flat_code.specs.Image.{number_of_area, number_of_kind};
 
+use crate::fields::width_of;
 use plc_base::{Area, BlockKind, Place, Width};
 
 /// A width as an image has it: 1 bit, 2 byte, 3 word, 4 double word.
@@ -14,6 +15,17 @@ pub fn width_number(width: Width) -> u8
         Width::Byte => 2,
         Width::Word => 3,
         Width::Dword => 4,
+    }
+}
+
+/// The width that a number in an image names: 1 bit, 2 byte, 3 word, 4 double word; a bit for the
+/// others, which are faults.
+pub fn width_of_number(number: u8) -> Width
+    ensures { result ≡ width_of_number number }
+{
+    match width_of(number) {
+        Some(width) => width,
+        None => Width::Bit,
     }
 }
 

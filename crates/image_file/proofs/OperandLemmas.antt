@@ -14,11 +14,11 @@ use Rattle.flat_code.specs.declared.operands.Operand.{Operand}
 use Rattle.flat_code.specs.declared.operands.Operand.TheVariants as operand
 use Rattle.flat_code.specs.declared.operands.Passed.{Passed}
 use Rattle.flat_code.specs.declared.operands.Passed.TheVariants as passed
-use Rattle.flat_code.specs.Forms.{width_code}
-use Rattle.flat_code.specs.Faults.{size_of_width}
+use Rattle.flat_code.specs.Forms.{width_code, width_of_number}
+use Rattle.plc_base.specs.Widths.{byte_count}
 use Rattle.flat_code.specs.Ops.{OpData}
 use Rattle.flat_code.specs.Programs.{CodeBlock, Program}
-use Rattle.flat_code.specs.Image.{number_of_kind, kind_of_number, width_of_number, record_of_param, record_of_block}
+use Rattle.flat_code.specs.Image.{number_of_kind, kind_of_number, record_of_param, record_of_block}
 use Rattle.flat_code.specs.Loading.{Verifies, lens_of}
 use Rattle.flat_code.specs.Table.{takes_of, has_width}
 use Rattle.flat_code.specs.Placed.{Placed, spots, begins, last_op, is_empty}
@@ -49,7 +49,7 @@ within p b area.Q w byte e = tt
 within p b area.M w byte e = tt
 within p b area.Db w byte e = tt
 within p b area.Di w byte e = tt
-within p b area.L w byte e = ltb-false b.local_len (byte + size_of_width (width_code w)) e
+within p b area.L w byte e = ltb-false b.local_len (byte + byte_count w) e
 
 fits_place : (p : Program) (b : CodeBlock) (a : Area) (w : Width) (byte bit : ℕ) → is_bad_place (around_in p b) a w byte bit ≡ false → (is_odd_bit w bit ≡ false) × LiesWithin b a w byte
 fits_place p b a w byte bit e = let o = or_parts (is_odd_bit w bit) (is_past_locals (around_in p b) a w byte) e in (o.0, within p b a w byte o.1)

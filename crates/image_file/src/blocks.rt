@@ -160,7 +160,7 @@ impl Reader<'_> {
         Ok(lines)
     }
 
-    /// The statement count, which is judged now, and the lines.
+    /// The statement count, which is checked now, and the lines.
     #[tactic(auto, unfolding(flat_code::specs::Image::lines_of), using(crate::proofs::RunLemmas::run_checked))]
     fn counted_lines(
         &mut self,

@@ -1,4 +1,4 @@
-//! The fields of an image, each read and judged.
+//! The fields of an image, each read and checked.
 ghost use Rattle.std.specs.Prelude.{true, ◌≡◌, ◌+◌, ◌<◌, ◌^◌, length, min, OnOk};
 ghost use Rattle.flat_code.specs.Image.{plain_u16, plain_u32, zero_u8, zero_u16, width_field, section_field, parameter_byte, parameter_bit, kind_field, parameter_count, block_number, local_bytes, instance_bytes, line_field, data_number, instance_field, data_len, name_len, name_area, name_bit, data_count, magic_field, version_field};
 ghost use Rattle.image_file.specs.Running.{seen, run, place_of, log_of};

@@ -1,4 +1,4 @@
-//! Bytes judged as an image: read in one pass, and then the ops of each block.
+//! Bytes checked as an image: read in one pass, and then the ops of each block.
 ghost use Rattle.std.specs.Prelude.{◌≡◌, ◌++◌, ◌∷◌, [], ◌+◌, ◌<◌, ◌^◌, length, map, IfOk, IfErr, None};
 ghost use Rattle.std.specs.Option.{option_map};
 ghost use Rattle.flat_code.specs.Blocks.{signature_of, block_faults};
@@ -144,7 +144,7 @@ pub(crate) struct Judged {
     pub names: Option<Vec<NameRead>>,
 }
 
-/// Reads bytes as an image and judges them.
+/// Reads bytes as an image and checks them.
 pub(crate) fn judge(alloc: Global, bytes: &[u8]) -> Result<Judged, NoMemory>
     ensures least { IfOk result (λ j. j.least ≡ with_faults None (faults_of bytes.now)) }
     ensures found { IfOk result

@@ -2,8 +2,6 @@
 ghost use Rattle.std.specs.Prelude.{◌≡◌, ◌+◌, ◌<◌, ◌^◌, ◌||◌, ◌==◌, not, length, None};
 ghost use Rattle.std.specs.Option.{option_map};
 ghost use Rattle.flat_code.specs.Codes.{code_bytes};
-ghost use Rattle.flat_code.specs.Faults.{size_of_width};
-ghost use Rattle.flat_code.specs.Forms.{width_code};
 ghost use Rattle.flat_code.specs.Placed.{is_empty, ending};
 ghost use Rattle.flat_code.specs.Blocks.{is_odd_bit, is_past_locals, is_bad_place, lacks_width, writes, own_parameter, lacks_own, is_input, is_in_db, pass_index, pass_before, is_above, is_bad_actual, literal_fits, misfits_parameter, is_index, is_passed, is_ju, leads};
 ghost use Rattle.image_file.specs.Judging.{around_of};
@@ -11,17 +9,6 @@ ghost use Rattle.image_file.specs.Judging.{around_of};
 use crate::surroundings::Surroundings;
 use flat_code::{Op, Operand, ParameterRecord, Passed, taken_by, width_number};
 use plc_base::{Area, Width};
-
-/// How many bytes a width takes; a bit stands in one.
-fn bytes_of(width: Width) -> u32
-    ensures { result ≡ size_of_width (width_code width) }
-{
-    match width {
-        Width::Bit | Width::Byte => 1,
-        Width::Word => 2,
-        Width::Dword => 4,
-    }
-}
 
 /// Whether a bit number stands where no bit is meant.
 fn is_odd_bit(width: Width, bit: u8) -> bool
@@ -38,7 +25,7 @@ fn is_past_locals(around: &Surroundings, area: Area, width: Width, byte: u16) ->
     ensures { result ≡ is_past_locals (around_of around.now) area width byte }
 {
     match area {
-        Area::L => u32::from(around.local_len) < u32::from(byte) + bytes_of(width),
+        Area::L => usize::from(around.local_len) < usize::from(byte) + width.byte_count(),
         _ => false,
     }
 }

@@ -1,4 +1,4 @@
-//! A program judged block by block, without its image.
+//! A program checked block by block, without its image.
 ghost use Rattle.std.specs.Prelude.{◌≡◌, ◌<◌, length, map, All, IfOk, IfErr, IfSome, IfNone, None, Some, if◌then◌else◌};
 ghost use Rattle.std.specs.Option.{option_map};
 ghost use Rattle.flat_code.specs.Blocks.{signature_of};
@@ -240,7 +240,7 @@ fn first_among(
     Ok(None)
 }
 
-/// The numbers and lengths of the data blocks, where calls are judged.
+/// The numbers and lengths of the data blocks, where calls are checked.
 fn lens_where(
     alloc: Global,
     judged: bool,

@@ -142,7 +142,7 @@ fn data_numbers(alloc: Global, lens: &[(u16, usize)]) -> Result<Vec<u32>, NoMemo
     Ok(numbers)
 }
 
-static SET_TINT: [ParameterRecord; 4] = [
+static SRT_DINT: [ParameterRecord; 4] = [
     ParameterRecord {
         section: 1,
         width: 3,
@@ -224,7 +224,7 @@ fn system_params(number: u16) -> Option<&'static [ParameterRecord]>
     ensures { option_map (λ p. p.now) result ≡ system_params number }
 {
     match number {
-        32 => Some(&SET_TINT),
+        32 => Some(&SRT_DINT),
         33 => Some(&CAN_DINT),
         39 | 40 => Some(&DIS_IRT),
         41 | 42 => Some(&DIS_AIRT),

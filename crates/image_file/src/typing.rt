@@ -1,14 +1,16 @@
 //! A program made of the records that were read.
 ghost use Rattle.std.specs.Prelude.{◌≡◌, ◌≤◌, length, map, IfOk};
-ghost use Rattle.flat_code.specs.Image.{kind_of_number, width_of_number, area_of_number, param_of, block_of_record, entry_of_name, IsProgram};
+ghost use Rattle.flat_code.specs.Image.{kind_of_number, area_of_number, param_of, block_of_record, entry_of_name, IsProgram};
 ghost use Rattle.flat_code.specs.Loading.{blocks_of};
 ghost use Rattle.image_file.specs.Running.{started};
 ghost use Rattle.image_file.specs.Typing.{AreFew, program_from};
 
 use crate::records::{BlockRead, NameRead, Started};
 use arrayvec::ArrayVec;
-use flat_code::{CodeBlock, DataBlock, NameEntry, Names, Param, ParameterRecord, Program};
-use plc_base::{Area, BlockId, BlockKind, NoMemory, Place, Width};
+use flat_code::{
+    CodeBlock, DataBlock, NameEntry, Names, Param, ParameterRecord, Program, width_of_number,
+};
+use plc_base::{Area, BlockId, BlockKind, NoMemory, Place};
 use std::alloc::Global;
 
 fn kind_of(number: u8) -> BlockKind
@@ -19,17 +21,6 @@ fn kind_of(number: u8) -> BlockKind
         2 => BlockKind::Fc,
         3 => BlockKind::Fb,
         _ => BlockKind::Udt,
-    }
-}
-
-fn width_of(number: u8) -> Width
-    ensures { result ≡ width_of_number number }
-{
-    match number {
-        2 => Width::Byte,
-        3 => Width::Word,
-        4 => Width::Dword,
-        _ => Width::Bit,
     }
 }
 
@@ -48,7 +39,7 @@ fn param_of(parameter: &ParameterRecord) -> Param
 {
     Param {
         section: parameter.section,
-        width: width_of(parameter.width),
+        width: width_of_number(parameter.width),
         byte: parameter.byte,
         bit: parameter.bit,
     }
@@ -105,7 +96,7 @@ fn entry_of(name: NameRead) -> NameEntry
     NameEntry {
         name: name.name,
         place,
-        width: width_of(name.width),
+        width: width_of_number(name.width),
     }
 }
 

@@ -146,7 +146,7 @@ fn call_fault_among(around: &Surroundings, lens: &DataLens, op: &Op, place: &Pla
     }
 }
 
-/// The fault of a call, where calls are judged.
+/// The fault of a call, where calls are checked.
 fn call_fault(around: &Surroundings, op: &Op, place: &Place) -> Option<u16>
     ensures { result ≡ call_fault (around_of around.now) (around_of around.now).data_lens
         (placed_of op.now place.now) }

@@ -21,8 +21,8 @@ use Rattle.flat_code.specs.declared.operands.Passed.{Passed}
 use Rattle.flat_code.specs.declared.operands.Passed.TheVariants as passed
 use Rattle.flat_code.specs.declared.programs.Param.{Param}
 use Rattle.flat_code.specs.Blocks.{Around, Callee, callee, own_parameter, literal_fits, misfits_parameter, is_index, pass_index, is_passed, are_passed, is_short, data_len}
-use Rattle.flat_code.specs.Forms.{width_code, payload_fits, actual as flat_actual}
-use Rattle.flat_code.specs.Image.{record_of_block, record_of_param, param_of, width_of_number}
+use Rattle.flat_code.specs.Forms.{width_code, payload_fits, actual as flat_actual, width_of_number}
+use Rattle.flat_code.specs.Image.{record_of_block, record_of_param, param_of}
 use Rattle.flat_code.specs.Loading.{lens_of, around}
 use Rattle.flat_code.specs.Ops.{OpData, is_op}
 use Rattle.flat_code.specs.Placed.{Placed, last_op}
