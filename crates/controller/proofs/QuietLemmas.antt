@@ -10,38 +10,19 @@ use Rattle.var_access.specs.declared.What.{What}
 use Rattle.var_access.specs.declared.What.TheVariants.{Step}
 use Rattle.cpu.specs.Fitting.{EntriesKeepFit, IsFit}
 use Rattle.cpu.specs.Quiet.{ShowNothing}
-use Rattle.cpu.specs.Replay.{happens, last_seen, replay, run_from, seen_from}
+use Rattle.cpu.specs.Replay.{ContinuesByMore, SeenByMore, happens, last_seen, replay, run_from, seen_from}
 use Rattle.cpu.specs.Shown.{Watched, nothing_shown, watched}
-use Rattle.cpu.specs.Start.{start}
 use Rattle.cpu.specs.State.{State}
 use Rattle.cpu.specs.declared.Observed.{Observed}
 use Rattle.controller.specs.Replayed.{events}
 
 -- ---- entries behind others
 
-run-append : (code : Code) (s : State) (front back : List What)
-    → run_from code s (front ++ back) ≡ run_from code (run_from code s front) back
-run-append code s [] back = refl
-run-append code s (what ∷ rest) back = run-append code (happens code s what).state rest back
-
-seen-append : (code : Code) (s : State) (seen : Observed) (front back : List What)
-    → seen_from code s seen (front ++ back) ≡ seen_from code (run_from code s front) (seen_from code s seen front) back
-seen-append code s seen [] back = refl
-seen-append code s seen (what ∷ rest) back =
-    seen-append code (happens code s what).state (happens code s what).seen rest back
-
-quiet-append : (code : Code) (s : State) (front back : List What) → ShowNothing code s front
-    → ShowNothing code (run_from code s front) back → ShowNothing code s (front ++ back)
-quiet-append code s [] back first second = second
-quiet-append code s (what ∷ rest) back first second =
-    (first.0, quiet-append code (happens code s what).state rest back first.1 second)
-
-pub replay-more : (code : Code) (history more : List Entry)
+pub replay-more : ContinuesByMore → (code : Code) (history more : List Entry)
     → replay code (events (history ++ more)) ≡ run_from code (replay code (events history)) (events more)
-unfolding replay
-replay-more code history more =
-    ap (λ (es : List What). run_from code (start code) es) (map-append (λ (e : Entry). e.what) history more)
-    ∙ run-append code (start code) (events history) (events more)
+replay-more continues code history more =
+    ap (λ (es : List What). replay code es) (map-append (λ (e : Entry). e.what) history more)
+    ∙ continues code (events history) (events more)
 
 -- ---- what is seen after them
 
@@ -88,22 +69,21 @@ quiet-behind code history more s n before steps quiet =
     subst (λ (whats : List What). ShowNothing code (replay code (events history)) whats) (sym steps)
     (subst (λ (u : State). ShowNothing code u (replicate n Step)) before quiet)
 
-pub state-behind : (code : Code) (history more : List Entry) (s t : State) (n : ℕ) → s ≡ replay code (events history)
+pub state-behind : ContinuesByMore → (code : Code) (history more : List Entry) (s t : State) (n : ℕ) → s ≡ replay code (events history)
     → events more ≡ replicate n Step → t ≡ run_from code s (replicate n Step)
     → t ≡ replay code (events (history ++ more))
-state-behind code history more s t n before steps after =
+state-behind continues code history more s t n before steps after =
     after
     ∙ ap (λ (u : State). run_from code u (replicate n Step)) before
     ∙ ap (λ (whats : List What). run_from code (replay code (events history)) whats) (sym steps)
-    ∙ sym (replay-more code history more)
+    ∙ sym (replay-more continues code history more)
 
-pub seen-behind : (code : Code) (history more : List Entry) (s : State) (n : ℕ) → s ≡ replay code (events history)
+pub seen-behind : SeenByMore → (code : Code) (history more : List Entry) (s : State) (n : ℕ) → s ≡ replay code (events history)
     → events more ≡ replicate n Step → ShowNothing code s (replicate n Step) → 1 ≤ n
     → nothing_shown ≡ last_seen code (events (history ++ more))
-unfolding replay last_seen
-seen-behind code history more s n before steps quiet some = sym (
+seen-behind continues code history more s n before steps quiet some = sym (
     ap (λ (es : List What). last_seen code es) (map-append (λ (e : Entry). e.what) history more)
-    ∙ seen-append code (start code) nothing_shown (events history) (events more)
+    ∙ continues code (events history) (events more)
     ∙ ap (λ (u : State). seen_from code u (last_seen code (events history)) (events more)) (sym before)
     ∙ ap (λ (whats : List What). seen_from code s (last_seen code (events history)) whats) steps
     ∙ none-now code s (last_seen code (events history)) n quiet some)

@@ -10,9 +10,10 @@ use Rattle.cpu.specs.Views.{state_of}
 use Rattle.controller.specs.Replayed.{events}
 use Rattle.controller.specs.declared.controllers.Controller.TheInside.{Inside}
 
--- the state is the replay of the history, and fits the program; what was shown is kept with what the
--- next entry is compared with; the numbers of data blocks are those of the program, by rising number;
--- and there is room for as many entries as are said
+-- the program verifies; the state is the replay of the history, and fits the program; what the last
+-- entry showed is kept with what the next one is compared with; the numbers of data blocks are the
+-- program's, in its order; and there is room for as many further entries as are said, with the
+-- history's fewer than 2^64
 pub record IsReplay (a : Inside) : Type 0 where
   pub verifies : Verifies a.program.program
   pub state : state_of a.cpu ≡ replay (code_of a.program.program) (events a.history.items)

@@ -91,7 +91,8 @@ fn leading_eights(entries: &[Entry]) -> usize
 pub fn leading_steps(entries: &[Entry]) -> usize
     ensures few { result ≤ length entries.now }
     ensures steps { events (take result entries.now) ≡ replicate result Step }
-    ensures ends { (e : Entry) → slice_get entries.now result ≡ Some e → e.what ≡ Step → ⊥ }
+    ensures ends { (e : Entry) → slice_get entries.now result ≡ Some e
+        → e.what ≡ Step → ⊥ }
 {
     // By eights first: a history is steps for the most part.
     let mut steps = leading_eights(entries);
@@ -191,6 +192,7 @@ impl Controller {
         ensures stops { result < length steps.now
             → steps_quietly (code_of self.old.program) (replayed self.new) ≡ false }
     {
+        cpu::laws::continues_replay();
         cpu::laws::counts_entries();
         cpu::laws::what_runs_goes_on();
         let made = self.cpu.step_quietly(&self.program, steps.len() as u64) as usize;

@@ -1,28 +1,35 @@
--- One more entry at the end of a history.
+-- Further entries at the end of a history.
 use Rattle.std.proofs.Common.{◌≡◌, List, [], ◌∷◌, ◌++◌, refl}
 use Rattle.machine.specs.Code.{Code}
 use Rattle.var_access.specs.declared.What.{What}
-use Rattle.cpu.specs.Replay.{happens, run_from, replay, seen_from, last_seen, ContinuesReplay, ContinuesSeen}
+use Rattle.cpu.specs.Replay.{happens, run_from, replay, seen_from, last_seen, ContinuesByMore, ContinuesReplay, ContinuesSeen, SeenByMore}
 use Rattle.cpu.specs.Start.{start}
 use Rattle.cpu.specs.State.{State}
 use Rattle.cpu.specs.Shown.{nothing_shown}
 use Rattle.cpu.specs.declared.observing.Observed.{Observed}
 
-run_next : (code : Code) (s : State) (history : List What) (what : What)
-    → run_from code s (history ++ what ∷ []) ≡ (happens code (run_from code s history) what).state
-run_next code s [] what = refl
-run_next code s (first ∷ rest) what = run_next code (happens code s first).state rest what
+run_more : (code : Code) (s : State) (front back : List What)
+    → run_from code s (front ++ back) ≡ run_from code (run_from code s front) back
+run_more code s [] back = refl
+run_more code s (first ∷ rest) back = run_more code (happens code s first).state rest back
+
+pub by_more : ContinuesByMore
+unfolding replay
+by_more code history more = run_more code (start code) history more
 
 pub continues : ContinuesReplay
-unfolding replay
-continues code history what = run_next code (start code) history what
+continues code history what = by_more code history (what ∷ [])
 
-seen_next : (code : Code) (s : State) (seen : Observed) (history : List What) (what : What)
-    → seen_from code s seen (history ++ what ∷ []) ≡ (happens code (run_from code s history) what).seen
-seen_next code s seen [] what = refl
-seen_next code s seen (first ∷ rest) what =
-    seen_next code (happens code s first).state (happens code s first).seen rest what
+seen_more : (code : Code) (s : State) (seen : Observed) (front back : List What)
+    → seen_from code s seen (front ++ back)
+    ≡ seen_from code (run_from code s front) (seen_from code s seen front) back
+seen_more code s seen [] back = refl
+seen_more code s seen (first ∷ rest) back =
+    seen_more code (happens code s first).state (happens code s first).seen rest back
+
+pub seen_by_more : SeenByMore
+unfolding replay last_seen
+seen_by_more code history more = seen_more code (start code) nothing_shown history more
 
 pub seen_continues : ContinuesSeen
-unfolding replay last_seen
-seen_continues code history what = seen_next code (start code) nothing_shown history what
+seen_continues code history what = seen_by_more code history (what ∷ [])

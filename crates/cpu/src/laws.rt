@@ -2,15 +2,17 @@
 ghost use Rattle.cpu.specs.Fitting.{EntriesKeepFit, FitIsReady, HistoriesAreFit, RestartKeepsFit, StartIsFit};
 ghost use Rattle.cpu.specs.MachineLaws.{MachineLaws};
 ghost use Rattle.cpu.specs.Moved.{EntriesMove, HistoriesMove};
-ghost use Rattle.cpu.specs.Replay.{ContinuesReplay, ContinuesSeen, CountsEntries, CountsHistory};
+ghost use Rattle.cpu.specs.Replay.{ContinuesByMore, ContinuesReplay, ContinuesSeen, CountsEntries, CountsHistory, SeenByMore};
 ghost use Rattle.cpu.specs.Stack.{AtMost48};
 
 /// A history with one entry more continues the replay: the entry happens in the state after the
-/// others, over any program, and what it shows is what was seen last.
-#[tactic(auto, using(crate::proofs::ReplayLemmas::continues, crate::proofs::ReplayLemmas::seen_continues))]
+/// others, over any program, and what it shows is what was seen last. So do several.
+#[tactic(auto, using(crate::proofs::ReplayLemmas::continues, crate::proofs::ReplayLemmas::seen_continues, crate::proofs::ReplayLemmas::by_more, crate::proofs::ReplayLemmas::seen_by_more))]
 pub fn continues_replay()
     ensures state { ContinuesReplay }
     ensures seen { ContinuesSeen }
+    ensures more { ContinuesByMore }
+    ensures more_seen { SeenByMore }
 {}
 
 /// Each entry is counted, so the count is that of the history.

@@ -12,9 +12,8 @@ use Rattle.var_access.specs.declared.What.{What}
 use Rattle.var_access.specs.declared.What.TheVariants.{Step}
 use Rattle.cpu.specs.declared.Observed.{Observed}
 use Rattle.cpu.specs.Quiet.{ShowNothing}
-use Rattle.cpu.specs.Replay.{happens, replay, run_from}
+use Rattle.cpu.specs.Replay.{ContinuesByMore, happens, replay, run_from}
 use Rattle.cpu.specs.Shown.{nothing_shown}
-use Rattle.cpu.specs.Start.{start}
 use Rattle.cpu.specs.State.{State}
 use Rattle.controller.specs.Recorded.{Recorded}
 use Rattle.controller.specs.Replayed.{events, next_happens, replayed, seen}
@@ -110,31 +109,45 @@ lines-quiet code n s (e ∷ front) back quiet =
     count : n + 1 + length front ≡ n + length (e ∷ front)
     count = omega arith
 
-lines-more : (old new : Recorded) (es : List Entry) (i k : ℕ) → Applied old (drop i es) k new
-    → ShowNothing (code_of old.program) (replayed old) (events (take k (drop i es)))
-    → replayed new ≡ run_from (code_of old.program) (replayed old) (events (take k (drop i es)))
-    → lines_behind old (drop i es) ≡ lines_behind new (drop (i + k) es)
-lines-more old new es i k more nothing state =
-    ap (lines_behind old) (sym (take-append-drop k (drop i es)) ∙ ap (λ (l : List Entry). front ++ l) (drop-drop k i es))
-    ∙ lines-quiet code (length old.history) (replayed old) front back nothing
-    ∙ ap (λ (s : State). lines_from code (length old.history + length front) s back) (sym state)
+-- the lines of the rest of the entries, when some of them stand before the others
+abbrev lines_after : Recorded → (front back : List Entry) → List ℕ
+lines_after r front back =
+    lines_from (code_of r.program) (length r.history + length front)
+    (run_from (code_of r.program) (replayed r) (events front)) back
+
+-- they are those from the state after the entries before them
+lines-left : (old new : Recorded) (spare : ℕ) (front back : List Entry)
+    → new ≡ record old { history = old.history ++ front; spare = spare }
+    → replayed new ≡ run_from (code_of old.program) (replayed old) (events front)
+    → lines_after old front back ≡ lines_behind new back
+lines-left old new spare front back more state =
+    ap (λ (s : State). lines_from code (length old.history + length front) s back) (sym state)
     ∙ ap (λ (m : ℕ). lines_from code m (replayed new) back) (sym counted)
     ∙ ap (λ (p : Program). lines_from (code_of p) (length new.history) (replayed new) back) (sym program)
   where
     code : Code
     code = code_of old.program
 
-    front : List Entry
-    front = take k (drop i es)
-
-    back : List Entry
-    back = drop (i + k) es
-
     program : new.program ≡ old.program
     program = ap (λ (r : Recorded). r.program) more
 
     counted : length new.history ≡ length old.history + length front
     counted = ap (λ (r : Recorded). length r.history) more ∙ length-append old.history front
+
+lines-more : (old new : Recorded) (es : List Entry) (i k : ℕ) → Applied old (drop i es) k new
+    → ShowNothing (code_of old.program) (replayed old) (events (take k (drop i es)))
+    → replayed new ≡ run_from (code_of old.program) (replayed old) (events (take k (drop i es)))
+    → lines_behind old (drop i es) ≡ lines_behind new (drop (i + k) es)
+lines-more old new es i k more nothing state =
+    ap (lines_behind old) (sym (take-append-drop k (drop i es)) ∙ ap (λ (l : List Entry). front ++ l) (drop-drop k i es))
+    ∙ lines-quiet (code_of old.program) (length old.history) (replayed old) front back nothing
+    ∙ lines-left old new (old.spare - k) front back more state
+  where
+    front : List Entry
+    front = take k (drop i es)
+
+    back : List Entry
+    back = drop (i + k) es
 
 -- ---- entries in two parts
 
@@ -158,55 +171,26 @@ lines-split code n s (e ∷ front) back =
     count : n + 1 + length front ≡ n + length (e ∷ front)
     count = omega arith
 
-run-append : (code : Code) (s : State) (front back : List What)
-    → run_from code s (front ++ back) ≡ run_from code (run_from code s front) back
-run-append code s [] back = refl
-run-append code s (what ∷ rest) back = run-append code (happens code s what).state rest back
-
-replay-more : (code : Code) (history more : List Entry)
-    → replay code (events (history ++ more)) ≡ run_from code (replay code (events history)) (events more)
-unfolding replay
-replay-more code history more =
-    ap (λ (es : List What). run_from code (start code) es) (map-append (λ (e : Entry). e.what) history more)
-    ∙ run-append code (start code) (events history) (events more)
-
--- the lines of the rest of the entries, when some of them stand before the others
-abbrev lines_after : Recorded → (front back : List Entry) → List ℕ
-lines_after r front back =
-    lines_from (code_of r.program) (length r.history + length front)
-    (run_from (code_of r.program) (replayed r) (events front)) back
-
 pub lines-cut : (old : Recorded) (es rest : List Entry) (i k : ℕ) → rest ≡ drop i es
     → lines_behind old (drop i es) ≡ lines_behind old (take k rest) ++ lines_after old (take k rest) (drop k rest)
 lines-cut old es rest i k is =
     ap (lines_behind old) (sym (take-append-drop k rest ∙ is))
     ∙ lines-split (code_of old.program) (length old.history) (replayed old) (take k rest) (drop k rest)
 
-lines-written : (old new : Recorded) (es rest : List Entry) (i k : ℕ) → rest ≡ drop i es → Applied old rest k new → k ≤ length rest
+lines-written : ContinuesByMore → (old new : Recorded) (es rest : List Entry) (i k : ℕ) → rest ≡ drop i es → Applied old rest k new
     → lines_after old (take k rest) (drop k rest) ≡ lines_behind new (drop (i + k) es)
-lines-written old new es rest i k is more within =
+lines-written continues old new es rest i k is more =
     ap (λ (l : List Entry). lines_after old front l) (ap (λ (l : List Entry). drop k l) is ∙ drop-drop k i es)
-    ∙ ap (λ (s : State). lines_from code (length old.history + length front) s back) (sym state)
-    ∙ ap (λ (m : ℕ). lines_from code m (replayed new) back) (sym counted)
-    ∙ ap (λ (p : Program). lines_from (code_of p) (length new.history) (replayed new) back) (sym program)
+    ∙ lines-left old new (old.spare - k) front (drop (i + k) es) more state
   where
-    code : Code
-    code = code_of old.program
-
     front : List Entry
     front = take k rest
 
-    back : List Entry
-    back = drop (i + k) es
-
-    program : new.program ≡ old.program
-    program = ap (λ (r : Recorded). r.program) more
-
-    counted : length new.history ≡ length old.history + length front
-    counted = ap (λ (r : Recorded). length r.history) more ∙ length-append old.history front
-
-    state : replayed new ≡ run_from code (replayed old) (events front)
-    state = ap replayed more ∙ replay-more code old.history front
+    state : replayed new ≡ run_from (code_of old.program) (replayed old) (events front)
+    state =
+        ap replayed more
+        ∙ ap (λ (es : List What). replay (code_of old.program) es) (map-append (λ (e : Entry). e.what) old.history front)
+        ∙ continues (code_of old.program) (events old.history) (events front)
 
 -- the rest of some steps are steps
 pub steps-behind : (es rest : List Entry) (i : ℕ) → events es ≡ replicate (length es) Step → rest ≡ drop i es
@@ -258,16 +242,16 @@ abbrev pub HasRun : Recorded → List Entry → Recorded → Type 0
 HasRun s es s' = s' ≡ record s { history = s.history ++ es; spare = s.spare - length es }
 
 -- after entries of the rest whose lines were written
-pub follows-written : (s0 s1 s2 : Recorded) (es rest : List Entry) (i k : ℕ) (a b c : SinkAt) (u : Unit) → Follows s0 es i s1 a b
+pub follows-written : ContinuesByMore → (s0 s1 s2 : Recorded) (es rest : List Entry) (i k : ℕ) (a b c : SinkAt) (u : Unit) → Follows s0 es i s1 a b
     → rest ≡ drop i es → k ≤ length rest → HasRun s1 (take k rest) s2
     → Wrote {X = Unit {0}} b c (lines_behind s1 (take k rest)) (Ok u) → Follows s0 es (i + k) s2 a c
-follows-written s0 s1 s2 es rest i k a b c u so_far is few run wrote = record {
+follows-written continues s0 s1 s2 es rest i k a b c u so_far is few run wrote = record {
   within = omega (arith, length-drop i es, ap (λ (l : List Entry). length l) is);
   applied = applied-more s0 s1 s2 es i k so_far.applied
       (more ∙ ap (λ (l : List Entry). record s1 { history = s1.history ++ take k l; spare = s1.spare - k }) is);
   goes_on = goes-next (lines_behind s0 es) (lines_behind s1 (drop i es)) (lines_behind s1 (take k rest)) (lines_behind s2 (drop (i + k) es))
       (lines_behind s1 (take k rest)) a b c u so_far.goes_on
-      (lines-cut s1 es rest i k is ∙ ap (λ (text : List ℕ). lines_behind s1 (take k rest) ++ text) (lines-written s1 s2 es rest i k is more few))
+      (lines-cut s1 es rest i k is ∙ ap (λ (text : List ℕ). lines_behind s1 (take k rest) ++ text) (lines-written continues s1 s2 es rest i k is more))
       refl wrote;
 }
   where

@@ -6,7 +6,7 @@ use Rattle.controller.specs.Recorded.{Recorded}
 use Rattle.controller.specs.Replayed.{replayed}
 use Rattle.run_text.specs.RunText.{closing_text, lines_from}
 
--- the lines of further entries
+-- the lines of further entries, which are counted on from those of its history
 abbrev pub lines_behind : Recorded → List Entry → List ℕ
 lines_behind r entries = lines_from (code_of r.program) (length r.history) (replayed r) entries
 

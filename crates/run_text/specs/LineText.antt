@@ -30,7 +30,7 @@ kind_text Db = codes "DB"
 kind_text Sfc = codes "SFC"
 kind_text Udt = codes "UDT"
 
--- where a stop happened
+-- where a stop happened: the block and the source line, or NONE where no organization block ran
 unfoldable pub spot_text : Option Spot → List ℕ
 spot_text None = codes "NONE"
 spot_text (Some at) =

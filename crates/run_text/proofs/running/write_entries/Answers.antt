@@ -23,7 +23,7 @@ returns-in_err-write_steps-clause-text g c =
 pub returns-in_default-clause-text : goal.returns-in_default-clause-text
 returns-in_default-clause-text g c =
     follows-end _ _ _ _ _ _ _
-    (follows-written c.args.controller.now c.loop-at.controller c.write_steps.new.controller c.args.entries.now _ c.loop-at.at _ _ _ _ _
+    (follows-written c.continues_replay.ensures.more c.args.controller.now c.loop-at.controller c.write_steps.new.controller c.args.entries.now _ c.loop-at.at _ _ _ _ _
     c.loop-at.invariant.follows (take_rest c.args.entries.now c.loop-at.at)
     c.leading_steps-steps.ensures.few c.in_ok-write_steps.ensures.ok
     c.in_ok-write_steps.ensures.text)
@@ -33,7 +33,7 @@ pub returns-in_err-write_applied-clause-text : goal.returns-in_err-write_applied
 returns-in_err-write_applied-clause-text g c =
     let handed = err_from_is_err_and c.from_residual-in_err-write_applied.result c.from_residual-in_err-write_applied.ensures.1 in
     goes-cut _ _ _ _ _ _ _ _ _ _
-    (follows-written c.args.controller.now c.loop-at.controller c.write_steps.new.controller c.args.entries.now _ c.loop-at.at _ _ _ _ _
+    (follows-written c.continues_replay.ensures.more c.args.controller.now c.loop-at.controller c.write_steps.new.controller c.args.entries.now _ c.loop-at.at _ _ _ _ _
     c.loop-at.invariant.follows (take_rest c.args.entries.now c.loop-at.at)
     c.leading_steps-steps.ensures.few c.in_ok-write_steps.ensures.ok
     c.in_ok-write_steps.ensures.text).goes_on
@@ -48,7 +48,7 @@ pub loop-at-preserved : goal.loop-at-preserved
 loop-at-preserved g c = record {
   follows =
       follows-next c.args.controller.now c.write_steps.new.controller c.write_applied.new.controller c.args.entries.now _ _ _ _ _ _ _ _
-      (follows-written c.args.controller.now c.loop-at.controller c.write_steps.new.controller c.args.entries.now _ c.loop-at.at _ _ _ _ _
+      (follows-written c.continues_replay.ensures.more c.args.controller.now c.loop-at.controller c.write_steps.new.controller c.args.entries.now _ c.loop-at.at _ _ _ _ _
       c.loop-at.invariant.follows (take_rest c.args.entries.now c.loop-at.at)
       c.leading_steps-steps.ensures.few c.in_ok-write_steps.ensures.ok
       c.in_ok-write_steps.ensures.text)

@@ -31,7 +31,7 @@ invariant_of-self-2 c =
     record {
       verifies = c.self.invariant.verifies;
       state =
-          state-behind code history more s t made c.self.invariant.state steps c.step_quietly-made.ensures.state
+          state-behind c.continues_replay.ensures.more code history more s t made c.self.invariant.state steps c.step_quietly-made.ensures.state
           ∙ ap (λ (es : List Entry). replay code (events es)) (sym items);
       fit =
           fits-behind p s t made c.what_runs_goes_on.ensures.entry c.self.invariant.verifies c.self.invariant.fit
@@ -40,7 +40,7 @@ invariant_of-self-2 c =
           observer-behind s t c.self.inside.observer c.pass.new.self _ c.self.invariant.observer c.pass.ensures
           c.step_quietly-made.ensures.outputs c.step_quietly-made.ensures.mode
           ∙ ap (λ (o : Observed). watched t o)
-          (seen-behind code history more s made c.self.invariant.state steps c.step_quietly-made.ensures.nothing some
+          (seen-behind c.continues_replay.ensures.more_seen code history more s made c.self.invariant.state steps c.step_quietly-made.ensures.nothing some
           ∙ ap (λ (es : List Entry). last_seen code (events es)) (sym items));
       numbers = c.self.invariant.numbers;
       room = search rules;
@@ -64,7 +64,7 @@ returns-clause-state c =
     let more : List Entry = take c.step_quietly-made.result c.args.steps.now in
     let items : c.extend_from_slice-pushed.new.self.items ≡ history ++ more = search rules in
     ap (λ (es : List Entry). replay code (events es)) items
-    ∙ replay-more code history more
+    ∙ replay-more c.continues_replay.ensures.more code history more
     ∙ ap (λ (r : Recorded). run_from (code_of r.program) (replayed r) (events more)) c.self.view_is
 
 pub returns-clause-stops : goal.returns-clause-stops
@@ -75,7 +75,7 @@ returns-clause-stops c = λ less.
     let more : List Entry = take made c.args.steps.now in
     let items : c.extend_from_slice-pushed.new.self.items ≡ history ++ more = search rules in
     let is : state_of c.step_quietly-made.new.self ≡ replay code (events c.extend_from_slice-pushed.new.self.items) =
-    state-behind code history more (state_of c.self.inside.cpu) (state_of c.step_quietly-made.new.self) made c.self.invariant.state
+    state-behind c.continues_replay.ensures.more code history more (state_of c.self.inside.cpu) (state_of c.step_quietly-made.new.self) made c.self.invariant.state
     (fewer-steps c.args.steps.now made c.step_quietly-made.ensures.few c.requires.steps) c.step_quietly-made.ensures.state
     ∙ ap (λ (es : List Entry). replay code (events es)) (sym items) in
     subst (λ (r : Recorded). steps_quietly (code_of r.program) (replay code (events c.extend_from_slice-pushed.new.self.items)) ≡ false)
