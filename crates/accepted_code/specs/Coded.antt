@@ -19,14 +19,17 @@ abbrev pub HasBytes : Literal → Type 0
 HasBytes (literal.Characters bytes) = AreBytes bytes
 HasBytes _ = Unit {0}
 
+-- the characters of an operand that is a constant are bytes; other operands have none
 abbrev pub OperandHasBytes : Operand → Type 0
 OperandHasBytes (operand.Constant value) = HasBytes value
 OperandHasBytes _ = Unit {0}
 
+-- so are those of the operand of a statement, and of its actual parameters
 pub record StatementHasBytes (s : Statement) : Type 0 where
   pub operand : OperandHasBytes s.operand
   pub actuals : AllByRecursion (λ a. OperandHasBytes a.value) s.actuals
 
+-- so are those of each statement in the bodies of a source
 abbrev pub TreeHasBytes : Tree → Type 0
 TreeHasBytes t = AllByRecursion (λ b. AllByRecursion StatementHasBytes b.body) t.blocks
 
@@ -42,7 +45,7 @@ AreCoded =
     → IsAccepted source file symbols t → AreBytes source
     → AllByRecursion IsCoded (program_in symbols t).code_blocks
 
--- what is coded is good as the code field of an image, whether its faults are judged or not
+-- what is coded is good as the code field of an image, whether its faults are checked or not
 abbrev pub CodedIsGood : Type 0
 CodedIsGood =
     (judged : Bool) (b : CodeBlock) → IsCoded b

@@ -14,7 +14,7 @@ use Rattle.stl_codegen.specs.Generated.{code_blocks_of}
 use Rattle.accepted_code.specs.Accepted.{IsAccepted}
 use Rattle.accepted_code.specs.Operands.{AreFine}
 
--- a jump, and nothing else, is judged by the statements of its block
+-- a jump, and nothing else, is checked by the statements of its block
 abbrev pub jump_fault_of : List Spot → Placed → Operand → Option ℕ
 jump_fault_of statements p (operand.Jump kind target) = jump_fault statements p kind target
 jump_fault_of statements p _ = None

@@ -73,6 +73,7 @@ pub record IsFine (a : Around) (lens : List (ℕ × ℕ)) (ss : List Spot) (p : 
   pub call : call_fault a (Some lens) p ≡ None
   pub mark : mark_fault p.op ≡ None
 
+-- of these ops each has no fault but by a jump or a bracket
 abbrev pub AreFine : Around → List (ℕ × ℕ) → List Spot → List Placed → Type 0
 AreFine a lens ss ps = AllByRecursion (IsFine a lens ss) ps
 

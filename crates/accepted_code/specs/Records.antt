@@ -22,11 +22,12 @@ pub record HasCode (b : CodeBlock) : Type 0 where
 abbrev pub IsOfBytes : Option (List ℕ) → Type 0
 IsOfBytes file = IfSome file (λ bytes. (i : ℕ) → get_or bytes i 0 < 256)
 
+-- a program has at most 65,535 code blocks, 256 data blocks and 65,535 names
 abbrev pub HasCounts : Program → Type 0
 HasCounts p =
     good_counts (length p.code_blocks) (length p.data_blocks) (length p.names) ≡ true
 
--- whether or not code and lines are judged
+-- whether or not code and lines are checked
 abbrev pub RecordsAreRight : Type 0
 RecordsAreRight =
     (source : List ℕ) (file : Option (List ℕ)) (symbols : List Symbol) (t : Tree)

@@ -14,6 +14,7 @@ pub record IsSmallBlock (b : CodeBlock) : Type 0 where
   pub lines : length b.lines < 65536
   pub code : length (code_bytes b.code) < 4294967296
 
+-- a program's counts and code blocks fit their fields, and its image has at most 8,388,608 bytes
 pub record IsSmall (p : Program) : Type 0 where
   pub counts : good_counts (length p.code_blocks) (length p.data_blocks) (length p.names) ≡ true
   pub short : image_size p ≤ 8388608

@@ -34,6 +34,7 @@ pub record Outside : Type 0 where
 abbrev pub ret_val : List ℕ
 ret_val = codes "RET_VAL"
 
+-- the names in a list of sections before its first declaration: RET_VAL of a function with a result
 abbrev pub returned_names : Option Simple → List (List ℕ)
 returned_names None = []
 returned_names (Some kind) = ret_val ∷ []
@@ -42,6 +43,7 @@ returned_names (Some kind) = ret_val ∷ []
 abbrev pub of_sections : Block → Outside
 of_sections b = record { names = returned_names b.result; depth = 0 }
 
+-- the declarations of all sections of a block in the order of the text, components among them
 abbrev pub section_declarations : Block → List Declaration
 section_declarations b = flat_map (λ p. p.items) b.parts
 
@@ -66,6 +68,7 @@ in_block broken b =
     in_list (broken (of_sections b)) (section_declarations b)
     ++ in_list (broken of_structure) b.components
 
+-- and of all declarations of a source, block by block
 abbrev pub in_blocks : (Outside → List Declaration → Declaration → List Refusal) → List Block
     → List Refusal
 in_blocks broken blocks = flat_map (in_block broken) blocks

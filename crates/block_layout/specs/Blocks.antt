@@ -69,11 +69,12 @@ is_same_kind kind.Udt = is_data_type
 abbrev pub is_same_block : BlockId → BlockId → Bool
 is_same_block a b = is_same_kind a.kind b.kind && nat_eq a.number b.number
 
--- the organization blocks of the profile: 1, 10 to 17, 20 to 23, 30 to 38, 40 to 47, 80, 85, 100, 121, 122
+-- a number lies between two others, both of them included
 abbrev pub lies_within : (low high : ℕ) → ℕ → Bool
 lies_within low high n = nat_le low n && nat_le n high
 
--- the number of an organization block of the profile
+-- the numbers of the organization blocks of the profile: 1, 10 to 17, 20 to 23, 30 to 38, 40 to 47,
+-- 80, 85, 100, 121, 122
 abbrev pub is_ob_number : ℕ → Bool
 is_ob_number n =
     nat_eq n 1 || lies_within 10 17 n || lies_within 20 23 n || lies_within 30 38 n

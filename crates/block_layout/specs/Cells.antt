@@ -37,6 +37,7 @@ abbrev pub is_oversized : List ℕ → Option ℕ → Bool
 is_oversized bits None = false
 is_oversized bits (Some block) = nat_lt most_bits (get_or bits block 0)
 
+-- an element type that is a data type of more than 16,384 bytes; one that the source hasn't is none
 abbrev pub uses_oversized : Types → ElementType → Bool
 uses_oversized y (element.Udt name) = is_oversized y.bits (udt_of y name)
 uses_oversized y _ = false
@@ -47,19 +48,24 @@ is_sound y o before d =
     not (breaks_rule y o before d) && not (uses_oversized y d.of.of)
     && list_all (λ h. not (breaks_rule y o h.before h.declaration)) (around d.level before)
 
+-- what a data type comes to: its place in the source with its bits, or unknown without a place
 abbrev pub udt_element : List ℕ → Option ℕ → Element
 udt_element bits None = Unknown
 udt_element bits (Some block) = Udt block (get_or bits block 0)
 
+-- an element type as the layout sees it: a data type by its place and its size in bits
 abbrev pub laid : Types → ElementType → Element
 laid y (element.Plain kind) = Plain kind
 laid y element.Structure = Structure
 laid y element.DateAndTime = DateAndTime
 laid y (element.Udt name) = udt_element y.bits (udt_of y name)
 
+-- an initial value as the layout keeps it: how many elements it sets, and its bits
 abbrev pub preset : Init → Preset
 preset i = record { count = times i.count; value = bits_of i.value }
 
+-- the cell of a declaration, by those before it, the nearest first; its name is in upper case.
+-- None is the first of its section yet: `opened` says which is
 unfoldable pub cell_of : Types → Outside → PartKind → List Declaration → Declaration → Cell
 cell_of y o section before d = record {
   name = folded d.name;
@@ -84,6 +90,7 @@ abbrev pub opened : List Cell → List Cell
 opened [] = []
 opened (c ∷ cs) = if c.sound then record c { opens = true } ∷ cs else c ∷ opened cs
 
+-- VAR_TEMP: its variables lie in the local data; those of all other sections are components
 abbrev pub is_temp : PartKind → Bool
 is_temp part.Temp = true
 is_temp _ = false

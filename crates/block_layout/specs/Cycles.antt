@@ -13,6 +13,7 @@ uses_of_all y blocks = map (λ b. uses_of y (Some b)) blocks
 abbrev pub Marks : Type 0
 Marks = List Bool × List ℕ
 
+-- the place of a block that isn't marked yet; a place past the last block is never new
 abbrev pub is_new : List Bool → ℕ → Bool
 is_new reached block = nat_lt block (length reached) && not (get_or reached block false)
 
@@ -21,6 +22,7 @@ abbrev pub with_mark : Marks → ℕ → Marks
 with_mark marks block =
     if is_new marks.0 block then (slice_set marks.0 block true, marks.1 ++ block ∷ []) else marks
 
+-- and with several, one after the other; a block that stands twice among them is found once
 abbrev pub with_marks : Marks → List ℕ → Marks
 with_marks marks [] = marks
 with_marks marks (block ∷ blocks) = with_marks (with_mark marks block) blocks

@@ -19,6 +19,7 @@ is_unknown_type y _ = false
 abbrev pub is_upside_down : Bounds → Bool
 is_upside_down b = int_lt b.high b.low
 
+-- one of the arrays of a declaration, in whichever dimension, has such bounds
 abbrev pub has_upside_down : Declaration → Bool
 has_upside_down d = list_any is_upside_down d.of.arrays
 
@@ -37,9 +38,11 @@ abbrev pub times : Option ℕ → ℕ
 times None = 1
 times (Some n) = n
 
+-- how many elements the initial values of a declaration set together
 abbrev pub set_by : List Init → ℕ
 set_by init = sum_by (λ i. times i.count) init
 
+-- so many values aren't more than there is room for; in an array of arrays there is no room
 abbrev pub are_within : ℕ → Option ℕ → Bool
 are_within n None = false
 are_within n (Some most) = nat_le n most
@@ -50,9 +53,11 @@ fit_type arrays (element.Plain kind) init =
     list_all (λ i. fits i.value kind) init && are_within (set_by init) (room arrays)
 fit_type arrays _ init = nat_eq (length init) 0
 
+-- without initial values there is nothing to fit, whatever the type
 abbrev pub fit_or_none : List Init → Bool → Bool
 fit_or_none [] fit = true
 fit_or_none (i ∷ is) fit = fit
 
+-- rule 41 is kept: the initial values, if any, fit the type and are no more than the elements
 abbrev pub init_fits : Declaration → Bool
 init_fits d = fit_or_none d.init (fit_type d.of.arrays d.of.of d.init)

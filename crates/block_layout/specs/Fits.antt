@@ -35,30 +35,37 @@ fits_characters n simple.Word = nat_eq n 2
 fits_characters n simple.Dword = nat_eq n 4
 fits_characters _ _ = false
 
+-- BOOL, which TRUE and FALSE alone fit
 abbrev pub is_bool : Simple → Bool
 is_bool simple.Bool = true
 is_bool _ = false
 
+-- BYTE, the only type that B#16# fits
 abbrev pub is_byte : Simple → Bool
 is_byte simple.Byte = true
 is_byte _ = false
 
+-- WORD, the only type that C# fits; S5T# fits it too
 abbrev pub is_word : Simple → Bool
 is_word simple.Word = true
 is_word _ = false
 
+-- DINT, the only type that L# fits; DW#16# fits it too
 abbrev pub is_dint : Simple → Bool
 is_dint simple.Dint = true
 is_dint _ = false
 
+-- DWORD, which DW#16# fits, as it does DINT
 abbrev pub is_dword : Simple → Bool
 is_dword simple.Dword = true
 is_dword _ = false
 
+-- TIME, the only type that T# fits
 abbrev pub is_time : Simple → Bool
 is_time simple.Time = true
 is_time _ = false
 
+-- S5TIME, which S5T# fits, as it does WORD
 abbrev pub is_s5time : Simple → Bool
 is_s5time simple.S5time = true
 is_s5time _ = false
@@ -89,6 +96,7 @@ abbrev pub number_from : ℕ → List ℕ → ℕ
 number_from n [] = n
 number_from n (b ∷ bs) = number_from (256 * n + b) bs
 
+-- a number, or 0 where there is none: an S5TIME above 9,990,000 ms has no word (no token is, by rule 4)
 abbrev pub or_0 : Option ℕ → ℕ
 or_0 None = 0
 or_0 (Some n) = n

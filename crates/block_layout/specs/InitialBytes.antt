@@ -47,6 +47,7 @@ abbrev pub writes_at : (width : ℕ) → (offsets values : List ℕ) → List Wr
 writes_at width offsets values =
     map (λ e. record { offset = e.0; width = width; value = e.1 }) (zip offsets values)
 
+-- the bits of initial values one behind the other, n (value) as n of them, or none where n is 0
 abbrev pub preset_values : List Preset → List ℕ
 preset_values presets = flat_map (λ p. replicate p.count p.value) presets
 
@@ -91,20 +92,25 @@ type_writes l zero block starts = []
 type_writes l (suc depth) block starts =
     writes_from (type_writes l depth) 0 starts 0 (cells_at l block false)
 
+-- the initial values in the structure that the block at this place declares, from bit 0 on;
+-- nothing where no block declares it
 abbrev pub structure_writes : List BlockLayout → Option ℕ → List Write
 structure_writes l None = []
 structure_writes l (Some block) = type_writes l rounds block (0 ∷ [])
 
+-- a value in the bits of an elementary type, so many bits from the start; nothing of another type
 abbrev pub write_of : ℕ → ℕ → Option Simple → List Write
 write_of offset value None = []
 write_of offset value (Some kind) =
     record { offset = offset; width = plain_bits kind; value = value } ∷ []
 
+-- a setting, by where its path leads: nothing where that is no elementary component
 abbrev pub setting_write : List BlockLayout → Literal → Walk → List Write
 setting_write l value (walk.Reaches spot) =
     write_of spot.offset (bits_of value) (elementary_at l spot)
 setting_write l value _ = []
 
+-- the settings of the data block at this place, in the order of the text
 abbrev pub setting_writes : List BlockLayout → (block : ℕ) → List Setting → List Write
 setting_writes l block settings =
     flat_map (λ s. setting_write l s.value (walked_data l block (folded_path s.path))) settings
@@ -124,6 +130,7 @@ abbrev pub with_bytes : List ℕ → (at : ℕ) → List ℕ → List ℕ
 with_bytes bytes at [] = bytes
 with_bytes bytes at (b ∷ bs) = with_bytes (slice_set bytes at b) (at + 1) bs
 
+-- bytes with a value written: a single bit, or whole bytes. What lies past their end is cut off
 abbrev pub put : List ℕ → Write → List ℕ
 put bytes w =
     if nat_eq w.width 1
@@ -131,10 +138,12 @@ put bytes w =
     (with_bit (w.offset % 8) w.value (slice_index bytes (w.offset / 8)))
     else with_bytes bytes (w.offset / 8) (bytes_of (w.width / 8) w.value)
 
+-- the settings of a block, or none where the source has no such block
 abbrev pub settings_at : Option Block → List Setting
 settings_at None = []
 settings_at (Some b) = b.settings
 
+-- the length of a block's structure in bytes, or 0 where the source has no such block
 abbrev pub length_at : Option BlockLayout → ℕ
 length_at None = 0
 length_at (Some b) = b.length

@@ -34,6 +34,7 @@ is_broken y blocks before b =
     || has_too_many_parameters b || is_one_too_many before b || exceeds_total y blocks before b
     || has_too_many_statements b
 
+-- the layout of a block, broken or not. `before` are the blocks before it, the nearest first
 unfoldable pub block_layout : Types → List Block → (before : List Block) → Block → BlockLayout
 block_layout y blocks before b = record {
   id = id_of y.symbols b;
@@ -45,14 +46,17 @@ block_layout y blocks before b = record {
   length = length_of y blocks b;
 }
 
+-- the layouts of the blocks that follow those in `before`
 abbrev pub layouts_from : Types → List Block → (before : List Block) → List Block → List BlockLayout
 layouts_from y blocks before [] = []
 layouts_from y blocks before (b ∷ bs) =
     block_layout y blocks before b ∷ layouts_from y blocks (b ∷ before) bs
 
+-- the layouts of all blocks, by what is known of the types of the source
 unfoldable pub layouts_by : Types → List Block → List BlockLayout
 layouts_by y blocks = layouts_from y blocks [] blocks
 
+-- the layouts of a source with its symbols; what breaks a rule is marked in them
 unfoldable pub layouts_of : Tree → List Symbol → List BlockLayout
 layouts_of t symbols = layouts_by (types_of symbols t.blocks) t.blocks
 

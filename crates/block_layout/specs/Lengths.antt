@@ -23,7 +23,7 @@ use Rattle.block_layout.specs.Cells.{components_of, temps_of}
 use Rattle.block_layout.specs.Sizes.{structure_bits, up}
 use Rattle.block_layout.specs.Types.{Types}
 
--- the function block or data type that a data block is of
+-- the data type that the type of a data block names; a structure names none
 abbrev pub named_type : Option TypeTree → Option BlockName
 named_type None = None
 named_type (Some t) = named_element t.of where
@@ -31,25 +31,31 @@ named_type (Some t) = named_element t.of where
   named_element (element.Udt name) = Some name
   named_element _ = None
 
+-- the function block or data type that a data block is of; one with its own structure is of none
 abbrev pub referred : Option BlockName → Option TypeTree → Option BlockName
 referred (Some name) t = Some name
 referred None t = named_type t
 
+-- the structure of the block at this place in the source; without a place it is unknown
 abbrev pub shape_at : Option ℕ → Shape
 shape_at None = shape.Unknown
 shape_at (Some block) = shape.Of block
 
+-- without a name the structure is the block's own; a name must mean a function block or data type
 abbrev pub shape_named : Types → Option BlockName → Shape
 shape_named y None = shape.Own
 shape_named y (Some name) = shape_at (found_block y.symbols y.ids has_structure name)
 
+-- where the structure of a block stands: in itself, or in the block that its head names
 abbrev pub shape_of : Types → Block → Shape
 shape_of y b = shape_named y (referred b.instance_of b.shape)
 
+-- the bits of a structure of these cells, up to an even byte; 0 without a block
 abbrev pub bits_of_cells : Option (List Cell) → ℕ
 bits_of_cells None = 0
 bits_of_cells (Some cells) = structure_bits cells
 
+-- the bits of what a block itself declares but VAR_TEMP; 0 where the source has no such block
 abbrev pub block_bits : Types → Option Block → ℕ
 block_bits y b = bits_of_cells (option_map (components_of y) b)
 
@@ -59,6 +65,7 @@ shape_bits y blocks b shape.Own = block_bits y (Some b)
 shape_bits y blocks b (shape.Of block) = block_bits y (slice_get blocks block)
 shape_bits y blocks b shape.Unknown = 0
 
+-- a kind of block that has a length: a data block, a data type, a function block by its instance
 abbrev pub is_structured : BlockKind → Bool
 is_structured k = is_data_block k || is_function_block k || is_data_type k
 
@@ -66,6 +73,7 @@ is_structured k = is_data_block k || is_function_block k || is_data_type k
 unfoldable pub length_of : Types → List Block → Block → ℕ
 length_of y blocks b = if is_structured b.kind then shape_bits y blocks b (shape_of y b) / 8 else 0
 
+-- an address with the letter L lies in the local data, one with another letter doesn't
 abbrev pub is_local : Letters → Bool
 is_local letters.L = true
 is_local _ = false
@@ -76,6 +84,7 @@ local_end (operand.Direct name area width byte bit) =
     if is_local area then byte + byte_count width else 0
 local_end _ = 0
 
+-- the farthest end of such operands among actual parameters, in bytes; 0 where there is none
 abbrev pub actuals_end : List Actual → ℕ
 actuals_end [] = 0
 actuals_end (a ∷ behind) = max (local_end a.value) (actuals_end behind)

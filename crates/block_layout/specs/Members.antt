@@ -14,10 +14,13 @@ component level at place name (c ∷ cs) =
     then Some (record { place = place; offset = up at (alignment c) })
     else component level (stepped level at c (cell_bits c cs)) (place + 1) name cs
 
+-- a cell at this level as a component, at the least offset from `at` on that meets its alignment;
+-- of a cell at another level none
 abbrev pub member_here : (level at place : ℕ) → Cell → List Member
 member_here level at place c =
     if nat_eq c.level level then record { place = place; offset = up at (alignment c) } ∷ [] else []
 
+-- the name of a cell at this level; of one at another level none
 abbrev pub name_here : (level : ℕ) → Cell → List (List ℕ)
 name_here level c = if nat_eq c.level level then c.name ∷ [] else []
 

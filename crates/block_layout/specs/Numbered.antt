@@ -20,5 +20,6 @@ abbrev pub number_of : BlockKind → Option BlockId → Option ℕ
 number_of kind None = None
 number_of kind (Some id) = if is_same_kind kind id.kind then Some id.number else None
 
+-- of each block its number, or none where it isn't of this kind
 abbrev pub numbers_of : BlockKind → List (Option BlockId) → List (Option ℕ)
 numbers_of kind ids = map (number_of kind) ids

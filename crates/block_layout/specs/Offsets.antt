@@ -34,11 +34,13 @@ width_of simple.Time = width.Dword
 abbrev pub place_at : Area → (number bits : ℕ) → Place
 place_at a number bits = record { area = a; number = number; byte = bits / 8; bit = bits % 8 }
 
+-- place and width of an elementary component so many bits from the start; none past byte 65,535
 abbrev pub placed : Area → (number : ℕ) → (bits : ℕ) → Option Simple → Option (Place × Width)
 placed a number bits None = None
 placed a number bits (Some kind) =
     if nat_le (bits / 8) 65535 then Some (place_at a number bits, width_of kind) else None
 
+-- the same where a path leads; none where it reaches no component, or no elementary one
 abbrev pub reached : List BlockLayout → Area → (number : ℕ) → Walk → Option (Place × Width)
 reached l a number (walk.Reaches spot) = placed a number spot.offset (elementary_at l spot)
 reached l a number _ = None

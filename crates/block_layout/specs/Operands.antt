@@ -1,19 +1,21 @@
--- The operands of a body that name blocks or declarations, with the line by which they are judged.
+-- The operands of a body that name blocks or declarations, with the line by which they are checked.
 use Rattle.std.specs.Prelude.{ℕ, List, ◌∷◌, map}
 use Rattle.std.specs.List.{flat_map}
 use Rattle.plc_base.specs.declared.refusals.Refusal.{Refusal}
 use Rattle.stl_ast.specs.declared.operands.Operand.{Operand}
 use Rattle.stl_ast.specs.declared.statements.Statement.{Statement}
 
--- of a statement its operand, and the values of its actual parameters, each in its own line
+-- an operand, or the value of an actual parameter, with its line
 pub record Judged : Type 0 where
   pub line : ℕ
   pub operand : Operand
 
+-- of a statement its operand, and the values of its actual parameters, each in its own line
 abbrev pub operands_of : Statement → List Judged
 operands_of s =
     record { line = s.line; operand = s.operand } ∷ map
     (λ a. record { line = a.line; operand = a.value }) s.actuals
 
+-- what breaks a rule of operands, of all operands and actual parameters of a body
 abbrev pub in_body : (Judged → List Refusal) → List Statement → List Refusal
 in_body broken body = flat_map (λ s. flat_map broken (operands_of s)) body

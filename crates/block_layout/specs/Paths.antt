@@ -26,6 +26,7 @@ abbrev pub folded_step : PathStep → PathStep
 folded_step (step.Named name) = step.Named (folded name)
 folded_step (step.Index at) = step.Index at
 
+-- a path of the source, as it is compared with the names of cells
 abbrev pub folded_path : List PathStep → List PathStep
 folded_path path = map folded_step path
 
@@ -34,6 +35,7 @@ abbrev pub cells_in : (temporary : Bool) → Option BlockLayout → List Cell
 cells_in temporary None = []
 cells_in temporary (Some b) = if temporary then b.temps else b.components
 
+-- the same of the block at this place in the source; none where there is no such block
 abbrev pub cells_at : List BlockLayout → (block : ℕ) → (temporary : Bool) → List Cell
 cells_at l block temporary = cells_in temporary (slice_get l block)
 
@@ -81,6 +83,7 @@ named_behind l spot name None = walk.Unknown
 named_behind l spot name (Some c) =
     if nat_eq spot.depth (length c.bounds) then named_in l spot name c c.of else walk.Unknown
 
+-- a name behind a spot; where an index is lacking, or what is there has no components, it's unknown
 unfoldable pub named : List BlockLayout → Spot → List ℕ → Walk
 named l spot name =
     named_behind l spot name (slice_get (cells_at l spot.block spot.temporary) spot.place)
@@ -102,20 +105,24 @@ within spot c behind at (Some b) =
           (element_of c behind)));
     })
 
+-- an index behind a component that stands among `cells`, for the first bounds without an index yet
 abbrev pub indexed_behind : Spot → (cells : List Cell) → ℤ → Option Cell → Walk
 indexed_behind spot cells at None = walk.Unknown
 indexed_behind spot cells at (Some c) =
     within spot c (drop (spot.place + 1) cells) at (slice_get c.bounds spot.depth)
 
+-- an index behind a spot; behind what is no array, or has all its indices, it is unknown
 unfoldable pub indexed : List BlockLayout → Spot → ℤ → Walk
 indexed l spot at =
     indexed_behind spot (cells_at l spot.block spot.temporary) at
     (slice_get (cells_at l spot.block spot.temporary) spot.place)
 
+-- one step of a path behind a spot
 unfoldable pub step_of : List BlockLayout → Spot → PathStep → Walk
 step_of l spot (step.Named name) = named l spot name
 step_of l spot (step.Index at) = indexed l spot at
 
+-- a path goes on behind a component that it reaches; what is unknown or rests stays so
 abbrev pub goes_on : Walk → (Spot → Walk) → Walk
 goes_on (walk.Reaches spot) next = next spot
 goes_on walk.Unknown next = walk.Unknown
@@ -132,35 +139,40 @@ walked_from l block temporary (step.Named name ∷ ss) =
     goes_on (outermost l block temporary 0 name) (λ spot. walked l spot ss)
 walked_from l block temporary _ = walk.Unknown
 
--- whether an index of these steps is outside its array
+-- an index is outside the bounds that are left; where none are left it isn't
 abbrev pub is_beyond_left : Option Bounds → ℤ → Bool
 is_beyond_left None at = false
 is_beyond_left (Some b) at = is_beyond b at
 
+-- the same of a component with so many of its indices there; a place without one has no bounds
 abbrev pub is_beyond_in : (depth : ℕ) → Option Cell → ℤ → Bool
 is_beyond_in depth None at = false
 is_beyond_in depth (Some c) at = is_beyond_left (slice_get c.bounds depth) at
 
+-- a step behind a spot is an index outside its array; a name never is
 abbrev pub step_is_beyond : List BlockLayout → Spot → PathStep → Bool
 step_is_beyond l spot (step.Named name) = false
 step_is_beyond l spot (step.Index at) =
     is_beyond_in spot.depth (slice_get (cells_at l spot.block spot.temporary) spot.place) at
 
+-- whether this holds of the spot that a path reaches; where it reaches none it doesn't
 abbrev pub further : Walk → (Spot → Bool) → Bool
 further (walk.Reaches spot) next = next spot
 further _ next = false
 
+-- whether one of these steps is an index outside its array, up to the first that reaches nothing
 abbrev pub leaves : List BlockLayout → Spot → List PathStep → Bool
 leaves l spot [] = false
 leaves l spot (s ∷ ss) =
     step_is_beyond l spot s || further (step_of l spot s) (λ next. leaves l next ss)
 
+-- the same of a whole path in the outermost declarations of a block, which begins with a name
 abbrev pub leaves_from : List BlockLayout → (block : ℕ) → (temporary : Bool) → List PathStep → Bool
 leaves_from l block temporary (step.Named name ∷ ss) =
     further (outermost l block temporary 0 name) (λ spot. leaves l spot ss)
 leaves_from l block temporary _ = false
 
--- a path that goes through what breaks a rule itself isn't judged
+-- a path that goes through what breaks a rule itself isn't checked
 abbrev pub is_judged : Walk → Bool
 is_judged walk.Rests = false
 is_judged _ = true
@@ -170,12 +182,15 @@ abbrev pub whole_block : Option BlockLayout → Option BlockLayout
 whole_block None = None
 whole_block (Some b) = if b.broken then None else Some b
 
+-- the same by its place in the source; none where there is no such block
 abbrev pub whole_at : List BlockLayout → ℕ → Option BlockLayout
 whole_at l block = whole_block (slice_get l block)
 
+-- that place, where the block is there and isn't broken
 abbrev pub if_whole : List BlockLayout → ℕ → Option ℕ
 if_whole l block = if is_some (whole_at l block) then Some block else None
 
+-- the block in which a structure stands: this one, or another that isn't broken; none if unknown
 abbrev pub shape_block : List BlockLayout → ℕ → Shape → Option ℕ
 shape_block l block shape.Own = Some block
 shape_block l block (shape.Of other) = if_whole l other
@@ -185,11 +200,13 @@ shape_block l block shape.Unknown = None
 abbrev pub structure_of : List BlockLayout → ℕ → Option ℕ
 structure_of l block = option_and_then (λ b. shape_block l block b.shape) (whole_at l block)
 
+-- a path in the components that this block declares; where none declares them it rests
 abbrev pub walked_or_rests : List BlockLayout → Option ℕ → List PathStep → Walk
 walked_or_rests l None path = walk.Rests
 walked_or_rests l (Some block) path = walked_from l block false path
 
--- the same of a block that may itself be broken, as its settings are judged
+-- the block that declares the components of a data block, which may itself be broken: its settings
+-- are checked all the same
 abbrev pub setting_structure : List BlockLayout → ℕ → Option ℕ
 setting_structure l block =
     option_and_then (λ b. shape_block l block b.shape) (slice_get l block)
@@ -198,7 +215,7 @@ setting_structure l block =
 unfoldable pub walked_setting : List BlockLayout → (block : ℕ) → List PathStep → Walk
 walked_setting l block path = walked_or_rests l (setting_structure l block) path
 
--- whether a path leaves an array, where it is judged
+-- whether a path leaves an array, where it is checked
 abbrev pub leaves_judged : List BlockLayout → Option ℕ → List PathStep → Bool
 leaves_judged l None path = false
 leaves_judged l (Some block) path =
@@ -226,6 +243,7 @@ abbrev pub leaves_sections : List BlockLayout → (block : ℕ) → List ℕ →
 leaves_sections l block name path =
     further (in_sections l block name) (λ spot. leaves l spot path)
 
+-- the same, unless the path rests on what breaks a rule itself
 abbrev pub leaves_local : List BlockLayout → (block : ℕ) → List ℕ → List PathStep → Bool
 leaves_local l block name path =
     is_judged (walked_local l block name path) && leaves_sections l block name path
@@ -235,10 +253,12 @@ abbrev pub plain_kind : Element → Option Simple
 plain_kind (Plain kind) = Some kind
 plain_kind _ = None
 
+-- the elementary type of a component once all its indices are there; none of another type
 abbrev pub kind_of : Spot → Option Cell → Option Simple
 kind_of spot None = None
 kind_of spot (Some c) = if nat_eq spot.depth (length c.bounds) then plain_kind c.of else None
 
+-- the elementary type at a spot; none of an array, a structure, a data type or DATE_AND_TIME
 abbrev pub elementary_at : List BlockLayout → Spot → Option Simple
 elementary_at l spot = kind_of spot (slice_get (cells_at l spot.block spot.temporary) spot.place)
 
@@ -252,6 +272,7 @@ abbrev pub IsSoundAt : List BlockLayout → Spot → Type 0
 IsSoundAt l spot = (c : Cell)
     → slice_get (cells_at l spot.block spot.temporary) spot.place ≡ Some c → c.sound ≡ true
 
+-- the component that a path reaches is sound; nothing is said where it reaches none
 abbrev pub ReachesSound : List BlockLayout → Walk → Type 0
 ReachesSound l (walk.Reaches spot) = IsSoundAt l spot
 ReachesSound l _ = Unit {0}

@@ -33,6 +33,7 @@ AreOffsets end (s ∷ ss) (place ∷ places) = IsLeastPlace end s.align place
     × AreOffsets (place + s.bits) ss places
 AreOffsets end _ _ = ⊥
 
+-- there is such a cell, and it is sound, so that it takes a place
 abbrev pub is_sound_cell : Option Cell → Bool
 is_sound_cell None = false
 is_sound_cell (Some c) = c.sound

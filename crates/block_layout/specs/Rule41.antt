@@ -26,7 +26,7 @@ abbrev pub fits_kind : Literal → Option Simple → Bool
 fits_kind value None = false
 fits_kind value (Some kind) = fits value kind
 
--- only a path that leads to a component is judged by its value
+-- only a path that leads to a component is checked by its value
 abbrev pub misfits : List BlockLayout → Literal → Walk → Bool
 misfits l value (walk.Reaches spot) = not (fits_kind value (elementary_at l spot))
 misfits l value _ = false

@@ -20,6 +20,7 @@ capped n = min n largest
 unfoldable pub up : ℕ → (alignment : ℕ) → ℕ
 up n alignment = (n + (alignment - 1)) / alignment * alignment
 
+-- the bits of an elementary type: a BOOL is a single one, all others are whole bytes
 abbrev pub plain_bits : Simple → ℕ
 plain_bits simple.Bool = 1
 plain_bits simple.Byte = 8
@@ -82,6 +83,7 @@ element_of c cs =
 abbrev pub cell_bits : Cell → List Cell → ℕ
 cell_bits c cs = array_bits c.bounds (element_of c cs)
 
+-- of each cell the bits of an element, those of a structure by the cells behind it
 abbrev pub elements_of : List Cell → List ℕ
 elements_of [] = []
 elements_of (c ∷ cs) = element_of c cs ∷ elements_of cs

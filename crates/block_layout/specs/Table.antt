@@ -1,4 +1,4 @@
--- The rules that are judged with the layout, by their numbers.
+-- The rules that are checked with the layout, by their numbers.
 use Rattle.std.specs.Prelude.{List, ◌++◌}
 use Rattle.plc_base.specs.declared.refusals.Refusal.{Refusal}
 use Rattle.stl_ast.specs.declared.blocks.Block.{Block}

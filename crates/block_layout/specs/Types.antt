@@ -1,4 +1,4 @@
--- What the declarations of a source are judged by.
+-- What the declarations of a source are checked by.
 use Rattle.std.specs.Prelude.{ℕ, List, Option}
 use Rattle.plc_base.specs.declared.blocks.BlockId.{BlockId}
 use Rattle.stl_ast.specs.declared.names.BlockName.{BlockName}

@@ -26,6 +26,7 @@ use Rattle.block_layout.specs.declared.verdicts.Verdict.{Verdict}
 abbrev pub breaks_alone : Types → Declaration → Bool
 breaks_alone y d = is_unknown_type y d.of.of || not (init_fits d) || has_upside_down d
 
+-- what the rules find of a declaration by those before it; `reach` is its deepest place, 9 at most
 abbrev pub verdict_of : Types → Outside → List Declaration → Declaration → Verdict
 verdict_of y o before d = record {
   twice = is_twice o before d;
@@ -35,6 +36,7 @@ verdict_of y o before d = record {
   reach = deep (depth_around y o d.level before + own_depth y d);
 }
 
+-- and of declarations one behind the other, of which `before` stand before the first
 abbrev pub verdicts_of : Types → Outside → (before : List Declaration) → List Declaration → List Verdict
 verdicts_of y o before [] = []
 verdicts_of y o before (d ∷ ds) = verdict_of y o before d ∷ verdicts_of y o (d ∷ before) ds
@@ -47,14 +49,16 @@ frame_of y o before level = record {
   sound = list_all (λ h. not (breaks_rule y o h.before h.declaration)) (around level before);
 }
 
--- what a declaration of a list is, by that list
+-- a declaration opens the ninth structure or array: by how many are around it and are its own
 abbrev pub is_deep_in : ℕ → ℕ → Bool
 is_deep_in around_it own = nat_le around_it 8 && nat_lt 8 (around_it + own)
 
+-- a declaration breaks rule 21, 23, 41, 42 or 56, by the list that it goes on
 abbrev pub breaks_in : Types → Frame → Declaration → Bool
 breaks_in y f d =
     is_some (place_of (folded d.name) f.names) || breaks_alone y d || is_deep_in f.depth (deep (own_depth y d))
 
+-- what the rules find of a declaration by its list alone, without those before it
 unfoldable pub verdict_in : Types → Frame → Declaration → Verdict
 verdict_in y f d = record {
   twice = is_some (place_of (folded d.name) f.names);
@@ -64,6 +68,7 @@ verdict_in y f d = record {
   reach = deep (f.depth + deep (own_depth y d));
 }
 
+-- the list with the name of a declaration, in upper case, behind the others
 abbrev pub with_name : Frame → Declaration → Frame
 with_name f d = record f { names = f.names ++ folded d.name ∷ [] }
 
@@ -95,9 +100,11 @@ by_verdicts broken [] ds = []
 by_verdicts broken (v ∷ vs) [] = []
 by_verdicts broken (v ∷ vs) (d ∷ ds) = broken v d ++ by_verdicts broken vs ds
 
+-- the refusal by rule 21, at the line of a declaration whose name stands twice in its list
 abbrev pub twice_by : Verdict → Declaration → List Refusal
 twice_by v d = broken_if v.twice d.line 21
 
+-- and that by rule 56, at the line of one that opens the ninth structure or array
 abbrev pub deep_by : Verdict → Declaration → List Refusal
 deep_by v d = broken_if v.deep d.line 56
 

@@ -119,7 +119,7 @@ fn is_judged(walk: Walk) -> bool
     !matches!(walk, Walk::Rests)
 }
 
-/// Whether a path leaves an array of the structure of a data block, where it is judged.
+/// Whether a path leaves an array of the structure of a data block, where it is checked.
 pub(crate) fn leaves_judged(
     layouts: &[BlockLayout],
     structure: Option<usize>,
@@ -143,7 +143,7 @@ fn leaves_sections(layouts: &[BlockLayout], block: usize, name: &[u8], path: &[P
     leaves_behind(layouts, found, path)
 }
 
-/// Whether a path in the body of a block leaves an array of its own variables, where it is judged.
+/// Whether a path in the body of a block leaves an array of its own variables, where it is checked.
 pub(crate) fn leaves_local(
     layouts: &[BlockLayout],
     block: usize,

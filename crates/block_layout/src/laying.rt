@@ -118,7 +118,7 @@ struct Judged {
     refusal: Option<Refusal>,
 }
 
-/// The blocks laid out and judged.
+/// The blocks laid out and checked.
 fn judge(alloc: Global, types: &Types, blocks: &[Block]) -> Result<Judged, AllocError>
     ensures layouts { IfOk result (λ j. j.layouts.items ≡ layouts_by types.now blocks.now) }
     ensures refusal { IfOk result (λ j. j.refusal

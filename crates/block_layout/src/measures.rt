@@ -210,7 +210,7 @@ fn with_all_bits<'a>(
     Ok(types)
 }
 
-/// What the declarations of a source are judged by.
+/// What the declarations of a source are checked by.
 #[tactic(auto, unfolding(crate::specs::Measures::types_of))]
 pub(crate) fn types_of<'a>(
     alloc: Global,

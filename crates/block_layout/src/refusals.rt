@@ -31,7 +31,7 @@ fn least_among(found: &[Option<Refusal>]) -> Option<Refusal>
     least_of(found, |one: &Option<Refusal>| *one)
 }
 
-/// The least refusal by the rules that are judged with the layout, where those by rules 21 and 56
+/// The least refusal by the rules that are checked with the layout, where those by rules 21 and 56
 /// were found with the declarations.
 pub(crate) fn least_refusal(
     alloc: Global,

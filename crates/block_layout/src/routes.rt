@@ -63,7 +63,7 @@ pub(crate) fn structure_of(layouts: &[BlockLayout], block: usize) -> Option<usiz
     shape_block(layouts, block, found.shape)
 }
 
-/// The same of a block that may itself be broken, as its settings are judged.
+/// The same of a block that may itself be broken, as its settings are checked.
 pub(crate) fn setting_structure(layouts: &[BlockLayout], block: usize) -> Option<usize>
     ensures { result ≡ setting_structure layouts.now block }
 {

@@ -47,10 +47,12 @@ abbrev pub IsInstance : Option ℕ → Type 0
 IsInstance None = Unit {0}
 IsInstance (Some number) = 1 ≤ number
 
+-- JU, the only instruction in the list of a JL
 abbrev pub is_ju : Instr → Bool
 is_ju (Jumps jump.Ju target) = true
 is_ju _ = false
 
+-- a statement whose instruction is JU
 abbrev pub IsJu : Stated → Type 0
 IsJu s = is_ju s.instr ≡ true
 
@@ -71,6 +73,7 @@ IsCompiled n (Calls how block instance passings) behind =
     (is_called block.kind ≡ true) × IsInstance instance × (length passings ≤ 63)
 IsCompiled n (Returns how) behind = Unit {0}
 
+-- so is each of these statements, the first of which has this number
 abbrev pub AreCompiled : (n : ℕ) → List Stated → Type 0
 AreCompiled n [] = Unit {0}
 AreCompiled n (s ∷ behind) = IsCompiled n s.instr behind × AreCompiled (suc n) behind

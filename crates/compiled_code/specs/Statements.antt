@@ -20,13 +20,16 @@ stated_at id (b ∷ bs) = if same_id b.id id then Some b else stated_at id bs
 abbrev pub numbered : (n : ℕ) → Stated → Fetched
 numbered n s = record { instr = s.instr; next = suc n; line = s.line }
 
+-- the statement of a block at a number, from 0; none behind the last one
 abbrev pub statement_of : StatedBlock → (n : ℕ) → Option Fetched
 statement_of b n = option_map (numbered n) (slice_get b.statements n)
 
+-- the head of a block: its local bytes, the bytes of its instance, its parameters
 abbrev pub stated_head : StatedBlock → Head
 stated_head b =
     record { local_len = b.local_len; instance_len = b.instance_len; params = b.params }
 
+-- the code of these blocks and data blocks: positions are the numbers of statements
 abbrev pub stated_code : List StatedBlock → List DataBlock → Code
 stated_code blocks data_blocks = record {
   fetch = λ id n. option_and_then (λ b. statement_of b n) (stated_at id blocks);
@@ -39,12 +42,15 @@ abbrev pub position_in : Option StatedBlock → (n : ℕ) → ℕ
 position_in None n = n
 position_in (Some b) n = offset_of (ops_in b.statements) n
 
+-- the same for the block of a kind and number; where it is absent each number is its position
 abbrev pub position : List StatedBlock → BlockId → (n : ℕ) → ℕ
 position blocks id n = position_in (stated_at id blocks) n
 
+-- code can be generated for each statement of a block
 abbrev pub IsCompilable : StatedBlock → Type 0
 IsCompilable b = AreCompiled 0 b.statements
 
+-- the program of these blocks, with their statements as ops, and of these data blocks and names
 abbrev pub program_with : List StatedBlock → List DataBlock → List NameEntry → Program
 program_with blocks data_blocks names =
     record { code_blocks = map compiled blocks; data_blocks = data_blocks; names = names }

@@ -26,11 +26,12 @@ RefusesBy source symbols (fault.Source refusal) =
     IsRefusedSource source symbols (InSource refusal)
 RefusesBy source symbols fault.NoMemory = Unit {0}
 
--- a refusal of the symbols file, or of the source
+-- a refusal of the symbols file, or want of memory
 abbrev pub fault_in_symbols : SourceFault → CompileFault
 fault_in_symbols (found.Refused refusal) = fault.Symbols refusal
 fault_in_symbols found.NoMemory = fault.NoMemory
 
+-- a refusal of the source, or want of memory
 abbrev pub fault_in_source : SourceFault → CompileFault
 fault_in_source (found.Refused refusal) = fault.Source refusal
 fault_in_source found.NoMemory = fault.NoMemory

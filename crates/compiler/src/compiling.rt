@@ -83,7 +83,7 @@ fn refusal_of_statements(
     }
 }
 
-/// The least refusal of a tree that breaks a rule on its layout. The statements are judged with all
+/// The least refusal of a tree that breaks a rule on its layout. The statements are checked with all
 /// that breaks none.
 fn least_refusal(
     alloc: Global,
@@ -114,7 +114,7 @@ fn layouts_of(alloc: Global, tree: &Tree, symbols: &Symbols) -> Result<Layouts, 
     }
 }
 
-/// Lays out a source with its symbols file. The symbols are judged first, then the tokens of the
+/// Lays out a source with its symbols file. The symbols are checked first, then the tokens of the
 /// source, its clauses, and its layout. Where a rule on the layout is broken, the refusal is the
 /// least one of these rules and of those on statements.
 fn laid_out(
@@ -197,7 +197,7 @@ fn law_of_files(source: &[u8], symbols: Option<&[u8]>)
     law_of_file(symbols);
 }
 
-/// Judges a source of at most 1,048,576 bytes with its symbols file, which has at most as many, by
+/// Checks a source of at most 1,048,576 bytes with its symbols file, which has at most as many, by
 /// the rules of `compiled`. No program is made: that a source which breaks no rule has one that
 /// verifies and runs as it means is proved.
 ///
@@ -221,7 +221,7 @@ pub fn judged(alloc: Global, source: &[u8], symbols: Option<&[u8]>) -> Result<()
 }
 
 /// Compiles a source of at most 1,048,576 bytes with its symbols file, which has at most as many,
-/// into a loaded program that runs as it means. The symbols are judged first, then the tokens of
+/// into a loaded program that runs as it means. The symbols are checked first, then the tokens of
 /// the source, its clauses, and its layout together with its statements.
 ///
 /// # Errors

@@ -1,5 +1,5 @@
 //! Tests of the controller's base crates, by their public items: values worked out by hand from the
-//! rules, which judge the definitions that the proofs rest on.
+//! rules, which check the definitions that the proofs rest on.
 #![tactic(auto)]
 
 #[cfg(test)]

@@ -34,7 +34,7 @@ ob_begun class ob info head = told_from 0 info.bytes (begun class ob (ob_frame o
 abbrev pub ob_in : Code → (class ob : ℕ) → StartInfo → Option Activation
 ob_in code class ob info = option_map (ob_begun class ob info) (code.head (ob_block ob))
 
--- it begins above those that stand
+-- it begins above those that stand; without it all stays
 abbrev pub begun_above : Option Activation → State → State
 begun_above None s = s
 begun_above (Some a) s = record s { activations = a ∷ s.activations }

@@ -26,6 +26,7 @@ cycle_passed s =
       first_cycle = false;
     }
 
+-- the start information of OB 1: start code 16#01 in the first cycle after a start, else 16#03
 abbrev pub cycle_info : State → StartInfo
 cycle_info s = start_info (Cycle s.first_cycle) (class_in s.mode 1)
 

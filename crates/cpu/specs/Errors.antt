@@ -17,14 +17,16 @@ use Rattle.cpu.specs.Stopping.{halted_at}
 abbrev pub is_synchronous : ℕ → Bool
 is_synchronous ob = ob == 121 || ob == 122
 
--- stop causes: no OB 121, no OB 122, an error inside one of them
+-- the stop cause where the OB of the error isn't loaded: 3 for OB 121, 4 for OB 122
 abbrev pub cause_without : (ob : ℕ) → ℕ
 cause_without ob = if ob == 122 then 4 else 3
 
+-- the stop cause of an error in an activation of OB 121 or OB 122
 abbrev pub cause_inside : ℕ
 cause_inside = 5
 
--- the block that failed, and the line of its statement
+-- a synchronous error with its code, the kind and number of the block that failed, and the line of
+-- its statement; these three are 0 where no spot is known
 abbrev pub failure : (error : ℕ) → Option Spot → StartEvent
 failure error None = Synchronous error 0 0 0
 failure error (Some at) = Synchronous error (number_of_kind at.block.kind) at.block.number at.line

@@ -15,18 +15,19 @@ use Rattle.cpu.specs.Ticking.{time_passed}
 abbrev pub counted : State → State
 counted s = record s { entries = s.entries + 1 }
 
--- another byte of the peripheral inputs
+-- a byte of the peripheral inputs takes its value; nothing changes where there is no such byte
 abbrev pub input_set : (byte value : ℕ) → World → World
 input_set byte value w =
     record w { memory = unwrap_or (with_input w.memory byte value) w.memory }
 
--- an input changes in every mode; in STOP a step does nothing
+-- what an entry does by its kind: an input takes its value in every mode; a step, an arrival and a
+-- tick do nothing in STOP
 abbrev pub effect : Code → What → State → State
 effect code Step s = if is_stop s.mode then s else stepped code s
 effect code (Input byte value) s = record s { world = input_set byte value s.world }
 effect code (Arrive ob value) s = arrived code ob value s
 effect code (Tick ms) s = time_passed code ms s
 
--- one entry, and settling after it
+-- one entry: it is counted, has its effect, and settling follows
 unfoldable pub state_after : Code → What → State → State
 state_after code what s = settled code (effect code what (counted s))

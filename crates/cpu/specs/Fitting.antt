@@ -25,21 +25,22 @@ abbrev pub AllFit : Program → Areas → List Activation → Type 0
 AllFit p m [] = Unit {0}
 AllFit p m (a ∷ below) = FitsProgram p m a × AllFit p m below
 
--- what the scheduler starts can wait for its start: what is pending, the delays of OB 20 to 23 and
--- the periods of OB 30 to 38
+-- each pending request is of an OB that can wait; there are the four delays of OB 20 to 23, and the
+-- nine periods of OB 30 to 38
 pub record IsSchedule (s : Scheduler) : Type 0 where
   pub pending : list_all (λ (request : Request). can_wait request.0) s.pending ≡ true
   pub delays : length s.countdowns.delays ≡ 4
   pub periods : length s.countdowns.periods ≡ 9
 
--- a state fits a program
+-- a state fits a program: its memory and its activations do, these stand on each other as in the
+-- mode, and what is pending can wait
 pub record IsFit (p : Program) (s : State) : Type 0 where
   pub memory : IsMemoryOf (code_of p) s.world.memory
   pub activations : AllFit p s.world.memory s.activations
   pub standing : IsStanding s.mode s.activations
   pub sched : IsSchedule s.sched
 
--- the entries of a history are valid
+-- what each entry of a history does is in the ranges; its worker isn't asked for
 abbrev pub AreInRange : List What → Type 0
 AreInRange [] = Unit {0}
 AreInRange (what ∷ rest) = IsInRange what × AreInRange rest

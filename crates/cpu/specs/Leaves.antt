@@ -22,34 +22,39 @@ use Rattle.cpu.specs.declared.serving.Answer.{Answer}
 use Rattle.cpu.specs.declared.serving.Answer.TheVariants as answers
 use Rattle.cpu.specs.declared.activations.Stand.{Stand}
 
--- the running activation, and where its statement stands
+-- the running activation is the first of those that stand; none where nothing runs
 abbrev pub running_of : List Activation → Option Activation
 running_of [] = None
 running_of (a ∷ below) = Some a
 
+-- where its statement stands: its OB, and the innermost block with the position in that block
 abbrev pub stand_of : Activation → Stand
 stand_of a = record { ob = a.ob; block = a.running.frame.block; at = a.running.frame.at }
 
--- an organization block begins above those that stand, or there is none
+-- an organization block begins above those that stand (true); where there is none, they stay
+-- (false)
 abbrev pub Begins : Option Activation → (old new : List Activation) → Bool → Type 0
 Begins None old new false = new ≡ old
 Begins (Some a) old new true = new ≡ a ∷ old
 Begins a old new answer = ⊥
 
--- the running activation has other registers, and interrupts are delayed so often in it
+-- the running activation has other registers, and interrupts are delayed so often in it; where none
+-- runs nothing is handed on
 abbrev pub HandedOn : (delay : ℕ) → Regs → (old new : List Activation) → Type 0
 HandedOn delay regs [] new = new ≡ []
 HandedOn delay regs (a ∷ below) new =
     new ≡ record a { delay = delay; running = record a.running { regs = regs } } ∷ below
 
--- the organization block of an error of the running activation begins above it, or there is none
+-- the organization block of an error of the running activation begins above it (true), or there is
+-- none, or nothing runs (false)
 abbrev pub ErrorBegins :
     Code → (error : ℕ) → (at : Option Spot) → (old new : List Activation) → Bool → Type 0
 ErrorBegins code error at [] new answer = (new ≡ []) × (answer ≡ false)
 ErrorBegins code error at (a ∷ below) new answer =
     Begins (error_in code error at a) (a ∷ below) new answer
 
--- the activations after a statement of `a`, above `below`
+-- the activations, memory with timers and counters, and the answer after a statement of `a`, above
+-- `below`. By a stop `a` is as it was; for a statement that is stuck there is no answer
 abbrev pub StepsTo :
     Step → (a : Activation) (below new : List Activation) (w w' : World) → Outcome → Type 0
 StepsTo (Went a' after) a below new w w' outcome.Went = (new ≡ a' ∷ below) × (w' ≡ after)
@@ -71,23 +76,29 @@ Steps code (a ∷ below) new w w' (Some done) =
     (done.0 ≡ stand_of a) × StepsTo (statement code a w) a below new w w' done.1
 Steps code old new w w' answer = ⊥
 
--- the mode after a statement of an organization block
+-- the mode after a statement of an organization block: RUN after the end of OB 100, else as before
+-- (a stop is still to come)
 abbrev pub mode_after : Mode → (ob : ℕ) → Outcome → Mode
 mode_after mode ob outcome.Ended = if ob == 100 then Run else mode
 mode_after mode ob _ = mode
 
--- what is left to do after the statement, which stood at `stand`
+-- what is left to do after a statement with a synchronous error, which stood at `stand`: its OB
+-- begins, or it is a stop; nothing where nothing runs
 abbrev pub error_left : Code → (error : ℕ) → Stand → List Activation → State → State
 error_left code error stand [] s = s
 error_left code error stand (a ∷ below) s =
     failed code error (spot_at code stand.block stand.at) a below s
 
+-- what is left to do after a call of a system function: it does its work, RET_VAL goes where it is
+-- bound, and a stop has the spot of the call; nothing where nothing runs
 abbrev pub call_left :
     Code → (number : ℕ) → List ℕ → Option Binding → Stand → List Activation → State → State
 call_left code number inputs to stand [] s = s
 call_left code number inputs to stand (a ∷ below) s =
     after_service (spot_at code stand.block stand.at) (served number inputs s.sched a) to below s
 
+-- what is left to do after a statement, by what came of it: the end of OB 100 begins RUN, an error
+-- begins its OB, a system function does its work, a stop is STOP with the spot of the statement
 unfoldable pub finished : Code → Stand → Outcome → State → State
 finished code stand outcome.Went s = s
 finished code stand outcome.Ended s = ob_ended stand.ob s
@@ -97,14 +108,16 @@ finished code stand (outcome.SysCall number inputs to) s =
 finished code stand (outcome.Stop cause) s =
     halted_at (spot_at code stand.block stand.at) cause s
 
--- a system function was called
+-- what a system function leaves of the scheduler and its activation, and what it answers: RET_VAL,
+-- nothing, or its stop cause, which changes nothing of the scheduler
 abbrev pub Serves : Served → (s s' : Scheduler) (a' : Activation) → Answer → Type 0
 Serves (Returns r) s s' a' (answers.Value value) = LeavesReturned r s' a' value
 Serves (Passes sched a) s s' a' answers.Nothing = (s' ≡ sched) × (a' ≡ a)
 Serves (Stops cause) s s' a' (answers.Halt why) = (why ≡ cause) × (s' ≡ s)
 Serves served s s' a' answer = ⊥
 
--- and its result was given to the running activation, or it stops
+-- and its RET_VAL was given where it is bound, and the activation stands above `below`, with no
+-- answer; or the answer is its stop cause, and memory and scheduler stay
 abbrev pub ServesTo :
     Served → Option Binding → (below new : List Activation) (m m' : Areas) (s s' : Scheduler)
     → Option ℕ → Type 0
@@ -117,6 +130,8 @@ ServesTo (Stops cause) to below new m m' s s' (Some why) =
     (why ≡ cause) × (m' ≡ m) × (s' ≡ s)
 ServesTo served to below new m m' s s' answer = ⊥
 
+-- the same of the running activation, which called the function of this number; where none runs,
+-- all stays, with no answer
 abbrev pub ServesRunning :
     (number : ℕ) → List ℕ → Option Binding → (old new : List Activation) (m m' : Areas)
     (s s' : Scheduler) → Option ℕ → Type 0

@@ -17,7 +17,7 @@ use Rattle.machine.specs.Lasting.{FitsProgram, GoesOn, IsReady, Lasts, first_fra
 use Rattle.machine.specs.Results.{GivesResult}
 use Rattle.machine.specs.Statement.{World, statement}
 
--- of the activations of a program that verifies, and of its memory
+-- of activations that fit a program, one that verifies where a law asks for it, and of its memory
 pub record MachineLaws : Type 0 where
   pub goes : (p : Program) (m : Areas) (a : Activation)
       → Verifies p → FitsProgram p m a → IsReady p a

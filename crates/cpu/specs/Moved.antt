@@ -7,11 +7,12 @@ use Rattle.var_access.specs.declared.What.{What}
 use Rattle.cpu.specs.Replay.{Happened, happens, replay}
 use Rattle.cpu.specs.State.{State}
 
--- the state with each frame at the position of its position; nothing else has any
+-- the state with each frame at the position that the function gives for its own; nothing else has
+-- a position
 abbrev pub moved_state : (BlockId → ℕ → ℕ) → State → State
 moved_state f s = record s { activations = map (moved f) s.activations }
 
--- the answer and what was shown are the same
+-- what happened, with the state moved so; the answer and what was shown are the same
 abbrev pub moved_happened : (BlockId → ℕ → ℕ) → Happened → Happened
 moved_happened f h = record h { state = moved_state f h.state }
 

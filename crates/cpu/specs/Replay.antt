@@ -16,6 +16,7 @@ pub record Happened : Type 0 where
   pub reply : Reply
   pub seen : Observed
 
+-- an entry, by the states before and after it: its answer is done, and it shows what has changed
 abbrev pub happened_to : Code → (before : State) → What → (after : State) → Happened
 happened_to code before what after = record {
   state = after;
@@ -57,6 +58,19 @@ abbrev pub ContinuesSeen : Type 0
 ContinuesSeen =
     (code : Code) (history : List What) (what : What)
     → last_seen code (history ++ what ∷ []) ≡ (happens code (replay code history) what).seen
+
+-- a history with further entries: they are made from the state after the others on
+abbrev pub ContinuesByMore : Type 0
+ContinuesByMore =
+    (code : Code) (history more : List What)
+    → replay code (history ++ more) ≡ run_from code (replay code history) more
+
+-- and the last of them shows what was seen last
+abbrev pub SeenByMore : Type 0
+SeenByMore =
+    (code : Code) (history more : List What)
+    → last_seen code (history ++ more)
+    ≡ seen_from code (replay code history) (last_seen code history) more
 
 -- each entry is counted
 abbrev pub CountsEntries : Type 0

@@ -21,12 +21,12 @@ pub data Served : Type 0 where
   Passes : (sched : Scheduler) (a : Activation) → Served
   Stops : (cause : ℕ) → Served
 
--- an input by its place
+-- the number of an IN parameter by its place, counted from 0; 0 where there is none
 abbrev pub input : (place : ℕ) → List ℕ → ℕ
 input place inputs = slice_index_or inputs place 0
 
--- each by its number: SRT_DINT, CAN_DINT, DIS_IRT, EN_IRT, DIS_AIRT, EN_AIRT, RE_TRIGR, STP, and
--- 64 TIME_TCK
+-- each by its number: 32 SRT_DINT, 33 CAN_DINT, 39 DIS_IRT, 40 EN_IRT, 41 DIS_AIRT, 42 EN_AIRT,
+-- 43 RE_TRIGR, 46 STP (stop cause 1); any other is 64 TIME_TCK
 unfoldable pub served : (number : ℕ) → (inputs : List ℕ) → Scheduler → Activation → Served
 served number inputs s a =
     if number == 32 then
@@ -40,7 +40,7 @@ served number inputs s a =
     else if number == 46 then Stops 1
     else Returns (time_tck s a)
 
--- RET_VAL goes where it is bound
+-- RET_VAL goes where it is bound; where it isn't, nothing changes
 abbrev pub result_given : Option Binding → (value : ℕ) → Activation → Areas → Stage
 result_given None value a m = record { activation = a; memory = m }
 result_given (Some to) value a m = on_stage a (with_result to value (scene_of a.running m))
@@ -54,7 +54,8 @@ goes_on stage sched below s =
       activations = stage.activation ∷ below;
     }
 
--- a stop has the spot of the call
+-- after the system function: RET_VAL is given, if there is one, and the activation goes on; a stop
+-- has the spot of the call
 abbrev pub after_service :
     (call : Option Spot) → Served → Option Binding → (below : List Activation) → State → State
 after_service call (Returns r) to below s =
@@ -63,7 +64,8 @@ after_service call (Passes sched a) to below s =
     goes_on (record { activation = a; memory = s.world.memory }) sched below s
 after_service call (Stops cause) to below s = halted_at call cause s
 
--- the running activation goes on behind the call as `a`
+-- a call of a system function: it does its work in the same step, and the running activation, which
+-- has gone on behind the call as `a`, goes on with its result
 abbrev pub system_called :
     (call : Option Spot) → (number : ℕ) → Given → (a : Activation) (below : List Activation)
     → State → State

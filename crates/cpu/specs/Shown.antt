@@ -1,6 +1,7 @@
 -- What an entry shows.
-use Rattle.std.specs.Prelude.{ℕ, ◌==◌, Bool, true, false, List, [], Option, Some, None, if◌then◌else◌}
+use Rattle.std.specs.Prelude.{ℕ, ◌+◌, ◌==◌, Bool, true, false, List, [], Option, Some, None, if◌then◌else◌}
 use Rattle.std.specs.List.{filter_map, range_with_len}
+use Rattle.plc_base.specs.AreaBytes.{upper_size, upper_start}
 use Rattle.plc_base.specs.declared.Mode.{Mode}
 use Rattle.plc_base.specs.declared.Mode.TheVariants.{Run, Startup, Stop}
 use Rattle.plc_mem.specs.Areas.{PeripheralBytes}
@@ -25,9 +26,10 @@ changed_output before after byte =
 -- is 767
 unfoldable pub changed_outputs : (before after : PeripheralBytes) → List (ℕ × ℕ)
 changed_outputs before after =
-    filter_map (changed_output before after) (range_with_len 0 768)
+    filter_map (changed_output before after) (range_with_len 0 (upper_start + upper_size))
 
--- whether two modes are the same; in STOP cause and spot stay as they are
+-- the mode is the same before and after: one STOP is the same as another, since no entry changes
+-- cause and spot
 abbrev pub is_same_mode : Mode → Mode → Bool
 is_same_mode Run Run = true
 is_same_mode Startup Startup = true
@@ -38,18 +40,20 @@ is_same_mode before after = false
 abbrev pub changed_mode : (before after : Mode) → Option Mode
 changed_mode before after = if is_same_mode before after then None else Some after
 
--- the changed peripheral outputs, and the new mode, between two moments
-abbrev pub changes : (outputs : PeripheralBytes) → Mode → (after : State) → Observed
-changes outputs mode after = record {
-  outputs = changed_outputs outputs after.world.memory.peripheral_outputs;
-  mode = changed_mode mode after.mode;
-}
-
 -- where nothing changes nothing is shown
 abbrev pub nothing_shown : Observed
 nothing_shown = record { outputs = []; mode = None }
 
--- what an entry shows, by the program, the states before and after it, and the entry
+-- the changed peripheral outputs, and the new mode, between two moments
+abbrev pub changes : (outputs : PeripheralBytes) → Mode → (after : State) → Observed
+changes outputs mode after =
+    record nothing_shown {
+      outputs = changed_outputs outputs after.world.memory.peripheral_outputs;
+      mode = changed_mode mode after.mode;
+    }
+
+-- what an entry shows: what changed between the states before and after it, whatever the program
+-- and the entry are
 unfoldable pub shown : Code → (before : State) → What → (after : State) → Observed
 shown code before what after =
     changes before.world.memory.peripheral_outputs before.mode after
@@ -60,6 +64,7 @@ pub record Watched : Type 0 where
   pub mode : Mode
   pub seen : Observed
 
+-- what is kept of a state, with what was shown last
 abbrev pub watched : State → (seen : Observed) → Watched
 watched s seen = record {
   outputs = s.world.memory.peripheral_outputs;
@@ -67,5 +72,6 @@ watched s seen = record {
   seen = seen;
 }
 
+-- the next entry shows what has changed since then, and the state after it is kept
 abbrev pub watched_on : Watched → (after : State) → Watched
 watched_on w after = watched after (changes w.outputs w.mode after)

@@ -24,6 +24,7 @@ all_obs =
     ∷ 30 ∷ 31 ∷ 32 ∷ 33 ∷ 34 ∷ 35 ∷ 36 ∷ 37 ∷ 38 ∷ 40 ∷ 41 ∷ 42 ∷ 43 ∷ 44 ∷ 45 ∷ 46 ∷ 47
     ∷ 80 ∷ 85 ∷ 100 ∷ 121 ∷ 122 ∷ []
 
+-- those of them that the program has, by rising number
 abbrev pub loaded_obs : Code → List ℕ
 loaded_obs code = filter (λ ob. is_some (code.head (ob_block ob))) all_obs
 
@@ -35,7 +36,7 @@ world_at_rest code = record {
   counters = replicate 64 counter_at_rest;
 }
 
--- before the first start
+-- before the first start: RUN, nothing runs, nothing is pending, and no entry or record was made
 abbrev pub before_start : Code → State
 before_start code = record {
   world = world_at_rest code;
@@ -47,10 +48,11 @@ before_start code = record {
   entries = 0;
 }
 
--- OB 100 has class 27
+-- the start information of OB 100, whose class is 27
 abbrev pub startup_info : StartInfo
 startup_info = start_info OfStartup 27
 
+-- OB 100 as it begins; none where it isn't loaded
 abbrev pub startup_ob : Code → Option Activation
 startup_ob code = ob_in code 27 100 startup_info
 
@@ -63,14 +65,16 @@ started_up (Some a) s = begun_above (Some a) (record s { mode = Startup })
 unfoldable pub start : Code → State
 start code = started_up (startup_ob code) (before_start code)
 
--- bytes 0 to 15 of bit memory, and C 0 to C 7, are retained
+-- bytes 0 to 15 of bit memory are retained, bytes 16 to 255 become 0
 abbrev pub bits_retained : List ℕ → List ℕ
 bits_retained bytes = take 16 bytes ++ replicate 240 0
 
+-- C 0 to C 7 are retained, C 8 to C 63 are at rest again
 abbrev pub counters_retained : List Counter → List Counter
 counters_retained counters = take 8 counters ++ replicate 56 counter_at_rest
 
--- data blocks and peripheral inputs stay; the process images are cleared
+-- the process images are cleared, and bit memory but for what is retained; data blocks and the
+-- peripheral inputs and outputs stay
 abbrev pub memory_cleared : Areas → Areas
 memory_cleared m = record m {
   inputs = replicate image_size 0;
@@ -78,14 +82,16 @@ memory_cleared m = record m {
   bit_memory = bits_retained m.bit_memory;
 }
 
+-- of memory and counters what is retained stays, and all timers are at rest again
 abbrev pub world_cleared : World → World
-world_cleared w = record {
+world_cleared w = record w {
   memory = memory_cleared w.memory;
   timers = replicate 128 timer_at_rest;
   counters = counters_retained w.counters;
 }
 
--- disabling, the clock, the cycle counter and its mark are cleared too
+-- disabling, the clock, the cycle counter and its mark are cleared too, and the first cycle is to
+-- come again
 abbrev pub cleared : State → State
 cleared s =
     record s {
@@ -94,6 +100,7 @@ cleared s =
       first_cycle = true;
     }
 
--- a warm restart out of STOP, recorded by code 6
+-- a warm restart out of STOP, recorded by code 6: what isn't retained is cleared, and OB 100 or RUN
+-- begins
 unfoldable pub restarted : Code → State → State
 restarted code s = started_up (startup_ob code) (cleared (diagnosed 6 0 s))

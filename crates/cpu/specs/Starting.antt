@@ -19,7 +19,7 @@ is_data_block id = is_data_kind id.kind
 abbrev pub numbers_in : List BlockId → List ℕ
 numbers_in ids = map (λ (id : BlockId). id.number) (filter is_data_block ids)
 
--- the number of a data block with its bytes
+-- the number of a data block with its bytes, or with no bytes where there is no such block
 abbrev pub read_block : List DataBlock → (number : ℕ) → ℕ × List ℕ
 read_block blocks number = (number, unwrap_or (bytes_of number blocks) [])
 

@@ -19,6 +19,7 @@ pub record State : Type 0 where
   pub diagnostics : List DiagRecord
   pub entries : ℕ
 
+-- STOP, whatever its cause and its spot are
 abbrev pub is_stop : Mode → Bool
 is_stop Run = false
 is_stop Startup = false

@@ -20,10 +20,12 @@ run_starts s = record s { mode = Run; sched = run_begun s.sched }
 abbrev pub ob_ended : (ob : ℕ) → State → State
 ob_ended ob s = if ob == 100 then run_starts s else s
 
+-- memory, timers and counters, and the activations are these; all else stays
 abbrev pub with_activations : World → List Activation → State → State
 with_activations w activations s = record s { world = w; activations = activations }
 
--- what comes of a statement of an organization block, which stands at `at`
+-- the state by what comes of a statement of an organization block, which stands at `at`. One that
+-- is stuck changes nothing; a program that verifies has none
 abbrev pub after_statement :
     Code → Step → (ob : ℕ) → (at : Option Spot) → (below : List Activation) → State → State
 after_statement code (Went a w) ob at below s = with_activations w (a ∷ below) s
@@ -34,10 +36,12 @@ after_statement code (SysCall number given a) ob at below s =
 after_statement code (Stop cause) ob at below s = halted_at at cause s
 after_statement code Stuck ob at below s = s
 
+-- the next statement of the first of these activations, or a cycle point where none stands
 abbrev pub stepped_on : Code → List Activation → State → State
 stepped_on code [] s = cycle_point code s
 stepped_on code (a ∷ below) s =
     after_statement code (statement code a s.world) a.ob (spot_of code a.running.frame) below s
 
+-- a step: of the activations that stand
 unfoldable pub stepped : Code → State → State
 stepped code s = stepped_on code s.activations s

@@ -12,7 +12,7 @@ use Rattle.machine.specs.Statement.{World}
 use Rattle.ob_sched.specs.Scheduler.{stopped}
 use Rattle.cpu.specs.State.{State, diagnosed}
 
--- a block and the source line of its statement at a position
+-- a block and the source line of its statement at a position; none where no statement stands there
 abbrev pub spot_at : Code → BlockId → (at : ℕ) → Option Spot
 spot_at code block at = option_map (λ i. record { block = block; line = i.line }) (code.fetch block at)
 
@@ -25,6 +25,7 @@ abbrev pub spot : Code → List Activation → Option Spot
 spot code [] = None
 spot code (a ∷ below) = spot_of code a.running.frame
 
+-- each peripheral output becomes 0; the process image of the outputs and all else stay
 abbrev pub outputs_off : World → World
 outputs_off w = record w { memory = outputs_cleared w.memory }
 

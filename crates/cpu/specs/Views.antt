@@ -11,6 +11,7 @@ use Rattle.cpu.specs.declared.parts.Parts.{Parts}
 abbrev pub activations_of : (standing : ℕ) → List Activation → List Activation
 activations_of standing all = reverse (take standing all)
 
+-- the state of the CPU that the fields of the code stand for
 abbrev pub state_of : Parts → State
 state_of p = record {
   world = world p.memory p.timers p.counters;

@@ -22,6 +22,7 @@ abbrev pub is_word : List ℕ → Bool
 is_word [] = false
 is_word (b ∷ part) = true
 
+-- the words of a line; one of blanks and tabs alone has none
 unfoldable pub words_of : List ℕ → List (List ℕ)
 words_of line = filter is_word (slice_split is_blank line)
 
@@ -35,6 +36,7 @@ hex_number digits word =
 abbrev pub hex_byte : List ℕ → Option ℕ
 hex_byte word = hex_number 2 word
 
+-- eight hexadecimal digits, the value of an arrival; fewer or more are none
 abbrev pub hex_double : List ℕ → Option ℕ
 hex_double word = hex_number 8 word
 
@@ -42,6 +44,7 @@ hex_double word = hex_number 8 word
 abbrev pub stepper : ℕ
 stepper = 1
 
+-- worker 2, whose entries aren't steps
 abbrev pub feeder : ℕ
 feeder = 2
 
@@ -61,6 +64,7 @@ longest_tick = 60000
 abbrev pub one_step : Entry
 one_step = record { who = stepper; what = Step }
 
+-- so many steps, one entry each; `step 0` is wrong
 abbrev pub steps_of : ℕ → Option (List Entry)
 steps_of n = if nat_le 1 n then Some (replicate n one_step) else None
 
@@ -78,6 +82,7 @@ is_peripheral byte = is_peripheral_byte byte
 abbrev pub fed : What → List Entry
 fed what = record { who = feeder; what = what } ∷ []
 
+-- one entry of `in`, where there is such a byte: 0 to 127, or 256 to 767
 abbrev pub input_of : ℕ → ℕ → Option (List Entry)
 input_of byte value = if is_peripheral byte then Some (fed (Input byte value)) else None
 
@@ -88,6 +93,7 @@ entries_of_in (byte ∷ value ∷ []) =
     (decimal_up_to greatest_number byte)
 entries_of_in words = None
 
+-- one entry of `arrive`: only OB 10 to 17 and 40 to 47 can be requested so
 abbrev pub arrival_of : ℕ → ℕ → Option (List Entry)
 arrival_of ob value = if is_arrivable ob then Some (fed (Arrive ob value)) else None
 
@@ -104,6 +110,7 @@ entries_of_arrive (ob ∷ words) =
     option_and_then (λ n. option_and_then (arrival_of n) (value_behind words))
     (decimal_up_to greatest_number ob)
 
+-- one entry of `tick` for all its milliseconds; `tick 0` is wrong
 abbrev pub ticks_of : ℕ → Option (List Entry)
 ticks_of n = if nat_le 1 n then Some (fed (Tick n)) else None
 
@@ -125,6 +132,7 @@ entries_of_words (word ∷ words) =
 abbrev pub is_skipped : List ℕ → Bool
 is_skipped line = length line == 0 || starts_with nat_eq line (codes "//")
 
+-- a skipped line gives no entry; one of blanks alone isn't skipped, and wrong
 unfoldable pub entries_of_line : List ℕ → Option (List Entry)
 entries_of_line line = if is_skipped line then Some [] else entries_of_words (words_of line)
 
@@ -134,12 +142,14 @@ entries_of_lines [] = Some []
 entries_of_lines (line ∷ more) =
     option_and_then (λ es. option_map (λ rest. es ++ rest) (entries_of_lines more)) (entries_of_line line)
 
+-- a step of the stepper: inputs, arrivals and ticks don't count towards the most steps
 abbrev pub is_step : What → Bool
 is_step Step = true
 is_step (Input byte value) = false
 is_step (Arrive ob value) = false
 is_step (Tick ms) = false
 
+-- the steps of all lines together, a `step n` as n of them
 abbrev pub steps_in : List Entry → ℕ
 steps_in es = count_by (λ e. is_step e.what) es
 
@@ -152,6 +162,7 @@ with_few_steps es = if nat_le (steps_in es) most_steps then Some es else None
 abbrev pub not_built : Refusal
 not_built = record { line = 0; rule = 99 }
 
+-- the entries, or the one refusal there is, for a wrong line and for too many steps alike
 abbrev pub or_refused : Option (List Entry) → Result (List Entry) Refusal
 or_refused None = Err not_built
 or_refused (Some entries) = Ok entries

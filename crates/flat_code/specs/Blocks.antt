@@ -1,8 +1,9 @@
--- The faults that are judged over whole blocks, op by op: 6 jump targets, 7 operands, 8 brackets.
+-- The faults that are checked over whole blocks, op by op: 6 jump targets, 7 operands, 8 brackets.
 use Rattle.std.specs.Prelude.{ℕ, zero, suc, ◌+◌, nat_le, nat_lt, ◌==◌, Bool, true, false, ◌&&◌, ◌||◌, not, is_some, if◌then◌else◌, List, [], ◌∷◌, ◌++◌, length, map, slice_get, Option, Some, None}
 use Rattle.std.specs.Option.{option_map, option_and_then}
 use Rattle.plc_base.specs.declared.places.Area.{Area}
 use Rattle.plc_base.specs.declared.places.Area.TheVariants as area
+use Rattle.plc_base.specs.Widths.{byte_count}
 use Rattle.plc_base.specs.declared.places.Width.{Width}
 use Rattle.plc_base.specs.declared.places.Width.TheVariants as width
 use Rattle.flat_code.specs.declared.image_fields.ParameterRecord.{ParameterRecord}
@@ -14,7 +15,6 @@ use Rattle.flat_code.specs.Forms.{width_code}
 use Rattle.flat_code.specs.Ops.{OpData}
 use Rattle.flat_code.specs.Programs.{DataBlock}
 use Rattle.flat_code.specs.Records.{BlockRecord}
-use Rattle.flat_code.specs.Faults.{size_of_width}
 use Rattle.flat_code.specs.Codes.{size, first_of, is_nowhere}
 use Rattle.flat_code.specs.declared.image_fields.OpenBracket.{OpenBracket}
 use Rattle.flat_code.specs.Placed.{Placed, places, begins, is_empty, ending, last_op, opens, open_behind, few, Spot, spots, spot_at}
@@ -27,11 +27,12 @@ pub record Signature : Type 0 where
   pub instance_len : ℕ
   pub params : List ParameterRecord
 
+-- of a code block a call sees neither its local bytes nor its ops nor their lines
 abbrev pub signature_of : BlockRecord → Signature
 signature_of b = record { kind = b.kind; number = b.number; instance_len = b.instance_len; params = b.params }
 
 -- what the faults of a block depend on besides its ops: its kind, local bytes and parameters; the code
--- blocks; the numbers and lengths of the data blocks, if all blocks were read, so that calls are judged
+-- blocks; the numbers and lengths of the data blocks, if all blocks were read, so that calls are checked
 pub record Around : Type 0 where
   pub kind : ℕ
   pub local_len : ℕ
@@ -45,12 +46,14 @@ pub record Around : Type 0 where
 abbrev pub input : ℕ → ParameterRecord
 input width = record { section = 1; width = width; byte = 0; bit = 0 }
 
+-- an OUT parameter of a system function, as RET_VAL is; it has no place, so byte and bit are 0
 abbrev pub output : ℕ → ParameterRecord
 output width = record { section = 2; width = width; byte = 0; bit = 0 }
 
+-- an SFC's parameters by index; None for a number but the nine 32, 33, 39 to 43, 46, 64
 abbrev pub system_params : ℕ → Option (List ParameterRecord)
 system_params n =
-    -- SET_TINT: OB_NR, DTIME, SIGN, RET_VAL
+    -- SRT_DINT: OB_NR, DTIME, SIGN, RET_VAL
     if n == 32 then Some (input 3 ∷ input 4 ∷ input 3 ∷ output 3 ∷ [])
     -- CAN_DINT: OB_NR, RET_VAL
     else if n == 33 then Some (input 3 ∷ output 3 ∷ [])
@@ -73,6 +76,7 @@ abbrev pub block_with : ℕ → ℕ → List Signature → Option Callee
 block_with kind number [] = None
 block_with kind number (b ∷ bs) = if b.kind == kind && b.number == number then Some (b.kind, b.instance_len, b.params) else block_with kind number bs
 
+-- as a callee an SFC has kind 5 and no instance bytes
 abbrev pub system_function : List ParameterRecord → Callee
 system_function params = (5, 0, params)
 
@@ -94,7 +98,7 @@ is_odd_bit w bit = not (bit == 0)
 
 -- a local byte past those of the block
 abbrev pub is_past_locals : Around → Area → Width → ℕ → Bool
-is_past_locals around area.L w byte = nat_lt around.local_len (byte + size_of_width (width_code w))
+is_past_locals around area.L w byte = nat_lt around.local_len (byte + byte_count w)
 is_past_locals around a w byte = false
 
 -- a direct place that isn't allowed with any instruction
@@ -113,10 +117,12 @@ writes code = nat_le 0x21 code && nat_le code 0x26
 abbrev pub own_parameter : Around → ℕ → Option ParameterRecord
 own_parameter around index = if around.kind == 2 then slice_get around.params index else None
 
+-- an operand of form 05 whose parameter isn't there, or has another width
 abbrev pub lacks_own : Option ParameterRecord → Width → Bool
 lacks_own None w = true
 lacks_own (Some p) w = not (p.width == width_code w)
 
+-- an IN parameter, if there is one; a function doesn't write it, nor pass it for OUT or IN_OUT
 abbrev pub is_input : Option ParameterRecord → Bool
 is_input None = false
 is_input (Some p) = p.section == 1
@@ -142,6 +148,7 @@ abbrev pub pass_before : Option ℕ → List OpData → Option ℕ
 pass_before found [] = found
 pass_before found (op ∷ ops) = pass_before (first_of (pass_index op.operand) found) ops
 
+-- an index above that of the PASS before; where none stands before (None), each is
 abbrev pub is_above : ℕ → Option ℕ → Bool
 is_above index None = true
 is_above index (Some other) = nat_lt other index
@@ -174,6 +181,7 @@ misfits_parameter around q (passed.Direct a w byte bit) = not (q.width == width_
 misfits_parameter around q (passed.Parameter index w) = not (q.width == width_code w) || not (q.section == 1) && is_input (own_parameter around index)
 misfits_parameter around q (passed.InBlock number a w byte bit) = not (q.width == width_code w)
 
+-- a parameter that the called block lacks (None), or that what is passed doesn't fit
 abbrev pub misfits_index : Around → Option ParameterRecord → Passed → Bool
 misfits_index around None actual = true
 misfits_index around (Some q) actual = misfits_parameter around q actual
@@ -190,6 +198,7 @@ misfits_call around _ index actual = false
 
 -- ---- CALL, UC, CC
 
+-- whether the index that an op passes is this one; an op that is no PASS passes none
 abbrev pub is_index : ℕ → Option ℕ → Bool
 is_index index None = false
 is_index index (Some other) = other == index
@@ -222,6 +231,7 @@ is_bad_call data_lens (Some s) instance before = not (s.0 == 3) && not (are_pass
 
 -- ---- jumps
 
+-- equally many open brackets, with the same op codes (18 to 1D) in the same order
 abbrev pub same_codes : List ℕ → List ℕ → Bool
 same_codes [] [] = true
 same_codes [] (y ∷ ys) = false
@@ -255,6 +265,7 @@ abbrev pub target_fault : Option (List ℕ) → Option (Option (List ℕ)) → O
 target_fault here None = Some 6
 target_fault here (Some there) = differing here there
 
+-- the fault of a jump: 6 for the list of a JL, else 6 or 8 by what begins at the target
 abbrev pub jump_fault : List Spot → Placed → ℕ → ℕ → Option ℕ
 jump_fault statements p kind target = if is_bad_list p kind target then Some 6 else target_fault (few p.brackets) (spot_at statements target)
 
@@ -281,6 +292,7 @@ call_fault_among around data_lens p (operand.Called kind number instance) = seve
 call_fault_among around data_lens p (operand.Pass index actual) = seven_if ((last_op p).code == 0x78 && misfits_call around (last_op p).operand index actual)
 call_fault_among around data_lens p _ = None
 
+-- what is called and passed is checked only where all code and data blocks were read
 abbrev pub call_fault : Around → Option (List (ℕ × ℕ)) → Placed → Option ℕ
 call_fault around None p = None
 call_fault around (Some data_lens) p = call_fault_among around data_lens p p.op.operand
@@ -289,6 +301,7 @@ call_fault around (Some data_lens) p = call_fault_among around data_lens p p.op.
 abbrev pub prepares : ℕ → Bool
 prepares code = code == 2 || code == 4
 
+-- the fault of an end mark on USEDB or PASS, and of another op that has none
 abbrev pub mark_fault : OpData → Option ℕ
 mark_fault op = seven_if (if prepares op.code then op.last else not op.last)
 
@@ -304,6 +317,8 @@ abbrev pub at_offset : ℕ → Option ℕ → List (ℕ × ℕ)
 at_offset at None = []
 at_offset at (Some code) = (at, code) ∷ []
 
+-- the faults of one op, each at the op's own offset (`start` is where the code begins): of its
+-- operand, of what is called or passed, of its end mark, of its bracket
 unfoldable pub op_faults : Around → List Spot → ℕ → Placed → List (ℕ × ℕ)
 op_faults around statements start p =
     at_offset (start + p.at) (operand_fault around statements p p.op.operand)
@@ -311,6 +326,7 @@ op_faults around statements start p =
     ++ at_offset (start + p.at) (mark_fault p.op)
     ++ at_offset (start + p.at) (bracket_fault p.op.code p.brackets)
 
+-- the faults of ops one behind the other; all are listed, whichever is told in the end
 abbrev pub faults_over : Around → List Spot → ℕ → List Placed → List (ℕ × ℕ)
 faults_over around statements start [] = []
 faults_over around statements start (p ∷ rest) = op_faults around statements start p ++ faults_over around statements start rest

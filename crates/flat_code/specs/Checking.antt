@@ -1,4 +1,4 @@
--- The records of a program judged one behind the other, and how many bytes they take in its image.
+-- The records of a program checked one behind the other, and how many bytes they take in its image.
 use Rattle.std.specs.Prelude.{ℕ, ◌+◌, ◌*◌, nat_le, nat_lt, Bool, true, false, ◌&&◌, List, [], ◌∷◌, length, map, sum_by}
 use Rattle.flat_code.specs.Codes.{code_bytes}
 use Rattle.flat_code.specs.Image.{after_block, after_data, after_name, code_block, data_block, line_after, line_field, name_of_entry, name_record, parameter, record_of_block, record_of_param, same_state}
@@ -6,7 +6,7 @@ use Rattle.flat_code.specs.Layout.{Layout}
 use Rattle.flat_code.specs.Programs.{CodeBlock, DataBlock, NameEntry, Program}
 use Rattle.flat_code.specs.declared.programs.Param.{Param}
 
--- values one behind the other, each judged by what came before it
+-- values one behind the other, each checked by what came before it
 abbrev pub all_good : {S A : Type 0} → (S → Layout A) → (S → A → S) → S → List A → Bool
 all_good l next s [] = true
 all_good l next s (x ∷ xs) = (l s).good x && all_good l next (next s x) xs
@@ -16,15 +16,19 @@ abbrev pub good_params : (kind instance : ℕ) → List Param → Bool
 good_params kind instance ps =
     all_good (λ s. parameter kind instance) same_state 0 (map record_of_param ps)
 
+-- each line fits 32 bits; that none is 0 or falls (fault 9) isn't tested here
 abbrev pub good_lines : List ℕ → Bool
 good_lines lines = all_good (line_field false) line_after 0 lines
 
+-- code blocks behind one of kind and number `before`, 0 and 0 for none; faults 5 to 9 aside
 abbrev pub good_blocks : ℕ × ℕ → List CodeBlock → Bool
 good_blocks before bs = all_good (code_block false) after_block before (map record_of_block bs)
 
+-- data blocks behind one of this number, 0 for none, with so many bytes in all blocks before
 abbrev pub good_datas : ℕ × ℕ → List DataBlock → Bool
 good_datas before ds = all_good data_block after_data before ds
 
+-- names behind the name `before`, empty for none: they rise, their variables are in I, Q or M
 abbrev pub good_names : List ℕ → List NameEntry → Bool
 good_names before es = all_good name_record after_name before (map name_of_entry es)
 
@@ -32,6 +36,7 @@ good_names before es = all_good name_record after_name before (map name_of_entry
 abbrev pub good_counts : (codes datas names : ℕ) → Bool
 good_counts codes datas names = nat_lt codes 65536 && nat_le datas 256 && nat_lt names 65536
 
+-- the counts, and then each list from its first record on, in the order of the image
 abbrev pub good_records : Program → Bool
 good_records p =
     good_counts (length p.code_blocks) (length p.data_blocks) (length p.names)
@@ -42,9 +47,11 @@ good_records p =
 abbrev pub block_size : CodeBlock → ℕ
 block_size b = 16 + 6 * length b.params + length (code_bytes b.code) + 4 * length b.lines
 
+-- number, instance, length and zero take 8 bytes, besides those of the data block
 abbrev pub data_size : DataBlock → ℕ
 data_size d = 8 + length d.bytes
 
+-- length, area, width, byte and bit take 6 bytes, besides those of the name
 abbrev pub name_size : NameEntry → ℕ
 name_size e = 6 + length e.name
 

@@ -7,14 +7,17 @@ use Rattle.flat_code.specs.Layout.{Cursor, Read, Layout, ended, given}
 abbrev pub cons_op : OpData → List OpData × List ℕ → List OpData × List ℕ
 cons_op op r = (op ∷ r.0, r.1)
 
+-- where bytes begin no op (None) all of them are left; else `more` reads on behind the op
 abbrev pub ops_next : Option (OpData × List ℕ) → List ℕ → (List ℕ → List OpData × List ℕ) → List OpData × List ℕ
 ops_next None bytes more = ([], bytes)
 ops_next (Some r) bytes more = cons_op r.0 (more r.1)
 
+-- at most n ops; the number of the bytes is enough, then what is left begins no op
 abbrev pub ops_from : ℕ → List ℕ → List OpData × List ℕ
 ops_from zero bytes = ([], bytes)
 ops_from (suc n) bytes = ops_next (op_at bytes) bytes (λ rest. ops_from n rest)
 
+-- each is an op of the table: a code below 16#80, an operand that it takes, in range
 abbrev pub are_ops : List OpData → Bool
 are_ops [] = true
 are_ops (op ∷ ops) = is_op op.code op.operand && are_ops ops
@@ -23,6 +26,7 @@ are_ops (op ∷ ops) = is_op op.code op.operand && are_ops ops
 unfoldable pub size : OpData → ℕ
 size op = length (op_bytes op)
 
+-- the code as an image has it: the bytes of each op, one behind the other
 abbrev pub code_bytes : List OpData → List ℕ
 code_bytes [] = []
 code_bytes (op ∷ ops) = op_bytes op ++ code_bytes ops
@@ -44,11 +48,12 @@ abbrev pub overlong : ℕ → ℕ → List OpData → Option ℕ
 overlong count at [] = None
 overlong count at (op ∷ ops) = if count == 64 then Some at else overlong (if op.last then 0 else suc count) (at + size op) ops
 
+-- the left one, if there is one, else the right one
 abbrev pub first_of : Option ℕ → Option ℕ → Option ℕ
 first_of None other = other
 first_of (Some at) other = Some at
 
--- something where it is judged
+-- something where it is checked
 abbrev pub only : Bool → Option ℕ → Option ℕ
 only true found = found
 only false found = None
@@ -68,18 +73,22 @@ abbrev pub read_ops : Option ℕ → ℕ → List OpData → Cursor → Read (Li
 read_ops None at ops end = given ops end
 read_ops (Some offset) at ops end = ended (at + offset) 5
 
+-- a code field at offset `at`, of ops and of bytes left over: the ops, or the end by fault 5
 abbrev pub placed_ops : Bool → ℕ → List OpData × List ℕ → Cursor → Read (List OpData)
 placed_ops judged at r end = read_ops (stop_at judged r.0 r.1) at r.0 end
 
+-- a code field of n bytes: fault 3 where fewer are left, else the ops that they are, or fault 5
 abbrev pub read_code : Bool → ℕ → Cursor → Read (List OpData)
 read_code judged n cur =
     if nat_lt (length cur.rest) n then ended cur.at 3
     else placed_ops judged cur.at (ops_from n (take n cur.rest)) (record { at = cur.at + n; rest = drop n cur.rest })
 
+-- no offset was found, so there is no fault 5
 abbrev pub is_nowhere : Option ℕ → Bool
 is_nowhere None = true
 is_nowhere (Some at) = false
 
+-- the code field of n bytes; with false the 65th op and a wrong last op are no faults
 unfoldable pub code_of : Bool → ℕ → Layout (List OpData)
 code_of judged n = record {
   spell = code_bytes;

@@ -1,6 +1,8 @@
 -- The faults of an image's fields, each by its code: 1 magic, 2 version, 4 a value beyond its limit or
 -- out of order, 9 statement count and lines.
 use Rattle.std.specs.Prelude.{ℕ, nat_le, nat_lt, ◌+◌, ◌==◌, Bool, true, false, ◌&&◌, ◌||◌, not, if◌then◌else◌, List, [], ◌∷◌, Option, Some, None}
+use Rattle.plc_base.specs.Widths.{byte_count}
+use Rattle.flat_code.specs.Forms.{width_of_number}
 use Rattle.flat_code.specs.declared.image_fields.Field.{Field}
 use Rattle.flat_code.specs.declared.image_fields.Field.TheVariants as field
 
@@ -8,6 +10,7 @@ use Rattle.flat_code.specs.declared.image_fields.Field.TheVariants as field
 abbrev pub unless : Bool → ℕ → Option ℕ
 unless fine code = if fine then None else Some code
 
+-- a number from low to high, both included
 abbrev pub lies_within : ℕ → ℕ → ℕ → Bool
 lies_within low high n = nat_le low n && nat_le n high
 
@@ -19,14 +22,12 @@ is_ob_number n = n == 1 || lies_within 10 17 n || lies_within 20 23 n || lies_wi
 abbrev pub has_number : ℕ → ℕ → Bool
 has_number kind n = if kind == 1 then is_ob_number n else nat_le n 2047
 
--- how many bytes a width takes (1 bit, 2 byte, 3 word, 4 double word); a bit stands in one
-abbrev pub size_of_width : ℕ → ℕ
-size_of_width width = if width == 3 then 2 else if width == 4 then 4 else 1
-
 -- a parameter of a function block lies within the instance, one of another block has no place
 abbrev pub holds_parameter : ℕ → ℕ → ℕ → ℕ → Bool
-holds_parameter kind instance width byte = if kind == 3 then nat_le (byte + size_of_width width) instance else byte == 0
+holds_parameter kind instance width byte =
+    if kind == 3 then nat_le (byte + byte_count (width_of_number width)) instance else byte == 0
 
+-- the code of a field's fault, None where it has none; for the bytes of a name see `name_fault`
 unfoldable pub fault_of : Field → Option ℕ
 -- 1: the magic is `S7FB`
 fault_of (field.Magic number) = unless (number == 0x53374642) 1

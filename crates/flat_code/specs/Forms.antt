@@ -49,6 +49,15 @@ width_of_code n =
     else if n == 4 then Some width.Dword
     else None
 
+-- a width that may be missing: without one, a bit
+abbrev pub or_bit : Option Width → Width
+or_bit None = width.Bit
+or_bit (Some w) = w
+
+-- the width of a record that has this number; a number that names none is a fault, and stands for a bit
+abbrev pub width_of_number : ℕ → Width
+width_of_number n = or_bit (width_of_code n)
+
 -- areas, and those of them that a form takes
 abbrev pub any_area : Coding Area
 any_area = named area_code area_of_code
@@ -71,16 +80,20 @@ abbrev pub crossing_code : Option Area → ℕ
 crossing_code None = 0
 crossing_code (Some a) = area_code a
 
+-- 0 is no area (that of the pointer counts), 16#80 to 16#86 are areas; None for other bytes
 abbrev pub crossing_of_code : ℕ → Option (Option Area)
 crossing_of_code n = if n == 0 then Some None else option_map Some (area_of_code n)
 
+-- what form 04 takes: no area, or any but peripherals
 abbrev pub crosses : Option Area → Bool
 crosses None = true
 crosses (Some a) = in_memory a
 
+-- the area byte of form 04: 0, or 16#81 I to 16#86 L
 abbrev pub crossing : Coding (Option Area)
 crossing = such_that crosses (named crossing_code crossing_of_code)
 
+-- a width byte, 1 to 4; a width that the instruction lacks is read too (fault 7)
 abbrev pub a_width : Coding Width
 a_width = named width_code width_of_code
 
@@ -88,6 +101,7 @@ a_width = named width_code width_of_code
 abbrev pub is_callable : ℕ → Bool
 is_callable n = n == 2 || n == 3 || n == 5
 
+-- the kind byte of a call; that of an OB (1) can't be read
 abbrev pub callable : Coding ℕ
 callable = such_that is_callable u8
 
@@ -95,48 +109,63 @@ callable = such_that is_callable u8
 abbrev pub literal : Coding ℕ
 literal = u32
 
+-- form 02: area, width, byte, and bit 0 to 7, whatever the width is
 unfoldable pub direct : Coding (Area × (Width × (ℕ × ℕ)))
 direct = then_coding any_area (then_coding a_width (then_coding u16 (within 0 7)))
 
+-- the area byte of form 03: 16#81 I to 16#86 L
 abbrev pub memory_area : Coding Area
 memory_area = such_that in_memory any_area
 
+-- the area byte of a pointer, or of the word of a number: 16#83 M to 16#86 L
 abbrev pub pointer_area : Coding Area
 pointer_area = such_that holds_pointers any_area
 
+-- form 03: area and width of the operand, then area and byte of its pointer in memory
 abbrev pub by_memory : Coding (Area × (Width × (Area × ℕ)))
 by_memory = then_coding memory_area (then_coding a_width (then_coding pointer_area u16))
 
+-- form 04: area and width of the operand, address register 1 or 2, the offset in bits
 abbrev pub by_register : Coding (Option Area × (Width × (ℕ × ℕ)))
 by_register = then_coding crossing (then_coding a_width (then_coding (within 1 2) u32))
 
+-- form 05: the index of the function's parameter, from 0, and the width
 abbrev pub parameter : Coding (ℕ × Width)
 parameter = then_coding u8 a_width
 
+-- form 06: 1 timer or 2 counter, and its number, 0 to 65,535
 abbrev pub numbered : Coding (ℕ × ℕ)
 numbered = then_coding (within 1 2) u16
 
+-- form 07: 1 timer or 2 counter, then area and byte of the word that has its number
 abbrev pub numbered_by : Coding (ℕ × (Area × ℕ))
 numbered_by = then_coding (within 1 2) (then_coding pointer_area u16)
 
+-- form 08: the kind, 0 JU to 17 LOOP, and the target as a byte offset in the block's code
 abbrev pub jump : Coding (ℕ × ℕ)
 jump = then_coding (within 0 17) u32
 
+-- form 09: a condition of the status word, 1 BR to 10 UO
 abbrev pub of_status : Coding ℕ
 of_status = within 1 10
 
+-- form 0A: the number of the data block that the statement opens first
 abbrev pub use_db : Coding ℕ
 use_db = u16
 
+-- form 0D: kind and number of the block that is called, and the number of its instance, or 0
 abbrev pub called : Coding (ℕ × (ℕ × ℕ))
 called = then_coding callable (then_coding u16 u16)
 
+-- form 0E: 1 DB or 2 DI, the register, and the number of the data block to open
 abbrev pub open_block : Coding (ℕ × ℕ)
 open_block = then_coding (within 1 2) u16
 
+-- form 0F: 1 DB or 2 DI, the register, then area and byte of the word that has the number
 abbrev pub open_by : Coding (ℕ × (Area × ℕ))
 open_by = then_coding (within 1 2) (then_coding pointer_area u16)
 
+-- form 0C, only inside 0B: the number of a data block, and a place in it as in form 02
 abbrev pub in_block : Coding (ℕ × (Area × (Width × (ℕ × ℕ))))
 in_block = then_coding u16 direct
 
@@ -152,6 +181,7 @@ actual_fits (passed.Parameter index width) = parameter.fits (index, width)
 actual_fits (passed.InBlock number area width byte bit) =
     in_block.fits (number, (area, (width, (byte, bit))))
 
+-- what is passed, as bytes: the form byte 01, 02, 05 or 0C, and the payload of this form
 abbrev pub actual_spelled : Passed → List ℕ
 actual_spelled (passed.Literal value) = 1 ∷ literal.spell value
 actual_spelled (passed.Direct area width byte bit) = 2 ∷ direct.spell (area, (width, (byte, bit)))
@@ -159,6 +189,7 @@ actual_spelled (passed.Parameter index width) = 5 ∷ parameter.spell (index, wi
 actual_spelled (passed.InBlock number area width byte bit) =
     12 ∷ in_block.spell (number, (area, (width, (byte, bit))))
 
+-- what is passed, by its form byte and the bytes behind; None for another form or payload
 abbrev pub actual_in : ℕ → List ℕ → Option (Passed × List ℕ)
 actual_in n bytes =
     if n == 1 then read_as passed.Literal literal bytes
@@ -168,13 +199,16 @@ actual_in n bytes =
     read_as (λ x. passed.InBlock x.0 x.1.0 x.1.1.0 x.1.1.1.0 x.1.1.1.1) in_block bytes
     else None
 
+-- what is passed, from its form byte on; None where there are no bytes at all
 abbrev pub actual_at : List ℕ → Option (Passed × List ℕ)
 actual_at [] = None
 actual_at (n ∷ rest) = actual_in n rest
 
+-- what is passed, as a field: its form byte and payload
 unfoldable pub actual : Coding Passed
 actual = record { fits = actual_fits; spell = actual_spelled; read = actual_at }
 
+-- form 0B: the index of the parameter of the called block, from 0, and what is passed for it
 abbrev pub pass : Coding (ℕ × Passed)
 pass = then_coding u8 actual
 
@@ -200,6 +234,7 @@ form_of_operand (operand.Called kind number instance) = 13
 form_of_operand (operand.OpenBlock register number) = 14
 form_of_operand (operand.OpenBy register from byte) = 15
 
+-- each number of the operand is in the range of its form; form 00 has none
 abbrev pub payload_fits : Operand → Bool
 payload_fits operand.Nothing = true
 payload_fits (operand.Literal value) = literal.fits value
@@ -218,6 +253,7 @@ payload_fits (operand.Called kind number instance) = called.fits (kind, (number,
 payload_fits (operand.OpenBlock register number) = open_block.fits (register, number)
 payload_fits (operand.OpenBy register from byte) = open_by.fits (register, (from, byte))
 
+-- the bytes of an operand behind its form byte; form 00 has none
 abbrev pub payload : Operand → List ℕ
 payload operand.Nothing = []
 payload (operand.Literal value) = literal.spell value
@@ -236,6 +272,8 @@ payload (operand.Called kind number instance) = called.spell (kind, (number, ins
 payload (operand.OpenBlock register number) = open_block.spell (register, number)
 payload (operand.OpenBy register from byte) = open_by.spell (register, (from, byte))
 
+-- the operand of a form byte and the bytes behind; None for 0C, which is no form of an operand,
+-- for forms above 0F, and for bytes that the form doesn't have
 unfoldable pub payload_in : ℕ → List ℕ → Option (Operand × List ℕ)
 payload_in n bytes =
     if n == 0 then Some (operand.Nothing, bytes)

@@ -10,7 +10,7 @@ use Rattle.flat_code.specs.declared.programs.Param.{Param}
 use Rattle.flat_code.specs.declared.image_fields.ParameterRecord.{ParameterRecord}
 use Rattle.flat_code.specs.declared.image_fields.Field.TheVariants as field_of
 use Rattle.flat_code.specs.Coding.{Coding, u8, u16, u32}
-use Rattle.flat_code.specs.Forms.{width_code}
+use Rattle.flat_code.specs.Forms.{width_code, width_of_number}
 use Rattle.flat_code.specs.Ops.{OpData}
 use Rattle.flat_code.specs.Programs.{CodeBlock, DataBlock, NameEntry, Program}
 use Rattle.flat_code.specs.Records.{BlockRecord, NameRecord, Records}
@@ -18,30 +18,36 @@ use Rattle.flat_code.specs.Faults.{fault_of, name_fault}
 use Rattle.flat_code.specs.Layout.{Note, Faulty, Whole, AllBlocks, Cursor, Read, Layout, ended, bind, field, chain, checked, located, many, seen_as, remembered}
 use Rattle.flat_code.specs.Codes.{code_bytes, code_of, only}
 
--- a field that is judged later, or not at all
+-- a field that is checked later, or not at all
 abbrev pub plain : ℕ → Option ℕ
 plain n = None
 
+-- any u16: statement count, counts of code blocks and names, byte of a name
 unfoldable pub plain_u16 : Layout ℕ
 plain_u16 = field u16 plain
 
+-- any u32: code length, total length
 unfoldable pub plain_u32 : Layout ℕ
 plain_u32 = field u32 plain
 
+-- the reserved byte of a parameter: 0, else fault 4
 unfoldable pub zero_u8 : Layout ℕ
 zero_u8 = field u8 (λ n. fault_of (field_of.Reserved n))
 
+-- a reserved u16 of the header, a code block's head or a data block: 0, else fault 4
 unfoldable pub zero_u16 : Layout ℕ
 zero_u16 = field u16 (λ n. fault_of (field_of.Reserved n))
 
+-- the width of a parameter, or of a name's variable: 1 to 4, else fault 4
 unfoldable pub width_field : Layout ℕ
 width_field = field u8 (λ n. fault_of (field_of.Width n))
 
--- n bytes
+-- each number is a byte, below 256
 abbrev pub bytes_fit : List ℕ → Bool
 bytes_fit [] = true
 bytes_fit (b ∷ bs) = nat_lt b 256 && bytes_fit bs
 
+-- n bytes as one field, which can't be read where fewer are left
 abbrev pub bytes : ℕ → Coding (List ℕ)
 bytes n = record { fits = λ bs. length bs == n && bytes_fit bs; spell = λ bs. bs; read = λ text. if nat_lt (length text) n then None else Some (take n text, drop n text) }
 
@@ -49,15 +55,19 @@ bytes n = record { fits = λ bs. length bs == n && bytes_fit bs; spell = λ bs. 
 unfoldable pub section_field : Layout ℕ
 section_field = field u8 (λ n. fault_of (field_of.Section n))
 
+-- the byte of a parameter: with its width inside the instance bytes of an FB, 0 in an FC
 unfoldable pub parameter_byte : ℕ → ℕ → ℕ → Layout ℕ
 parameter_byte kind instance w = field u16 (λ n. fault_of (field_of.ParameterByte kind instance w n))
 
+-- the bit of a parameter: 0 to 7 in an FB, whatever the width is, and 0 in an FC
 unfoldable pub parameter_bit : ℕ → Layout ℕ
 parameter_bit kind = field u8 (λ n. fault_of (field_of.ParameterBit kind n))
 
+-- the fields of a parameter: section, width, byte, bit, zero
 abbrev pub RawParameter : Type 0
 RawParameter = ℕ × (ℕ × (ℕ × (ℕ × ℕ)))
 
+-- the layout of these fields, in a block of this kind with so many instance bytes
 unfoldable pub raw_parameter : ℕ → ℕ → Layout RawParameter
 raw_parameter kind instance =
     chain section_field (λ s.
@@ -65,12 +75,15 @@ raw_parameter kind instance =
     chain (parameter_byte kind instance w) (λ byte.
     chain (parameter_bit kind) (λ bit. zero_u8))))
 
+-- the record of a parameter's fields, without the reserved one
 abbrev pub parameter_of_raw : RawParameter → ParameterRecord
 parameter_of_raw r = record { section = r.0; width = r.1.0; byte = r.1.1.0; bit = r.1.1.1.0 }
 
+-- the fields of a parameter's record; the reserved one is 0
 abbrev pub raw_of_parameter : ParameterRecord → RawParameter
 raw_of_parameter p = (p.section, (p.width, (p.byte, (p.bit, 0))))
 
+-- the six bytes of a parameter as its record
 unfoldable pub parameter : ℕ → ℕ → Layout ParameterRecord
 parameter kind instance = seen_as parameter_of_raw raw_of_parameter (raw_parameter kind instance)
 
@@ -79,15 +92,19 @@ parameter kind instance = seen_as parameter_of_raw raw_of_parameter (raw_paramet
 unfoldable pub kind_field : ℕ → Layout ℕ
 kind_field before = field u8 (λ n. fault_of (field_of.Kind before n))
 
+-- the parameter count: at most 60, and 0 for an OB, else fault 4
 unfoldable pub parameter_count : ℕ → Layout ℕ
 parameter_count kind = field u8 (λ n. fault_of (field_of.ParameterCount kind n))
 
+-- a number that this kind has, above that of the block before where it has the same kind
 unfoldable pub block_number : ℕ → ℕ → ℕ → Layout ℕ
 block_number kind_before before kind = field u16 (λ n. fault_of (field_of.Number kind_before before kind n))
 
+-- the local bytes: at most 1,024; at least 20 for an OB, which has its start information there
 unfoldable pub local_bytes : ℕ → Layout ℕ
 local_bytes kind = field u16 (λ n. fault_of (field_of.LocalBytes kind n))
 
+-- the instance bytes: at most 16,384 for an FB, and 0 for another block
 unfoldable pub instance_bytes : ℕ → Layout ℕ
 instance_bytes kind = field u16 (λ n. fault_of (field_of.InstanceBytes kind n))
 
@@ -95,6 +112,7 @@ instance_bytes kind = field u16 (λ n. fault_of (field_of.InstanceBytes kind n))
 abbrev pub Head : Type 0
 Head = ℕ × (ℕ × (ℕ × (ℕ × (ℕ × (ℕ × (ℕ × ℕ))))))
 
+-- the sixteen bytes with which a code block begins, behind one of kind and number `before`
 unfoldable pub head : ℕ × ℕ → Layout Head
 head before =
     chain (kind_field before.0) (λ kind.
@@ -105,36 +123,46 @@ head before =
     chain plain_u16 (λ statements.
     chain zero_u16 (λ zero. plain_u32)))))))
 
+-- the parameter count: how many follow the head
 abbrev pub params_in : Head → ℕ
 params_in h = h.1.0
 
+-- the instance bytes, within which the parameters of an FB lie
 abbrev pub instance_in : Head → ℕ
 instance_in h = h.1.1.1.1.0
 
+-- the statement count: how many lines follow the code
 abbrev pub statements_in : Head → ℕ
 statements_in h = h.1.1.1.1.1.0
 
+-- the code length: how many bytes behind the parameters are code
 abbrev pub code_len_in : Head → ℕ
 code_len_in h = h.1.1.1.1.1.1.1
 
 -- PARAMETERS
+-- what stands before a parameter says nothing about the next
 abbrev pub same_state : ℕ → ParameterRecord → ℕ
 same_state s p = s
 
+-- as many parameters as the head counts, by its kind and instance bytes
 unfoldable pub parameters : Head → Layout (List ParameterRecord)
 parameters h = many (λ s. parameter h.0 (instance_in h)) same_state 0 (params_in h)
 
--- LINES, u32 each; the statement count at `start` + 8 is judged now, as the code is known
+-- LINES, u32 each; the statement count at `start` + 8 is checked now, as the code is known
+-- how many ops have the end mark: the number of statements, where the code ends with one
 abbrev pub end_marks : List OpData → ℕ
 end_marks [] = 0
 end_marks (op ∷ ops) = (if op.last then 1 else 0) + end_marks ops
 
+-- what stands before the next line: this one
 abbrev pub line_after : ℕ → ℕ → ℕ
 line_after before line = line
 
+-- a line: not 0, nor below the line `before` (0 for none), else fault 9; with false any u32
 unfoldable pub line_field : Bool → ℕ → Layout ℕ
 line_field judged before = field u32 (λ n. only judged (fault_of (field_of.Line before n)))
 
+-- as many lines as the head counts; with true, fault 9 if other than the number of end marks
 unfoldable pub lines_of : Bool → ℕ → Head → List OpData → Layout (List ℕ)
 lines_of judged start h ops =
     checked (start + 8) (only judged (fault_of (field_of.StatementCount (end_marks ops) (statements_in h))))
@@ -144,18 +172,23 @@ lines_of judged start h ops =
 unfoldable pub code_and_lines : Bool → ℕ → Head → Layout (List OpData × List ℕ)
 code_and_lines judged start h = chain (code_of judged (code_len_in h)) (lines_of judged start h)
 
+-- the parts of a code block: head, parameters, ops, lines
 abbrev pub RawBlock : Type 0
 RawBlock = Head × (List ParameterRecord × (List OpData × List ℕ))
 
+-- the layout of these parts from offset `start` on, behind one of kind and number `before`
 unfoldable pub raw_block : Bool → ℕ × ℕ → ℕ → Layout RawBlock
 raw_block judged before start = chain (head before) (λ h. chain (parameters h) (λ params. code_and_lines judged start h))
 
+-- the record without counts, code length and reserved field: the lists are as long as they say
 abbrev pub block_of_raw : RawBlock → BlockRecord
 block_of_raw r = record { kind = r.0.0; number = r.0.1.1.0; local_len = r.0.1.1.1.0; instance_len = r.0.1.1.1.1.0; params = r.1.0; code = r.1.1.0; lines = r.1.1.1 }
 
+-- the parts of a record: counts and code length are those of its lists, the reserved field is 0
 abbrev pub raw_of_block : BlockRecord → RawBlock
 raw_of_block b = ((b.kind, (length b.params, (b.number, (b.local_len, (b.instance_len, (length b.lines, (0, length (code_bytes b.code)))))))), (b.params, (b.code, b.lines)))
 
+-- the bytes of a code block as its record
 unfoldable pub plain_block : Bool → ℕ × ℕ → ℕ → Layout BlockRecord
 plain_block judged before start = seen_as block_of_raw raw_of_block (raw_block judged before start)
 
@@ -163,12 +196,15 @@ plain_block judged before start = seen_as block_of_raw raw_of_block (raw_block j
 abbrev pub whole_at : ℕ → BlockRecord → Note
 whole_at start b = Whole (start + 16 + 6 * length b.params) b
 
+-- a code block at offset `start`, noted once it was read whole, so that 6 to 8 are checked
 abbrev pub code_block_at : Bool → ℕ × ℕ → ℕ → Layout BlockRecord
 code_block_at judged before start = remembered (whole_at start) (plain_block judged before start)
 
+-- a code block wherever it begins, behind one of kind and number `before`
 unfoldable pub code_block : Bool → ℕ × ℕ → Layout BlockRecord
 code_block judged before = located (code_block_at judged before)
 
+-- what stands before the next block: this one, by kind and number
 abbrev pub after_block : ℕ × ℕ → BlockRecord → ℕ × ℕ
 after_block before b = (b.kind, b.number)
 
@@ -177,18 +213,23 @@ after_block before b = (b.kind, b.number)
 unfoldable pub data_number : ℕ → Layout ℕ
 data_number before = field u16 (λ n. fault_of (field_of.DataNumber before n))
 
+-- 0, or the number of an FB plus 1, so at most 2,048; that there is this FB isn't tested
 unfoldable pub instance_field : Layout ℕ
 instance_field = field u16 (λ n. fault_of (field_of.InstanceOf n))
 
+-- at most 16,384, and at most 2,097,152 together with the bytes `before` of earlier blocks
 unfoldable pub data_len : ℕ → Layout ℕ
 data_len before = field u16 (λ n. fault_of (field_of.DataBytes before n))
 
+-- the n bytes of a data block, of any values
 unfoldable pub contents : ℕ → Layout (List ℕ)
 contents n = field (bytes n) (λ bs. None)
 
+-- the fields of a data block: number, instance, length, zero, bytes
 abbrev pub RawData : Type 0
 RawData = ℕ × (ℕ × (ℕ × (ℕ × List ℕ)))
 
+-- the layout of these fields, behind a block of number `before.0` and bytes `before.1` in all
 unfoldable pub raw_data : ℕ × ℕ → Layout RawData
 raw_data before =
     chain (data_number before.0) (λ number.
@@ -196,23 +237,29 @@ raw_data before =
     chain (data_len before.1) (λ n.
     chain zero_u16 (λ zero. contents n))))
 
+-- 0 is no instance, and n + 1 one of FB n, so that FB 0 has instances too
 abbrev pub instance_of_number : ℕ → Option ℕ
 instance_of_number zero = None
 instance_of_number (suc n) = Some n
 
+-- the number of the FB plus 1, and 0 for a data block that is no instance
 abbrev pub number_of_instance : Option ℕ → ℕ
 number_of_instance None = 0
 number_of_instance (Some n) = suc n
 
+-- a data block without length and reserved field: it has as many bytes as the length says
 abbrev pub data_of_raw : RawData → DataBlock
 data_of_raw r = record { number = r.0; instance_of = instance_of_number r.1.0; bytes = r.1.1.1.1 }
 
+-- the fields of a data block: the length is that of its bytes, the reserved field is 0
 abbrev pub raw_of_data : DataBlock → RawData
 raw_of_data d = (d.number, (number_of_instance d.instance_of, (length d.bytes, (0, d.bytes))))
 
+-- the bytes of a data block as its record
 unfoldable pub data_block : ℕ × ℕ → Layout DataBlock
 data_block before = seen_as data_of_raw raw_of_data (raw_data before)
 
+-- what stands before the next block: this one, by number, and the bytes of all so far
 abbrev pub after_data : ℕ × ℕ → DataBlock → ℕ × ℕ
 after_data before d = (d.number, before.1 + length d.bytes)
 
@@ -220,18 +267,23 @@ after_data before d = (d.number, before.1 + length d.bytes)
 unfoldable pub name_len : Layout ℕ
 name_len = field u8 (λ n. fault_of (field_of.NameLength n))
 
+-- n bytes: above those of the name `before`, without a to z, without blank at the end
 unfoldable pub name_bytes : List ℕ → ℕ → Layout (List ℕ)
 name_bytes before n = field (bytes n) (name_fault before)
 
+-- the area of a name's variable: 16#81 I, 16#82 Q, 16#83 M, else fault 4
 unfoldable pub name_area : Layout ℕ
 name_area = field u8 (λ n. fault_of (field_of.NameArea n))
 
+-- the bit of a name's variable: 0 to 7 where its width w is 1, else 0
 unfoldable pub name_bit : ℕ → Layout ℕ
 name_bit w = field u8 (λ n. fault_of (field_of.NameBit w n))
 
+-- the fields of a name: length, bytes, area, width, byte, bit
 abbrev pub RawName : Type 0
 RawName = ℕ × (List ℕ × (ℕ × (ℕ × (ℕ × ℕ))))
 
+-- the layout of these fields, behind the name `before`
 unfoldable pub raw_name : List ℕ → Layout RawName
 raw_name before =
     chain name_len (λ n.
@@ -240,15 +292,19 @@ raw_name before =
     chain width_field (λ w.
     chain plain_u16 (λ byte. name_bit w)))))
 
+-- the record of a name's fields, without the length: the name has as many bytes
 abbrev pub name_of_raw : RawName → NameRecord
 name_of_raw r = record { name = r.1.0; area = r.1.1.0; width = r.1.1.1.0; byte = r.1.1.1.1.0; bit = r.1.1.1.1.1 }
 
+-- the fields of a name's record; the length is that of the name
 abbrev pub raw_of_name : NameRecord → RawName
 raw_of_name n = (length n.name, (n.name, (n.area, (n.width, (n.byte, n.bit)))))
 
+-- the bytes of a name and its variable as its record
 unfoldable pub name_record : List ℕ → Layout NameRecord
 name_record before = seen_as name_of_raw raw_of_name (raw_name before)
 
+-- what stands before the next name: this one
 abbrev pub after_name : List ℕ → NameRecord → List ℕ
 after_name before n = n.name
 
@@ -256,15 +312,19 @@ after_name before n = n.name
 unfoldable pub data_count : Layout ℕ
 data_count = field u16 (λ n. fault_of (field_of.DataBlockCount n))
 
+-- the counts of code blocks, data blocks and names, zero
 abbrev pub Counts : Type 0
 Counts = ℕ × (ℕ × (ℕ × ℕ))
 
+-- the last eight bytes of the header; more than 256 data blocks are fault 4
 unfoldable pub counts : Layout Counts
 counts = chain plain_u16 (λ codes. chain data_count (λ datas. chain plain_u16 (λ names. zero_u16)))
 
+-- n code blocks, the first behind none
 unfoldable pub code_blocks : Bool → ℕ → Layout (List BlockRecord)
 code_blocks judged n = many (code_block judged) after_block (0, 0) n
 
+-- n data blocks, the first behind none
 abbrev pub plain_data_blocks : ℕ → Layout (List DataBlock)
 plain_data_blocks n = many data_block after_data (0, 0) n
 
@@ -272,9 +332,11 @@ plain_data_blocks n = many data_block after_data (0, 0) n
 unfoldable pub data_blocks : ℕ → Layout (List DataBlock)
 data_blocks n = remembered AllBlocks (plain_data_blocks n)
 
+-- n names, the first behind none
 unfoldable pub names : ℕ → Layout (List NameRecord)
 names n = many name_record after_name [] n
 
+-- the parts of an image behind the total length: counts, code blocks, data blocks, names
 abbrev pub RawRecords : Type 0
 RawRecords = Counts × (List BlockRecord × (List DataBlock × List NameRecord))
 
@@ -282,12 +344,15 @@ RawRecords = Counts × (List BlockRecord × (List DataBlock × List NameRecord))
 unfoldable pub raw_records : Bool → Layout RawRecords
 raw_records judged = chain counts (λ c. chain (code_blocks judged c.0) (λ blocks. chain (data_blocks c.1.0) (λ datas. names c.1.1.0)))
 
+-- the records without the counts: the lists are as long as these say
 abbrev pub records_of_raw : RawRecords → Records
 records_of_raw r = record { code_blocks = r.1.0; data_blocks = r.1.1.0; names = r.1.1.1 }
 
+-- the counts are the lengths of the lists of records, and the reserved field is 0
 abbrev pub raw_of_records : Records → RawRecords
 raw_of_records r = ((length r.code_blocks, (length r.data_blocks, (length r.names, 0))), (r.code_blocks, (r.data_blocks, r.names)))
 
+-- the records of an image, with their counts before them
 unfoldable pub records : Bool → Layout Records
 records judged = seen_as records_of_raw raw_of_records (raw_records judged)
 
@@ -295,6 +360,7 @@ records judged = seen_as records_of_raw raw_of_records (raw_records judged)
 abbrev pub kind_of_number : ℕ → BlockKind
 kind_of_number n = if n == 1 then kind.Ob else if n == 2 then kind.Fc else if n == 3 then kind.Fb else kind.Udt
 
+-- 1 OB, 2 FC, 3 FB, and 5 SFC, a kind of calls alone; 0 for DB and UDT, which have no code
 abbrev pub number_of_kind : BlockKind → ℕ
 number_of_kind kind.Ob = 1
 number_of_kind kind.Fc = 2
@@ -302,9 +368,7 @@ number_of_kind kind.Fb = 3
 number_of_kind kind.Sfc = 5
 number_of_kind _ = 0
 
-abbrev pub width_of_number : ℕ → Width
-width_of_number n = if n == 2 then width.Byte else if n == 3 then width.Word else if n == 4 then width.Dword else width.Bit
-
+-- 16#81 I, 16#82 Q, 16#83 M; a number that names none of them is a fault, and stands for M
 abbrev pub area_of_number : ℕ → Area
 area_of_number n = if n == 129 then area.I else if n == 130 then area.Q else area.M
 
@@ -315,30 +379,39 @@ number_of_area zero area.Q = 130
 number_of_area zero area.M = 131
 number_of_area _ _ = 0
 
+-- a parameter of a program by its record; the section stays a number, 1 IN, 2 OUT, 3 IN_OUT
 abbrev pub param_of : ParameterRecord → Param
 param_of p = record { section = p.section; width = width_of_number p.width; byte = p.byte; bit = p.bit }
 
+-- the record of a parameter: its width by number, the rest as it is
 abbrev pub record_of_param : Param → ParameterRecord
 record_of_param p = record { section = p.section; width = width_code p.width; byte = p.byte; bit = p.bit }
 
+-- a code block by its record; ops and lines are the same in both
 abbrev pub block_of_record : BlockRecord → CodeBlock
 block_of_record b = record { id = record { kind = kind_of_number b.kind; number = b.number }; local_len = b.local_len; instance_len = b.instance_len; params = map param_of b.params; code = b.code; lines = b.lines }
 
+-- the record of a code block: its kind and the widths of its parameters by numbers
 abbrev pub record_of_block : CodeBlock → BlockRecord
 record_of_block b = record { kind = number_of_kind b.id.kind; number = b.id.number; local_len = b.local_len; instance_len = b.instance_len; params = map record_of_param b.params; code = b.code; lines = b.lines }
 
+-- a symbol by its record; the variable lies in no data block, so its place has number 0
 abbrev pub entry_of_name : NameRecord → NameEntry
 entry_of_name n = record { name = n.name; place = record { area = area_of_number n.area; number = 0; byte = n.byte; bit = n.bit }; width = width_of_number n.width }
 
+-- the record of a symbol; where its place isn't in I, Q or M its area is 0, which is fault 4
 abbrev pub name_of_entry : NameEntry → NameRecord
 name_of_entry e = record { name = e.name; area = number_of_area e.place.number e.place.area; width = width_code e.width; byte = e.place.byte; bit = e.place.bit }
 
+-- the program of records; data blocks are the same in both
 abbrev pub program_of : Records → Program
 program_of r = record { code_blocks = map block_of_record r.code_blocks; data_blocks = r.data_blocks; names = map entry_of_name r.names }
 
+-- the records of a program; data blocks are the same in both
 abbrev pub records_of : Program → Records
 records_of p = record { code_blocks = map record_of_block p.code_blocks; data_blocks = p.data_blocks; names = map name_of_entry p.names }
 
+-- a program as the bytes behind the total length: the counts, then all records
 unfoldable pub body : Bool → Layout Program
 body judged = seen_as program_of records_of (records judged)
 
@@ -346,21 +419,27 @@ body judged = seen_as program_of records_of (records judged)
 unfoldable pub magic_field : Layout ℕ
 magic_field = field u32 (λ n. fault_of (field_of.Magic n))
 
+-- the version: 1, else fault 2
 unfoldable pub version_field : Layout ℕ
 version_field = field u16 (λ n. fault_of (field_of.Version n))
 
+-- the fields of the header up to the total length: magic, version, zero, total length
 abbrev pub Front : Type 0
 Front = ℕ × (ℕ × (ℕ × ℕ))
 
+-- the first twelve bytes of the header; whether the total length is right is tested by `cut`
 unfoldable pub front : Layout Front
 front = chain magic_field (λ magic. chain version_field (λ version. chain zero_u16 (λ zero. plain_u32)))
 
+-- 4 bytes magic, 2 version, 2 zero, 4 total length
 abbrev pub front_size : ℕ
 front_size = 12
 
+-- the front of an image of so many bytes: `S7FB`, version 1, zero, the total length
 abbrev pub front_of : ℕ → Front
 front_of total = (0x53374642, (1, (0, total)))
 
+-- the bytes of a program: the front, with the length of them all, and the body
 unfoldable pub image : Program → List ℕ
 image p = front.spell (front_of (front_size + length ((body false).spell p))) ++ (body false).spell p
 
@@ -388,8 +467,10 @@ cut judged size total cur =
       found = (bind ((body judged).read (record { at = cur.at; rest = take (total - front_size) cur.rest })) at_end).found;
     }
 
+-- bytes read as an image: the front (faults 1, 2 and 4 don't end it), then by its total length
 unfoldable pub read_by : Bool → List ℕ → Read Program
 read_by judged text = bind (front.read (record { at = 0; rest = text })) (λ f cur. cut judged (length text) f.1.1.1 cur)
 
+-- bytes read as an image, with all faults of its fields, and of code and lines (5 and 9)
 abbrev pub read_image : List ℕ → Read Program
 read_image text = read_by true text

@@ -17,10 +17,12 @@ pub record Cursor : Type 0 where
   pub at : ℕ
   pub rest : List ℕ
 
+-- what reading gives: notes, and the value found with the place behind it; None where it ended
 pub record Read (A : Type 0) : Type 0 where
   pub notes : List Note
   pub found : Option (A × Cursor)
 
+-- how a value stands in an image: its bytes, whether it is without fault, and how it is read
 pub record Layout (A : Type 0) : Type 0 where
   pub spell : A → List ℕ
   pub good : A → Bool
@@ -30,6 +32,7 @@ pub record Layout (A : Type 0) : Type 0 where
 abbrev pub ended : {A : Type 0} → ℕ → ℕ → Read A
 ended at code = record { notes = Faulty at code ∷ []; found = None }
 
+-- a value is found, and nothing is noted
 abbrev pub given : {A : Type 0} → A → Cursor → Read A
 given x cur = record { notes = []; found = Some (x, cur) }
 
@@ -38,6 +41,7 @@ abbrev pub go_on : {A B : Type 0} → List Note → Option (A × Cursor) → (A 
 go_on notes None f = record { notes = notes; found = None }
 go_on notes (Some x) f = record { notes = notes ++ (f x.0 x.1).notes; found = (f x.0 x.1).found }
 
+-- a reading, and then `f` behind what it found; where it found nothing, that is the end
 abbrev pub bind : {A B : Type 0} → Read A → (A → Cursor → Read B) → Read B
 bind r f = go_on r.notes r.found f
 
@@ -46,6 +50,7 @@ abbrev pub noted : ℕ → Option ℕ → List Note
 noted at None = []
 noted at (Some code) = Faulty at code ∷ []
 
+-- no fault was found (None)
 abbrev pub is_fine : Option ℕ → Bool
 is_fine None = true
 is_fine (Some code) = false
@@ -55,6 +60,7 @@ abbrev pub field_of : {A : Type 0} → (A → Option ℕ) → Cursor → Option 
 field_of judge cur None = ended cur.at 3
 field_of judge cur (Some r) = record { notes = noted cur.at (judge r.0); found = Some (r.0, record { at = cur.at + (length cur.rest - length r.1); rest = r.1 }) }
 
+-- a field is good where its value fits and has no fault; a fault is noted, and reading goes on
 abbrev pub field : {A : Type 0} → Coding A → (A → Option ℕ) → Layout A
 field c judge = record { spell = c.spell; good = λ x. c.fits x && is_fine (judge x); read = λ cur. field_of judge cur (c.read cur.rest) }
 
@@ -78,21 +84,24 @@ checked at fault l = record {
 abbrev pub located : {A : Type 0} → (ℕ → Layout A) → Layout A
 located l = record { spell = (l 0).spell; good = (l 0).good; read = λ cur. (l cur.at).read cur }
 
--- n values, each judged by what came before it
+-- n values, each checked by what came before it
 abbrev pub spell_many : {S A : Type 0} → (S → Layout A) → (S → A → S) → S → List A → List ℕ
 spell_many l next s [] = []
 spell_many l next s (x ∷ xs) = (l s).spell x ++ spell_many l next (next s x) xs
 
+-- exactly n values, each good by what came before it
 abbrev pub good_many : {S A : Type 0} → (S → Layout A) → (S → A → S) → S → ℕ → List A → Bool
 good_many l next s zero [] = true
 good_many l next s zero (x ∷ xs) = false
 good_many l next s (suc n) [] = false
 good_many l next s (suc n) (x ∷ xs) = (l s).good x && good_many l next (next s x) n xs
 
+-- n values from left to right; one at which reading ends is the last, and no list is found
 abbrev pub read_many : {S A : Type 0} → (S → Layout A) → (S → A → S) → S → ℕ → Cursor → Read (List A)
 read_many l next s zero cur = given [] cur
 read_many l next s (suc n) cur = bind ((l s).read cur) (λ x after. bind (read_many l next (next s x) n after) (λ xs end. given (x ∷ xs) end))
 
+-- n values; `s` is the state before the first of them, `next` the state behind one
 abbrev pub many : {S A : Type 0} → (S → Layout A) → (S → A → S) → S → ℕ → Layout (List A)
 many l next s n = record { spell = spell_many l next s; good = good_many l next s n; read = read_many l next s n }
 

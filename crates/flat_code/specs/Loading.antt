@@ -31,23 +31,28 @@ abbrev pub later : Option (List DataBlock) → Option (List DataBlock) → Optio
 later before None = before
 later before (Some blocks) = Some blocks
 
+-- the data blocks as noted when all blocks were read; None where reading ended before that
 abbrev pub all_blocks : List Note → Option (List DataBlock)
 all_blocks [] = None
 all_blocks (Faulty at code ∷ notes) = all_blocks notes
 all_blocks (Whole start block ∷ notes) = all_blocks notes
 all_blocks (AllBlocks blocks ∷ notes) = later (Some blocks) (all_blocks notes)
 
+-- the blocks alone, without the offsets at which their code begins
 abbrev pub blocks_of : List (ℕ × BlockRecord) → List BlockRecord
 blocks_of [] = []
 blocks_of (b ∷ bs) = b.1 ∷ blocks_of bs
 
+-- the faults 6 to 8 of each block, by the offset of its code; a call finds the blocks of `all`
 abbrev pub judged_blocks : Option (List (ℕ × ℕ)) → List BlockRecord → List (ℕ × BlockRecord) → List (ℕ × ℕ)
 judged_blocks data_lens all [] = []
 judged_blocks data_lens all (b ∷ bs) = block_faults (around data_lens all b.1) b.0 b.1.code ++ judged_blocks data_lens all bs
 
+-- the faults that reading noted, and those of the ops of the blocks that were read whole
 abbrev pub faults_in_notes : List Note → List (ℕ × ℕ)
 faults_in_notes notes = faults_in notes ++ judged_blocks (option_map lens_of (all_blocks notes)) (blocks_of (wholes notes)) (wholes notes)
 
+-- all faults of bytes; the one that is told is the least of them by offset, then code
 unfoldable pub faults_of : List ℕ → List (ℕ × ℕ)
 faults_of text = faults_in_notes (read_image text).notes
 
@@ -62,6 +67,7 @@ abbrev pub AreVerified : List (ℕ × ℕ) → List BlockRecord → List BlockRe
 AreVerified data_lens all [] = Unit {0}
 AreVerified data_lens all (b ∷ bs) = (block_faults (around (Some data_lens) all b) 0 b.code ≡ []) × AreVerified data_lens all bs
 
+-- `right`: no fault 4, 5 or 9; `blocks`: no fault 6, 7 or 8, with calls checked among them all
 pub record Verifies (p : Program) : Type 0 where
   pub right : IsRight p
   pub blocks : AreVerified (lens_of p.data_blocks) (map record_of_block p.code_blocks) (map record_of_block p.code_blocks)

@@ -13,6 +13,7 @@ pub record OpData : Type 0 where
   pub last : Bool
   pub operand : Operand
 
+-- an op by its parts: the code without the end mark, the end mark, the operand
 abbrev pub op_of : ℕ → Bool → Operand → OpData
 op_of code last operand = record { code = code; last = last; operand = operand }
 
@@ -24,6 +25,7 @@ is_op code operand = nat_lt code 128 && admits (takes_of code) operand && payloa
 unfoldable pub is_instruction : Word → Operand → Bool
 is_instruction word operand = admits (takes_of_word word) operand && payload_fits operand
 
+-- an op that the tables have: a code below 80, a form that it takes, values that fit the payload
 abbrev pub IsOp : OpData → Type 0
 IsOp op = is_op op.code op.operand ≡ true
 

@@ -30,9 +30,12 @@ pub record Placed : Type 0 where
 abbrev pub opens : ℕ → Bool
 opens code = nat_le 0x18 code && nat_le code 0x1D
 
+-- brackets without the innermost, which is the last of the list; of none, none
 abbrev pub inner : List OpenBracket → List OpenBracket
 inner brackets = take (length brackets - 1) brackets
 
+-- behind an op at an offset: A( to XN( stand open from here on, `)` closes the innermost, and every
+-- other op leaves the brackets as they are
 abbrev pub opened : ℕ → ℕ → List OpenBracket → List OpenBracket
 opened at code brackets =
     if opens code then brackets ++ record { at = at; code = code } ∷ []
@@ -43,6 +46,8 @@ opened at code brackets =
 abbrev pub before_next : OpData → List OpData → List OpData
 before_next op before = if op.last then [] else before ++ op ∷ []
 
+-- ops at their places, the first at an offset, behind these open brackets and behind these ops of
+-- its own statement
 abbrev pub placed : ℕ → List OpenBracket → List OpData → List OpData → List Placed
 placed at brackets before [] = []
 placed at brackets before (op ∷ ops) =
@@ -53,6 +58,7 @@ placed at brackets before (op ∷ ops) =
 abbrev pub places : List OpData → List Placed
 places ops = placed 0 [] [] ops
 
+-- nothing stands in the list: no op before in the statement, no open bracket, no parameter
 abbrev pub is_empty : {A : Type 0} → List A → Bool
 is_empty [] = true
 is_empty (x ∷ xs) = false
@@ -75,6 +81,8 @@ pub record Spot : Type 0 where
   pub at : ℕ
   pub codes : Option (List ℕ)
 
+-- the statements of ops that begin at an offset, behind these open brackets; `begin`: whether the
+-- first op begins a statement or goes on with one
 abbrev pub spots_from : ℕ → Bool → List OpenBracket → List OpData → List Spot
 spots_from at begin brackets [] = []
 spots_from at begin brackets (op ∷ ops) =
@@ -95,6 +103,7 @@ abbrev pub ending : OpData → List OpData → OpData
 ending op [] = op
 ending op (next ∷ ops) = if op.last then op else ending next ops
 
+-- the op that ends the statement of a placed op, from itself on; with no end mark the last one
 abbrev pub last_op : Placed → OpData
 last_op p = ending p.op p.rest
 

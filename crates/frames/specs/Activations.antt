@@ -22,6 +22,7 @@ frame_at a place = slice_get (reverse (frames_of a)) place
 abbrev pub IsFrameIn : List Frame → ℕ → Option (Bor Frame) → Type 0
 IsFrameIn frames place result = option_map (λ f. f.now) result ≡ slice_get (reverse frames) place
 
+-- the same of an activation; None where no frame has the place, so always where none stands
 abbrev pub IsFrame : Activation → ℕ → Option (Bor Frame) → Type 0
 IsFrame a place result = IsFrameIn (frames_of a) place result
 
@@ -73,6 +74,7 @@ refused local_len a =
     else if nat_le (length a.running.locals.bytes + local_len) 1024 then None
     else Some LocalFull
 
+-- without a reason it is entered; else the answer is the reason, and nothing has changed
 abbrev pub EntersBy : Option FrameFault → (old new : Activation) → Frame → Result (Unit {0}) FrameFault → Type 0
 EntersBy None old new f (Ok answer) = new ≡ entered f old
 EntersBy (Some why) old new f (Err fault) = (fault ≡ why) × (new ≡ old)
@@ -90,6 +92,7 @@ LeavesTo (f ∷ rest) old new (Some frame) =
     × (new.running.regs ≡ old.running.regs) × (new.class ≡ old.class) × (new.ob ≡ old.ob) × (new.delay ≡ old.delay)
 LeavesTo standing old new answer = ⊥
 
+-- the same by the frames that stand; without one the answer is None, and nothing changes
 abbrev pub Leaves : (old new : Activation) → Option Frame → Type 0
 Leaves old new answer = LeavesTo (frames_of old) old new answer
 

@@ -39,6 +39,7 @@ local_written l frame at bit width value =
 abbrev pub byte_at : LocalData → (frame at : ℕ) → Option ℕ
 byte_at l frame at = local_number l frame at 0 Byte
 
+-- with another value in a byte of a frame; None where the frame has no such byte
 abbrev pub byte_set : LocalData → (frame at value : ℕ) → Option LocalData
 byte_set l frame at value = local_written l frame at 0 Byte value
 
@@ -46,13 +47,15 @@ byte_set l frame at value = local_written l frame at 0 Byte value
 abbrev pub opened : ℕ → LocalData → LocalData
 opened len l = record { starts = l.starts ++ length l.bytes ∷ []; bytes = l.bytes ++ replicate len 0 }
 
--- without the innermost frame
+-- where the bytes of the innermost frame begin; None before the first frame
 abbrev pub last_start : List ℕ → Option ℕ
 last_start starts = slice_get starts (length starts - 1)
 
+-- cut off where the bytes of the innermost frame begin; before the first frame nothing changes
 abbrev pub closed_at : LocalData → Option ℕ → LocalData
 closed_at l None = l
 closed_at l (Some start) = record { starts = take (length l.starts - 1) l.starts; bytes = take start l.bytes }
 
+-- without the innermost frame and its bytes
 abbrev pub closed : LocalData → LocalData
 closed l = closed_at l (last_start l.starts)

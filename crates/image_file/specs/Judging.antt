@@ -1,4 +1,4 @@
--- Judging the ops of a block.
+-- Checking the ops of a block.
 use Rattle.std.specs.Prelude.{ℕ, ◌≤◌, List, [], ◌∷◌, Option}
 use Rattle.std.specs.Option.{option_map}
 use Rattle.std.specs.Borrow.{Bor}

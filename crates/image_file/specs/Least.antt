@@ -16,17 +16,20 @@ pub record IsLeast (f : LoadFault) (fs : List (ℕ × ℕ)) : Type 0 where
   pub one : IsAmong (f.at, f.code) fs
   pub least : (g : ℕ × ℕ) → IsAmong g fs → IsUpTo f g
 
--- the least of a fault so far and of those to come, as one pass keeps it
+-- a fault is less than the least one so far: by its offset, then by its code
 abbrev pub is_less : ℕ × ℕ → LoadFault → Bool
 is_less f g = nat_lt f.0 g.at || f.0 == g.at && nat_lt f.1 g.code
 
+-- a fault by its offset and its code
 abbrev pub fault : ℕ × ℕ → LoadFault
 fault f = record { at = f.0; code = f.1 }
 
+-- the lesser of the least fault so far, if there is one, and another fault
 abbrev pub with_fault : Option LoadFault → ℕ × ℕ → Option LoadFault
 with_fault None f = Some (fault f)
 with_fault (Some g) f = if is_less f g then Some (fault f) else Some g
 
+-- the least of a fault so far and of those to come, as one pass keeps it
 unfoldable pub with_faults : Option LoadFault → List (ℕ × ℕ) → Option LoadFault
 with_faults least [] = least
 with_faults least (f ∷ fs) = with_faults (with_fault least f) fs

@@ -41,10 +41,11 @@ abbrev pub bytes_of : ℕ → List DataBlock → Option (List ℕ)
 bytes_of number [] = None
 bytes_of number (d ∷ ds) = if d.number == number then Some d.bytes else bytes_of number ds
 
--- the blocks: code blocks, then data blocks, in the image's order
+-- a data block by kind and number
 abbrev pub data_id : DataBlock → BlockId
 data_id d = record { kind = kinds.Db; number = d.number }
 
+-- the blocks: code blocks, then data blocks, in the image's order
 abbrev pub ids_of : Program → List BlockId
 ids_of p = map (λ b. b.id) p.code_blocks ++ map data_id p.data_blocks
 
@@ -57,6 +58,7 @@ pub record HeadData : Type 0 where
   pub code_len : ℕ
   pub params : List Param
 
+-- the head of a code block: a statement for each line, and as many bytes of code as its ops take
 abbrev pub head_of : CodeBlock → HeadData
 head_of b = record {
   local_len = b.local_len;

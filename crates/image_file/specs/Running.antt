@@ -30,18 +30,21 @@ pub record Log : Type 0 where
   pub blocks : List (ℕ × BlockRecord)
   pub datas : Option (List DataBlock)
 
+-- the code blocks so far, and those that notes say were read whole, in their order
 abbrev pub with_wholes : List (ℕ × BlockRecord) → List Note → List (ℕ × BlockRecord)
 with_wholes blocks [] = blocks
 with_wholes blocks (Faulty at code ∷ notes) = with_wholes blocks notes
 with_wholes blocks (Whole start block ∷ notes) = with_wholes (blocks ++ (start, block) ∷ []) notes
 with_wholes blocks (AllBlocks datas ∷ notes) = with_wholes blocks notes
 
+-- the data blocks of the last note that all blocks were read; those so far where no note says so
 abbrev pub with_all : Option (List DataBlock) → List Note → Option (List DataBlock)
 with_all datas [] = datas
 with_all datas (Faulty at code ∷ notes) = with_all datas notes
 with_all datas (Whole start block ∷ notes) = with_all datas notes
 with_all datas (AllBlocks found ∷ notes) = with_all (Some found) notes
 
+-- what is kept once notes have come: the lesser fault, more code blocks, the data blocks
 unfoldable pub logged : Log → List Note → Log
 logged log notes = record { least = with_faults log.least (faults_in notes); blocks = with_wholes log.blocks notes; datas = with_all log.datas notes }
 
@@ -50,30 +53,38 @@ pub data Ran (A : Type 0) : Type 0 where
   Goes : (x : A) (cur : Cursor) (log : Log) → Ran A
   Stops : (log : Log) → Ran A
 
+-- what one pass has, by what was found: nothing found means that reading ended at a fault
 abbrev pub ran : {A : Type 0} → Option (A × Cursor) → Log → Ran A
 ran None log = Stops log
 ran (Some x) log = Goes x.0 x.1 log
 
+-- reading by a layout from a place on, behind a log
 unfoldable pub run : {A : Type 0} → Layout A → Cursor → Log → Ran A
 run l cur log = ran (l.read cur).found (logged log (l.read cur).notes)
 
+-- one reading behind another; where the first one ended, nothing more is read
 abbrev pub then_run : {A B : Type 0} → Ran A → (A → Cursor → Log → Ran B) → Ran B
 then_run (Goes x cur log) f = f x cur log
 then_run (Stops log) f = Stops log
 
+-- a code block that was read whole, with the offset at which its code begins
 abbrev pub started : Started → ℕ × BlockRecord
 started s = (s.start, s.block)
 
+-- what the reader has kept so far
 abbrev pub log_of : Reader → Log
 log_of r = record { least = r.least; blocks = map started r.blocks.items; datas = option_map (λ v. v.items) r.datas }
 
+-- where the reader stands: the offset, and the bytes that are left
 abbrev pub place_of : Reader → Cursor
 place_of r = record { at = r.at; rest = r.rest.now }
 
+-- what a call of the reader says: a value and where it stands then, or that reading ended
 abbrev pub seen : {X A : Type 0} → (X → A) → Result X Ended → Reader → Ran A
 seen view (Ok x) r = Goes (view x) (place_of r) (log_of r)
 seen view (Err e) r = Stops (log_of r)
 
+-- the head of a code block, its fields in the order of the image
 abbrev pub head_values : HeadRead → Head
 head_values h = (h.kind, (h.params, (h.number, (h.locals, (h.instance, (h.statements, (h.reserved, h.size)))))))
 
@@ -110,6 +121,7 @@ SeesDatas (Ok u) r all = (ds : List DataBlock) × (Goes ds (place_of r) (log_of 
 SeesDatas (Err stop.AtFault) r all = Stops (log_of r) ≡ all
 SeesDatas (Err stop.NoMemory) r all = Unit {0}
 
+-- the counts of code blocks, data blocks and names, and the reserved field behind them
 abbrev pub counts_values : CountsRead → Counts
 counts_values c = (c.codes, (c.datas, (c.names, c.reserved)))
 
@@ -119,6 +131,7 @@ SeesRecords view (Ok names) r all = (x : Records) × (Goes x (place_of r) (log_o
 SeesRecords view (Err stop.AtFault) r all = Stops (log_of r) ≡ all
 SeesRecords view (Err stop.NoMemory) r all = Unit {0}
 
+-- the header up to the total length: magic, version, the reserved field, the total length
 abbrev pub front_values : FrontRead → Front
 front_values f = (f.magic, (f.version, (f.reserved, f.total)))
 
@@ -126,6 +139,8 @@ front_values f = (f.magic, (f.version, (f.reserved, f.total)))
 unfoldable pub ran_read : {A : Type 0} → Read A → Log → Ran A
 ran_read r log = ran r.found (logged log r.notes)
 
+-- an image was read whole and its names are answered, or reading ended at a fault; nothing is said
+-- where memory is wanting
 abbrev pub SeesImage : {X : Type 0} → (X → List NameRecord) → Result X Stop → Reader → Ran Program → Type 0
 SeesImage view (Ok names) r all = (x : Records) × (end : Cursor) × (Goes (program_of x) end (log_of r) ≡ all) × (x.names ≡ view names)
 SeesImage view (Err stop.AtFault) r all = Stops (log_of r) ≡ all

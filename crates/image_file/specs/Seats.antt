@@ -20,6 +20,7 @@ place_of at (start ∷ starts) = if start == at then Some 0 else option_map suc 
 abbrev pub nowhere : ℕ
 nowhere = 0xFFFF_FFFF
 
+-- what a table has for a place: the place, or `nowhere` where there is none
 abbrev pub entry : Option ℕ → ℕ
 entry None = nowhere
 entry (Some place) = place
@@ -55,21 +56,24 @@ FindsLens lens table = (number : ℕ) → number < 65536 → option_map (λ d. d
 abbrev pub call_key : Signature → ℕ
 call_key b = if b.kind == 2 then 2 * b.number else if b.kind == 3 then 2 * b.number + 1 else 131072
 
+-- what a CALL sees of a block, without its number
 abbrev pub callee_of : Signature → Callee
 callee_of b = (b.kind, b.instance_len, b.params)
 
--- a table finds functions and function blocks by number
+-- the block that a table finds by a key, as a CALL sees it; none where the table has none for it
 abbrev pub found_callee : List Signature → List ℕ → ℕ → Option Callee
 found_callee blocks table key = option_map callee_of (option_and_then (λ place. slice_get blocks place) (slice_get table key))
 
+-- a table finds functions and function blocks by number: the first block of a kind and number
 pub record FindsCallees (blocks : List Signature) (table : List ℕ) : Type 0 where
   pub functions : (number : ℕ) → number < 65536 → found_callee blocks table (2 * number) ≡ block_with 2 number blocks
   pub function_blocks : (number : ℕ) → number < 65536 → found_callee blocks table (2 * number + 1) ≡ block_with 3 number blocks
 
--- the op at a place of a list of ops, with the offset after it; the line of the statement that begins there
+-- the op at a place of a list of ops, with the offset after it
 abbrev pub op_at : ℕ → List OpData → List Seat → Option (OpData × ℕ)
 op_at place ops seats = option_and_then (λ op. option_map (λ s. (op, s.next)) (slice_get seats place)) (slice_get ops place)
 
+-- the line of the statement that begins with the op at a place; none where none begins with it
 abbrev pub line_at : ℕ → List Seat → Option ℕ
 line_at place seats = option_and_then (λ s. s.line) (slice_get seats place)
 
@@ -78,6 +82,7 @@ pub record IsSmall (block : CodeBlock) : Type 0 where
   pub code : length (code_bytes block.code) ≤ nowhere
   pub lines : length block.lines < 65536
 
+-- so are those of each of these blocks
 abbrev pub AreSmall : List CodeBlock → Type 0
 AreSmall [] = Unit {0}
 AreSmall (b ∷ bs) = IsSmall b × AreSmall bs
@@ -88,16 +93,18 @@ pub record IsSeated (block : CodeBlock) (seating : Seating) : Type 0 where
   pub seats : seating.seats.items ≡ seats_of 0 true block.code block.lines
   pub small : IsSmall block
 
+-- the seatings of blocks: one for each, in their order
 abbrev pub AreSeated : List CodeBlock → List Seating → Type 0
 AreSeated [] [] = Unit {0}
 AreSeated [] (s ∷ ss) = ⊥
 AreSeated (b ∷ bs) [] = ⊥
 AreSeated (b ∷ bs) (s ∷ ss) = IsSeated b s × AreSeated bs ss
 
--- the place of a block in the table of blocks: OB, FC and FB 0 to 2047
+-- how many places the table of blocks has: for OB, FC and FB 0 to 2047
 abbrev pub slots : ℕ
 slots = 6144
 
+-- the place of a block in the table of blocks, by kind, then number; none for another block
 abbrev pub slot_of : BlockId → Option ℕ
 slot_of id =
     if nat_lt (kind_order id.kind) 3 && nat_lt id.number 2048 then Some (2048 * kind_order id.kind + id.number) else None

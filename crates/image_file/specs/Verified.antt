@@ -4,6 +4,7 @@ use Rattle.plc_base.specs.declared.blocks.BlockId.{BlockId}
 use Rattle.plc_base.specs.declared.blocks.BlockKind.TheVariants as kinds
 use Rattle.plc_base.specs.declared.places.Area.{Area}
 use Rattle.plc_base.specs.declared.places.Area.TheVariants as area
+use Rattle.plc_base.specs.Widths.{byte_count}
 use Rattle.plc_base.specs.declared.places.Width.{Width}
 use Rattle.flat_code.specs.declared.programs.Param.{Param}
 use Rattle.flat_code.specs.declared.image_fields.ParameterRecord.{ParameterRecord}
@@ -11,8 +12,6 @@ use Rattle.flat_code.specs.declared.operands.Operand.{Operand}
 use Rattle.flat_code.specs.declared.operands.Operand.TheVariants as operand
 use Rattle.flat_code.specs.declared.operands.Passed.{Passed}
 use Rattle.flat_code.specs.declared.operands.Passed.TheVariants as passed
-use Rattle.flat_code.specs.Forms.{width_code}
-use Rattle.flat_code.specs.Faults.{size_of_width}
 use Rattle.flat_code.specs.Ops.{OpData, is_op}
 use Rattle.flat_code.specs.Codes.{size}
 use Rattle.flat_code.specs.Programs.{CodeBlock, Program}
@@ -45,6 +44,7 @@ pub record IsRead (ops : List OpData) (at : ℕ) (op : OpData) (next : ℕ) : Ty
   pub op_is : here.op ≡ op
   pub next_is : next ≡ at + size op
 
+-- of any ops the one that the readers give at an offset is the one in its place
 abbrev pub OpsArePlaced : Type 0
 OpsArePlaced = (ops : List OpData) (at : ℕ) (op : OpData) (next : ℕ) → op_placed 0 ops at ≡ Some (op, next) → IsRead ops at op next
 
@@ -53,6 +53,7 @@ abbrev pub Next : CodeBlock → Placed → List OpData → Type 0
 Next b q [] = (q.op.code ≡ 0x7B) × (q.op.last ≡ true) × (q.brackets ≡ [])
 Next b q (op ∷ ops) = place_at (q.at + size q.op) (places b.code) ≡ Some (record { at = q.at + size q.op; brackets = opened q.at q.op.code q.brackets; before = before_next q.op q.before; op = op; rest = ops })
 
+-- in a program that verifies each op has one behind it, but BE at the end of its block
 abbrev pub CodeGoesOn : Type 0
 CodeGoesOn = (p : Program) (b : CodeBlock) (q : Placed) → IsOp p b q → Next b q q.rest
 
@@ -61,6 +62,7 @@ pub record StatementIsRight (q : Placed) : Type 0 where
   pub few : length q.before < 64
   pub ended : q.op.last ≡ not (prepares q.op.code)
 
+-- in a program that verifies a statement has at most 64 ops, all but the last USEDB or PASS
 abbrev pub StatementsAreRight : Type 0
 StatementsAreRight = (p : Program) (b : CodeBlock) (q : Placed) → IsOp p b q → StatementIsRight q
 
@@ -69,6 +71,7 @@ pub record HasLine (b : CodeBlock) (at : ℕ) : Type 0 where
   pub line : ℕ
   pub is : line_placed 0 true b.code b.lines at ≡ Some line
 
+-- in a program that verifies each statement has a source line, found where its first op begins
 abbrev pub StatementsHaveLines : Type 0
 StatementsHaveLines = (p : Program) (b : CodeBlock) (q : Placed) → IsOp p b q → begins q ≡ true → HasLine b q.at
 
@@ -94,6 +97,7 @@ pub record BlockIsRight (b : CodeBlock) : Type 0 where
   pub room : b.local_len ≤ 1024
   pub organization : b.id.kind ≡ kinds.Ob → (b.params ≡ []) × (20 ≤ b.local_len)
 
+-- in a program that verifies each code block is so
 abbrev pub BlocksAreRight : Type 0
 BlocksAreRight =
     (p : Program) (b : CodeBlock) (id : BlockId) → Verifies p
@@ -109,6 +113,7 @@ pub record Lands (b : CodeBlock) (q : Placed) (target : ℕ) : Type 0 where
   pub statement : begins there ≡ true
   pub same : bracket_codes q.brackets ≡ bracket_codes there.brackets
 
+-- in a program that verifies each jump has such a target, JL and LOOP too
 abbrev pub JumpsLand : Type 0
 JumpsLand = (p : Program) (b : CodeBlock) (q : Placed) (kind target : ℕ) → IsOp p b q → q.op.operand ≡ operand.Jump kind target → Lands b q target
 
@@ -122,6 +127,7 @@ pub record BracketsAreRight (q : Placed) : Type 0 where
   pub room : opens q.op.code ≡ true → length q.brackets < 7
   pub there : q.op.code ≡ 0x1E → 0 < length q.brackets
 
+-- in a program that verifies no bracket is an eighth open one, and no `)` lacks an open one
 abbrev pub BracketsFit : Type 0
 BracketsFit = (p : Program) (b : CodeBlock) (q : Placed) → IsOp p b q → BracketsAreRight q
 
@@ -129,7 +135,7 @@ BracketsFit = (p : Program) (b : CodeBlock) (q : Placed) → IsOp p b q → Brac
 
 -- a local place lies within the block's local bytes
 abbrev pub LiesWithin : CodeBlock → Area → Width → ℕ → Type 0
-LiesWithin b area.L w byte = byte + size_of_width (width_code w) ≤ b.local_len
+LiesWithin b area.L w byte = byte + byte_count w ≤ b.local_len
 LiesWithin b _ w byte = Unit {0}
 
 -- a parameter of the function, of a width
@@ -147,6 +153,7 @@ FitsOperand b op (operand.ByRegister a w register bits) = has_width (takes_of op
 FitsOperand b op (operand.Parameter index w) = (has_width (takes_of op.code) w ≡ true) × (param : Param) × HasParam b index w param × (writes op.code ≡ true → param.section ≡ 1 → ⊥)
 FitsOperand b op _ = Unit {0}
 
+-- in a program that verifies each operand fits its instruction and its block
 abbrev pub OperandsFit : Type 0
 OperandsFit = (p : Program) (b : CodeBlock) (q : Placed) → IsOp p b q → FitsOperand b q.op q.op.operand
 
@@ -166,11 +173,13 @@ FitsPrepared b q (operand.UseDb number) = (begins q ≡ true) × (is_in_db (last
 FitsPrepared b q (operand.Pass index actual) = ((last_op q).code ≡ 0x78) × (is_above index (pass_before None q.before) ≡ true) × FitsPassed b actual
 FitsPrepared b q _ = Unit {0}
 
+-- in a program that verifies USEDB stands first before a place in DB, and PASS before a CALL
 abbrev pub PreparedFit : Type 0
 PreparedFit = (p : Program) (b : CodeBlock) (q : Placed) → IsOp p b q → FitsPrepared b q q.op.operand
 
 -- ---- calls
 
+-- what a CALL sees of each code block of a program
 abbrev pub signatures : Program → List Signature
 signatures p = map signature_of (map record_of_block p.code_blocks)
 
@@ -182,6 +191,7 @@ pub record FitsCall (p : Program) (q : Placed) (kind number instance : ℕ) : Ty
   pub all : (called.0 ≡ 3 → ⊥) → are_passed 0 called.2 q.before ≡ true
   pub instance_fits : is_bad_instance (lens_of p.data_blocks) called instance ≡ false
 
+-- in a program that verifies each CALL, UC and CC has its block, what it passes, and its instance
 abbrev pub CallsFit : Type 0
 CallsFit = (p : Program) (b : CodeBlock) (q : Placed) (kind number instance : ℕ) → IsOp p b q → q.op.operand ≡ operand.Called kind number instance → FitsCall p q kind number instance
 
@@ -191,6 +201,7 @@ pub record FitsParameter (p : Program) (b : CodeBlock) (called : Callee) (index 
   pub there : slice_get called.2 index ≡ Some parameter
   pub fits : misfits_parameter (around (Some (lens_of p.data_blocks)) (map record_of_block p.code_blocks) (record_of_block b)) parameter actual ≡ false
 
+-- in a program that verifies each PASS passes what fits that parameter of the called block
 abbrev pub PassedFit : Type 0
 PassedFit = (p : Program) (b : CodeBlock) (q : Placed) (index : ℕ) (actual : Passed) (kind number instance : ℕ) (called : Callee) → IsOp p b q → q.op.operand ≡ operand.Pass index actual → (last_op q).operand ≡ operand.Called kind number instance → callee (signatures p) kind number ≡ Some called → FitsParameter p b called index actual
 
@@ -200,5 +211,6 @@ pub record IsCalled (p : Program) (kind number : ℕ) (called : Callee) : Type 0
   pub there : block_of (record { kind = kind_of_number kind; number = number }) p.code_blocks ≡ Some block
   pub same : called ≡ (kind, block.instance_len, map record_of_param block.params)
 
+-- what a call of kind 2 or 3 finds is such a block, whether the program verifies or not
 abbrev pub CalledAreThere : Type 0
 CalledAreThere = (p : Program) (kind number : ℕ) (called : Callee) → (kind ≡ 2) ⊎ (kind ≡ 3) → callee (signatures p) kind number ≡ Some called → IsCalled p kind number called

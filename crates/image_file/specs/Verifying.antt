@@ -32,18 +32,21 @@ faults_unless (Some at) around b = (at, 5) ∷ []
 faults_unless None around b =
     count_faults b ++ line_faults 0 b.lines ++ block_faults around 0 b.code
 
+-- the faults of a block: its fault 5 alone, or where its code has none all others
 abbrev pub faults_of_block : Around → BlockRecord → List (ℕ × ℕ)
 faults_of_block around b = faults_unless (code_fault b.code) around b
 
--- whether no code has a fault 5: only then are calls judged
+-- whether no code has a fault 5: only then are calls checked
 abbrev pub are_whole : List BlockRecord → Bool
 are_whole [] = true
 are_whole (b ∷ bs) = is_nowhere (code_fault b.code) && are_whole bs
 
+-- the numbers and lengths of the data blocks, where calls are checked; none where they are not
 abbrev pub lens_where : Bool → List DataBlock → Option (List (ℕ × ℕ))
 lens_where true datas = Some (lens_of datas)
 lens_where false datas = None
 
+-- the same for a program: its calls are checked where no code of it has a fault 5
 abbrev pub lens_judged : Program → Option (List (ℕ × ℕ))
 lens_judged p = lens_where (are_whole (map record_of_block p.code_blocks)) p.data_blocks
 
@@ -59,6 +62,7 @@ DecidesFor id f [] Later = Later
 DecidesFor id f (g ∷ gs) Later =
     (f.block ≡ id) × IsLeast (record { at = f.at; code = f.code }) (g ∷ gs)
 
+-- a fault is that of the first of these blocks that has one; where none has one, no fault is
 abbrev pub IsFirstOf :
     Option (List (ℕ × ℕ)) → List BlockRecord → List CodeBlock → VerifyFault → Type 0
 IsFirstOf lens all [] f = ⊥
@@ -73,6 +77,7 @@ abbrev pub AreClean : Option (List (ℕ × ℕ)) → List BlockRecord → List C
 AreClean lens all [] = Unit {0}
 AreClean lens all (b ∷ bs) = (faults_among lens all b ≡ []) × AreClean lens all bs
 
+-- a program of which no block has a fault
 abbrev pub IsClean : Program → Type 0
 IsClean p = AreClean (lens_judged p) (map record_of_block p.code_blocks) p.code_blocks
 

@@ -268,7 +268,7 @@ fn parameters_passed_on(rt: HostRuntime) -> Result<(), Fail> {
     Ok(())
 }
 
-/// Calls are judged only where all blocks were read: OB 1 calls an absent function, at offset 36, and
+/// Calls are checked only where all blocks were read: OB 1 calls an absent function, at offset 36, and
 /// something behind it can't be read.
 #[test]
 fn calls_beside_other_faults(rt: HostRuntime) -> Result<(), Fail> {

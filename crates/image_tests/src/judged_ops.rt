@@ -141,7 +141,7 @@ static WIDTHS: [Row; 20] = [
     ("A0 02 83 02 0000 01; FB 00", 0, 7),
     ("A1 02 84 04 0000 07; FB 00", 0, 7),
     ("A2 02 82 01 0000 07; FB 00", 0, 0),
-    // An operand in L past the 20 local bytes; the place of a pointer isn't judged.
+    // An operand in L past the 20 local bytes; the place of a pointer isn't checked.
     ("A0 02 86 02 0013 00; FB 00", 0, 0),
     ("A0 02 86 02 0014 00; FB 00", 0, 7),
     ("A1 02 86 03 0012 00; FB 00", 0, 0),

@@ -23,7 +23,8 @@ pub record IsKept (c d : Code) : Type 0 where
   pub seen : (history : List What) (entry : What)
       → (happens d (replay d history) entry).seen ≡ (happens c (replay c history) entry).seen
 
--- the program of statements, and the statements
+-- the program that is compiled of blocks that can be compiled does what their statements mean,
+-- whatever its data blocks and its names are
 abbrev pub ProgramsAreKept : Type 0
 ProgramsAreKept =
     (blocks : List StatedBlock) (data_blocks : List DataBlock) (names : List NameEntry)

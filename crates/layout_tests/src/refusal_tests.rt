@@ -20,7 +20,7 @@ static NAMES: [Row; 8] = [
         21,
     ),
     (b"a : STRUCT\nb : INT;\nEND_STRUCT;\nA : INT;", 6, 21),
-    // Each rule is judged by itself, whatever else is broken.
+    // Each rule is checked by itself, whatever else is broken.
     (
         b"a : ARRAY [5 .. 1] OF STRUCT b : INT; b : INT; END_STRUCT;",
         3,
@@ -124,7 +124,7 @@ static SETTINGS: [Row; 12] = [
     (b"l[1] := TRUE;", 4, 41),
     // Both are broken: the lesser rule.
     (b"l[3] := TRUE;", 4, 41),
-    // An unknown component is judged with the statements.
+    // An unknown component is checked with the statements.
     (b"m := 1;", 0, 0),
 ];
 
@@ -373,7 +373,7 @@ static BODIES: [Row; 17] = [
     (b"L \"Data\".DBW 0;", 3, 23),
     // The line of the actual parameter.
     (b"CALL FC 2 (\na := DB9.DBW 0);", 4, 23),
-    // A symbol as an operand, and an unknown component, are judged with the statements.
+    // A symbol as an operand, and an unknown component, are checked with the statements.
     (b"A \"Motor\";\nL DB1.z;", 0, 0),
     (b"SET;\nSET; L DB9.z; L DB1.z;", 4, 23),
 ];

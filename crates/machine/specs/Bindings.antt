@@ -25,6 +25,7 @@ abbrev pub bound_if : Access → Bound → Option ℕ → Result Binding ℕ
 bound_if access at None = Err (absent access at.place.area)
 bound_if access at (Some n) = Ok (binding.Bound at.place at.width at.frame)
 
+-- a place exists where a number is read, for OUT too; else 22, 23, in the peripheral area 42, 43
 unfoldable pub bound_place : Access → Bound → Own → Areas → Result Binding ℕ
 bound_place access at s m = bound_if access at (number_in at s.locals m)
 
@@ -45,6 +46,7 @@ bound_actual access (passed.InBlock number area width byte bit) s m =
     if is_loaded number m then bound_place access (bound_at areas.Db number byte bit width 0) s m
     else Err 0x3A
 
+-- for a parameter of the called block; one that it lacks is passed in no program that is loaded
 abbrev pub bound_for : Option Param → Passed → Own → Areas → Result Binding ℕ
 bound_for (Some p) actual s m = bound_actual (access_of p) actual s m
 bound_for None actual s m = Err no_operand

@@ -33,9 +33,11 @@ unfoldable pub checking : Joined → Operand → Own → Areas → List Timer �
 checking with o s m t n =
     then_ok (tested o s m t n) (λ bit. Ok (checked (check_of with) bit s.regs))
 
+-- the number of a bit operand: 1 where the bit is true, else 0
 abbrev pub bit_number : Bool → ℕ
 bit_number bit = if bit then 1 else 0
 
+-- other registers; memory and all else of the activation stay
 abbrev pub with_regs : Regs → Scene → Scene
 with_regs r c = record c { own = record c.own { regs = r } }
 
@@ -52,6 +54,7 @@ bit_before at s m =
 abbrev pub assigned_at : Bound → Own → Areas → Result Scene ℕ
 assigned_at at s m = put_bit at s.regs.status.rlo (stored s.regs.status.rlo s.regs) s m
 
+-- the place of its operand is sought as one that is written, with RLO 0 too
 unfoldable pub assigned : Operand → Own → Areas → Result Scene ℕ
 assigned o s m = then_ok (located Writing o s m) (λ at. assigned_at at s m)
 
@@ -65,6 +68,7 @@ set_at value at before s m =
     put_bit at (bit_after s.regs.status.rlo value before)
     (stored (bit_after s.regs.status.rlo value before) s.regs) s m
 
+-- S (true) and R (false) of an operand: with RLO 0, too, its place is tested as one that is written
 unfoldable pub bit_set : (value : Bool) → Operand → Own → Areas → Result Scene ℕ
 bit_set value o s m =
     then_ok (located Writing o s m) (λ at.
@@ -74,6 +78,7 @@ bit_set value o s m =
 abbrev pub edge_at : (rising : Bool) → Bound → (before : Bool) → Own → Areas → Result Scene ℕ
 edge_at rising at before s m = put_bit at s.regs.status.rlo (edged rising before s.regs) s m
 
+-- the operand is the edge bit; its place is tested as one that is written
 unfoldable pub edge : (rising : Bool) → Operand → Own → Areas → Result Scene ℕ
 edge rising o s m =
     then_ok (located Writing o s m) (λ at.

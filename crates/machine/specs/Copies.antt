@@ -15,6 +15,7 @@ use Rattle.machine.specs.Values.{write}
 abbrev pub comes_in : Param → Bool
 comes_in p = p.section == 1 || p.section == 3
 
+-- sections 2 OUT and 3 IN_OUT: copied out of the instance by the return
 abbrev pub goes_out : Param → Bool
 goes_out p = p.section == 2 || p.section == 3
 
@@ -22,6 +23,7 @@ goes_out p = p.section == 2 || p.section == 3
 abbrev pub in_instance : Param → (instance : ℕ) → Bound
 in_instance p instance = bound_at areas.Db instance p.byte p.bit p.width 0
 
+-- what comes of writing to a place; where it doesn't exist all is as before
 abbrev pub scene_or : Scene → Result Scene ℕ → Scene
 scene_or before (Ok after) = after
 scene_or before (Err e) = before
@@ -47,9 +49,11 @@ given_to from (Some (binding.Bound place width frame)) c =
     copied from (record { place = place; width = width; frame = frame }) c
 given_to from _ c = c
 
+-- an IN or IN_OUT parameter gets in its instance what was passed; an OUT parameter keeps its value
 abbrev pub param_in : Param → Option Binding → (instance : ℕ) → Scene → Scene
 param_in p b instance c = if comes_in p then passed_to b (in_instance p instance) c else c
 
+-- an OUT or IN_OUT parameter goes to the place that was bound; where none was it goes nowhere
 abbrev pub param_out : Param → Option Binding → (instance : ℕ) → Scene → Scene
 param_out p b instance c = if goes_out p then given_to (in_instance p instance) b c else c
 
@@ -60,6 +64,7 @@ params_in (p ∷ rest) index bindings instance c =
     params_in rest (index + 1) bindings instance
     (param_in p (slice_get bindings index) instance c)
 
+-- out of the instance, from an index on; of two bound to one place the later one stays there
 abbrev pub params_out : List Param → (index : ℕ) → List Binding → (instance : ℕ) → Scene → Scene
 params_out [] index bindings instance c = c
 params_out (p ∷ rest) index bindings instance c =

@@ -44,10 +44,12 @@ exchanged s = record s { inner = record s.inner { db = s.inner.di; di = s.inner.
 abbrev pub number_opened : Option ℕ → ℕ
 number_opened block = unwrap_or block 0
 
+-- the length in bytes, modulo 2^32; 0 for a data block that isn't loaded
 abbrev pub len_of : Option (List ℕ) → ℕ
 len_of None = 0
 len_of (Some bytes) = length bytes % 2 ^ 32
 
+-- DBLG, DILG: the length of the data block in a register; 0 where none is open
 abbrev pub len_opened : Option ℕ → Areas → ℕ
 len_opened None m = 0
 len_opened (Some number) m = len_of (map.get m.data_blocks number)

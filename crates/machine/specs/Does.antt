@@ -26,10 +26,12 @@ abbrev pub on_regs : Parts → Result Regs ℕ → Result Parts ℕ
 on_regs p (Ok r) = Ok (record p { own = record p.own { regs = r } })
 on_regs p (Err e) = Err e
 
+-- registers, local bytes and what the innermost frame holds; memory, timers and counters stay
 abbrev pub on_own : Parts → Result Own ℕ → Result Parts ℕ
 on_own p (Ok s) = Ok (record p { own = s })
 on_own p (Err e) = Err e
 
+-- these and memory; timers and counters stay
 abbrev pub on_scene : Parts → Result Scene ℕ → Result Parts ℕ
 on_scene p (Ok c) = Ok (record p { own = c.own; memory = c.memory })
 on_scene p (Err e) = Err e
@@ -40,6 +42,7 @@ on_timers p (Ok all) =
     Ok (record p { own = record p.own { regs = string_ended p.own.regs }; timers = all })
 on_timers p (Err e) = Err e
 
+-- of counters: OR 0 and /FC 0 come with the effect, and not after an error
 abbrev pub on_counters : Parts → Result (List Counter) ℕ → Result Parts ℕ
 on_counters p (Ok all) =
     Ok (record p { own = record p.own { regs = string_ended p.own.regs }; counters = all })
@@ -70,6 +73,7 @@ free_of (Some kind) o p =
     if is_timer kind then on_timers p (timer_freed o p.own p.memory p.timers)
     else on_counters p (counter_freed o p.own p.memory p.counters)
 
+-- each instruction word with its operand: what it makes of the parts, or its synchronous error
 unfoldable pub does : Word → Operand → Parts → Result Parts ℕ
 does word.Nop o p = Ok p
 does word.Bld o p = Ok p
@@ -116,6 +120,7 @@ does word.NoWord o p = Err no_operand
 abbrev pub with_db : ℕ → Parts → Parts
 with_db number p = record p { own = opened 1 number p.own }
 
+-- USEDB: 3A comes before every error of the operand; without USEDB the instruction alone
 unfoldable pub does_with : Option ℕ → Word → Operand → Parts → Result Parts ℕ
 does_with None w o p = does w o p
 does_with (Some number) w o p =

@@ -4,7 +4,7 @@ use Rattle.std.specs.Prelude.{ℕ, ◌≡◌, true, false, List, [], Option, Som
 use Rattle.plc_base.specs.declared.BlockId.{BlockId}
 use Rattle.plc_mem.specs.Areas.{Areas}
 use Rattle.status_word.specs.declared.Regs.{Regs}
-use Rattle.frames.specs.Activations.{entered, refused}
+use Rattle.frames.specs.Activations.{entered, frame_begun, refused}
 use Rattle.frames.specs.declared.Activation.{Activation}
 use Rattle.frames.specs.declared.FrameFault.{FrameFault}
 use Rattle.frames.specs.declared.bindings.Binding.{Binding}
@@ -34,16 +34,13 @@ di_of (Some instance) di = Some instance
 
 -- the frame of the called block: it begins with the caller's data blocks and no open bracket
 abbrev pub fresh : Callee → List Binding → Frame → Frame
-fresh called bindings caller = record {
-  block = called.block;
-  at = 0;
-  db = caller.db;
-  di = di_of called.instance caller.di;
-  instance = called.instance;
-  brackets = [];
-  local_len = called.local_len;
-  bindings = bindings;
-}
+fresh called bindings caller =
+    record (frame_begun called.block called.local_len) {
+      db = caller.db;
+      di = di_of called.instance caller.di;
+      instance = called.instance;
+      bindings = bindings;
+    }
 
 -- the running block goes on at a position, with other registers
 abbrev pub going_on : (at : ℕ) → Regs → Activation → Activation
@@ -62,14 +59,17 @@ pub data Call : Type 0 where
   Stops : (fault : FrameFault) → Call
   Enters : (a : Activation) (m : Areas) → Call
 
+-- the called block runs, with what copying its parameters left of it and of memory
 abbrev pub with_scene : Activation → Scene → Call
 with_scene a c = Enters (record a { running = with_own a.running c.own }) c.memory
 
+-- IN and IN_OUT parameters are copied into the instance; a call that names none copies nothing
 abbrev pub supplied : Option ℕ → List Param → Activation → Areas → Call
 supplied None params a m = Enters a m
 supplied (Some instance) params a m =
     with_scene a (params_in params 0 a.running.frame.bindings instance (scene_of a.running m))
 
+-- a stop by depth or local data sets and copies nothing; else the caller stands behind the call
 abbrev pub entered_if :
     Option FrameFault → Callee → List Binding → (next : ℕ) → Activation → Areas → Call
 entered_if (Some fault) called bindings next a m = Stops fault
@@ -77,6 +77,7 @@ entered_if None called bindings next a m =
     supplied called.instance called.params
     (entered (fresh called bindings a.running.frame) (caller_at next a)) m
 
+-- a parameter that can't be bound is a synchronous error, and comes before depth and local data
 abbrev pub called_with : Result (List Binding) ℕ → Callee → (next : ℕ) → Activation → Areas → Call
 called_with (Err code) called next a m = Fails code
 called_with (Ok bindings) called next a m =

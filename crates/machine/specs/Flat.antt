@@ -26,6 +26,7 @@ pub record Run : Type 0 where
   pub last : OpData
   pub next : ℕ
 
+-- one more op that prepares, before those of the run
 abbrev pub with_op : OpData → Run → Run
 with_op op r = record r { before = op ∷ r.before }
 
@@ -50,6 +51,7 @@ abbrev pub use_db_first : Operand → Option ℕ → Option ℕ
 use_db_first (operand.UseDb number) more = Some number
 use_db_first _ more = more
 
+-- of the ops that prepare, the data block of the first USEDB; None without one
 abbrev pub use_db_of : List OpData → Option ℕ
 use_db_of [] = None
 use_db_of (op ∷ ops) = use_db_first op.operand (use_db_of ops)
@@ -59,6 +61,7 @@ abbrev pub with_passing : Operand → List Passing → List Passing
 with_passing (operand.Pass index actual) more = record { index = index; actual = actual } ∷ more
 with_passing _ more = more
 
+-- those of all PASS ops before the last op of the statement, in their order
 abbrev pub passings_of : List OpData → List Passing
 passings_of [] = []
 passings_of (op ∷ ops) = with_passing op.operand (passings_of ops)
@@ -69,6 +72,7 @@ abbrev pub listed_with :
 listed_with None at more = []
 listed_with (Some r) at more = at ∷ more r.1
 
+-- the target is not in the list, which ends early where no op begins at an offset
 unfoldable pub list_of : (most : ℕ) → List OpData → (target at : ℕ) → List ℕ
 list_of zero ops target at = []
 list_of (suc most) ops target at =
@@ -79,10 +83,12 @@ list_of (suc most) ops target at =
 abbrev pub most_listed : ℕ
 most_listed = 255
 
+-- JL alone jumps by a list; every other jump, LOOP too, has one target
 abbrev pub is_jl : JumpWord → Bool
 is_jl jump.Jl = true
 is_jl _ = false
 
+-- the list of a JL stands between the offset behind it and its target, where it else goes on
 abbrev pub jump_instr : JumpWord → (target next : ℕ) → List OpData → Instr
 jump_instr word target next ops =
     if is_jl word then JumpsByList (list_of most_listed ops target next) target
@@ -119,6 +125,7 @@ instr_of (word.Call how) (operand.Called kind number instance) use_db passings n
 instr_of (word.End how) o use_db passings next ops = Returns how
 instr_of w o use_db passings next ops = Does use_db w o
 
+-- the statement that a run of ops is; the ops of the whole block give the list of a JL
 abbrev pub fetched_of : List OpData → (line : ℕ) → Run → Fetched
 fetched_of ops line r = record {
   instr = instr_of (word_of r.last.code) r.last.operand (use_db_of r.before) (passings_of r.before)
@@ -133,6 +140,7 @@ statement_at b at =
     option_and_then (λ line. option_map (fetched_of b.code line) (run_at most_ops b.code at))
     (line_placed 0 true b.code b.lines at)
 
+-- of a code block all but its kind, number, ops and source lines
 abbrev pub head_of : CodeBlock → Head
 head_of b = record {
   local_len = b.local_len;
@@ -140,6 +148,7 @@ head_of b = record {
   params = b.params;
 }
 
+-- the data blocks of a program by number, with the bytes with which they are loaded
 abbrev pub numbered_bytes : List DataBlock → List (ℕ × List ℕ)
 numbered_bytes [] = []
 numbered_bytes (d ∷ rest) = (d.number, d.bytes) ∷ numbered_bytes rest

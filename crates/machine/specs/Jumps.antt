@@ -12,6 +12,7 @@ use Rattle.flat_code.specs.declared.kinds.JumpWord.TheVariants as jump
 abbrev pub counted_down : Regs → Regs
 counted_down r = increased 16 65535 r
 
+-- by the registers as they stand before the jump; LOOP tests what it leaves in ACCU 1-L
 unfoldable pub is_taken : JumpWord → Regs → Bool
 is_taken jump.Ju r = true
 is_taken jump.Jc r = r.status.rlo
@@ -50,6 +51,7 @@ br_tested r = record r { status = record r.status { or = false; sta = true; fc =
 abbrev pub os_reset : Regs → Regs
 os_reset r = record r { status = record r.status { os = false } }
 
+-- the jumps that change registers do so whether they are taken or not; the others change none
 unfoldable pub after_jump : JumpWord → Regs → Regs
 after_jump jump.Jc r = rlo_tested r
 after_jump jump.Jcn r = rlo_tested r

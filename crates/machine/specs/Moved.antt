@@ -17,6 +17,7 @@ aimed_instr f (JumpsByList targets otherwise) = JumpsByList (map f targets) (f o
 aimed_instr f (Calls how block instance passings) = Calls how block instance passings
 aimed_instr f (Returns how) = Returns how
 
+-- of a statement the targets and the position behind it move; its source line stays
 abbrev pub moved_fetched : (ℕ → ℕ) → Fetched → Fetched
 moved_fetched f s = record { instr = aimed_instr f s.instr; next = f s.next; line = s.line }
 
@@ -28,9 +29,11 @@ pub record Follows (f : BlockId → ℕ → ℕ) (c d : Code) : Type 0 where
   pub head : (b : BlockId) → d.head b ≡ c.head b
   pub blocks : d.blocks ≡ c.blocks
 
+-- a frame at the position to which its own goes; positions move block by block
 abbrev pub moved_frame : (BlockId → ℕ → ℕ) → Frame → Frame
 moved_frame f frame = record frame { at = f frame.block frame.at }
 
+-- an activation with all its frames at the positions of the other code
 abbrev pub moved : (BlockId → ℕ → ℕ) → Activation → Activation
 moved f a =
     record a {
@@ -38,6 +41,7 @@ moved f a =
       below = map (moved_frame f) a.below;
     }
 
+-- of the activation that comes of a statement the frames move; codes, causes and memory stay
 abbrev pub moved_step : (BlockId → ℕ → ℕ) → Step → Step
 moved_step f (Went a w) = Went (moved f a) w
 moved_step f (Ended regs w) = Ended regs w

@@ -25,5 +25,6 @@ unnested [] s = Err no_operand
 unnested (bracket ∷ rest) s =
     Ok (with_brackets rest (record s { regs = closed bracket s.regs }))
 
+-- of the open brackets of the innermost frame it closes the one that was opened last
 unfoldable pub unnesting : Own → Result Own ℕ
 unnesting s = unnested s.inner.brackets s

@@ -74,6 +74,7 @@ with_constant adding.Dec o r = decreased 8 (literal 8 o) r
 with_constant adding.Word o r = increased 16 (literal 16 o) r
 with_constant adding.Dword o r = increased 32 (literal 32 o) r
 
+-- the relation that ==, <>, >, <, >= or <= asks for, of accumulator 2 to accumulator 1
 abbrev pub compare_of : Comparison → Compare
 compare_of comparison.Eq = compare.Eq
 compare_of comparison.Ne = compare.Ne

@@ -8,8 +8,8 @@ use Rattle.frames.specs.FrameData.{FrameData, inner_of, with_inner}
 use Rattle.frames.specs.Locals.{LocalData}
 use Rattle.frames.specs.declared.running.Running.{Running}
 
--- what an activation has of its own: registers, the innermost frame but for its block and position,
--- and the local bytes of all frames
+-- what an activation has of its own: registers, the innermost frame but for its block, position and
+-- length, and the local bytes of all frames
 pub record Own : Type 0 where
   pub regs : Regs
   pub inner : FrameData
@@ -27,12 +27,15 @@ pub record Parts : Type 0 where
   pub timers : List Timer
   pub counters : List Counter
 
+-- of the running block, all but which block it is, its position and how many local bytes it has
 abbrev pub own_of : Running → Own
 own_of s = record { regs = s.regs; inner = inner_of s.frame; locals = s.locals }
 
+-- a running block and the memory that its instructions read and write
 abbrev pub scene_of : Running → Areas → Scene
 scene_of s m = record { own = own_of s; memory = m }
 
+-- a running block, memory, timers and counters: all that an instruction may work on
 abbrev pub parts_of : Running → Areas → List Timer → List Counter → Parts
 parts_of s m t n = record { own = own_of s; memory = m; timers = t; counters = n }
 

@@ -24,6 +24,7 @@ abbrev pub error_of : Access → ℕ → ℕ
 error_of Reading code = code
 error_of Writing code = code + 1
 
+-- a place with its width; the number is that of a data block or 0, and the frame counts in L alone
 abbrev pub bound_at : Area → (number byte bit : ℕ) → Width → (frame : ℕ) → Bound
 bound_at area number byte bit width frame = record {
   place = record { area = area; number = number; byte = byte; bit = bit };
@@ -52,6 +53,7 @@ abbrev pub absent : Access → Area → ℕ
 absent access areas.P = error_of access 0x42
 absent access _ = error_of access 0x22
 
+-- L: local bytes, which belong to a frame and are no part of memory
 abbrev pub is_local : Area → Bool
 is_local areas.L = true
 is_local _ = false
@@ -63,6 +65,7 @@ number_in at locals memory =
     then local_number locals at.frame at.place.byte at.place.bit at.width
     else number_at memory at.place at.width
 
+-- the number that is read there; where the place doesn't exist 22, in the peripheral area 42
 unfoldable pub read : Bound → Own → Areas → Result ℕ ℕ
 read at s m = ok_or (number_in at s.locals m) (absent Reading at.place.area)
 
@@ -74,6 +77,7 @@ direct area byte bit width s m = then_ok (in_area area byte bit width s) (λ at.
 abbrev pub pointer : Area → (byte : ℕ) → Width → Own → Areas → Result ℕ ℕ
 pointer from byte width s m = direct from byte 0 width s m
 
+-- a bit operand, which the peripheral area doesn't have
 abbrev pub is_bit : Width → Bool
 is_bit widths.Bit = true
 is_bit _ = false
@@ -92,6 +96,7 @@ unfoldable pub by_pointer : Access → Area → Width → ℕ → Own → Result
 by_pointer access area width n s =
     if is_aligned width n then at_pointer area width n s else Err (error_of access 0x28)
 
+-- P: read as peripheral inputs, written as peripheral outputs
 abbrev pub is_peripheral : Area → Bool
 is_peripheral areas.P = true
 is_peripheral _ = false

@@ -41,6 +41,7 @@ offset_added _ r = sign_extended (r.a1 % 2 ^ 16)
 unfoldable pub address_after : (address offset : ℕ) → ℕ
 address_after address offset = with_low 24 address ((address + offset) % 2 ^ 24)
 
+-- each by its word; of them only TAR1 and TAR2 without operand change the accumulators
 unfoldable pub pointed : PointerWord → Operand → Own → Areas → Result Scene ℕ
 pointed word.Lar1 o s m =
     then_ok (address_loaded o s m) (λ n. Ok (regs_set (record s.regs { ar1 = n }) s m))

@@ -50,10 +50,12 @@ may_write _ = false
 abbrev pub is_inside : Area → Bool
 is_inside area = not (is_peripheral area)
 
+-- what a parameter stands for: no peripheral place; a constant has no place at all
 abbrev pub is_bound_inside : Option Binding → Bool
 is_bound_inside (Some (binding.Bound place width frame)) = is_inside place.area
 is_bound_inside _ = true
 
+-- without an area in the operand the address register names it, so nothing is sure
 abbrev pub is_named_inside : Option Area → Bool
 is_named_inside (Some area) = is_inside area
 is_named_inside None = false
@@ -74,6 +76,7 @@ keeps_outputs w o bindings = not (may_write w) || has_place_inside o bindings
 
 -- ---- before which statements it stops
 
+-- not after a synchronous error, a system function, a stop or the end of the organization block
 abbrev pub goes_on : Step → Bool
 goes_on (Went a w) = true
 goes_on _ = false
@@ -92,6 +95,7 @@ is_quiet_inside (Does use_db w o) a = not (moves w) && keeps_outputs w o a.runni
 is_quiet_inside (Jumps w target) a = true
 is_quiet_inside _ a = false
 
+-- a frame below the innermost one, to which a return goes; the outermost block has none
 abbrev pub has_caller : List Frame → Bool
 has_caller [] = false
 has_caller (caller ∷ rest) = true
@@ -106,6 +110,7 @@ is_quiet_across (Returns how) a =
     && has_caller a.below
 is_quiet_across _ a = false
 
+-- inside its block or across blocks: the peripheral outputs surely stay as they are
 abbrev pub is_quiet : Instr → Activation → Bool
 is_quiet i a = is_quiet_inside i a || is_quiet_across i a
 

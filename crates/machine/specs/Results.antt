@@ -18,6 +18,7 @@ abbrev pub HoldsScene : Scene → (old new : Activation) (m' : Areas) → Type 0
 HoldsScene c old new m' =
     (new ≡ record old { running = with_own old.running c.own }) × (m' ≡ c.memory)
 
+-- a value is written where RET_VAL was bound; without such a place nothing changes
 abbrev pub GivesResult : Binding → ℕ → (old new : Activation) (m m' : Areas) → Type 0
 GivesResult to value old new m m' =
     HoldsScene (with_result to value (scene_of old.running m)) old new m'

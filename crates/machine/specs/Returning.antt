@@ -17,6 +17,7 @@ pub record Stage : Type 0 where
   pub activation : Activation
   pub memory : Areas
 
+-- with what a scene has of the running block and of memory; the frames below stay
 abbrev pub on_stage : Activation → Scene → Stage
 on_stage a c = record {
   activation = record a { running = with_own a.running c.own };
@@ -33,7 +34,7 @@ given_back (Some instance) params a m =
 abbrev pub left_to : (caller : Frame) (rest : List Frame) → Activation → Activation
 left_to caller rest a =
     record a {
-      running = record {
+      running = record a.running {
         regs = at_block a.running.regs;
         frame = caller;
         locals = closed a.running.locals;
@@ -53,10 +54,12 @@ pub data Return : Type 0 where
   GoesOn : (a : Activation) (m : Areas) → Return
   Ends : (regs : Regs) (m : Areas) → Return
 
+-- OS 0, OR 0, STA 1, /FC 0 in both cases; without a frame below the outermost block has ended
 abbrev pub left : List Frame → Stage → Return
 left [] s = Ends (at_block s.activation.running.regs) s.memory
 left (caller ∷ rest) s = GoesOn (left_to caller rest s.activation) s.memory
 
+-- the innermost block returns: the parameters of its head are copied out, then its frame is left
 unfoldable pub returning : List Param → Activation → Areas → Return
 returning params a m = left a.below (given_back a.running.frame.instance params a m)
 
@@ -66,6 +69,7 @@ LeavesTo [] old new false = HasEnded old new (at_block old.running.regs)
 LeavesTo (caller ∷ rest) old new true = new ≡ left_to caller rest old
 LeavesTo below old new answer = ⊥
 
+-- by the frames that stand below; the answer is false where there are none
 abbrev pub Left : (old new : Activation) → Bool → Type 0
 Left old new answer = LeavesTo old.below old new answer
 

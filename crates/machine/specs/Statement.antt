@@ -57,15 +57,19 @@ cause_of LocalFull = 7
 abbrev pub moved_on : (at : ℕ) → Activation → Activation
 moved_on at a = going_on at a.running.regs a
 
+-- memory, timers and counters as a statement finds them
 abbrev pub world : Areas → List Timer → List Counter → World
 world m t n = record { memory = m; timers = t; counters = n }
 
+-- an activation with what an instruction left of the running block; its position stays
 abbrev pub with_parts : Parts → Activation → Activation
 with_parts p a = record a { running = with_own a.running p.own }
 
+-- what an instruction left of memory, timers and counters
 abbrev pub world_of : Parts → World
 world_of p = record { memory = p.memory; timers = p.timers; counters = p.counters }
 
+-- another memory, as copied parameters leave it; timers and counters stay
 abbrev pub with_memory : Areas → World → World
 with_memory m w = record w { memory = m }
 
@@ -74,6 +78,7 @@ abbrev pub went_on : Result Parts ℕ → (next : ℕ) → Activation → Step
 went_on (Ok p) next a = Went (moved_on next (with_parts p a)) (world_of p)
 went_on (Err code) next a = SyncError code (moved_on next a)
 
+-- a jump but JL goes on at its target where it is taken, else at the next statement
 abbrev pub jumped : JumpWord → (target next : ℕ) → Activation → World → Step
 jumped word target next a w =
     Went (going_on (goes_to (is_taken word a.running.regs) target next)
@@ -85,6 +90,7 @@ after_call (Fails code) next a w = SyncError code (moved_on next a)
 after_call (Stops fault) next a w = Stop (cause_of fault)
 after_call (Enters after m) next a w = Went after (with_memory m w)
 
+-- a block of the program, by its head, with the instance that the call names
 abbrev pub callee_of : BlockId → Option ℕ → Head → Callee
 callee_of block instance h = record {
   block = block;
@@ -93,6 +99,7 @@ callee_of block instance h = record {
   params = h.params;
 }
 
+-- a call of a function or function block, by its head; stuck where the program has none
 abbrev pub block_called :
     Option Head → BlockId → Option ℕ → List Passing → (next : ℕ) → Activation → World → Step
 block_called None block instance passings next a w = Stuck
@@ -105,16 +112,19 @@ after_system_call (Err code) number next a = SyncError code (moved_on next a)
 after_system_call (Ok given) number next a =
     SysCall number given (going_on next (at_block a.running.regs) a)
 
+-- a call of a system function, by its parameters; stuck where the number is none of the nine
 abbrev pub system_called :
     Option (List Param) → (number : ℕ) → List Passing → (next : ℕ) → Activation → World → Step
 system_called None number passings next a w = Stuck
 system_called (Some params) number passings next a w =
     after_system_call (system_call params passings (own_of a.running) w.memory) number next a
 
+-- SFC: its call enters no frame; the system function does its work outside the machine
 abbrev pub is_system : BlockKind → Bool
 is_system kinds.Sfc = true
 is_system _ = false
 
+-- a call that is made: of a system function by its number, of each other block by its head
 abbrev pub called :
     Code → BlockId → Option ℕ → List Passing → (next : ℕ) → Activation → World → Step
 called code block instance passings next a w =
@@ -127,13 +137,16 @@ abbrev pub is_called : CallWord → (rlo : Bool) → Bool
 is_called calls.Cc rlo = rlo
 is_called _ rlo = true
 
+-- CC with RLO 0: OS 0, OR 0, STA 1, /FC 0 and RLO 1
 abbrev pub not_called : Regs → Regs
 not_called r = rlo_tested (at_block r)
 
+-- timers and counters stay; memory is as copying the parameters out left it
 abbrev pub after_return : Return → World → Step
 after_return (GoesOn a m) w = Went a (with_memory m w)
 after_return (Ends regs m) w = Ended regs (with_memory m w)
 
+-- a return that is made, by the head of the running block; stuck where the program has none
 abbrev pub returned : Option Head → Activation → World → Step
 returned None a w = Stuck
 returned (Some h) a w = after_return (returning h.params a w.memory) w
@@ -143,6 +156,7 @@ abbrev pub is_ended : EndWord → (rlo : Bool) → Bool
 is_ended ends.Bec rlo = rlo
 is_ended _ rlo = true
 
+-- what comes of an instruction; `next` is the position behind its statement
 abbrev pub performed : Code → Instr → (next : ℕ) → Activation → World → Step
 performed code (Does use_db word operand) next a w =
     went_on (does_with use_db word operand (parts_of a.running w.memory w.timers w.counters)) next a
@@ -156,6 +170,7 @@ performed code (Returns how) next a w =
     if is_ended how a.running.regs.status.rlo then returned (code.head a.running.frame.block) a w
     else Went (going_on next (rlo_tested a.running.regs) a) w
 
+-- what comes of the statement that was found; stuck where none begins at the position
 abbrev pub fetched : Code → Option Fetched → Activation → World → Step
 fetched code None a w = Stuck
 fetched code (Some f) a w = performed code f.instr f.next a w

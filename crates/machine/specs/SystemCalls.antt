@@ -36,6 +36,7 @@ abbrev pub count_inputs : List Param → ℕ
 count_inputs [] = 0
 count_inputs (p ∷ rest) = (if p.section == 1 then 1 else 0) + count_inputs rest
 
+-- the numbers of the IN parameters from an index on, in their order
 abbrev pub inputs_from : List Param → (index : ℕ) → List Binding → Own → Areas → List ℕ
 inputs_from [] index bindings s m = []
 inputs_from (p ∷ rest) index bindings s m =
@@ -43,11 +44,13 @@ inputs_from (p ∷ rest) index bindings s m =
     then input_of (slice_get bindings index) s m ∷ inputs_from rest (index + 1) bindings s m
     else inputs_from rest (index + 1) bindings s m
 
+-- what the first OUT parameter from an index on stands for: RET_VAL; None without one
 abbrev pub result_from : List Param → (index : ℕ) → List Binding → Option Binding
 result_from [] index bindings = None
 result_from (p ∷ rest) index bindings =
     if p.section == 2 then slice_get bindings index else result_from rest (index + 1) bindings
 
+-- a call gives the numbers of the IN parameters as they are now, and what RET_VAL stands for
 abbrev pub given_by : List Param → List Binding → Own → Areas → Given
 given_by params bindings s m = record {
   inputs = inputs_from params 0 bindings s m;
@@ -58,6 +61,7 @@ given_by params bindings s m = record {
 abbrev pub given_now : List Param → List Binding → Activation → Areas → Given
 given_now params bindings a m = given_by params bindings (own_of a.running) m
 
+-- parameters are bound as in each call: the error is that of the first that can't be bound
 unfoldable pub system_call : List Param → List Passing → Own → Areas → Result Given ℕ
 system_call params passings s m =
     then_ok (bindings_of params passings s m) (λ bindings. Ok (given_by params bindings s m))

@@ -56,6 +56,7 @@ counting_up o s m n =
     then_ok (number_named o s m) (λ number.
     faulty 0x27 (change_always (counted_up s.regs.status.rlo) n number))
 
+-- CD takes one away on a rising RLO, 0 stays 0
 unfoldable pub counting_down : Operand → Own → Areas → List Counter → Result (List Counter) ℕ
 counting_down o s m n =
     then_ok (number_named o s m) (λ number.

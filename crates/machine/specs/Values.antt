@@ -70,6 +70,7 @@ number_named (operand.Numbered kind number) s m = Ok number
 number_named (operand.NumberedBy kind from byte) s m = pointer from byte widths.Word s m
 number_named _ s m = Err no_operand
 
+-- the bit that is read as the number 0 or 1; an error stays
 abbrev pub is_one : Result ℕ ℕ → Result Bool ℕ
 is_one (Ok n) = Ok (n == 1)
 is_one (Err e) = Err e
@@ -97,9 +98,11 @@ bcd_loaded (operand.NumberedBy kind from byte) s m t n =
     then_ok (pointer from byte widths.Word s m) (λ number. bcd_of_numbered kind number t n)
 bcd_loaded o s m t n = Err no_operand
 
+-- other local bytes; registers and the innermost frame stay
 abbrev pub with_locals : Own → LocalData → Own
 with_locals s l = record s { locals = l }
 
+-- a number at a place in the local bytes of a frame or in memory; None where it doesn't exist
 abbrev pub stored_at : Bound → ℕ → Own → Areas → Option Scene
 stored_at at value s m =
     if is_local at.place.area

@@ -28,6 +28,7 @@ abbrev pub first_of : Option ℕ → Option ℕ → Option ℕ
 first_of None more = more
 first_of (Some number) more = Some number
 
+-- of a run of ops; what was opened before it counts first, then the first USEDB in it
 abbrev pub walk_with : Option ℕ → Run → Walk
 walk_with opens r = record {
   opens = first_of opens (use_db_of r.before);
@@ -59,6 +60,7 @@ bound_next (Some r) params bindings s m more =
     if r.0.last then Ok bindings
     else then_ok (bound_by r.0.operand params bindings s m) (λ next. more r.1 next)
 
+-- at most so many ops from an offset on; it ends at the last op of the statement, which passes none
 unfoldable pub bound_from :
     (most : ℕ) → List OpData → ℕ → List Param → List Binding → Own → Areas
     → Result (List Binding) ℕ

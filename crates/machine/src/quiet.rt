@@ -314,7 +314,8 @@ fn return_quietly(code: &LoadedCode<'_>, how: EndWord, a: &mut Activation, m: &m
     ensures { (c : Code) (next : ℕ) (t : List Timer) (n : List Counter)
         → c.head a.old.running.frame.block ≡ Some (head_of code.now)
         → GoesOrStays (performed c (Returns how) next a.old (world m.old t n))
-        (is_quiet_across (Returns how) a.old) a.old a.new (world m.old t n) (world m.new t n) result }
+        (is_quiet_across (Returns how) a.old)
+        a.old a.new (world m.old t n) (world m.new t n) result }
 {
     if !is_ended(how, a.running.regs.status.rlo) {
         return false;

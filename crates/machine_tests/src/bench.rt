@@ -10,12 +10,12 @@
 ghost use Rattle.std.specs.Prelude.{◌≡◌, ◌<◌, ◌^◌};
 ghost use Rattle.plc_base.specs.Widths.{bit_count};
 
-use frames::{Activation, Binding, Bindings, Frame};
+use frames::{Activation, Binding, Frame};
 use image_file::{Loaded, load};
 use machine::{Outcome, give_result, is_ready, statement};
 use plc_base::{Area, BlockId, BlockKind, Place, Width};
 use plc_mem::Memory;
-use status_word::{Brackets, Regs, Status};
+use status_word::{Regs, Status};
 use std::alloc::Global;
 use std::process::Abort;
 use std::test::Fail;
@@ -149,19 +149,13 @@ fn memory_of_three(
 fn first_frame(local_len: u16) -> Frame
     ensures { result.local_len ≡ local_len }
 {
-    Frame {
-        block: BlockId {
-            kind: BlockKind::Ob,
-            number: 1,
-        },
-        at: 0,
-        db: None,
-        di: None,
-        instance: None,
-        brackets: Brackets::new(),
-        local_len,
-        bindings: Bindings::new(),
-    }
+    let mut frame = Frame::default();
+    frame.block = BlockId {
+        kind: BlockKind::Ob,
+        number: 1,
+    };
+    frame.local_len = local_len;
+    frame
 }
 
 /// Memory with the data blocks of a program.

@@ -21,10 +21,11 @@ abbrev pub bitmap_of : List Bin → ℕ
 bitmap_of [] = 0
 bitmap_of (bin ∷ rest) = bit_of bin.waiting.items + 2 * bitmap_of rest
 
--- the requests of bin n and the following are those of OBs that can wait, of the bin's class
+-- each of these requests is of an OB that can wait, and of this class in RUN
 abbrev pub are_of_class : ℕ → List Request → Bool
 are_of_class class waiting = list_all (λ request. can_wait request.0 && class_of request.0 == class) waiting
 
+-- so it is in each bin: the first one has this class, each further one a class that is one higher
 abbrev pub are_placed_from : ℕ → List Bin → Bool
 are_placed_from class [] = true
 are_placed_from class (bin ∷ rest) = are_of_class class bin.waiting.items && are_placed_from (class + 1) rest

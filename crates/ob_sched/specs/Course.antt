@@ -20,9 +20,11 @@ pub record Course : Type 0 where
 abbrev pub latest : List (ℕ × ℕ) → ℕ × ℕ → List (ℕ × ℕ)
 latest records one = (if nat_lt (length records) 100 then records else drop 1 records) ++ one ∷ []
 
+-- one more record, a code and its detail; the milliseconds and the stop cause stay
 abbrev pub with_record : ℕ → ℕ → Passed → Passed
 with_record code info passed = record passed { records = record { items = latest passed.records.items (code, info) } }
 
+-- the same in a course, whose scheduler stays
 abbrev pub recorded : ℕ → ℕ → Course → Course
 recorded code info c = record c { passed = with_record code info c.passed }
 
@@ -30,6 +32,7 @@ recorded code info c = record c { passed = with_record code info c.passed }
 abbrev pub with_stop : ℕ → Passed → Passed
 with_stop cause passed = record passed { stop = Some cause }
 
+-- the same in a course, whose scheduler, milliseconds and records stay
 abbrev pub stopped_by : ℕ → Course → Course
 stopped_by cause c = record c { passed = with_stop cause c.passed }
 
@@ -41,6 +44,8 @@ after_error ob cause Dropped c = c
 after_error ob cause NotLoaded c = stopped_by cause c
 after_error ob cause Full c = recorded 2 ob c
 
+-- OB 80 or OB 85 is requested, with its class in the operating mode in its start information;
+-- `cause` is the stop cause where it isn't loaded
 abbrev pub error_requested : Mode → ℕ → ℕ → StartEvent → Course → Course
 error_requested mode ob cause event c =
     after_error ob cause (arrival c.sched ob)
@@ -59,6 +64,8 @@ not_loaded mode ob c = error_requested mode 85 8 (OfNotLoaded ob) (recorded 3 ob
 abbrev pub lost_event : ℕ → StartEvent
 lost_event ob = if is_hardware ob then QueueFull ob else Missed ob
 
+-- after a request of any other OB: one that waits or is dropped leads to nothing more, one of an OB
+-- that isn't loaded requests OB 85, and one that finds its queue full is a time error
 abbrev pub after_request : Mode → ℕ → Arrived → Course → Course
 after_request mode ob Queued c = c
 after_request mode ob Dropped c = c

@@ -25,6 +25,7 @@ abbrev pub delay_counted : Option ℕ → Option ℕ
 delay_counted None = None
 delay_counted (Some left) = if nat_le left 1 then None else Some (left - 1)
 
+-- a delay that is started ends with this millisecond, where it has no more than this one left
 abbrev pub is_ending : Option ℕ → Bool
 is_ending None = false
 is_ending (Some left) = nat_le left 1
@@ -39,6 +40,7 @@ ending_from ob (delay ∷ rest) =
 abbrev pub period_counted : ℕ → ℕ → ℕ
 period_counted ob left = if nat_le left 1 then period_of ob else left - 1
 
+-- the milliseconds left of the periods of the OBs from a number on, after one millisecond
 abbrev pub periods_counted_from : ℕ → List ℕ → List ℕ
 periods_counted_from ob [] = []
 periods_counted_from ob (left ∷ rest) = period_counted ob left ∷ periods_counted_from (ob + 1) rest
@@ -57,12 +59,12 @@ clock_counted clock = (clock + 1) % 2 ^ 31
 abbrev pub delay_ended : Mode → ℕ → Course → Course
 delay_ended mode ob c = requested mode ob (start_info (Delay ob) (class_in mode ob)) c
 
--- a cyclic OB that is due: one that is disabled, or isn't loaded, makes no request; one that is still
--- pending or active is a time error
+-- a request of an OB is still pending, or the OB is one of those that are active
 abbrev pub is_waiting_or_active : List ℕ → ℕ → Scheduler → Bool
 is_waiting_or_active active ob s =
     nat_lt 0 (waiting ob s.pending) || list_any (λ number. number == ob) active
 
+-- the end of a period requests its OB: the request waits by its rank, with its start information
 abbrev pub period_queued : Mode → ℕ → Course → Course
 period_queued mode ob c =
     record c {
@@ -71,6 +73,8 @@ period_queued mode ob c =
       };
     }
 
+-- a cyclic OB that is due: one that is disabled, or isn't loaded, makes no request; one that is
+-- still pending or active is a time error; any other one is requested
 unfoldable pub period_ended : Mode → List ℕ → ℕ → Course → Course
 period_ended mode active ob c =
     if is_disabled c.sched ob then c
@@ -78,12 +82,13 @@ period_ended mode active ob c =
     else if is_waiting_or_active active ob c.sched then time_error mode (Missed ob) ob c
     else period_queued mode ob c
 
--- the cycle counter: at 151 ms it begins anew. The first time in a cycle is a time error of OB 1, the
--- second is stop cause 10
+-- the cycle counter in milliseconds, and the mark that the cycle time was exceeded, are these
 abbrev pub with_cycle : ℕ → Bool → Course → Course
 with_cycle counter exceeded c =
     record c { sched = record c.sched { cycle = record { counter = counter; exceeded = exceeded } } }
 
+-- one millisecond of the cycle counter: at 151 ms it begins anew. The first time in a cycle this is
+-- a time error of OB 1, the second time it is stop cause 10
 unfoldable pub cycle_counted : Mode → Course → Course
 cycle_counted mode c =
     let counter : ℕ = c.sched.cycle.counter + 1 in
@@ -93,7 +98,7 @@ cycle_counted mode c =
 
 -- the millisecond is counted, and the clock
 abbrev pub time_counted : Course → Course
-time_counted c = record {
+time_counted c = record c {
   sched = record c.sched { clock = clock_counted c.sched.clock };
   passed = record c.passed { ms = c.passed.ms + 1 };
 }
@@ -133,6 +138,7 @@ unfoldable pub one_ms : Mode → List ℕ → Course → Course
 one_ms mode active c =
     unless_stopped (λ c. run_passed mode active (delays_passed mode (time_counted c))) c
 
+-- a course at its begin: no millisecond has passed, and there are no stop cause and no record
 abbrev pub begun : Scheduler → Course
 begun s = record { sched = s; passed = record { ms = 0; stop = None; records = record { items = [] } } }
 

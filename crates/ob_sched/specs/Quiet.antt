@@ -15,6 +15,7 @@ pub record RunLasts (ms : ℕ) (s : Scheduler) : Type 0 where
   pub periods : All (λ left. ms ≤ left) s.countdowns.periods
   pub cycle : s.cycle.counter + ms ≤ 151
 
+-- in STARTUP and STOP periods and cycle time don't move, and nothing is asked of them
 abbrev pub RunLastsIn : Mode → ℕ → Scheduler → Type 0
 RunLastsIn Run ms s = RunLasts ms s
 RunLastsIn Startup ms s = Unit {0}
@@ -25,13 +26,15 @@ pub record Lasts (mode : Mode) (ms : ℕ) (s : Scheduler) : Type 0 where
   pub delays : All (DelayLasts ms) s.countdowns.delays
   pub run : RunLastsIn mode ms s
 
--- what such milliseconds do
+-- what such milliseconds do to the delays: each one that is started has so many less
 abbrev pub delays_shortened : ℕ → Countdowns → Countdowns
 delays_shortened ms c = record c { delays = map (option_map (λ left. left - ms)) c.delays }
 
+-- what they do to the periods: each has so many milliseconds less
 abbrev pub periods_shortened : ℕ → Countdowns → Countdowns
 periods_shortened ms c = record c { periods = map (λ left. left - ms) c.periods }
 
+-- what they do in RUN alone: to the periods, and to the cycle counter, which has so many more
 abbrev pub run_shortened : ℕ → Scheduler → Scheduler
 run_shortened ms s =
     record s {
@@ -39,13 +42,16 @@ run_shortened ms s =
       cycle = record s.cycle { counter = s.cycle.counter + ms };
     }
 
+-- in STARTUP and STOP the periods and the cycle counter stay
 abbrev pub run_shortened_in : Mode → ℕ → Scheduler → Scheduler
 run_shortened_in Run ms s = run_shortened ms s
 run_shortened_in Startup ms s = s
 run_shortened_in (Stop cause at) ms s = s
 
+-- all that they do: the clock and the delays move, in RUN the periods and the cycle counter too;
+-- the milliseconds are counted; pending requests, records and the stop cause stay
 abbrev pub waited : Mode → ℕ → Course → Course
-waited mode ms c = record {
+waited mode ms c = record c {
   sched =
       run_shortened_in mode ms
       (record c.sched {

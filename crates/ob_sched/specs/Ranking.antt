@@ -22,6 +22,7 @@ Outranks mode one other =
     (rank_in mode other < rank_in mode one)
     ⊎ ((rank_in mode one ≡ rank_in mode other) × (one.arrival < other.arrival))
 
+-- it outranks each of the others, if there are any
 abbrev pub OutranksAll : Mode → Numbered → List Numbered → Type 0
 OutranksAll mode one [] = Unit {0}
 OutranksAll mode one (other ∷ rest) = Outranks mode one other × OutranksAll mode one rest

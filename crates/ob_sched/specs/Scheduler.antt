@@ -27,6 +27,7 @@ pub record Scheduler : Type 0 where
   pub clock : ℕ
   pub cycle : CycleTime
 
+-- none of the delays of OB 20 to 23 is started
 abbrev pub no_delays : List (Option ℕ)
 no_delays = None ∷ None ∷ None ∷ None ∷ []
 
@@ -34,9 +35,11 @@ no_delays = None ∷ None ∷ None ∷ None ∷ []
 abbrev pub whole_periods : List ℕ
 whole_periods = 5000 ∷ 2000 ∷ 1000 ∷ 500 ∷ 200 ∷ 100 ∷ 50 ∷ 20 ∷ 10 ∷ []
 
+-- no OB is disabled; each number from 0 to 127 has its entry
 abbrev pub none_disabled : List Bool
 none_disabled = replicate 128 false
 
+-- the cycle counter at 0, and the cycle time not exceeded
 abbrev pub new_cycle : CycleTime
 new_cycle = record { counter = 0; exceeded = false }
 
@@ -51,9 +54,11 @@ at_rest loaded = record {
   cycle = new_cycle;
 }
 
+-- the OB is one of those that are loaded; nothing adds or removes one
 abbrev pub is_loaded : Scheduler → ℕ → Bool
 is_loaded s ob = list_any (λ number. number == ob) s.loaded
 
+-- the OB is disabled; one of a number above 127 never is
 abbrev pub is_disabled : Scheduler → ℕ → Bool
 is_disabled s ob = slice_index_or s.disabled ob false
 
@@ -72,6 +77,7 @@ after_arrival Dropped ob info s = s
 after_arrival NotLoaded ob info s = s
 after_arrival Full ob info s = s
 
+-- a request of an OB, with its start information: it waits, or the scheduler stays as it is
 abbrev pub arrived : ℕ → StartInfo → Scheduler → Scheduler
 arrived ob info s = after_arrival (arrival s ob) ob info s
 
@@ -87,6 +93,7 @@ disabled_as disabled ob s = record s { disabled = slice_set s.disabled ob disabl
 abbrev pub delay_set : Option ℕ → ℕ → Countdowns → Countdowns
 delay_set left ob c = record c { delays = slice_set c.delays (ob - 20) left }
 
+-- the milliseconds left of the delay of OB 20 to 23; none where it isn't started
 abbrev pub delay_of : Countdowns → ℕ → Option ℕ
 delay_of c ob = slice_index_or c.delays (ob - 20) None
 
@@ -102,6 +109,7 @@ delay_cancelled ob s = record s { countdowns = delay_set None ob s.countdowns }
 abbrev pub counter_cleared : CycleTime → CycleTime
 counter_cleared cycle = record cycle { counter = 0 }
 
+-- the scheduler after RE_TRIGR; all else stays
 abbrev pub retriggered : Scheduler → Scheduler
 retriggered s = record s { cycle = counter_cleared s.cycle }
 
@@ -113,7 +121,7 @@ cycle_begun s = record s { cycle = new_cycle }
 abbrev pub run_begun : Scheduler → Scheduler
 run_begun s =
     record s {
-      countdowns = record { delays = s.countdowns.delays; periods = whole_periods };
+      countdowns = record s.countdowns { periods = whole_periods };
       cycle = counter_cleared s.cycle;
     }
 
@@ -122,7 +130,7 @@ abbrev pub stopped : Scheduler → Scheduler
 stopped s =
     record s {
       pending = [];
-      countdowns = record { delays = no_delays; periods = s.countdowns.periods };
+      countdowns = record s.countdowns { delays = no_delays };
     }
 
 -- a start of the controller: disabling, the clock, the cycle counter and the mark are cleared

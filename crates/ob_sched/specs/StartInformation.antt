@@ -82,10 +82,11 @@ value_of (Arrival ob value) = value
 value_of (Synchronous code kind number line) = line
 value_of event = 0
 
--- a number in two and in four bytes, the highest first
+-- a number in two bytes, the higher one first; of a greater number the lowest 16 bits
 abbrev pub two_bytes : ℕ → List ℕ
 two_bytes n = n / 256 % 256 ∷ n % 256 ∷ []
 
+-- a number in four bytes, the highest one first; of a greater number the lowest 32 bits
 abbrev pub four_bytes : ℕ → List ℕ
 four_bytes n = two_bytes (n / 65536) ++ two_bytes n
 

@@ -16,6 +16,7 @@ bit_memory_size = 256
 abbrev pub upper_start : ℕ
 upper_start = 256
 
+-- how many these further bytes are: 256 to 767
 abbrev pub upper_size : ℕ
 upper_size = 512
 

@@ -1,4 +1,4 @@
-//! Calls with a file of symbols: what symbols mean, and in which order files are read and judged.
+//! Calls with a file of symbols: what symbols mean, and in which order files are read and checked.
 use crate::calls::{ONE_RUN, RUNG, call, two_files};
 use arrayvec::ArrayVec;
 use plc_io::{MemFiles, MemSink};

@@ -150,7 +150,7 @@ static CALLED: [Row; 23] = [
         0,
         0,
     ),
-    // A block with a fault in its parameters isn't judged, and nor is one that is absent.
+    // A block with a fault in its parameters isn't checked, and nor is one that is absent.
     (b"CALL FC 4;\nUC FC 4;\nCALL FC 9;\nCALL FB 1, DB 9;", 0, 0),
     (b"CALL FC 4 (num := #other);", 2, 20),
     // The least line, and on one line the least rule.

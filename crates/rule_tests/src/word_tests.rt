@@ -79,7 +79,7 @@ static OPERANDS: [&[u8]; 52] = [
 
 /// Instruction words that take the same operands, with what stands before and behind each statement
 /// on its line, and what they say to each of the operands: `.` right, `n` rule 20, the name; `w` rule
-/// 24, the width; `f` rule 25, the form; `l` rule 26, the label; `i` rule 39, an input; `-` not judged
+/// 24, the width; `f` rule 25, the form; `l` rule 26, the label; `i` rule 39, an input; `-` not checked
 /// with the statements.
 type Words = (
     &'static [&'static [u8]],

@@ -1,4 +1,4 @@
--- How a command comes out: its files are read one after the other, then judged, and then its text is written.
+-- How a command comes out: its files are read one after the other, then checked, and then its text is written.
 use Rattle.std.proofs.Common.{◌≡◌, inl, inr, refl, sym, ◌∙◌, ap, subst, ℕ, List, [], ◌∷◌, ◌++◌, Option, Some, Result, Ok, Err, Contains, arith}
 use Rattle.plc_io.specs.Contents.{Contents, Agrees, SameFiles}
 use Rattle.plc_io.specs.Counts.{Rose, SameCounts, NeverFell}

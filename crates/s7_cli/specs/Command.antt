@@ -3,7 +3,7 @@ use Rattle.std.specs.Prelude.{ℕ, List, [], ◌∷◌, ◌++◌, Option, Some, 
 use Rattle.s7_cli.specs.declared.failures.File.{File}
 use Rattle.s7_cli.specs.declared.failures.File.TheVariants.{Source, Symbols, History}
 
--- `go SRC HIST` runs a source along a history; `check SRC` judges a source; each with a file of
+-- `go SRC HIST` runs a source along a history; `check SRC` checks a source; each with a file of
 -- symbols where `--symbols FILE` names one
 pub data Command : Type 0 where
   Go : (source : List ℕ) (symbols : Option (List ℕ)) (history : List ℕ) → Command
@@ -14,6 +14,7 @@ pub record Input : Type 0 where
   pub file : File
   pub name : List ℕ
 
+-- the symbols file, where `--symbols` names one
 abbrev pub symbols_inputs : Option (List ℕ) → List Input
 symbols_inputs None = []
 symbols_inputs (Some symbols) = record { file = Symbols; name = symbols } ∷ []

@@ -15,6 +15,7 @@ pub record Taking : Type 0 where
   pub before : SinkAt
   pub after : SinkAt
 
+-- the sink at these two moments, the start of the call first
 abbrev pub taking : SinkAt → SinkAt → Taking
 taking before after = record { before = before; after = after }
 

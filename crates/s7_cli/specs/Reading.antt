@@ -11,6 +11,7 @@ pub record Disk : Type 0 where
   pub before : FilesAt
   pub after : FilesAt
 
+-- the files at these two moments, the start of the call first
 abbrev pub disk : FilesAt → FilesAt → Disk
 disk before after = record { before = before; after = after }
 

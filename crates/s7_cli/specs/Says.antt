@@ -16,14 +16,14 @@ abbrev pub refused_program : Refused → Answer
 refused_program (InSymbols refusal) = refused Symbols refusal
 refused_program (InSource refusal) = refused Source refusal
 
--- `go`: the source with its symbols is judged first, then the history; else the text of the run is
+-- `go`: the source with its symbols is checked first, then the history; else the text of the run is
 -- told
 abbrev pub go_answer : Result Code Refused → Result (List Entry) Refusal → Answer
 go_answer (Err why) history = refused_program why
 go_answer (Ok code) (Err refusal) = refused History refusal
 go_answer (Ok code) (Ok entries) = done (run_text code entries)
 
--- `check`: the source with its symbols is judged
+-- `check`: the source with its symbols is checked
 abbrev pub check_answer : Result Code Refused → Answer
 check_answer (Err why) = refused_program why
 check_answer (Ok code) = done ok_line
@@ -35,6 +35,7 @@ GoSays source symbols history answer =
     (judged : Result Code Refused) × IsJudged source symbols judged
     × (answer ≡ go_answer judged (history_of history))
 
+-- what `check` answers, over the contents of its files
 abbrev pub CheckSays : (source : List ℕ) (symbols : Option (List ℕ)) → Answer → Type 0
 CheckSays source symbols answer =
     (judged : Result Code Refused) × IsJudged source symbols judged × (answer ≡ check_answer judged)

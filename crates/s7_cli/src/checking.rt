@@ -16,7 +16,7 @@ use std::alloc::Global;
 /// What `check` writes for a source that is accepted.
 const OK_LINE: &[u8] = b"OK\n";
 
-/// Reads a source with its symbols, judges it, and writes `OK`.
+/// Reads a source with its symbols, checks it, and writes `OK`.
 fn check<F: Files, K: Sink>(
     alloc: Global,
     src: &str,
@@ -33,7 +33,7 @@ fn check<F: Files, K: Sink>(
     write_text(out, OK_LINE)
 }
 
-/// Judges the source in the file `src`, with the symbols in the file `symbols` if there is one, and
+/// Checks the source in the file `src`, with the symbols in the file `symbols` if there is one, and
 /// writes `OK`, or the line of a refusal.
 pub fn cmd_check<F: Files, K: Sink>(
     alloc: Global,

@@ -14,7 +14,7 @@ use plc_io::{Files, Sink};
 use run_text::replay_text;
 use std::alloc::Global;
 
-/// Reads a source with its symbols and a history, judges all, and writes the run.
+/// Reads a source with its symbols and a history, checks all, and writes the run.
 fn go<F: Files, K: Sink>(
     alloc: Global,
     src: &str,

@@ -16,7 +16,7 @@ use image_file::Loaded;
 use std::alloc::Global;
 use var_access::Entry;
 
-/// Judges a source with its symbols.
+/// Checks a source with its symbols.
 pub fn judge_program(alloc: Global, text: &ProgramText) -> Result<(), Failure>
     requires { IsWithin text.now }
     ensures accepted { IfOk result
@@ -26,7 +26,7 @@ pub fn judge_program(alloc: Global, text: &ProgramText) -> Result<(), Failure>
     Ok(judged(alloc, &text.source, text.symbols())?)
 }
 
-/// Judges a source with its symbols, and then a history.
+/// Checks a source with its symbols, and then a history.
 pub fn judge(
     alloc: Global,
     text: &ProgramText,

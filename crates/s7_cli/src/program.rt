@@ -15,7 +15,7 @@ use std::sync::Wait;
 use std::thread::Threads;
 
 /// Does what the words of a call ask for, without the program's name: `go SRC HIST` runs a source
-/// along a history, `check SRC` judges a source; `--symbols FILE` gives either of them a file of
+/// along a history, `check SRC` checks a source; `--symbols FILE` gives either of them a file of
 /// symbols. The status is that of the text that `out` took:
 ///
 /// | Status | When |

@@ -16,7 +16,7 @@ pub enum Asked<'a> {
         symbols: Option<&'a str>,
         history: &'a str,
     },
-    /// Judge a source, with its symbols.
+    /// Check a source, with its symbols.
     Check {
         source: &'a str,
         symbols: Option<&'a str>,

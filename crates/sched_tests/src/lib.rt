@@ -1,4 +1,4 @@
-//! Tests of the scheduler by its public items: values worked out by hand from the rules, which judge
+//! Tests of the scheduler by its public items: values worked out by hand from the rules, which check
 //! the definitions that the proofs rest on.
 #![tactic(auto)]
 

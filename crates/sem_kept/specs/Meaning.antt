@@ -43,6 +43,7 @@ abbrev pub sound_by : Tree → Option Refusal → Result Tree Refusal
 sound_by tree None = Ok tree
 sound_by tree (Some refusal) = Err refusal
 
+-- the tree itself where it breaks no rule on layout or statements, or else the least refusal
 abbrev pub IsSound : List Symbol → Tree → Result Tree Refusal → Type 0
 IsSound symbols tree outcome = outcome ≡ sound_by tree (least (refusals_of symbols tree))
 
@@ -58,8 +59,8 @@ HasCode symbols tree outcome = outcome ≡ Ok (code_in symbols tree)
 
 -- ---- in turn
 
--- a source with these symbols is judged by its tokens, its clauses, and its layout together with its
--- statements; where it breaks no rule, it means its statements
+-- a source with these symbols is checked by its tokens, its clauses, and its layout together with
+-- its statements; where it breaks no rule, it means its statements
 abbrev pub IsJudgedWith : (source : List ℕ) → List Symbol → Result Code Refusal → Type 0
 IsJudgedWith source symbols outcome =
     InTurn HasTokens (InTurn (HasTree source) (InTurn (IsSound symbols) (HasCode symbols)))
@@ -70,7 +71,7 @@ pub data Refused : Type 0 where
   InSymbols : (refusal : Refusal) → Refused
   InSource : (refusal : Refusal) → Refused
 
--- the symbols are judged first, and then the source with them
+-- the symbols are checked first, and then the source with them
 unfoldable pub IsJudged :
     (source : List ℕ) (symbols : Option (List ℕ)) → Result Code Refused → Type 0
 IsJudged source symbols (Ok code) =

@@ -45,6 +45,7 @@ SourcesResume =
     → MeansCode source symbols code → IsSuspended code history place first last
     → Resumes code history place first last
 
+-- so it is over a program that is loaded
 abbrev pub ImagesResume : Type 0
 ImagesResume =
     (l : LoadedProgram) (history : List What) (place first last : ℕ)

@@ -2,7 +2,7 @@
 use Rattle.std.specs.Prelude.{◌≡◌, ◌⊎◌, Result, Ok, Err}
 use Rattle.plc_base.specs.declared.refusals.Refusal.{Refusal}
 
--- two stages in turn: the second judges what the first has made; a refusal of the first is that of
+-- two stages in turn: the second checks what the first has made; a refusal of the first is that of
 -- both
 abbrev pub InTurn : {A B C : Type 0} (first : A → Result B Refusal → Type 0)
     (second : B → Result C Refusal → Type 0) → A → Result C Refusal → Type 0

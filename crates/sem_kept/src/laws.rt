@@ -8,7 +8,7 @@ ghost use Rattle.sem_kept.specs.Meaning.{
 };
 ghost use Rattle.sem_kept.specs.Resumption.{SourcesResume, ImagesResume};
 
-/// A source with its symbols is judged in one way: it means at most one code, none where it is
+/// A source with its symbols is checked in one way: it means at most one code, none where it is
 /// refused, there is at most one refusal, and each source means a code or is refused.
 pub fn law_of_sources()
     ensures one_meaning { IsMeaningUnique }

@@ -60,6 +60,7 @@ abbrev pub is_date_and_time : ElementType → Bool
 is_date_and_time element.DateAndTime = true
 is_date_and_time _ = false
 
+-- a type without bounds, which is no array
 abbrev pub is_single : List Bounds → Bool
 is_single [] = true
 is_single (b ∷ bs) = false

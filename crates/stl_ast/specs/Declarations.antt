@@ -19,6 +19,7 @@ abbrev pub IsElement : ElementType → Type 0
 IsElement (element.Udt name) = IsNameOf (λ k. k ≡ kind.Udt) name
 IsElement _ = Unit {0}
 
+-- the count before an initial value, 0 to 65535, where there is one
 abbrev pub IsCount : Option ℕ → Type 0
 IsCount None = Unit {0}
 IsCount (Some n) = IsNumber n
@@ -51,5 +52,6 @@ abbrev pub is_plain : List Bounds → ElementType → Bool
 is_plain [] (element.Plain kind) = true
 is_plain _ _ = false
 
+-- BOOL, BYTE, CHAR, WORD, INT, S5TIME, DWORD, DINT or TIME, and no array of it
 abbrev pub is_elementary : Declaration → Bool
 is_elementary d = is_plain d.of.arrays d.of.of

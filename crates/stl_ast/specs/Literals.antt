@@ -17,6 +17,7 @@ IsDecimal n = IsBetween 32768 65535 n
 abbrev pub IsLong : ℤ → Type 0
 IsLong n = IsBetween (2 ^ 31) (2 ^ 31 - 1) n
 
+-- the numbers of `B#(a,b)` and `B#(a,b,c,d)`: 0 to 255 each
 abbrev pub AreBytes : List ℕ → Type 0
 AreBytes bytes = AllByRecursion (λ b. b ≤ 255) bytes
 

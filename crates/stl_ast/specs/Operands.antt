@@ -26,9 +26,11 @@ abbrev pub IsNameOf : (BlockKind → Type 0) → BlockName → Type 0
 IsNameOf kinds (block.Number id) = kinds id.kind × IsNumber id.number
 IsNameOf kinds (block.Quoted name) = Unit {0}
 
+-- a block of any kind: which kinds may be called is checked later (rule 25)
 abbrev pub IsAnyName : BlockName → Type 0
 IsAnyName name = IsNameOf (λ k. Unit {0}) name
 
+-- a data block by its number, or a quoted name, whatever block its symbol is
 abbrev pub IsDataBlockName : BlockName → Type 0
 IsDataBlockName name = IsNameOf (λ k. k ≡ kind.Db) name
 
@@ -37,9 +39,11 @@ abbrev pub IsStep : PathStep → Type 0
 IsStep (step.Named name) = Unit {0}
 IsStep (step.Index at) = IsDecimal at
 
+-- the steps of a path: any names, and indexes in the range of a decimal number
 abbrev pub AreSteps : List PathStep → Type 0
 AreSteps steps = AllByRecursion IsStep steps
 
+-- a path whose first step is a name: an empty one is none, nor is one that begins with an index
 abbrev pub BeginsByName : List PathStep → Type 0
 BeginsByName [] = ⊥
 BeginsByName (step.Named name ∷ steps) = Unit {0}

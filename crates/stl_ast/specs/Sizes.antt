@@ -20,11 +20,14 @@ abbrev pub block_size : Option BlockName → ℕ
 block_size None = 0
 block_size (Some name) = 4
 
+-- a path or symbol comes to one place, that of a component in a named data block with the op
+-- before it that opens the block
 abbrev pub path_size : PathHead → ℕ
 path_size (head.Local name) = 7
 path_size (head.InBlock name) = 11
 path_size (head.Symbol name) = 7
 
+-- the most bytes of the op of an operand's instruction and of the one before it that opens a block
 abbrev pub op_size : Operand → ℕ
 op_size operand.Nothing = 2
 op_size (operand.Direct name area w byte bit) = 7 + block_size name
@@ -42,6 +45,7 @@ op_size (operand.Other name) = 6
 op_size (operand.OpenBlock di name) = 5
 op_size (operand.Called name instance) = 7
 
+-- `;` alone takes nothing; else 4 for the line, the ops of the operand, 11 an actual parameter
 abbrev pub code_size : Mnemonic → Operand → ℕ → ℕ
 code_size code.Empty o count = 0
 code_size _ o count = 4 + op_size o + 11 * count
@@ -55,6 +59,7 @@ statement_size s = code_size s.code s.operand (length s.actuals)
 abbrev pub return_size : BlockKind → ℕ
 return_size k = if has_body k then 6 else 0
 
+-- the statements of a block, and the one that returns, if its kind has a body
 abbrev pub body_size : Block → ℕ
 body_size b = return_size b.kind + sum_by statement_size b.body
 

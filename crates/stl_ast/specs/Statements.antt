@@ -44,22 +44,27 @@ abbrev pub has_actuals : Mnemonic → Bool
 has_actuals code.Call = true
 has_actuals _ = false
 
+-- the empty statement, `;` alone: it counts as none and has no code
 abbrev pub is_empty : Mnemonic → Bool
 is_empty code.Empty = true
 is_empty _ = false
 
+-- no operand, as with SET; every actual parameter has one
 abbrev pub is_nothing : Operand → Bool
 is_nothing operand.Nothing = true
 is_nothing _ = false
 
+-- a label, the target of a jump
 abbrev pub is_label : Operand → Bool
 is_label (operand.Label name) = true
 is_label _ = false
 
+-- a block that is called, with an instance or without
 abbrev pub is_called : Operand → Bool
 is_called (operand.Called name instance) = true
 is_called _ = false
 
+-- a block and its instance data block, as in `CALL FB 1, DB 5`
 abbrev pub has_instance : Operand → Bool
 has_instance (operand.Called name (Some instance)) = true
 has_instance _ = false
@@ -68,10 +73,12 @@ has_instance _ = false
 abbrev pub IsLabel : List ℕ → Type 0
 IsLabel name = length name ≤ 4
 
+-- the label before a statement, where it has one
 abbrev pub IsLabelOf : Option (List ℕ) → Type 0
 IsLabelOf None = Unit {0}
 IsLabelOf (Some name) = IsLabel name
 
+-- the label behind a jump is as short as that before a statement; other operands are no targets
 abbrev pub IsTarget : Operand → Type 0
 IsTarget (operand.Label name) = IsLabel name
 IsTarget _ = Unit {0}
@@ -83,6 +90,7 @@ pub record IsActual (a : Actual) : Type 0 where
   pub no_block : is_called a.value ≡ false
   pub no_label : is_label a.value ≡ false
 
+-- the actual parameters of a statement, each right by itself; there may be none
 abbrev pub AreActuals : List Actual → Type 0
 AreActuals actuals = AllByRecursion IsActual actuals
 

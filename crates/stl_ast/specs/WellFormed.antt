@@ -41,6 +41,7 @@ abbrev pub IsDeclaredIn : BlockKind → PartKind → Declaration → Type 0
 IsDeclaredIn k p d =
     IsDeclaration d × (may_declare k p d.level d ≡ true) × (is_parameter p ≡ true → is_elementary d ≡ true)
 
+-- all declarations of a section, the components of its structures among them
 abbrev pub AreDeclaredIn : BlockKind → PartKind → List Declaration → Type 0
 AreDeclaredIn k p ds = AllByRecursion (IsDeclaredIn k p) ds
 
@@ -53,6 +54,7 @@ abbrev pub AreInOrder : ℕ → List Part → Type 0
 AreInOrder least [] = Unit {0}
 AreInOrder least (p ∷ ps) = (least ≤ part_rank p.kind) × AreInOrder (part_rank p.kind + 1) ps
 
+-- the sections of a block: each at most once, from VAR_INPUT to VAR_TEMP, and right by itself
 abbrev pub AreSections : BlockKind → List Part → Type 0
 AreSections k ps = AreInOrder 0 ps × AllByRecursion (IsSection k) ps
 
@@ -60,6 +62,7 @@ AreSections k ps = AreInOrder 0 ps × AllByRecursion (IsSection k) ps
 abbrev pub IsComponent : Declaration → Type 0
 IsComponent d = IsDeclaration d × (is_date_and_time d.of.of ≡ false)
 
+-- all its components, those of inner structures among them; the outermost stand at level 0
 abbrev pub AreComponents : List Declaration → Type 0
 AreComponents ds = IsOutline 0 ds × AllByRecursion IsComponent ds
 
@@ -98,6 +101,8 @@ AreSettings k ss = AllByRecursion IsSetting ss × (has_settings k ≡ false → 
 abbrev pub IsBody : BlockKind → List Statement → Type 0
 IsBody k body = AllByRecursion IsStatement body × (has_body k ≡ false → body ≡ [])
 
+-- a block of the source: its kind says which return value, sections, type, settings and statements
+-- it may have
 pub record IsBlock (b : Block) : Type 0 where
   pub head : IsSourceKind b.kind
   pub named : IsHeadName b.kind b.name

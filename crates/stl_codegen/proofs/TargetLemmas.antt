@@ -6,7 +6,8 @@ use Rattle.stl_ast.specs.declared.statements.Statement.{Statement}
 use Rattle.stl_symbols.specs.Names.{place_of}
 use Rattle.stl_types.specs.Labels.{label_of, labels_of}
 use Rattle.stl_types.specs.Lists.{has_label}
-use Rattle.stl_codegen.specs.Bodies.{AreTargets, count_of, number_here, numbers_of, or_0}
+use Rattle.block_layout.specs.Fits.{or_0}
+use Rattle.stl_codegen.specs.Bodies.{AreTargets, count_of, number_here, numbers_of}
 use Rattle.stl_codegen.specs.Instruction.{counted, target_in}
 
 -- the number at a place; with no place, how many there are

@@ -21,33 +21,32 @@ ops_here c body s = if is_empty s.code then [] else ops_of (instruction c body 0
 abbrev pub body_ops : Context → Block → List OpData
 body_ops c b = flat_map (λ s. ops_here c b.body s) b.body ++ end_op ends.Be ∷ []
 
--- its lines
+-- the line of a statement; an empty one has none
 abbrev pub line_here : Statement → List ℕ
 line_here s = if is_empty s.code then [] else s.line ∷ []
 
+-- the lines of a body: of each statement but the empty ones, and of its END clause
 abbrev pub body_lines : Block → List ℕ
 body_lines b = flat_map line_here b.body ++ b.end_line ∷ []
 
--- how many statements these are, empty ones left out
+-- 0 for the empty statement, which has no number, and 1 for every other one
 abbrev pub counted_by : Mnemonic → ℕ
 counted_by code = if is_empty code then 0 else 1
 
+-- how many statements these are, empty ones left out
 abbrev pub count_of : List Statement → ℕ
 count_of [] = 0
 count_of (s ∷ ss) = counted s + count_of ss
 
--- the number of the statement of each label, of statements from a number on
+-- the number of a statement, in a list, where it has a label
 abbrev pub number_here : (n : ℕ) → Option (List ℕ) → List ℕ
 number_here n None = []
 number_here n (Some label) = n ∷ []
 
+-- the number of the statement of each label, of statements from a number on
 abbrev pub numbers_of : (n : ℕ) → List Statement → List ℕ
 numbers_of n [] = []
 numbers_of n (s ∷ ss) = number_here n s.label ++ numbers_of (n + counted s) ss
-
-abbrev pub or_0 : Option ℕ → ℕ
-or_0 None = 0
-or_0 (Some n) = n
 
 -- the labels of a body with these numbers, and how many statements it has
 pub record AreTargets (body : List Statement) (names : List (List ℕ)) (places : List ℕ) (total : ℕ)

@@ -29,6 +29,7 @@ offset_from at true (op ∷ ops) zero = at
 offset_from at true (op ∷ ops) (suc n) = offset_from (at + size op) op.last ops n
 offset_from at false (op ∷ ops) n = offset_from (at + size op) op.last ops n
 
+-- the byte offset of the statement of a number, from 0; past the last one that of the code's end
 unfoldable pub offset_of : List OpData → ℕ → ℕ
 offset_of ops n = offset_from 0 true ops n
 
@@ -37,6 +38,7 @@ abbrev pub aimed : (ℕ → ℕ) → Operand → Operand
 aimed f (operand.Jump kind target) = operand.Jump kind (f target)
 aimed f o = o
 
+-- an op with its target by such a function; one that is no jump stays as it is
 abbrev pub aimed_op : (ℕ → ℕ) → OpData → OpData
 aimed_op f op = record op { operand = aimed f op.operand }
 
@@ -48,6 +50,7 @@ placed_ops ops = map (aimed_op (offset_of ops)) ops
 abbrev pub code_in : List Stated → List OpData
 code_in statements = placed_ops (ops_in statements)
 
+-- the source line of each statement, in order
 abbrev pub lines_in : List Stated → List ℕ
 lines_in statements = map (λ s. s.line) statements
 
@@ -59,6 +62,7 @@ pub record StatedBlock : Type 0 where
   pub params : List Param
   pub statements : List Stated
 
+-- the code block of these statements: their ops with byte offsets as targets, and their lines
 abbrev pub compiled : StatedBlock → CodeBlock
 compiled b = record {
   id = b.id;

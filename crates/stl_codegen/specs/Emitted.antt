@@ -20,6 +20,7 @@ use Rattle.flat_code.specs.declared.words.Word.TheVariants as word
 abbrev pub preparing : Word → Operand → OpData
 preparing w o = op_of (code_of w) false o
 
+-- the last op of a statement, which has the end mark
 abbrev pub ending : Word → Operand → OpData
 ending w o = op_of (code_of w) true o
 
@@ -33,6 +34,7 @@ abbrev pub passing : List Passing → List OpData
 passing [] = []
 passing (p ∷ ps) = preparing word.Pass (operand.Pass p.index p.actual) ∷ passing ps
 
+-- a jump, also LOOP and JL, by its kind and its target
 abbrev pub jump_op : JumpWord → (target : ℕ) → OpData
 jump_op how target = ending word.Jump (operand.Jump (kind_of how) target)
 
@@ -47,14 +49,17 @@ abbrev pub instance_number : Option ℕ → ℕ
 instance_number None = 0
 instance_number (Some number) = number
 
+-- CALL, UC or CC, with kind and number of the called block, and the number of the instance or 0
 abbrev pub call_op : CallWord → BlockId → (instance : Option ℕ) → OpData
 call_op how block instance =
     ending (word.Call how)
     (operand.Called (called_kind block.kind) block.number (instance_number instance))
 
+-- BE, BEC or BEU, which have no operand
 abbrev pub end_op : EndWord → OpData
 end_op how = ending (word.End how) operand.Nothing
 
+-- the ops of an instruction: those that prepare, USEDB or PASS, and the last one
 unfoldable pub ops_of : Instr → List OpData
 ops_of (Does use_db w o) = opening use_db ++ ending w o ∷ []
 ops_of (Jumps how target) = jump_op how target ∷ []

@@ -53,6 +53,7 @@ stated_from c body n (s ∷ ss) =
 abbrev pub returning : Block → Stated
 returning b = record { instr = Returns ends.Be; line = b.end_line }
 
+-- the statements of a code block: those of its body, numbered from 0, and the one that returns
 unfoldable pub statements_of : Context → Block → List Stated
 statements_of c b = stated_from c b.body 0 b.body ++ returning b ∷ []
 
@@ -64,28 +65,34 @@ section_number part.Input = 1
 section_number part.Output = 2
 section_number _ = 3
 
+-- a parameter by its section, its width, and its place so many bits from the start
 abbrev pub param : (section : ℕ) → Width → (bits : ℕ) → Param
 param section width bits =
     record { section = section; width = width; byte = bits / 8; bit = bits % 8 }
 
--- a parameter of a function block has its place in the instance
+-- the offset of a component in its structure, in bits; 0 where there is no such component
 abbrev pub offset_named : Option Member → ℕ
 offset_named None = 0
 offset_named (Some m) = m.offset
 
+-- a parameter of a function block has its place in the instance, that of the component of its name;
+-- one of a function has none, which is written 0
 abbrev pub param_bits : (in_instance : Bool) → List Cell → Cell → ℕ
 param_bits in_instance cells c =
     if in_instance then offset_named (component 0 0 0 c.name cells) else 0
 
+-- the parameter that a component of elementary type is; no other type makes one
 abbrev pub param_of : (in_instance : Bool) → List Cell → Cell → Element → List Param
 param_of in_instance cells c (element.Plain kind) =
     param (section_number c.section) (width_of kind) (param_bits in_instance cells c) ∷ []
 param_of in_instance cells c _ = []
 
+-- the parameter that a component is, if its section is IN, OUT or IN_OUT
 abbrev pub param_here : (in_instance : Bool) → List Cell → Cell → List Param
 param_here in_instance cells c =
     if is_parameter c.section then param_of in_instance cells c c.of else []
 
+-- the parameters of a block by their index in a call: in the order of the text, RET_VAL the last
 unfoldable pub params_of : Block → BlockLayout → List Param
 params_of b l =
     in_order (Some b)
@@ -93,9 +100,11 @@ params_of b l =
 
 -- ---- blocks
 
+-- an instance has as many bytes as the structure of its function block; other blocks have none
 abbrev pub instance_len : Block → BlockLayout → ℕ
 instance_len b l = if is_function_block b.kind then l.length else 0
 
+-- a code block of the source by its kind and number: its lengths, its parameters, its statements
 abbrev pub code_block : Context → Block → BlockLayout → BlockId → StatedBlock
 code_block c b l id = record {
   id = id;
@@ -105,6 +114,7 @@ code_block c b l id = record {
   statements = statements_of c b;
 }
 
+-- the code block of an OB, FC or FB; no other block has one, nor does one without kind and number
 abbrev pub code_block_of : Context → Block → BlockLayout → Option BlockId → List StatedBlock
 code_block_of c b l None = []
 code_block_of c b l (Some id) = if is_code id.kind then code_block c b l id ∷ [] else []
@@ -114,11 +124,14 @@ abbrev pub function_block_number : Option BlockId → Option ℕ
 function_block_number None = None
 function_block_number (Some id) = if is_function_block id.kind then Some id.number else None
 
+-- the number of the function block whose structure a data block has; none where it has its own,
+-- or that of a data type
 abbrev pub instance_in : List BlockLayout → Shape → Option ℕ
 instance_in layouts (shape.Of block) =
     option_and_then (λ l. function_block_number l.id) (slice_get layouts block)
 instance_in layouts _ = None
 
+-- a data block: its number, the function block whose instance it is, its initial bytes
 abbrev pub data_block : Context → BlockLayout → BlockId → DataBlock
 data_block c l id = record {
   number = id.number;
@@ -126,6 +139,7 @@ data_block c l id = record {
   bytes = initial_bytes c.layouts c.blocks c.block;
 }
 
+-- the data block of a DB; no other block has one, nor does one without kind and number
 abbrev pub data_block_of : Context → BlockLayout → Option BlockId → List DataBlock
 data_block_of c l None = []
 data_block_of c l (Some id) = if is_data_block id.kind then data_block c l id ∷ [] else []
@@ -147,12 +161,14 @@ has_name area.Q = true
 has_name area.M = true
 has_name _ = false
 
+-- the name of a symbol in upper case, with its variable in I, Q or M; none for another symbol
 abbrev pub name_entry : List ℕ → Target → List NameEntry
 name_entry name (target.Variable place width) =
     if has_name place.area
     then record { name = upper_case name; place = place; width = width } ∷ [] else []
 name_entry name _ = []
 
+-- the names of a program, rising by their bytes
 abbrev pub names_of : List Symbol → List NameEntry
 names_of symbols = sorted is_name_before (flat_map (λ s. name_entry s.name s.target) symbols)
 
@@ -165,12 +181,14 @@ code_blocks_of t symbols layouts =
     (each_block (λ c b l. code_block_of c b l l.id) (first_context symbols layouts t.blocks)
     t.blocks layouts)
 
+-- its data blocks, by number
 unfoldable pub data_blocks_of : Tree → List Symbol → List BlockLayout → List DataBlock
 data_blocks_of t symbols layouts =
     sorted is_data_before
     (each_block (λ c b l. data_block_of c l l.id) (first_context symbols layouts t.blocks)
     t.blocks layouts)
 
+-- the program of a source: its code blocks, its data blocks, and the names of its symbols
 abbrev pub program_of : Tree → List Symbol → List BlockLayout → Program
 program_of t symbols layouts = record {
   code_blocks = map compiled (code_blocks_of t symbols layouts);

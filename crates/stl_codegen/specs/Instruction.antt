@@ -26,14 +26,16 @@ use Rattle.stl_codegen.specs.Operands.{opened_by, operand_of}
 use Rattle.stl_codegen.specs.Passed.{passings_from}
 use Rattle.stl_codegen.specs.Words.{jump_of, call_of, end_of, word_of}
 
--- the number of the first statement that has a label
+-- 0 for an empty statement, which has no number, and 1 for every other one
 abbrev pub counted : Statement → ℕ
 counted s = if is_empty s.code then 0 else 1
 
+-- the number of the first statement that has a label; where none has it, how many there are
 unfoldable pub target_in : List ℕ → List Statement → ℕ
 target_in name [] = 0
 target_in name (s ∷ ss) = if has_label name s.label then 0 else counted s + target_in name ss
 
+-- the target of a jump, by the label that is its operand; 0 for an operand that is no label
 abbrev pub target_of : List Statement → Operand → ℕ
 target_of body (operand.Label name) = target_in name body
 target_of body _ = 0
@@ -54,13 +56,16 @@ abbrev pub return_last : {A : Type 0} → Option Simple → List A → List A
 return_last None params = params
 return_last (Some result) params = drop 1 params ++ take 1 params
 
+-- the same for a block of the source; the parameters of a system function stand so already
 abbrev pub in_order : {A : Type 0} → Option Block → List A → List A
 in_order None params = params
 in_order (Some b) params = return_last b.result params
 
+-- the block of the source at a place; none for a system function, which has no place
 abbrev pub block_at : List Block → Option ℕ → Option Block
 block_at blocks place = option_and_then (slice_get blocks) place
 
+-- what a statement passes to the block that it calls; nothing where no such block is known
 abbrev pub passings_to : Context → Statement → Option Callee → List Passing
 passings_to c s None = []
 passings_to c s (Some callee) =
@@ -76,18 +81,22 @@ call_instr c s how (view.Called id instance) =
     Calls how id instance (passings_to c s (callee_of c s.operand))
 call_instr c s how _ = filler
 
+-- BE, BEC and BEU return; every other instruction goes on to the next statement, with its operand
 abbrev pub end_instr : Statement → View → Option EndWord → Instr
 end_instr s v None = Does (opened_by v) (word_of s.code s.operand v) (operand_of s.operand v)
 end_instr s v (Some how) = Returns how
 
+-- CALL, UC and CC call a block; every other instruction returns or goes on
 abbrev pub view_instr : Context → Statement → View → Option CallWord → Instr
 view_instr c s v None = end_instr s v (end_of s.code)
 view_instr c s v (Some how) = call_instr c s how v
 
+-- the instruction by what its operand names; NOP 0 where the operand names nothing that it takes
 abbrev pub resolved_instr : Context → Statement → Option View → Instr
 resolved_instr c s None = filler
 resolved_instr c s (Some v) = view_instr c s v (call_of s.code)
 
+-- a jump goes to the statement of its label; every other instruction acts on what its operand names
 abbrev pub instr_by : Context → List Statement → (n : ℕ) → Statement → Option JumpWord → Instr
 instr_by c body n s None = resolved_instr c s (resolved c s)
 instr_by c body n s (Some how) = jump_instr how n (target_of body s.operand)

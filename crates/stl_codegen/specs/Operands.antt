@@ -29,13 +29,16 @@ is_db _ = false
 abbrev pub is_in_named_block : Place → Bool
 is_in_named_block place = is_db place.area && not (nat_eq place.number 0)
 
+-- the number of the data block that a place names, as DB10.DBW 2 does; no other place has one
 abbrev pub opened_by_place : Place → Option ℕ
 opened_by_place place = if is_in_named_block place then Some place.number else None
 
+-- USEDB: the data block that a statement opens first, for a place in a named data block
 abbrev pub opened_by : View → Option ℕ
 opened_by (view.Direct place width side declared) = opened_by_place place
 opened_by _ = None
 
+-- a fixed place by area, width, byte and bit; the number of a data block is no part of it
 abbrev pub direct : Place → Width → FlatOperand
 direct place width = flat.Direct place.area width place.byte place.bit
 

@@ -13,6 +13,7 @@ rank kinds.Ob = 1
 rank kinds.Fc = 2
 rank _ = 3
 
+-- a code block stands before another: by its kind, then by its number
 abbrev pub is_id_before : BlockId → BlockId → Bool
 is_id_before a b =
     nat_lt (rank a.kind) (rank b.kind) || nat_eq (rank a.kind) (rank b.kind) && nat_lt a.number b.number
@@ -21,6 +22,7 @@ is_id_before a b =
 abbrev pub is_code_before : StatedBlock → StatedBlock → Bool
 is_code_before a b = is_id_before a.id b.id
 
+-- the same for code blocks whose statements are ops
 abbrev pub is_block_before : CodeBlock → CodeBlock → Bool
 is_block_before a b = is_id_before a.id b.id
 
@@ -28,6 +30,7 @@ is_block_before a b = is_id_before a.id b.id
 abbrev pub is_data_before : DataBlock → DataBlock → Bool
 is_data_before a b = nat_lt a.number b.number
 
+-- a name stands before another by its bytes, and before those that it begins
 abbrev pub is_name_before : NameEntry → NameEntry → Bool
 is_name_before a b = is_before a.name b.name
 

@@ -34,6 +34,7 @@ passed_view o (view.Parameter index section declared) =
 passed_view o view.Constant = Some (passed.Literal (constant_bits o))
 passed_view o _ = None
 
+-- what an actual parameter passes; none where what it names is unknown, or breaks a rule itself
 abbrev pub passed_seen : Operand → Seen → Option Passed
 passed_seen o (Sees v) = passed_view o v
 passed_seen o _ = None
@@ -42,10 +43,12 @@ passed_seen o _ = None
 abbrev pub supplied : List Actual → Formal → Option Actual
 supplied actuals f = find (λ a. bytes_eq (folded a.name) f.name) actuals
 
+-- what is passed, with the index of its parameter, in a list; nothing where nothing can be passed
 abbrev pub with_index : ℕ → Option Passed → List Passing
 with_index index None = []
 with_index index (Some actual) = record { index = index; actual = actual } ∷ []
 
+-- what a CALL passes for the parameter of an index; nothing where it supplies none
 abbrev pub passed_actual : Context → (index : ℕ) → Option Actual → List Passing
 passed_actual c index None = []
 passed_actual c index (Some a) = with_index index (passed_seen a.value (seen c a.value))

@@ -8,6 +8,7 @@ abbrev pub start_or_end : Option ℕ → Option ℕ → Option ℕ
 start_or_end None end = end
 start_or_end (Some at) end = Some at
 
+-- the offset of the statement of a number: its start, or where it has none the end of the code
 abbrev pub offset_in : List ℕ → (end : Option ℕ) → ℕ → Option ℕ
 offset_in starts end n = start_or_end (slice_get starts n) end
 

@@ -55,6 +55,7 @@ call_of code.Uc = Some calls.Uc
 call_of code.Cc = Some calls.Cc
 call_of _ = None
 
+-- the ends of a block: BE, BEC and BEU; no other instruction is one
 abbrev pub end_of : Mnemonic → Option EndWord
 end_of code.Be = Some ends.Be
 end_of code.Bec = Some ends.Bec
@@ -72,6 +73,7 @@ load_word (view.Register register.Stw) = word.LoadStatus
 load_word (view.Register which) = word.LoadOpenBlock
 load_word _ = word.Load
 
+-- T STW, the only register that T takes, and T to a place
 abbrev pub transfer_word : View → Word
 transfer_word (view.Register which) = word.TransferStatus
 transfer_word _ = word.Transfer
@@ -81,6 +83,7 @@ abbrev pub load_pointer_word : View → Word
 load_pointer_word (view.Register which) = word.Pointer pointers.Lar1Ar2
 load_pointer_word _ = word.Pointer pointers.Lar1
 
+-- TAR1 AR2, and TAR1 to a double word or without operand
 abbrev pub store_pointer_word : View → Word
 store_pointer_word (view.Register which) = word.Pointer pointers.Tar1Ar2
 store_pointer_word _ = word.Pointer pointers.Tar1

@@ -1,5 +1,6 @@
 ghost use Rattle.std.specs.Prelude.{◌≡◌, ◌<◌, ◌≤◌, ◌++◌, [], ◌∷◌, IfOk, length};
 ghost use Rattle.std.specs.List.{flat_map, slice_get};
+ghost use Rattle.block_layout.specs.Fits.{or_0};
 ghost use Rattle.stl_ast.specs.Statements.{is_empty};
 ghost use Rattle.stl_types.specs.Labels.{label_of};
 ghost use Rattle.stl_codegen.specs.Bodies.{
@@ -10,7 +11,6 @@ ghost use Rattle.stl_codegen.specs.Bodies.{
   line_here,
   number_here,
   ops_here,
-  or_0,
 };
 ghost use Rattle.stl_codegen.specs.Fitting.{Appended};
 ghost use Rattle.stl_codegen.specs.Instruction.{target_in, target_of};

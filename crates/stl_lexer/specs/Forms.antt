@@ -112,6 +112,7 @@ based_prefixes =
 unfoldable pub long_prefixes : List (List ℕ)
 long_prefixes = codes "L#" ∷ []
 
+-- the prefix of a count value, behind which no sign stands
 unfoldable pub count_prefixes : List (List ℕ)
 count_prefixes = codes "C#" ∷ []
 
@@ -119,6 +120,7 @@ count_prefixes = codes "C#" ∷ []
 unfoldable pub time_prefixes : List (List ℕ)
 time_prefixes = codes "T#" ∷ codes "TIME#" ∷ []
 
+-- the short and the long prefix of the format S5TIME, behind which no sign stands
 unfoldable pub s5time_prefixes : List (List ℕ)
 s5time_prefixes = codes "S5T#" ∷ codes "S5TIME#" ∷ []
 

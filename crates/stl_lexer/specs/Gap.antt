@@ -21,6 +21,7 @@ GoesOn part text found =
 unfoldable pub is_blank : ℕ → Bool
 is_blank b = is_separator b && not (b == newline)
 
+-- a byte that goes on with a comment: any that a source holds but the line feed, which ends it
 unfoldable pub is_comment_byte : ℕ → Bool
 is_comment_byte b = in_source b && not (b == newline)
 

@@ -34,6 +34,7 @@ pub record IsTailAt (tail : Tail) (text : List ℕ) (n : ℕ) : Type 0 where
   pub within : n ≤ length text
   pub fits : is_tail tail (take n text) (drop n text) ≡ true
 
+-- the first n bytes are such a tail, and no more of them; n may be 0
 pub record IsLongestTail (tail : Tail) (text : List ℕ) (n : ℕ) : Type 0 where
   pub fits : IsTailAt tail text n
   pub longest : (m : ℕ) → IsTailAt tail text m → m ≤ n

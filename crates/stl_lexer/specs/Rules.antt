@@ -35,10 +35,11 @@ within greatest (Some n) = if nat_le n greatest then Some n else None
 unfoldable pub decimal : List ℕ → Option ℕ
 decimal s = if is_number s then Some (decimal_value s) else None
 
--- digits of a base, one at least, and single `_` between them
+-- digits of a base, one at least; `_` is none
 unfoldable pub are_digits : ℕ → List ℕ → Bool
 are_digits base s = nat_lt 0 (length s) && list_all (λ b. is_digit b base) s
 
+-- digits of a base in groups of one at least, with one `_` between two groups; one group at least
 unfoldable pub are_grouped : ℕ → List ℕ → Bool
 are_grouped base s = list_all (are_digits base) (slice_split (λ b. b == underscore) s)
 
@@ -99,6 +100,8 @@ earlier (Some rule) foreign = Some (record { offset = 0; rule = rule })
 earlier None (Some offset) = Some (record { offset = offset; rule = no_token })
 earlier None None = None
 
+-- what is wrong first with a token of this kind, None where it is right; `minus` says that the
+-- mark `-` stands before it
 unfoldable pub fault_of : TokenKind → List ℕ → Bool → Option Fault
 fault_of kind s minus = earlier (rule_of kind s minus) (position (λ b. not (in_source b)) s)
 

@@ -20,6 +20,7 @@ letters_of Minute = codes "M"
 letters_of Second = codes "S"
 letters_of Millisecond = codes "MS"
 
+-- the milliseconds of one such unit
 unfoldable pub length_of : TimeUnit → ℕ
 length_of Day = 24 * 60 * 60 * 1000
 length_of Hour = 60 * 60 * 1000
@@ -31,12 +32,15 @@ length_of Millisecond = 1
 abbrev pub part_digits : List ℕ → List ℕ
 part_digits s = take (prefix_len is_ascii_digit s) s
 
+-- the text behind the digits at its front; all of it where it begins with none
 abbrev pub behind_digits : List ℕ → List ℕ
 behind_digits s = drop (prefix_len is_ascii_digit s) s
 
+-- the letters behind those digits, up to a digit, a `_` or another byte that is none
 abbrev pub part_letters : List ℕ → List ℕ
 part_letters s = take (prefix_len is_ascii_alphabetic (behind_digits s)) (behind_digits s)
 
+-- the text behind these letters, which is empty behind the last part
 abbrev pub behind_part : List ℕ → List ℕ
 behind_part s = drop (prefix_len is_ascii_alphabetic (behind_digits s)) (behind_digits s)
 
@@ -67,6 +71,7 @@ pub record Part : Type 0 where
   pub letters : List ℕ
   pub unit : TimeUnit
 
+-- a right part: digits alone, one at least, and the letters of its unit, whatever their case
 pub record IsPart (p : Part) : Type 0 where
   pub some : 0 < length p.digits
   pub digits : list_all is_ascii_digit p.digits ≡ true
@@ -84,6 +89,7 @@ abbrev pub FallBelow : ℕ → List Part → Type 0
 FallBelow bound [] = Unit {0}
 FallBelow bound (p ∷ parts) = (length_of p.unit < bound) × FallBelow (length_of p.unit) parts
 
+-- the milliseconds of all parts together, 0 where there are none
 abbrev pub total : List Part → ℕ
 total [] = 0
 total (p ∷ parts) = part_value p.unit p.digits + total parts

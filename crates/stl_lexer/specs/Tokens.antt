@@ -103,5 +103,6 @@ IsViolationUnique = (source : List ℕ) (line rule line' rule' : ℕ) → IsViol
 abbrev pub HasTokensOrViolation : List ℕ → Type 0
 HasTokensOrViolation source = ((ts : List Token) × AreTokens source ts) ⊎ ((line : ℕ) × (rule : ℕ) × IsViolation source line rule)
 
+-- so it is with every source, whatever bytes it has and however long it is
 abbrev pub IsTotal : Type 0
 IsTotal = (source : List ℕ) → HasTokensOrViolation source

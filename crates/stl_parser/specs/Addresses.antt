@@ -46,6 +46,7 @@ numbered_at table source (w ∷ rest) =
 unfoldable pub address_at : List ℕ → List Token → Option (Address × ℕ × List Token)
 address_at source tokens = numbered_at addresses source tokens
 
+-- a block by kind and number, as `DB 10` or `DB10`, and what follows
 unfoldable pub block_number_at : List ℕ → List Token → Option (BlockKind × ℕ × List Token)
 block_number_at source tokens = numbered_at block_kinds source tokens
 

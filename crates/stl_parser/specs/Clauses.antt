@@ -75,6 +75,7 @@ abbrev pub takes_parameters : ClausePlace → Bool
 takes_parameters (place.Section k p level) = is_parameter p
 takes_parameters _ = false
 
+-- a number for each kind of block, by which two kinds are compared; that of a data block is 3
 abbrev pub block_rank : BlockKind → ℕ
 block_rank kinds.Ob = 0
 block_rank kinds.Fc = 1
@@ -160,11 +161,13 @@ head_word_at source head_word.Alone rest = Some rest
 unfoldable pub head_word_clause : List ℕ → ClausePlace → HeadWord → List Token → Read
 head_word_clause source p w rest = option_map (λ behind. (clause.Note, behind_note source p behind, false)) (head_word_at source w rest)
 
+-- FB and UDT, the kinds of block whose declarations a data block can have
 abbrev pub is_base_kind : BlockKind → Bool
 is_base_kind kinds.Fb = true
 is_base_kind kinds.Udt = true
 is_base_kind _ = false
 
+-- a data block may be based on a block of this name; a quoted name is checked by rule 23
 abbrev pub is_base : BlockName → Bool
 is_base (block.Number id) = is_base_kind id.kind
 is_base (block.Quoted name) = true

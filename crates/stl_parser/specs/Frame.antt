@@ -16,6 +16,7 @@ abbrev pub section_behind : BlockKind → PartKind → ℕ → Option ClausePlac
 section_behind k p zero = None
 section_behind k p (suc level) = Some (place.Section k p level)
 
+-- the same in the structure of a data block or of a TYPE block, which END_STRUCT at level 0 closes
 abbrev pub shape_behind : BlockKind → ℕ → Option ClausePlace
 shape_behind k zero = Some (place.Shaped k)
 shape_behind k (suc level) = Some (place.Shape k level)

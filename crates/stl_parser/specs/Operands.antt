@@ -210,6 +210,7 @@ pointer_of source tokens =
 unfoldable pub condition_of : List ℕ → Token → Option Operand
 condition_of source t = option_map operand.OfStatus (look_up flags (text_of source t))
 
+-- a name of the table of registers as an operand; AR1 is there, but no instruction has it as one
 abbrev pub other_if : List ℕ → Option Bool → Option Operand
 other_if name (Some true) = Some (operand.Other name)
 other_if name (Some false) = None

@@ -11,6 +11,7 @@ parts_from end part read (suc n) tokens =
     option_or (option_map (λ y. (read, y)) (end tokens))
     (option_and_then (λ p. parts_from end part (read ++ p.0 ∷ []) n p.1) (part tokens))
 
+-- a value that was read, or none where tokens are left
 abbrev pub nothing_left : {X : Type 0} → X → List Token → Option X
 nothing_left x [] = Some x
 nothing_left x (t ∷ ts) = None

@@ -111,17 +111,19 @@ abbrev pub IsRefusedBy : List ℕ → List Token → SourceFault → Type 0
 IsRefusedBy source tokens refused =
     IsBrokenBehind source place.Outside tokens (last_line 0 tokens) refused
 
--- there is at most one list of clauses, none where there is a violation, and one first violation
+-- there is at most one list of clauses
 abbrev pub AreClausesUnique : Type 0
 AreClausesUnique =
     (source : List ℕ) (tokens : List Token) (cs ds : List Clause) → AreClauses source tokens cs →
     AreClauses source tokens ds → cs ≡ ds
 
+-- a source whose clauses are all right, with no block open at the end, has no violation
 abbrev pub ExcludesViolation : Type 0
 ExcludesViolation =
     (source : List ℕ) (tokens : List Token) (cs : List Clause) (line rule : ℕ) →
     AreClauses source tokens cs → IsViolation source tokens line rule → ⊥
 
+-- a source has at most one violation: two have the same line and the same rule
 abbrev pub IsViolationUnique : Type 0
 IsViolationUnique =
     (source : List ℕ) (tokens : List Token) (line rule line' rule' : ℕ) →
@@ -134,12 +136,13 @@ ClausesHaveTree =
     (source : List ℕ) (tokens : List Token) (cs : List Clause) → AreClauses source tokens cs →
     (t : Tree) × IsTree source tokens t × IsWellFormed t
 
--- the tokens have a tree, which is well-formed, or a violation; and so has each source
+-- the tokens have a tree, which is well-formed, or a violation
 abbrev pub HasTreeOrViolation : List ℕ → List Token → Type 0
 HasTreeOrViolation source tokens =
     ((t : Tree) × IsTree source tokens t × IsWellFormed t)
     ⊎ ((line : ℕ) × (rule : ℕ) × IsViolation source tokens line rule)
 
+-- each source has such a tree or a violation, whatever its tokens are
 abbrev pub IsTotal : Type 0
 IsTotal = (source : List ℕ) (tokens : List Token) → HasTreeOrViolation source tokens
 

@@ -37,11 +37,12 @@ is_kept (clause.Runs s) = true
 abbrev pub spelled_part : Part → List Clause
 spelled_part p = clause.Section p.line p.kind ∷ map clause.Declares p.items
 
--- the name is that of a user-defined data type, by its number
+-- a user-defined data type (UDT)
 abbrev pub is_udt_kind : BlockKind → Bool
 is_udt_kind kinds.Udt = true
 is_udt_kind _ = false
 
+-- UDT and its number; a quoted name isn't taken for that of a data type
 abbrev pub is_udt : BlockName → Bool
 is_udt (block.Number id) = is_udt_kind id.kind
 is_udt (block.Quoted name) = false
@@ -73,5 +74,6 @@ spelled_behind_head b =
     ++ (map clause.Sets b.settings
     ++ (map clause.Runs b.body ++ clause.Ends b.end_line b.kind ∷ [])))
 
+-- a block: the clause of its head, with kind, name and return value, and those behind it
 abbrev pub spelled_block : Block → List Clause
 spelled_block b = clause.Head b.line b.kind b.name b.result ∷ spelled_behind_head b

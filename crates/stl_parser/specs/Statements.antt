@@ -76,10 +76,12 @@ abbrev pub may_be : BlockName → (BlockKind → Bool) → Bool
 may_be (block.Number id) test = test id.kind
 may_be (block.Quoted name) test = true
 
+-- a function block, which alone is called with an instance
 abbrev pub is_fb : BlockKind → Bool
 is_fb kinds.Fb = true
 is_fb _ = false
 
+-- a data block, as the instance of a call is
 abbrev pub is_db : BlockKind → Bool
 is_db kinds.Db = true
 is_db _ = false
@@ -162,7 +164,7 @@ unfoldable pub instruction_of : List ℕ → List Token → Option BareStatement
 instruction_of source [] = None
 instruction_of source (t ∷ rest) = option_or (opening_of source t rest) (closed_of source t rest)
 
--- a statement, and whether a label in it is too long
+-- an instruction as a statement, with its line and its label
 abbrev pub statement : ℕ → Option (List ℕ) → BareStatement → Statement
 statement line label i = record { line = line; label = label; code = i.code; operand = i.operand; actuals = i.actuals }
 

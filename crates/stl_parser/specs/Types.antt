@@ -43,6 +43,7 @@ array_at source (array ∷ open_ ∷ rest) =
     else None
 array_at source _ = None
 
+-- these tokens, where no array was found at their front
 abbrev pub no_array : Option (Bounds × List Token) → List Token → Option (List Token)
 no_array None tokens = Some tokens
 no_array (Some found) tokens = None
@@ -55,6 +56,7 @@ arrays_end source tokens = no_array (array_at source tokens) tokens
 unfoldable pub arrays_at : List ℕ → List Token → Option (List Bounds × List Token)
 arrays_at source tokens = parts_from (arrays_end source) (array_at source) [] (length tokens) tokens
 
+-- UDT and its number as the name of a data type; a block of another kind is none
 abbrev pub udt_numbered : BlockId → BlockKind → Option BlockName
 udt_numbered id kinds.Udt = Some (block.Number id)
 udt_numbered id _ = None

@@ -50,6 +50,8 @@ declaration name address kind =
     (address_of address)
     else None
 
+-- the same of the columns of a line: blanks and tabs at the end of name and type are dropped, and
+-- all those of the address
 unfoldable pub declaration_of : Columns → Option (Option Symbol)
 declaration_of line =
     declaration (without_last_blanks line.name) (without_blanks line.address)
@@ -80,13 +82,14 @@ unfoldable pub with_line : List Symbol → List ℕ → Result (List Symbol) ℕ
 with_line symbols [] = Ok symbols
 with_line symbols (byte ∷ line) = with_columns symbols (columns (byte ∷ line))
 
--- the symbols with those of lines from this number on, or the refusal of the first that breaks a
--- rule
+-- what the lines behind one with this number make of the symbols up to it, or its refusal
 abbrev pub and_then_lines : (number : ℕ) → (more : List Symbol → Result (List Symbol) Refusal)
     → Result (List Symbol) ℕ → Result (List Symbol) Refusal
 and_then_lines number more (Ok symbols) = more symbols
 and_then_lines number more (Err rule) = Err (record { line = number; rule = rule })
 
+-- the symbols with those of lines from this number on, or the refusal of the first that breaks a
+-- rule
 unfoldable pub with_lines : (number : ℕ) → List Symbol → (left : List (List ℕ))
     → Result (List Symbol) Refusal
 with_lines number symbols [] = Ok symbols

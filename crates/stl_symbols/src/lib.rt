@@ -1,4 +1,4 @@
-//! The symbols of a symbols file, and what the layers that judge a source share: the least refusal
+//! The symbols of a symbols file, and what the layers that check a source share: the least refusal
 //! of a list, and names and numbers with their first places.
 #![tactic(auto)]
 

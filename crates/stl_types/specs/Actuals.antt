@@ -81,7 +81,7 @@ fits_view f (view.Parameter index own declared) =
     is_same_type declared f.kind && takes_section f.section own
 fits_view f _ = false
 
--- an operand that isn't there or isn't judged breaks no further rule
+-- an operand that isn't there or isn't checked breaks no further rule
 abbrev pub fits_seen : Formal → Seen → Bool
 fits_seen f (Sees v) = fits_view f v
 fits_seen f Unknown = true

@@ -19,7 +19,7 @@ in_contexts broken c [] = []
 in_contexts broken c (b ∷ bs) =
     broken c b.body ++ in_contexts broken (record c { block = c.block + 1 }) bs
 
--- what the body of the first block is judged by
+-- what the body of the first block is checked by
 abbrev pub first_context : List Symbol → List BlockLayout → List Block → Context
 first_context symbols layouts blocks =
     record { symbols = symbols; blocks = blocks; layouts = layouts; block = 0 }

@@ -1,5 +1,5 @@
 -- Rules 34 to 38, 40 and 46: calls. Those of an actual parameter have its line, all others that of the statement. A call
--- of a block that breaks a rule itself, or by the declaration of a parameter, isn't judged by them.
+-- of a block that breaks a rule itself, or by the declaration of a parameter, isn't checked by them.
 use Rattle.std.specs.Prelude.{ℕ, nat_eq, Bool, true, false, ◌&&◌, ◌||◌, not, is_some, List, [], ◌∷◌, ◌++◌, map, Option, Some, None}
 use Rattle.std.specs.List.{flat_map, list_all, list_any, slice_get}
 use Rattle.std.specs.Str.{bytes_eq}
@@ -132,7 +132,7 @@ abbrev pub is_instance : (place : Option ℕ) → Option BlockLayout → Bool
 is_instance place None = true
 is_instance place (Some b) = is_of_block place b.shape
 
--- a data block that is absent or breaks a rule itself isn't judged
+-- a data block that is absent or breaks a rule itself isn't checked
 abbrev pub is_no_instance : Context → (place : Option ℕ) → Option ℕ → Bool
 is_no_instance c place None = false
 is_no_instance c place (Some block) = not (is_instance place (slice_get c.layouts block))

@@ -1,4 +1,4 @@
--- The rules of statements, in the groups that the code judges together.
+-- The rules of statements, in the groups that the code checks together.
 use Rattle.std.specs.Prelude.{List, [], ◌++◌}
 use Rattle.std.specs.List.{flat_map}
 use Rattle.plc_base.specs.declared.refusals.Refusal.{Refusal}

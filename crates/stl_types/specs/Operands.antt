@@ -105,7 +105,7 @@ rule_of f v =
     else if writes f && is_input v then Some 39
     else None
 
--- the same of what an operand comes to; a constant is judged by itself, and nothing where the operand isn't seen
+-- the same of what an operand comes to; a constant is checked by itself, and nothing where the operand isn't seen
 abbrev pub rule_seen : Form → Seen → Option ℕ
 rule_seen f (Sees v) = rule_of f v
 rule_seen f _ = None

@@ -76,11 +76,13 @@ own_elementary c temporary spot kind =
     else if in_function c then parameter_at c spot kind
     else in_area kind (placed area.Di 0 spot.offset (Some kind))
 
+-- the component at a spot in the block's own variables; of what isn't elementary no place is seen
 abbrev pub own_at : Context → (temporary : Bool) → Spot → Option Simple → Seen
 own_at c temporary spot None =
     Sees (composite (slice_get (cells_at c.layouts spot.block spot.temporary) spot.place))
 own_at c temporary spot (Some kind) = own_elementary c temporary spot kind
 
+-- and where a path in them leads, which may be unknown or rest on what breaks a rule itself
 abbrev pub own_walked : Context → (temporary : Bool) → Walk → Seen
 own_walked c temporary (walk.Reaches spot) =
     own_at c temporary spot (elementary_at c.layouts spot)
@@ -92,6 +94,7 @@ abbrev pub own_variable : Context → List ℕ → List PathStep → Seen
 own_variable c name steps =
     own_walked c (is_temporary c name) (walked_local c.layouts c.block name steps)
 
+-- a component of the data block with this number; of what isn't elementary no place is seen
 abbrev pub data_at : Context → (number : ℕ) → Spot → Option Simple → Seen
 data_at c number spot None =
     Sees (composite (slice_get (cells_at c.layouts spot.block spot.temporary) spot.place))

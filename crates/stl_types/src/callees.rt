@@ -129,7 +129,7 @@ impl<'a> Scope<'a> {
         }
     }
 
-    /// The block that a call is judged by, with its parameters: a system function of the nine, or a
+    /// The block that a call is checked by, with its parameters: a system function of the nine, or a
     /// function or function block of the source that breaks no rule itself or by a parameter.
     ///
     /// # Errors

@@ -26,7 +26,7 @@ fn formal_named<'f>(formals: &'f [Formal], upper: &[u8]) -> Option<&'f Formal>
     formals.iter().find(|f| is_named(upper, f))
 }
 
-/// An operand that isn't there or isn't judged breaks no further rule.
+/// An operand that isn't there or isn't checked breaks no further rule.
 fn fits_seen(formal: &Formal, seen: Seen) -> bool
     ensures { result ≡ fits_seen formal.now seen }
 {

@@ -12,21 +12,24 @@ abbrev pub is_meant : (mode ob_nr ob : ℕ) → Bool
 is_meant mode ob_nr ob =
     is_interrupt ob && (mode == 0 || (mode == 1 && first_of_group ob == ob_nr) || (mode == 2 && ob == ob_nr))
 
--- the error code: 16#8091 for another MODE; after that 16#8090 for an OB_NR that means none
+-- OB_NR means interrupts: with MODE 0 always, with MODE 1 where it is the first number of a group,
+-- with MODE 2 where it is that of an interrupt; with another MODE none
 abbrev pub names_one : (mode ob_nr : ℕ) → Bool
 names_one mode ob_nr =
     mode == 0 || (mode == 1 && is_interrupt ob_nr && first_of_group ob_nr == ob_nr) || (mode == 2 && is_interrupt ob_nr)
 
+-- the error code: 16#8091 for another MODE; after that 16#8090 for an OB_NR that means none
 abbrev pub refusal : (mode ob_nr : ℕ) → Option ℕ
 refusal mode ob_nr =
     if nat_lt 2 mode then Some 0x8091
     else if names_one mode ob_nr then None
     else Some 0x8090
 
--- each organization block that is meant is disabled, or enabled: of so many, from this number on
+-- an organization block is disabled, or enabled, if it is meant
 abbrev pub set_if : Bool → Bool → ℕ → Scheduler → Scheduler
 set_if meant disabled ob s = if meant then disabled_as disabled ob s else s
 
+-- each organization block that is meant is disabled, or enabled: of so many, from this number on
 abbrev pub each_set : (disabled : Bool) (mode ob_nr ob count : ℕ) → Scheduler → Scheduler
 each_set disabled mode ob_nr ob zero s = s
 each_set disabled mode ob_nr ob (suc n) s =

@@ -25,9 +25,11 @@ abbrev pub set_unless : Option ℕ → (disabled : Bool) (mode ob_nr : ℕ) → 
 set_unless (Some code) disabled mode ob_nr s a = returned s a code
 set_unless None disabled mode ob_nr s a = returned (all_set disabled mode ob_nr s) a 0
 
+-- SFC 39 DIS_IRT: those that are meant are disabled; pending requests and started delays stay
 unfoldable pub dis_irt : Scheduler → Activation → (mode ob_nr : ℕ) → Returned
 dis_irt s a mode ob_nr = set_unless (refusal mode ob_nr) true mode ob_nr s a
 
+-- SFC 40 EN_IRT: those that are meant are enabled, with the same error codes
 unfoldable pub en_irt : Scheduler → Activation → (mode ob_nr : ℕ) → Returned
 en_irt s a mode ob_nr = set_unless (refusal mode ob_nr) false mode ob_nr s a
 

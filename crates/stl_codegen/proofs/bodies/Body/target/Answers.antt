@@ -2,7 +2,7 @@ use Rattle.std.proofs.Common.{◌≡◌, ℕ, List, Option, None, Some, sym, ap,
 use Rattle.std.specs.List.{slice_get}
 use Rattle.stl_ast.specs.declared.statements.Statement.{Statement}
 use Rattle.stl_symbols.specs.Names.{place_of}
-use Rattle.stl_codegen.specs.Bodies.{or_0}
+use Rattle.block_layout.specs.Fits.{or_0}
 use Rattle.stl_codegen.specs.Instruction.{target_in}
 use Rattle.stl_codegen.proofs.TargetLemmas.{target_by, target_placed}
 use Rattle.stl_codegen.proofs.bodies.Body.target.Goals as goal
