@@ -18,6 +18,7 @@ module _ {O E : Type 0} where
   abbrev pub grown : View O E → List E → View O E
   grown v log = record v { seen = log; made = made_more v.made (drop (length v.seen) log) }
 
+  -- the view of a seat that has given its turn back
   abbrev pub without_turn : View O E → View O E
   without_turn v = record v { turn = false }
 
@@ -28,6 +29,7 @@ module _ {T O E : Type 0} where
       (x : T) × (n ≡ (with_turn m.0 (story_of x), (0, Some x) ∷ m.1)) × (origin_of x ∷ [] ≡ m.0.origin) × IsPrefix m.0.seen (story_of x)
       × IsMadeOf maker_of (story_of x) m.0.made
 
+  -- a try to take the turn, by the busy word that was found: at 0 the value is out with the seat, else the seat is as it was
   abbrev pub Takes : (T → O) → (T → List E) → (E → ℕ) → Me (Option T) (View O E) → ℕ → Me (Option T) (View O E) → Type 0
   Takes origin_of story_of maker_of m found n = (found ≡ 0 → Took origin_of story_of maker_of m n) × (found ≢ 0 → n ≡ m)
 
@@ -38,9 +40,11 @@ module _ {T O E : Type 0} where
       × IsMadeOf maker_of (longer m.0.seen m.0.other) m.0.made × ((k : ℕ) → times k m.0.made ≤ stands m.0.passes k)
       × (m.0.turn ≡ true → length m.0.seen ≡ found)
 
+  -- the list is counted: the seat whose value is out knows the whole list that it stands for, and what is new of it as its own
   abbrev pub Counts : (T → List E) → Me (Option T) (View O E) → Me (Option T) (View O E) → Type 0
   Counts story_of m n = (x : T) → m.1 ≡ (0, Some x) ∷ [] → n ≡ (grown m.0 (story_of x), m.1)
 
+  -- the turn is given back, and the slot with the value
   abbrev pub Releases : Me (Option T) (View O E) → Me (Option T) (View O E) → Type 0
   Releases m n = n ≡ (without_turn m.0, rest m.1)
 

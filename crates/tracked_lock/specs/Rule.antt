@@ -20,6 +20,8 @@ module _ {T O E : Type 0} (origin_of : T → O) (story_of : T → List E) (maker
     pub known : IsKnownOf maker_of v.seen v.other v.made
     pub maker : v.turn ≡ true → 0 < length v.made
 
+  -- the rule: the words are the length of the list, the turn (0 free, 1 taken) and the passes; the value at home stands for the list;
+  -- at most one view has the turn; each view fits the list; each number is given once, and each entry has the number of its maker
   pub record Kept (s : State (Option T) (View O E)) : Type 0 where
     pub log : List E
     pub busy : ℕ

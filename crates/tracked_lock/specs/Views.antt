@@ -56,6 +56,7 @@ abbrev pub stands : ℕ → ℕ → ℕ
 stands n k = cond (nat_lt 0 k && nat_lt k (suc n)) 1 0
 
 module _ {O E : Type 0} where
+  -- a view by its parts
   abbrev pub view : List O → ℕ → Bool → List E → List E → List (Made E) → View O E
   view origin passes turn seen other made = record { origin = origin; passes = passes; turn = turn; seen = seen; other = other; made = made }
 
@@ -75,6 +76,7 @@ module _ {O E : Type 0} where
   abbrev pub spent : View O E
   spent = view [] 0 false [] [] []
 
+  -- the turns that a view has, to be added up: 1 or 0
   abbrev pub turn_of : View O E → ℕ
   turn_of v = cond v.turn 1 0
 
