@@ -1,3 +1,4 @@
+use crate::compare::same;
 use plc_base::Flag;
 use status_word::{Brackets, Check, NESTING_DEPTH, Regs, Status};
 
@@ -30,10 +31,10 @@ fn checks(rt: HostRuntime) {
         regs.status.rlo = rlo;
         regs.status.or = or;
         regs.check(code, read);
-        assert_eq!(rt; regs.status.rlo, rlo_after);
-        assert_eq!(rt; regs.status.or, or_after);
-        assert_eq!(rt; regs.status.sta, read);
-        assert_eq!(rt; regs.status.fc, true);
+        let row = (code, fc, rlo, or, read);
+        let after = regs.status;
+        let got = (after.rlo, after.or, after.sta, after.fc);
+        same(&rt, row, got, (rlo_after, or_after, read, true));
     }
 }
 
@@ -47,9 +48,9 @@ fn strings(rt: HostRuntime) {
     regs.or_bare();
     regs.check(Check::A, true);
     regs.check(Check::A, true);
-    assert_eq!(rt; regs.status.rlo, true);
+    same(&rt, "RLO where the second AND is 1", regs.status.rlo, true);
     regs.store(true);
-    assert_eq!(rt; regs.status.number(), 0x006);
+    same(&rt, "status word after =", regs.status.number(), 0x006);
 
     // A 1, A 1, O, A 0, A 0: the first AND is 1, and both checks of the second keep it in OR.
     regs.check(Check::A, true);
@@ -57,30 +58,31 @@ fn strings(rt: HostRuntime) {
     regs.or_bare();
     regs.check(Check::A, false);
     regs.check(Check::A, false);
-    assert_eq!(rt; regs.status.rlo, true);
-    assert_eq!(rt; regs.status.or, true);
+    same(&rt, "RLO where the first AND is 1", regs.status.rlo, true);
+    same(&rt, "OR where the first AND is 1", regs.status.or, true);
     regs.store(true);
 
     // SET, SAVE, NOT, CLR: RLO and STA, then BR besides, then STA and BR, then BR.
     regs.set();
     regs.save();
-    assert_eq!(rt; regs.status.number(), 0x106);
+    same(&rt, "status word after SAVE", regs.status.number(), 0x106);
     regs.not();
-    assert_eq!(rt; regs.status.number(), 0x104);
+    same(&rt, "status word after NOT", regs.status.number(), 0x104);
     regs.clr();
-    assert_eq!(rt; regs.status.number(), 0x100);
+    same(&rt, "status word after CLR", regs.status.number(), 0x100);
 
-    // RLO 1 after 0 is a rising edge, and 0 after 1 a falling one. The RLO is the answer.
+    // RLO 1 after 0 is a rising edge, and 0 after 1 a falling one. The RLO is the answer, and the
+    // edge bit becomes the RLO before.
     regs.set();
-    assert_eq!(rt; regs.edge(true, false), true);
-    assert_eq!(rt; regs.status.rlo, true);
+    let got = (regs.edge(true, false), regs.status.rlo);
+    same(&rt, "FP with RLO 1 after 0", got, (true, true));
     regs.clr();
-    assert_eq!(rt; regs.edge(true, true), false);
-    assert_eq!(rt; regs.status.rlo, false);
-    assert_eq!(rt; regs.edge(false, true), false);
-    assert_eq!(rt; regs.status.rlo, true);
-    assert_eq!(rt; regs.edge(false, true), true);
-    assert_eq!(rt; regs.status.rlo, false);
+    let got = (regs.edge(true, true), regs.status.rlo);
+    same(&rt, "FP with RLO 0 after 1", got, (false, false));
+    let got = (regs.edge(false, true), regs.status.rlo);
+    same(&rt, "FN with RLO 0 after 1", got, (false, true));
+    let got = (regs.edge(false, true), regs.status.rlo);
+    same(&rt, "FN with RLO 1 after 1", got, (true, false));
 }
 
 #[test]
@@ -88,32 +90,33 @@ fn brackets(rt: HostRuntime) {
     // Seven brackets are taken and the eighth is not; a 1 in the innermost comes out of all seven.
     let mut regs = Regs::new();
     let mut open = Brackets::new();
-    for _ in 0..NESTING_DEPTH {
-        assert_eq!(rt; open.begin(&mut regs, Check::A), true);
+    for before in 0..NESTING_DEPTH {
+        let taken = open.begin(&mut regs, Check::A);
+        same(&rt, ("A( within", before), taken, true);
     }
-    assert_eq!(rt; open.begin(&mut regs, Check::A), false);
-    assert_eq!(rt; open.copied().len(), 7);
+    same(&rt, "an eighth A(", open.begin(&mut regs, Check::A), false);
+    same(&rt, "open brackets", open.copied().len(), 7);
     regs.check(Check::A, true);
-    for _ in 0..NESTING_DEPTH {
-        assert_eq!(rt; open.close(&mut regs), true);
+    for closed in 0..NESTING_DEPTH {
+        same(&rt, (") after", closed), open.close(&mut regs), true);
     }
-    assert_eq!(rt; open.close(&mut regs), false);
-    assert_eq!(rt; open.is_empty(), true);
-    assert_eq!(rt; regs.status.rlo, true);
+    same(&rt, "an eighth )", open.close(&mut regs), false);
+    same(&rt, "no open bracket", open.is_empty(), true);
+    same(&rt, "RLO after seven )", regs.status.rlo, true);
 
     // 1 X( 1 ) is 0, and 0 O( 1 ) is 1: RLO 1 at the bracket, and 1 inside.
     regs.set();
     regs.check(Check::A, true);
-    assert_eq!(rt; open.begin(&mut regs, Check::X), true);
-    assert_eq!(rt; regs.status.fc, false);
+    same(&rt, "X(", open.begin(&mut regs, Check::X), true);
+    same(&rt, "/FC after X(", regs.status.fc, false);
     regs.check(Check::A, true);
-    assert_eq!(rt; open.close(&mut regs), true);
-    assert_eq!(rt; regs.status.rlo, false);
-    assert_eq!(rt; open.begin(&mut regs, Check::O), true);
+    same(&rt, ") of X(", open.close(&mut regs), true);
+    same(&rt, "RLO after 1 X( 1 )", regs.status.rlo, false);
+    same(&rt, "O(", open.begin(&mut regs, Check::O), true);
     regs.check(Check::An, false);
-    assert_eq!(rt; open.close(&mut regs), true);
-    assert_eq!(rt; regs.status.rlo, true);
-    assert_eq!(rt; regs.status.sta, true);
+    same(&rt, ") of O(", open.close(&mut regs), true);
+    same(&rt, "RLO after 0 O( 1 )", regs.status.rlo, true);
+    same(&rt, "STA after 0 O( 1 )", regs.status.sta, true);
 }
 
 /// CC 1, CC 0; then ==0, <>0, >0, <0, >=0, <=0 and UO.
@@ -126,22 +129,25 @@ const CONDITIONS: [(bool, bool, [bool; 7]); 4] = [
 
 #[test]
 fn conditions(rt: HostRuntime) {
-    for (cc1, cc0, [eq, ne, gt, lt, ge, le, uo]) in CONDITIONS {
+    for (cc1, cc0, hold) in CONDITIONS {
         let mut regs = Regs::new();
         regs.status.cc1 = cc1;
         regs.status.cc0 = cc0;
-        assert_eq!(rt; regs.flag(Flag::EqZero), eq);
-        assert_eq!(rt; regs.flag(Flag::NeZero), ne);
-        assert_eq!(rt; regs.flag(Flag::GtZero), gt);
-        assert_eq!(rt; regs.flag(Flag::LtZero), lt);
-        assert_eq!(rt; regs.flag(Flag::GeZero), ge);
-        assert_eq!(rt; regs.flag(Flag::LeZero), le);
-        assert_eq!(rt; regs.flag(Flag::Uo), uo);
+        let got = [
+            regs.flag(Flag::EqZero),
+            regs.flag(Flag::NeZero),
+            regs.flag(Flag::GtZero),
+            regs.flag(Flag::LtZero),
+            regs.flag(Flag::GeZero),
+            regs.flag(Flag::LeZero),
+            regs.flag(Flag::Uo),
+        ];
+        same(&rt, ("CC 1 and CC 0", cc1, cc0), got, hold);
     }
     let all = Status::transferred(0xFFFF_FFFF);
-    assert_eq!(rt; all.flag(Flag::Br), true);
-    assert_eq!(rt; all.flag(Flag::Ov), true);
-    assert_eq!(rt; Status::new().flag(Flag::Os), false);
+    same(&rt, "BR of all bits", all.flag(Flag::Br), true);
+    same(&rt, "OV of all bits", all.flag(Flag::Ov), true);
+    same(&rt, "OS of no bit", Status::new().flag(Flag::Os), false);
 }
 
 #[test]
@@ -150,13 +156,13 @@ fn numbers(rt: HostRuntime) {
     // last with RLO 0 throughout.
     for number in [0x0070, 0x0030, 0x0080, 0x00F0] {
         let status = Status::transferred(number);
-        assert_eq!(rt; u32::from(status.number()), number);
-        assert_eq!(rt; status.rlo, false);
+        let got = (u32::from(status.number()), status.rlo);
+        same(&rt, ("number and RLO", number), got, (number, false));
     }
-    assert_eq!(rt; Status::transferred(0x0070).cc0, true);
-    assert_eq!(rt; Status::transferred(0x0080).cc1, true);
+    same(&rt, "CC 0 of 16#70", Status::transferred(0x0070).cc0, true);
+    same(&rt, "CC 1 of 16#80", Status::transferred(0x0080).cc1, true);
     // Of all nine bits L STW shows bits 1 and 4 to 8.
     let all = Status::transferred(0xFFFF_FFFF);
-    assert_eq!(rt; all.number(), 0x1FF);
-    assert_eq!(rt; all.loaded(), 0x1F2);
+    same(&rt, "all bits", all.number(), 0x1FF);
+    same(&rt, "L STW of all bits", all.loaded(), 0x1F2);
 }

@@ -1,3 +1,4 @@
+use crate::compare::same;
 use var_access::{Entry, What};
 
 // Worker 0 makes no entry, PIB 128 to 255 don't exist, and no interrupt requests OB 18 or OB 39.
@@ -43,6 +44,7 @@ fn valid_entries(rt: HostRuntime) {
         (2, What::Arrive { ob: 39, value: 0 }, false),
         (2, What::Arrive { ob: 47, value: 0 }, true),
     ] {
-        assert_eq!(rt; Entry { who, what }.is_valid(), valid, "{who} {what:?}");
+        let entry = Entry { who, what };
+        same(&rt, entry, entry.is_valid(), valid);
     }
 }

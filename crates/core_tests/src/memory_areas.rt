@@ -1,3 +1,4 @@
+use crate::compare::same;
 use plc_base::{Area, Place, Width};
 use plc_mem::{Memory, Missing, operands};
 use std::alloc::Global;
@@ -69,12 +70,9 @@ fn last_bytes(rt: HostRuntime) {
     ];
     for (place, width, exists) in rows {
         let want = if exists { Ok(1) } else { Err(Missing) };
-        assert_eq!(rt;
-            memory.write(place, width, 1).is_ok(),
-            exists,
-            "{place:?} {width:?}"
-        );
-        assert_eq!(rt; memory.read(place, width), want, "{place:?} {width:?}");
+        let written = memory.write(place, width, 1).is_ok();
+        let got = (written, memory.read(place, width));
+        same(&rt, (place, width), got, (exists, want));
     }
     let peripheral = [
         (127, Width::Byte, true),
@@ -92,16 +90,9 @@ fn last_bytes(rt: HostRuntime) {
     ];
     for (byte, width, exists) in peripheral {
         let place = at(Area::P, byte, 0);
-        assert_eq!(rt;
-            memory.write(place, width, 1).is_ok(),
-            exists,
-            "PQ {byte} {width:?}"
-        );
-        assert_eq!(rt;
-            memory.read(place, width).is_ok(),
-            exists,
-            "PI {byte} {width:?}"
-        );
+        let written = memory.write(place, width, 1).is_ok();
+        let got = (written, memory.read(place, width).is_ok());
+        same(&rt, (place, width), got, (exists, exists));
     }
 }
 
@@ -110,22 +101,28 @@ fn last_bytes(rt: HostRuntime) {
 #[test]
 fn big_endian(rt: HostRuntime) {
     let mut memory = memory(&rt, rt.alloc());
-    assert_eq!(rt;
-        memory.write(at(Area::M, 10, 0), Width::Dword, 0x1234_5678),
-        Ok(())
-    );
-    assert_eq!(rt; memory.read(at(Area::M, 10, 0), Width::Byte), Ok(0x12));
-    assert_eq!(rt; memory.read(at(Area::M, 12, 0), Width::Word), Ok(0x5678));
-    assert_eq!(rt; memory.read(at(Area::M, 11, 0), Width::Word), Ok(0x3456));
-    assert_eq!(rt; memory.read(at(Area::M, 13, 4), Width::Bit), Ok(1));
-    assert_eq!(rt; memory.read(at(Area::M, 13, 0), Width::Bit), Ok(0));
-    assert_eq!(rt; memory.write(at(Area::M, 13, 0), Width::Bit, 1), Ok(()));
-    assert_eq!(rt; memory.write(at(Area::M, 13, 6), Width::Bit, 0), Ok(()));
-    assert_eq!(rt; memory.read(at(Area::M, 13, 0), Width::Byte), Ok(0x39));
-    assert_eq!(rt; memory.read(in_block(7, 1, 0), Width::Word), Ok(0x0B0C));
-    assert_eq!(rt; memory.data_block(7), Some(&[0x0A, 0x0B, 0x0C, 0x0D][..]));
-    assert_eq!(rt; memory.data_block(3), Some(&[][..]));
-    assert_eq!(rt; memory.data_block(0), None);
+    let written = memory.write(at(Area::M, 10, 0), Width::Dword, 0x1234_5678);
+    same(&rt, "T MD 10", written, Ok(()));
+    for (place, width, number) in [
+        (at(Area::M, 10, 0), Width::Byte, 0x12),
+        (at(Area::M, 12, 0), Width::Word, 0x5678),
+        (at(Area::M, 11, 0), Width::Word, 0x3456),
+        (at(Area::M, 13, 4), Width::Bit, 1),
+        (at(Area::M, 13, 0), Width::Bit, 0),
+        (in_block(7, 1, 0), Width::Word, 0x0B0C),
+    ] {
+        same(&rt, (place, width), memory.read(place, width), Ok(number));
+    }
+    let written = memory.write(at(Area::M, 13, 0), Width::Bit, 1);
+    same(&rt, "S M 13.0", written, Ok(()));
+    let written = memory.write(at(Area::M, 13, 6), Width::Bit, 0);
+    same(&rt, "R M 13.6", written, Ok(()));
+    let read = memory.read(at(Area::M, 13, 0), Width::Byte);
+    same(&rt, "MB 13", read, Ok(0x39));
+    let bytes = [0x0A, 0x0B, 0x0C, 0x0D];
+    same(&rt, "DB 7", memory.data_block(7), Some(&bytes[..]));
+    same(&rt, "DB 3", memory.data_block(3), Some(&[][..]));
+    same(&rt, "DB 0", memory.data_block(0), None);
 }
 
 // Peripheral outputs take what T PQW writes, the process image with them, and a refresh moves QB 0
@@ -133,52 +130,59 @@ fn big_endian(rt: HostRuntime) {
 #[test]
 fn peripherals(rt: HostRuntime) {
     let mut memory = memory(&rt, rt.alloc());
-    assert_eq!(rt;
-        memory.write(at(Area::P, 4, 0), Width::Word, 0xABCD),
-        Ok(())
-    );
-    assert_eq!(rt; memory.output(4), Some(0xAB));
-    assert_eq!(rt; memory.output(5), Some(0xCD));
-    assert_eq!(rt; memory.read(at(Area::Q, 4, 0), Width::Word), Ok(0xABCD));
-    assert_eq!(rt; memory.read(at(Area::P, 4, 0), Width::Word), Ok(0));
-    assert_eq!(rt; memory.set_input(0, 0x55), Ok(()));
-    assert_eq!(rt; memory.set_input(767, 0x66), Ok(()));
-    assert_eq!(rt; memory.set_input(128, 0x77), Err(Missing));
-    assert_eq!(rt; memory.read(at(Area::P, 0, 0), Width::Byte), Ok(0x55));
-    assert_eq!(rt; memory.read(at(Area::P, 767, 0), Width::Byte), Ok(0x66));
-    assert_eq!(rt; memory.read(at(Area::I, 0, 0), Width::Byte), Ok(0));
-    assert_eq!(rt; memory.write(at(Area::Q, 0, 0), Width::Byte, 0x99), Ok(()));
-    assert_eq!(rt; memory.output(0), Some(0));
+    let written = memory.write(at(Area::P, 4, 0), Width::Word, 0xABCD);
+    same(&rt, "T PQW 4", written, Ok(()));
+    same(&rt, "PQB 4", memory.output(4), Some(0xAB));
+    same(&rt, "PQB 5", memory.output(5), Some(0xCD));
+    same(&rt, "PIB 0", memory.set_input(0, 0x55), Ok(()));
+    same(&rt, "PIB 767", memory.set_input(767, 0x66), Ok(()));
+    same(&rt, "PIB 128", memory.set_input(128, 0x77), Err(Missing));
+    for (place, width, number) in [
+        (at(Area::Q, 4, 0), Width::Word, 0xABCD),
+        (at(Area::P, 4, 0), Width::Word, 0),
+        (at(Area::P, 0, 0), Width::Byte, 0x55),
+        (at(Area::P, 767, 0), Width::Byte, 0x66),
+        (at(Area::I, 0, 0), Width::Byte, 0),
+    ] {
+        same(&rt, (place, width), memory.read(place, width), Ok(number));
+    }
+    let written = memory.write(at(Area::Q, 0, 0), Width::Byte, 0x99);
+    same(&rt, "T QB 0", written, Ok(()));
+    same(&rt, "PQB 0 before the refresh", memory.output(0), Some(0));
     let before = memory.outputs().copied();
     memory.refresh();
-    assert_eq!(rt; memory.read(at(Area::I, 0, 0), Width::Byte), Ok(0x55));
-    assert_eq!(rt; memory.output(0), Some(0x99));
-    assert_eq!(rt; memory.output(128), None);
-    assert_eq!(rt; memory.write(at(Area::P, 700, 3), Width::Bit, 1), Ok(()));
-    assert_eq!(rt; memory.outputs().byte(700), Some(0x08));
-    assert_eq!(rt; memory.outputs().next_change(&before, 0), Some(0));
-    assert_eq!(rt; memory.outputs().next_change(&before, 1), Some(700));
-    assert_eq!(rt; memory.outputs().next_change(&before, 701), None);
+    let read = memory.read(at(Area::I, 0, 0), Width::Byte);
+    same(&rt, "IB 0 after the refresh", read, Ok(0x55));
+    same(&rt, "PQB 0 after the refresh", memory.output(0), Some(0x99));
+    same(&rt, "PQB 128", memory.output(128), None);
+    let written = memory.write(at(Area::P, 700, 3), Width::Bit, 1);
+    same(&rt, "PQ 700.3", written, Ok(()));
+    let outputs = memory.outputs();
+    same(&rt, "PQB 700", outputs.byte(700), Some(0x08));
+    for (from, changed) in [(0, Some(0)), (1, Some(700)), (701, None)] {
+        let next = outputs.next_change(&before, from);
+        same(&rt, ("next change from", from), next, changed);
+    }
     memory.clear_outputs();
-    assert_eq!(rt; memory.output(0), Some(0));
-    assert_eq!(rt; memory.output(700), Some(0));
-    assert_eq!(rt; memory.read(at(Area::Q, 0, 0), Width::Byte), Ok(0x99));
+    same(&rt, "PQB 0 cleared", memory.output(0), Some(0));
+    same(&rt, "PQB 700 cleared", memory.output(700), Some(0));
+    let read = memory.read(at(Area::Q, 0, 0), Width::Byte);
+    same(&rt, "QB 0 after the outputs are cleared", read, Ok(0x99));
 }
 
 // Local bytes are no memory; their operands are read and written in the same way.
 #[test]
 fn local_bytes(rt: HostRuntime) {
     let mut bytes = [0x12, 0x34, 0x56, 0x78];
-    assert_eq!(rt; operands::number(&bytes, 1, 0, Width::Word), Some(0x3456));
-    assert_eq!(rt; operands::number(&bytes, 3, 4, Width::Bit), Some(1));
-    assert_eq!(rt; operands::number(&bytes, 3, 0, Width::Word), None);
-    assert_eq!(rt;
-        operands::put(&mut bytes, 2, 0, Width::Word, 0xABCD),
-        Ok(())
-    );
-    assert_eq!(rt;
-        operands::put(&mut bytes, 1, 0, Width::Dword, 0),
-        Err(Missing)
-    );
-    assert_eq!(rt; bytes, [0x12, 0x34, 0xAB, 0xCD]);
+    let read = operands::number(&bytes, 1, 0, Width::Word);
+    same(&rt, "LW 1", read, Some(0x3456));
+    let read = operands::number(&bytes, 3, 4, Width::Bit);
+    same(&rt, "L 3.4", read, Some(1));
+    let read = operands::number(&bytes, 3, 0, Width::Word);
+    same(&rt, "LW 3 of 4 bytes", read, None);
+    let written = operands::put(&mut bytes, 2, 0, Width::Word, 0xABCD);
+    same(&rt, "T LW 2", written, Ok(()));
+    let written = operands::put(&mut bytes, 1, 0, Width::Dword, 0);
+    same(&rt, "T LD 1 of 4 bytes", written, Err(Missing));
+    same(&rt, "local bytes", bytes, [0x12, 0x34, 0xAB, 0xCD]);
 }

@@ -1,3 +1,4 @@
+use crate::compare::same;
 use plc_base::{
     Area, BadArea, BadBcd, Place, SourceFault, TimeBase, TooLong, Width, bcd_to_int,
     bcd_to_unsigned, bcd7_to_dint, capped_decimal, decimal_up_to, dint_to_bcd7, int_to_bcd,
@@ -20,7 +21,7 @@ fn bcd(rt: HostRuntime) {
         (0x00F0, Err(BadBcd)),
         (0xFA00, Err(BadBcd)),
     ] {
-        assert_eq!(rt; bcd_to_int(word), number);
+        same(&rt, ("BCD word", word), bcd_to_int(word), number);
     }
     for (word, number) in [
         (0x0123_4567, Ok(1_234_567)),
@@ -29,7 +30,7 @@ fn bcd(rt: HostRuntime) {
         (0x1000_0000, Err(BadBcd)),
         (0x0A00_0000, Err(BadBcd)),
     ] {
-        assert_eq!(rt; bcd7_to_dint(word), number);
+        same(&rt, ("BCD double word", word), bcd7_to_dint(word), number);
     }
     for (number, word) in [
         (0, Some(0)),
@@ -40,7 +41,7 @@ fn bcd(rt: HostRuntime) {
         (1_000, None),
         (-32_768, None),
     ] {
-        assert_eq!(rt; int_to_bcd(number), word);
+        same(&rt, ("INT", number), int_to_bcd(number), word);
     }
     for (number, word) in [
         (1_234_567, Some(0x0123_4567)),
@@ -48,11 +49,11 @@ fn bcd(rt: HostRuntime) {
         (10_000_000, None),
         (-10_000_000, None),
     ] {
-        assert_eq!(rt; dint_to_bcd7(number), word);
+        same(&rt, ("DINT", number), dint_to_bcd7(number), word);
     }
-    assert_eq!(rt; bcd_to_unsigned(0xF999, 3), Some(999));
-    assert_eq!(rt; bcd_to_unsigned(0x0A99, 3), None);
-    assert_eq!(rt; unsigned_to_bcd(345, 3), 0x0345);
+    same(&rt, "digits 16#F999", bcd_to_unsigned(0xF999, 3), Some(999));
+    same(&rt, "digits 16#0A99", bcd_to_unsigned(0x0A99, 3), None);
+    same(&rt, "345 in BCD", unsigned_to_bcd(345, 3), 0x0345);
 }
 
 // S5T#2S is 200 units of 10 ms; 9,995 ms is more than 999 of these, so 99 units of 100 ms.
@@ -71,7 +72,7 @@ fn s5times(rt: HostRuntime) {
         (9_990_000, Ok(0x3999)),
         (9_990_001, Err(TooLong)),
     ] {
-        assert_eq!(rt; s5time_of_ms(ms), word);
+        same(&rt, ("ms", ms), s5time_of_ms(ms), word);
     }
     for (word, ms) in [
         (0x0200, Ok(2_000)),
@@ -82,12 +83,12 @@ fn s5times(rt: HostRuntime) {
         (0xC001, Ok(10)),
         (0x00A0, Err(BadBcd)),
     ] {
-        assert_eq!(rt; ms_of_s5time(word), ms);
+        same(&rt, ("S5TIME", word), ms_of_s5time(word), ms);
     }
     let base = TimeBase::of_s5time(0x6123);
-    assert_eq!(rt; base, TimeBase::OneSecond);
-    assert_eq!(rt; base.unit_ms(), 1_000);
-    assert_eq!(rt; base.s5time(123), 0x2123);
+    same(&rt, "base of 16#6123", base, TimeBase::OneSecond);
+    same(&rt, "unit of 1 s", base.unit_ms(), 1_000);
+    same(&rt, "S5T#123S", base.s5time(123), 0x2123);
 }
 
 // P#M 5.3: 5 * 8 + 3 = 43 = 16#2B. The bits 19 to 23 and 27 to 30 mean nothing.
@@ -112,21 +113,22 @@ fn pointers(rt: HostRuntime) {
         (0x8700_0000, Err(BadArea)),
         (0x0300_002B, Err(BadArea)),
     ] {
-        assert_eq!(rt; place_of_pointer(pointer), answer);
+        same(&rt, pointer, place_of_pointer(pointer), answer);
     }
-    assert_eq!(rt; pointer_of_place(&place), 0x8300_002B);
+    same(&rt, "P#M 5.3", pointer_of_place(&place), 0x8300_002B);
     let in_block = Place {
         area: Area::Db,
         number: 10,
         byte: 1,
         bit: 0,
     };
-    assert_eq!(rt; pointer_of_place(&in_block), 0x8400_0008);
+    same(&rt, "P#DBX 1.0", pointer_of_place(&in_block), 0x8400_0008);
 }
 
 #[test]
 fn want_of_memory(rt: HostRuntime) {
-    assert_eq!(rt; SourceFault::from(AllocError), SourceFault::NoMemory);
+    let fault = SourceFault::from(AllocError);
+    same(&rt, "fault of an allocation", fault, SourceFault::NoMemory);
 }
 
 // The first byte that an area hasn't, and those beside the gap of the peripheral bytes.
@@ -149,7 +151,7 @@ fn bytes_of_areas(rt: HostRuntime) {
         (Area::Di, 0, false),
         (Area::L, 0, false),
     ] {
-        assert_eq!(rt; area.has_byte(byte), exists, "{area:?} {byte}");
+        same(&rt, (area, byte), area.has_byte(byte), exists);
     }
     for (width, bytes, bits) in [
         (Width::Bit, 1, 1),
@@ -157,26 +159,25 @@ fn bytes_of_areas(rt: HostRuntime) {
         (Width::Word, 2, 16),
         (Width::Dword, 4, 32),
     ] {
-        assert_eq!(rt; width.byte_count(), bytes);
-        assert_eq!(rt; width.bit_count(), bits);
+        let got = (width.byte_count(), width.bit_count());
+        same(&rt, width, got, (bytes, bits));
     }
 }
 
 #[test]
 fn decimals(rt: HostRuntime) {
-    let rows: [(&[u8], Option<u32>); 8] = [
-        (b"0", Some(0)),
-        (b"007", Some(7)),
-        (b"65535", Some(65_535)),
-        (b"65536", None),
-        (b"99999999999999999999999999", None),
-        (b"", None),
-        (b"-1", None),
-        (b"1 ", None),
-    ];
-    for (word, number) in rows {
-        assert_eq!(rt; decimal_up_to(word, 65_535), number);
+    for (word, number) in [
+        ("0", Some(0)),
+        ("007", Some(7)),
+        ("65535", Some(65_535)),
+        ("65536", None),
+        ("99999999999999999999999999", None),
+        ("", None),
+        ("-1", None),
+        ("1 ", None),
+    ] {
+        same(&rt, word, decimal_up_to(word.as_bytes(), 65_535), number);
     }
-    assert_eq!(rt; capped_decimal(b"1234", 5_000), 1_234);
-    assert_eq!(rt; capped_decimal(b"5001", 5_000), 5_000);
+    same(&rt, "1234 capped", capped_decimal(b"1234", 5_000), 1_234);
+    same(&rt, "5001 capped", capped_decimal(b"5001", 5_000), 5_000);
 }

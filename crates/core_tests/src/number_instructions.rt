@@ -1,5 +1,6 @@
 // In the tables a status word is its number: /FC 1, RLO 2, STA 4, OR 8, OS 16#10, OV 16#20,
 // CC 0 16#40, CC 1 16#80, BR 16#100.
+use crate::compare::same;
 use alu::{
     Compare, add_const, add_const_wide, add_d, add_i, and_d, and_w, btd, bti, cad, caw, compare_d,
     compare_i, dec, div_d, div_i, dtb, inc, inv_d, inv_i, itb, itd, mod_d, mul_d, mul_i, neg_d,
@@ -17,7 +18,12 @@ fn regs(a2: u32, a1: u32, stw: u32) -> Regs {
     regs
 }
 
-#[derive(Clone, Copy)]
+/// Accumulator 2, accumulator 1 and the number of the status word.
+fn shown(r: &Regs) -> (u32, u32, u32) {
+    (r.a2, r.a1, u32::from(r.status.number()))
+}
+
+#[derive(Clone, Copy, Debug)]
 enum Sum {
     AddI,
     SubI,
@@ -93,13 +99,12 @@ fn sums(rt: HostRuntime) {
     for (what, a2, a1, stw, a1_after, stw_after) in SUMS {
         let mut r = regs(a2, a1, stw);
         calculate(&mut r, what);
-        assert_eq!(rt; r.a2, a2);
-        assert_eq!(rt; r.a1, a1_after);
-        assert_eq!(rt; u32::from(r.status.number()), stw_after);
+        let row = (what, a2, a1, stw);
+        same(&rt, row, shown(&r), (a2, a1_after, stw_after));
     }
 }
 
-#[derive(Clone, Copy)]
+#[derive(Clone, Copy, Debug)]
 enum Single {
     NegI,
     NegD,
@@ -176,9 +181,7 @@ fn singles(rt: HostRuntime) {
     for (what, a1, stw, a1_after, stw_after) in SINGLES {
         let mut r = regs(77, a1, stw);
         change(&mut r, what);
-        assert_eq!(rt; r.a2, 77);
-        assert_eq!(rt; r.a1, a1_after);
-        assert_eq!(rt; u32::from(r.status.number()), stw_after);
+        same(&rt, (what, a1, stw), shown(&r), (77, a1_after, stw_after));
     }
 }
 
@@ -186,27 +189,30 @@ fn singles(rt: HostRuntime) {
 fn accumulators_and_bcd(rt: HostRuntime) {
     let mut r = regs(1, 2, 0);
     tak(&mut r);
-    assert_eq!(rt; (r.a2, r.a1), (2, 1));
+    same(&rt, "TAK", shown(&r), (2, 1, 0));
     push(&mut r);
-    assert_eq!(rt; (r.a2, r.a1), (1, 1));
+    same(&rt, "PUSH", shown(&r), (1, 1, 0));
     r.a2 = 5;
     pop(&mut r);
-    assert_eq!(rt; (r.a2, r.a1), (5, 5));
+    same(&rt, "POP", shown(&r), (5, 5, 0));
 
-    // -123 and -9,999,999. A digit 10, a sign digit 14 and a sign digit 1 are refused.
-    let mut r = regs(0, 0xAAAA_F123, 0);
-    assert_eq!(rt; bti(&mut r), Ok(()));
-    assert_eq!(rt; r.a1, 0xAAAA_FF85);
-    let mut r = regs(0, 0xF999_9999, 0);
-    assert_eq!(rt; btd(&mut r), Ok(()));
-    assert_eq!(rt; r.a1, 0xFF67_6981);
-    let mut r = regs(0, 0xE0A0, 0);
-    assert_eq!(rt; bti(&mut r), Err(BadBcd));
-    let mut r = regs(0, 0xE123, 0);
-    assert_eq!(rt; bti(&mut r), Err(BadBcd));
-    let mut r = regs(0, 0x1000_0000, 0);
-    assert_eq!(rt; btd(&mut r), Err(BadBcd));
-    assert_eq!(rt; r.a1, 0x1000_0000);
+    // -123; a digit 10 and a sign digit 14 are refused, and nothing changes.
+    for (a1, answer, a1_after) in [
+        (0xAAAA_F123, Ok(()), 0xAAAA_FF85),
+        (0xE0A0, Err(BadBcd), 0xE0A0),
+        (0xE123, Err(BadBcd), 0xE123),
+    ] {
+        let mut r = regs(0, a1, 0);
+        same(&rt, ("BTI", a1), (bti(&mut r), r.a1), (answer, a1_after));
+    }
+    // -9,999,999; a sign digit 1 is refused, and nothing changes.
+    for (a1, answer, a1_after) in [
+        (0xF999_9999, Ok(()), 0xFF67_6981),
+        (0x1000_0000, Err(BadBcd), 0x1000_0000),
+    ] {
+        let mut r = regs(0, a1, 0);
+        same(&rt, ("BTD", a1), (btd(&mut r), r.a1), (answer, a1_after));
+    }
 }
 
 /// Accumulators 2 and 1 and status word, whether they are compared at 16 bits; then the status
@@ -241,8 +247,8 @@ fn comparisons(rt: HostRuntime) {
         } else {
             compare_d(&mut r, how);
         }
-        assert_eq!(rt; (r.a2, r.a1), (a2, a1));
-        assert_eq!(rt; u32::from(r.status.number()), stw_after);
+        let row = (how, a2, a1, stw, narrow);
+        same(&rt, row, shown(&r), (a2, a1, stw_after));
     }
 }
 
@@ -250,22 +256,22 @@ fn comparisons(rt: HostRuntime) {
 fn word_logic(rt: HostRuntime) {
     let mut r = regs(0x00FF, 0xAAAA_0FF0, 0x70);
     and_w(&mut r, None);
-    assert_eq!(rt; (r.a1, r.status.number()), (0xAAAA_00F0, 0x90));
+    same(&rt, "AW", shown(&r), (0x00FF, 0xAAAA_00F0, 0x90));
     and_w(&mut r, Some(0xF00F));
-    assert_eq!(rt; (r.a1, r.status.number()), (0xAAAA_0000, 0x10));
+    same(&rt, "AW constant", shown(&r), (0x00FF, 0xAAAA_0000, 0x10));
     or_w(&mut r, Some(0x0F00));
-    assert_eq!(rt; (r.a1, r.status.number()), (0xAAAA_0F00, 0x90));
+    same(&rt, "OW constant", shown(&r), (0x00FF, 0xAAAA_0F00, 0x90));
     xor_w(&mut r, None);
-    assert_eq!(rt; (r.a1, r.status.number()), (0xAAAA_0FFF, 0x90));
+    same(&rt, "XOW", shown(&r), (0x00FF, 0xAAAA_0FFF, 0x90));
     and_d(&mut r, Some(0xFF00_0FF0));
-    assert_eq!(rt; (r.a1, r.status.number()), (0xAA00_0FF0, 0x90));
+    same(&rt, "AD constant", shown(&r), (0x00FF, 0xAA00_0FF0, 0x90));
     or_d(&mut r, None);
-    assert_eq!(rt; (r.a1, r.status.number()), (0xAA00_0FFF, 0x90));
+    same(&rt, "OD", shown(&r), (0x00FF, 0xAA00_0FFF, 0x90));
     xor_d(&mut r, Some(0xAA00_0FFF));
-    assert_eq!(rt; (r.a1, r.status.number()), (0, 0x10));
+    same(&rt, "XOD constant", shown(&r), (0x00FF, 0, 0x10));
 }
 
-#[derive(Clone, Copy)]
+#[derive(Clone, Copy, Debug)]
 enum Shift {
     Ssi,
     Ssd,
@@ -332,13 +338,13 @@ const SHIFTS: [(Shift, u8, u32, u32, u32, u32); 30] = [
 fn shifts(rt: HostRuntime) {
     for (what, places, a1, stw, a1_after, stw_after) in SHIFTS {
         // Once by the literal, once by the lowest byte of accumulator 2.
-        let mut literal = regs(0, a1, stw);
-        move_bits(&mut literal, what, Some(places));
-        assert_eq!(rt; literal.a1, a1_after);
-        assert_eq!(rt; u32::from(literal.status.number()), stw_after);
-        let mut register = regs(0xFFFF_FF00 + u32::from(places), a1, stw);
-        move_bits(&mut register, what, None);
-        assert_eq!(rt; register.a1, a1_after);
-        assert_eq!(rt; u32::from(register.status.number()), stw_after);
+        let row = (what, places, a1, stw);
+        let mut r = regs(0, a1, stw);
+        move_bits(&mut r, what, Some(places));
+        same(&rt, row, shown(&r), (0, a1_after, stw_after));
+        let a2 = 0xFFFF_FF00 + u32::from(places);
+        let mut r = regs(a2, a1, stw);
+        move_bits(&mut r, what, None);
+        same(&rt, row, shown(&r), (a2, a1_after, stw_after));
     }
 }

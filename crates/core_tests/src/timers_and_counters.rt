@@ -1,8 +1,10 @@
+use crate::compare::same;
+use timers_counters::TimerFault::{BadBcd, NoNumber};
 use timers_counters::TimerKind::{Sd, Se, Sf, Sp, Ss};
 use timers_counters::{Counters, TimerFault, TimerKind, Timers};
 
 /// What happens to a timer.
-#[derive(Clone, Copy)]
+#[derive(Clone, Copy, Debug)]
 enum Event {
     Start(TimerKind, bool, u16),
     Pass(u32),
@@ -124,36 +126,33 @@ fn timers(rt: HostRuntime) {
     let mut number = 0;
     for story in stories {
         for (event, output, value) in story {
-            assert_eq!(rt; event.happen(&mut timers, number), Ok(()));
-            assert_eq!(rt; timers.output(number), Ok(*output));
-            assert_eq!(rt; timers.value(number), Ok(*value));
+            let answer = event.happen(&mut timers, number);
+            let got = (answer, timers.output(number), timers.value(number));
+            let want = (Ok(()), Ok(*output), Ok(*value));
+            same(&rt, (number, *event), got, want);
         }
         number = if number < 126 { number + 1 } else { 0 };
     }
 
-    assert_eq!(rt;
-        timers.start(127, Sp, true, 0x000A),
-        Err(TimerFault::BadBcd)
-    );
-    assert_eq!(rt; timers.output(127), Ok(false));
-    assert_eq!(rt; timers.start(127, Sp, true, 0x1123), Ok(()));
-    assert_eq!(rt; timers.bcd(127), Ok(0x1123));
+    let started = timers.start(127, Sp, true, 0x000A);
+    same(&rt, "SP T 127 by a digit 10", started, Err(BadBcd));
+    same(&rt, "T 127 not started", timers.output(127), Ok(false));
+    same(&rt, "SP T 127", timers.start(127, Sp, true, 0x1123), Ok(()));
+    same(&rt, "LC T 127", timers.bcd(127), Ok(0x1123));
     timers.pass_ms(101);
-    assert_eq!(rt; timers.bcd(127), Ok(0x1122));
+    same(&rt, "LC T 127 after 101 ms", timers.bcd(127), Ok(0x1122));
 
-    assert_eq!(rt;
-        timers.start(128, Sp, true, 0x000A),
-        Err(TimerFault::NoNumber)
-    );
-    assert_eq!(rt; timers.reset(128, true), Err(TimerFault::NoNumber));
-    assert_eq!(rt; timers.free(128, true), Err(TimerFault::NoNumber));
-    assert_eq!(rt; timers.output(128), Err(TimerFault::NoNumber));
-    assert_eq!(rt; timers.value(128), Err(TimerFault::NoNumber));
-    assert_eq!(rt; timers.bcd(128), Err(TimerFault::NoNumber));
+    let started = timers.start(128, Sp, true, 0x000A);
+    same(&rt, "SP T 128", started, Err(NoNumber));
+    same(&rt, "R T 128", timers.reset(128, true), Err(NoNumber));
+    same(&rt, "FR T 128", timers.free(128, true), Err(NoNumber));
+    same(&rt, "A T 128", timers.output(128), Err(NoNumber));
+    same(&rt, "L T 128", timers.value(128), Err(NoNumber));
+    same(&rt, "LC T 128", timers.bcd(128), Err(NoNumber));
 }
 
 /// An instruction on a counter.
-#[derive(Clone, Copy)]
+#[derive(Clone, Copy, Debug)]
 enum Count {
     Up(bool),
     Down(bool),
@@ -202,24 +201,24 @@ fn counters(rt: HostRuntime) {
         (Set(true, 0x0111), Ok(()), 345),
         // a digit above 9 counts only where it is read
         (Set(false, 0x00A0), Ok(()), 345),
-        (Set(true, 0x00A0), Err(TimerFault::BadBcd), 345),
+        (Set(true, 0x00A0), Err(BadBcd), 345),
         (Set(true, 0x0012), Ok(()), 12),
         (Clear(false), Ok(()), 12),
         (Clear(true), Ok(()), 0),
     ] {
-        assert_eq!(rt; count.happen(&mut counters, 63), answer);
-        assert_eq!(rt; counters.value(63), Ok(value));
-        assert_eq!(rt; counters.output(63), Ok(value > 0));
+        let done = count.happen(&mut counters, 63);
+        let got = (done, counters.value(63), counters.output(63));
+        same(&rt, count, got, (answer, Ok(value), Ok(value > 0)));
     }
-    assert_eq!(rt; counters.set(0, true, 0x0345), Ok(()));
-    assert_eq!(rt; counters.bcd(0), Ok(0x0345));
+    same(&rt, "S C 0", counters.set(0, true, 0x0345), Ok(()));
+    same(&rt, "LC C 0", counters.bcd(0), Ok(0x0345));
 
-    assert_eq!(rt; counters.up(64, true), Err(TimerFault::NoNumber));
-    assert_eq!(rt; counters.down(64, true), Err(TimerFault::NoNumber));
-    assert_eq!(rt; counters.set(64, true, 0x00A0), Err(TimerFault::NoNumber));
-    assert_eq!(rt; counters.reset(64, true), Err(TimerFault::NoNumber));
-    assert_eq!(rt; counters.free(64, true), Err(TimerFault::NoNumber));
-    assert_eq!(rt; counters.output(64), Err(TimerFault::NoNumber));
-    assert_eq!(rt; counters.value(64), Err(TimerFault::NoNumber));
-    assert_eq!(rt; counters.bcd(64), Err(TimerFault::NoNumber));
+    same(&rt, "CU C 64", counters.up(64, true), Err(NoNumber));
+    same(&rt, "CD C 64", counters.down(64, true), Err(NoNumber));
+    same(&rt, "S C 64", counters.set(64, true, 0x00A0), Err(NoNumber));
+    same(&rt, "R C 64", counters.reset(64, true), Err(NoNumber));
+    same(&rt, "FR C 64", counters.free(64, true), Err(NoNumber));
+    same(&rt, "A C 64", counters.output(64), Err(NoNumber));
+    same(&rt, "L C 64", counters.value(64), Err(NoNumber));
+    same(&rt, "LC C 64", counters.bcd(64), Err(NoNumber));
 }
