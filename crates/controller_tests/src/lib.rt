@@ -14,3 +14,5 @@ mod interrupt_rows;
 mod quiet_rows;
 #[cfg(test)]
 mod tick_rows;
+#[cfg(test)]
+mod watched_rows;

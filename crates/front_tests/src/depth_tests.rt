@@ -1,3 +1,4 @@
+use crate::compare::same;
 use std::alloc::{AllocError, Global};
 use stl_ast::{Bounds, Declaration, Declarations, ElementType, Name, Sequence, TypeTree};
 
@@ -36,7 +37,7 @@ fn nested_arrays(alloc: Global, depth: u32) -> Result<TypeTree, AllocError> {
 #[test]
 fn deep_types_are_dropped(rt: HostRuntime) {
     let structures = chain(rt.alloc(), 100_000).expect(&rt, "memory");
-    assert_eq!(rt; structures.as_slice().len(), 100_000);
+    same(&rt, "structures", structures.as_slice().len(), 100_000);
     let arrays = nested_arrays(rt.alloc(), 100_000).expect(&rt, "memory");
-    assert_eq!(rt; arrays.arrays.len(), 100_000);
+    same(&rt, "arrays", arrays.arrays.len(), 100_000);
 }

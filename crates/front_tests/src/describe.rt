@@ -104,22 +104,11 @@ fn area(out: &mut String, area: Option<Letters>) -> Written {
     }
 }
 
-/// ` in Db 10`, where the address names its data block.
-fn inside(out: &mut String, block: &Option<BlockName>) -> Written {
+/// These words and the name, as ` in Db 10`, where there is one.
+fn named(out: &mut String, words: &str, block: &Option<BlockName>) -> Written {
     match block {
         Some(name) => {
-            out.push_str(" in ")?;
-            block_name(out, name)
-        }
-        None => Ok(()),
-    }
-}
-
-/// ` with Db 2`, where the call names its instance.
-fn instance(out: &mut String, instance: &Option<BlockName>) -> Written {
-    match instance {
-        Some(name) => {
-            out.push_str(" with ")?;
+            out.push_str(words)?;
             block_name(out, name)
         }
         None => Ok(()),
@@ -138,7 +127,7 @@ fn operand(out: &mut String, operand: &Operand) -> Written {
             bit,
         } => {
             write!(out, "Direct {area:?} {width:?} {byte}.{bit}")?;
-            inside(out, block)
+            named(out, " in ", block)
         }
         Operand::Timer { number } => write!(out, "Timer {number}"),
         Operand::Counter { number } => write!(out, "Counter {number}"),
@@ -192,13 +181,10 @@ fn operand(out: &mut String, operand: &Operand) -> Written {
             })?;
             block_name(out, name)
         }
-        Operand::Called {
-            name,
-            instance: data,
-        } => {
+        Operand::Called { name, instance } => {
             out.push_str("Called ")?;
             block_name(out, name)?;
-            instance(out, data)
+            named(out, " with ", instance)
         }
     }
 }

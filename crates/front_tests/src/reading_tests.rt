@@ -3,6 +3,7 @@ ghost use Rattle.stl_ast.specs.Operands.{IsOperand};
 ghost use Rattle.stl_ast.specs.Statements.{IsStatement};
 ghost use Rattle.stl_ast.specs.WellFormed.{IsBlock, IsWellFormed};
 
+use crate::compare::same;
 use crate::rows::parsed;
 use plc_base::{BlockKind, Width};
 use std::test::Fail;
@@ -74,7 +75,7 @@ fn masks_of_tree(tree: &Tree) -> u8
 #[test]
 fn trees_of_each_kind_are_well_formed(rt: HostRuntime) -> Result<(), Fail> {
     let tree = parsed(rt.alloc(), EACH_KIND.as_bytes())?;
-    assert_eq!(rt; masks_of_tree(&tree), 0b1000_1001);
-    assert_eq!(rt; tree.blocks.len(), 5);
+    same(&rt, "masks", masks_of_tree(&tree), 0b1000_1001);
+    same(&rt, "blocks", tree.blocks.len(), 5);
     Ok(())
 }

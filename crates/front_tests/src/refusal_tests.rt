@@ -1,5 +1,7 @@
+use crate::compare::same;
 use crate::rows::verdict;
 use std::alloc::{AllocError, Global};
+use std::process::Abort;
 use std::test::Fail;
 use stl_ast::law_of_components;
 use stl_parser::law_of_clauses;
@@ -242,73 +244,92 @@ static REFUSALS: [(&str, u32, u16); 52] = [
 fn names_the_first_violation(rt: HostRuntime) {
     for (source, line, rule) in REFUSALS.iter() {
         let got = verdict(rt.alloc(), source.as_bytes());
-        assert_eq!(rt; got, (*line, *rule), "{source}");
+        same(&rt, *source, got, (*line, *rule));
     }
     law_of_clauses();
     law_of_components();
 }
 
-/// A source of one piece many times between a head and a tail.
-fn repeated(
-    alloc: Global,
-    head: &[u8],
-    piece: &[u8],
-    count: u32,
-    tail: &[u8],
-) -> Result<Vec<u8>, AllocError> {
-    let mut source = Vec::new(alloc);
-    source.extend_from_slice(head)?;
+/// What stands before the nesting, what opens and what closes each of so many levels, what stands
+/// behind, and the line and the rule of the refusal; 0 and 0 for a tree.
+type Nesting = (
+    &'static [u8],
+    &'static [u8],
+    &'static [u8],
+    u32,
+    &'static [u8],
+    u32,
+    u16,
+);
+
+// Structures and arrays as deep as 1 MiB allows: no step goes down them by a call.
+static OPEN: Nesting = (
+    b"DATA_BLOCK DB 1 STRUCT ",
+    b"a:STRUCT ",
+    b"",
+    100_000,
+    b"",
+    1,
+    13,
+);
+
+static CLOSED: Nesting = (
+    b"DATA_BLOCK DB 1 STRUCT ",
+    b"a:STRUCT ",
+    b"END_STRUCT;",
+    52_000,
+    b"END_STRUCT BEGIN END_DATA_BLOCK",
+    0,
+    0,
+);
+
+static ARRAYS: Nesting = (
+    b"DATA_BLOCK DB 1 STRUCT a:",
+    b"ARRAY[0..0]OF ",
+    b"",
+    74_000,
+    b"INT;END_STRUCT BEGIN END_DATA_BLOCK",
+    0,
+    0,
+);
+
+/// Adds a piece so many times.
+fn add(source: &mut Vec<u8>, piece: &[u8], count: u32) -> Result<(), AllocError> {
     for _ in 0..count {
         source.extend_from_slice(piece)?;
     }
-    source.extend_from_slice(tail)?;
+    Ok(())
+}
+
+/// The source of a row.
+fn nested(alloc: Global, row: &Nesting) -> Result<Vec<u8>, AllocError> {
+    let (head, open, close, count, tail, ..) = row;
+    let mut source = Vec::new(alloc);
+    add(&mut source, head, 1)?;
+    add(&mut source, open, *count)?;
+    add(&mut source, close, *count)?;
+    add(&mut source, tail, 1)?;
     Ok(source)
 }
 
-/// Structures and arrays as deep as 1 MiB allows: no step goes down them by a call.
+fn agrees(rt: &impl Abort, alloc: Global, row: &Nesting) -> Result<(), Fail> {
+    let source = nested(alloc, row)?;
+    let got = verdict(alloc, source.as_slice());
+    same(rt, (row.1, row.2), got, (row.5, row.6));
+    Ok(())
+}
+
 #[test]
 fn open_structures(rt: HostRuntime) -> Result<(), Fail> {
-    let open = repeated(
-        rt.alloc(),
-        b"DATA_BLOCK DB 1 STRUCT ",
-        b"a:STRUCT ",
-        100_000,
-        b"",
-    )?;
-    assert_eq!(rt; verdict(rt.alloc(), open.as_slice()), (1, 13));
-    Ok(())
+    agrees(&rt, rt.alloc(), &OPEN)
 }
 
 #[test]
 fn closed_structures(rt: HostRuntime) -> Result<(), Fail> {
-    let mut source = repeated(
-        rt.alloc(),
-        b"DATA_BLOCK DB 1 STRUCT ",
-        b"a:STRUCT ",
-        52_000,
-        b"",
-    )?;
-    let ends = repeated(
-        rt.alloc(),
-        b"",
-        b"END_STRUCT;",
-        52_000,
-        b"END_STRUCT BEGIN END_DATA_BLOCK",
-    )?;
-    source.extend_from_slice(ends.as_slice())?;
-    assert_eq!(rt; verdict(rt.alloc(), source.as_slice()), (0, 0));
-    Ok(())
+    agrees(&rt, rt.alloc(), &CLOSED)
 }
 
 #[test]
 fn nested_arrays(rt: HostRuntime) -> Result<(), Fail> {
-    let source = repeated(
-        rt.alloc(),
-        b"DATA_BLOCK DB 1 STRUCT a:",
-        b"ARRAY[0..0]OF ",
-        74_000,
-        b"INT;END_STRUCT BEGIN END_DATA_BLOCK",
-    )?;
-    assert_eq!(rt; verdict(rt.alloc(), source.as_slice()), (0, 0));
-    Ok(())
+    agrees(&rt, rt.alloc(), &ARRAYS)
 }

@@ -1,6 +1,7 @@
 ghost use Rattle.std.specs.Prelude.{IfOk};
 ghost use Rattle.stl_ast.specs.WellFormed.{IsWellFormed};
 
+use crate::compare::same;
 use crate::describe::described;
 use plc_base::{Refusal, SourceFault};
 use std::alloc::{AllocError, Global};
@@ -108,7 +109,7 @@ pub(crate) fn all_agree(rt: &impl Abort, alloc: Global, rows: &[Row]) -> Result<
     for (frame, clause, tree) in rows {
         let want = joined(alloc, frame.tree(), tree, "")?;
         let got = shown_in(alloc, *frame, clause)?;
-        assert_eq!(rt; got.as_str(), want.as_str(), "{clause}");
+        same(rt, *clause, got.as_str(), want.as_str());
     }
     Ok(())
 }

@@ -1,12 +1,14 @@
+use crate::compare::same;
 use plc_base::{Refusal, SourceFault};
+use std::alloc::Global;
 use std::test::Fail;
 use stl_lexer::TokenKind::{
     Attribute, Based, Characters, Local, Mark, Number, NumberLiteral, Quoted, SignWord,
     TimeLiteral, Title, Word,
 };
 use stl_lexer::{
-    SOURCE_LIMIT, TokenKind, behind_prefix, first_letter, law_of_time_literals, law_of_tokens, lex,
-    mark_text, milliseconds_within,
+    SOURCE_LIMIT, TokenKind, Tokens, behind_prefix, first_letter, law_of_time_literals,
+    law_of_tokens, lex, mark_text, milliseconds_within,
 };
 
 struct Cut {
@@ -15,7 +17,7 @@ struct Cut {
 }
 
 // Cut by hand after the table of tokens in docs/LANGUAGE.md.
-const CUTS: [Cut; 12] = [
+static CUTS: [Cut; 12] = [
     Cut {
         source: b" \t\r\n// only a comment",
         tokens: &[],
@@ -133,23 +135,35 @@ const CUTS: [Cut; 12] = [
     },
 ];
 
+/// The tokens of a source, or its refusal; a longer source than the limit is told as want of memory.
+fn tokens_of(alloc: Global, source: &[u8]) -> Result<Tokens, SourceFault> {
+    if source.len() > SOURCE_LIMIT {
+        return Err(SourceFault::NoMemory);
+    }
+    lex(alloc, source)
+}
+
+/// The kind of a token, its bytes by the list and by the source, and its line.
+fn told<'a>(
+    tokens: &'a Tokens,
+    at: usize,
+    source: &'a [u8],
+) -> Option<(TokenKind, &'a [u8], &'a [u8], u32)> {
+    if at >= tokens.list.len() {
+        return None;
+    }
+    let token = tokens.token(at);
+    Some((token.kind, tokens.text(at), token.text(source), token.line))
+}
+
 #[test]
 fn cuts_sources(rt: HostRuntime) -> Result<(), Fail> {
-    for cut in &CUTS {
-        let source = cut.source;
-        assert!(rt; source.len() <= SOURCE_LIMIT);
-        let tokens = lex(rt.alloc(), source)?;
-        assert_eq!(rt; tokens.list.len(), cut.tokens.len(), "in {source:?}");
-        for (i, want) in cut.tokens.iter().enumerate() {
-            assert!(rt; i < tokens.list.len());
-            assert_eq!(rt; tokens.token(i).kind, want.0, "token {i} of {source:?}");
-            assert_eq!(rt; tokens.text(i), want.1, "token {i} of {source:?}");
-            assert_eq!(rt;
-                tokens.token(i).text(source),
-                want.1,
-                "token {i} of {source:?}"
-            );
-            assert_eq!(rt; tokens.token(i).line, want.2, "token {i} of {source:?}");
+    for Cut { source, tokens } in &CUTS {
+        let cut = tokens_of(rt.alloc(), source)?;
+        same(&rt, *source, cut.list.len(), tokens.len());
+        for (i, (kind, text, line)) in tokens.iter().enumerate() {
+            let want = Some((*kind, *text, *text, *line));
+            same(&rt, (i, *source), told(&cut, i, source), want);
         }
     }
     law_of_tokens();
@@ -158,7 +172,7 @@ fn cuts_sources(rt: HostRuntime) -> Result<(), Fail> {
 }
 
 // The line and the rule of the first violation, by hand after docs/REFUSALS.md.
-const REFUSALS: [(&[u8], u32, u16); 44] = [
+static REFUSALS: [(&[u8], u32, u16); 44] = [
     // rule 1: a byte begins no token
     (b"A\n$", 2, 1),
     (b"\"\"", 1, 1),
@@ -213,17 +227,12 @@ const REFUSALS: [(&[u8], u32, u16); 44] = [
 #[test]
 fn names_the_first_violation(rt: HostRuntime) -> Result<(), Fail> {
     for (source, line, rule) in &REFUSALS {
-        assert!(rt; source.len() <= SOURCE_LIMIT);
         let refusal = Refusal {
             line: *line,
             rule: *rule,
         };
-        let fault = lex(rt.alloc(), source).err();
-        assert_eq!(rt;
-            fault,
-            Some(SourceFault::Refused { refusal }),
-            "in {source:?}"
-        );
+        let fault = tokens_of(rt.alloc(), source).err();
+        same(&rt, *source, fault, Some(SourceFault::Refused { refusal }));
     }
     Ok(())
 }
@@ -237,7 +246,7 @@ fn writes_marks(rt: HostRuntime) {
         (stl_lexer::Mark::Pointer, b"P#"),
         (stl_lexer::Mark::Bytes, b"B#("),
     ] {
-        assert_eq!(rt; mark_text(mark), want, "{mark:?}");
+        same(&rt, mark, mark_text(mark), want);
     }
 }
 
@@ -249,14 +258,14 @@ fn reads_parts_of_literals(rt: HostRuntime) {
         (b"c#12", b'c'),
         (b"L#-5", b'l'),
     ] {
-        assert_eq!(rt; first_letter(token), letter, "in {token:?}");
+        same(&rt, token, first_letter(token), letter);
     }
     for (token, want) in [
         (b"T#-1S".as_slice(), b"-1S".as_slice()),
         (b"DW#16#1_F", b"1_F"),
         (b"S5TIME#2H", b"2H"),
     ] {
-        assert_eq!(rt; behind_prefix(token), want, "in {token:?}");
+        same(&rt, token, behind_prefix(token), want);
     }
     for (greatest, parts, want) in [
         (9_990_000, b"2H46M30S".as_slice(), Some(9_990_000)),
@@ -266,6 +275,7 @@ fn reads_parts_of_literals(rt: HostRuntime) {
         (100_000, b"5", None),
         (100_000, b"1S2M", None),
     ] {
-        assert_eq!(rt; milliseconds_within(greatest, parts), want, "in {parts:?}");
+        let found = milliseconds_within(greatest, parts);
+        same(&rt, (greatest, parts), found, want);
     }
 }

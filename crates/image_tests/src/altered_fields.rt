@@ -1,6 +1,7 @@
 //! One byte of an image altered: the faults of its fields.
 
 use crate::building::{Block, Data, db, fault_of, fc, image, put_hex};
+use crate::compare::same;
 use std::test::Fail;
 
 /// An FB 1 with four instance bytes, the parameters IN word at 0 and OUT word at 2, and no statement
@@ -86,16 +87,14 @@ static ALTERED: [(usize, u8, u32, u16); 58] = [
 fn altered_fields(rt: HostRuntime) -> Result<(), Fail> {
     let mut image = Vec::new(rt.alloc());
     put_hex(&mut image, IMAGE)?;
-    assert_eq!(rt; image.len(), 82);
+    same(&rt, "length", image.len(), 82);
     for (place, byte, at, code) in ALTERED {
         let mut bytes = Vec::from_slice(rt.alloc(), image.as_slice())?;
         if place < bytes.len() {
             bytes[place] = byte;
         }
-        assert!(rt;
-            fault_of(rt.alloc(), bytes.as_slice()) == (at, code),
-            "{place} {byte}"
-        );
+        let found = fault_of(rt.alloc(), bytes.as_slice());
+        same(&rt, (place, byte), found, (at, code));
     }
     Ok(())
 }
@@ -136,7 +135,7 @@ fn fields_that_run_past(rt: HostRuntime) -> Result<(), Fail> {
         if bytes.len() > 11 {
             bytes[11] = (len % 256) as u8;
         }
-        assert!(rt; fault_of(rt.alloc(), bytes.as_slice()) == (at, 3), "{len}");
+        same(&rt, len, fault_of(rt.alloc(), bytes.as_slice()), (at, 3));
     }
     Ok(())
 }
@@ -171,10 +170,8 @@ fn blocks_out_of_order(rt: HostRuntime) -> Result<(), Fail> {
         let (next_kind, next) = second;
         let blocks = [block(kind, number), block(next_kind, next)];
         let bytes = image(rt.alloc(), &blocks, &[], &[])?;
-        assert!(rt;
-            fault_of(rt.alloc(), bytes.as_slice()) == fault,
-            "{number} {next}"
-        );
+        let found = fault_of(rt.alloc(), bytes.as_slice());
+        same(&rt, (first, second), found, fault);
     }
     Ok(())
 }
@@ -192,10 +189,8 @@ fn data_blocks_out_of_order(rt: HostRuntime) -> Result<(), Fail> {
     ] {
         let blocks: [Data; 2] = [db(first, 0), db(second, 0)];
         let bytes = image(rt.alloc(), &[], &blocks, &[])?;
-        assert!(rt;
-            fault_of(rt.alloc(), bytes.as_slice()) == fault,
-            "{first} {second}"
-        );
+        let found = fault_of(rt.alloc(), bytes.as_slice());
+        same(&rt, (first, second), found, fault);
     }
     Ok(())
 }
@@ -216,7 +211,7 @@ fn names_out_of_order(rt: HostRuntime) -> Result<(), Fail> {
         ("03 42 20 42 82 02 0000 00", (0, 0)),
     ] {
         let bytes = image(rt.alloc(), &[], &[], &["01 41 81 01 0000 00", second])?;
-        assert!(rt; fault_of(rt.alloc(), bytes.as_slice()) == fault, "{second}");
+        same(&rt, second, fault_of(rt.alloc(), bytes.as_slice()), fault);
     }
     Ok(())
 }

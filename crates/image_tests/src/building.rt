@@ -105,8 +105,11 @@ pub fn put_hex(out: &mut Vec<u8>, text: &str) -> Result<(), AllocError> {
     Ok(())
 }
 
-pub fn put_u16(out: &mut Vec<u8>, number: u16) -> Result<(), AllocError> {
-    out.extend_from_slice(&number.to_be_bytes())
+fn put_u16s(out: &mut Vec<u8>, numbers: &[u16]) -> Result<(), AllocError> {
+    for number in numbers {
+        out.extend_from_slice(&number.to_be_bytes())?;
+    }
+    Ok(())
 }
 
 pub fn put_u32(out: &mut Vec<u8>, number: u32) -> Result<(), AllocError> {
@@ -128,20 +131,14 @@ pub fn put_code_block(
     code: &[u8],
     statements: u16,
 ) -> Result<(), AllocError> {
-    out.push(block.kind)?;
-    out.push((block.params.len() % 256) as u8)?;
-    put_u16(out, block.number)?;
-    put_u16(out, block.local_len)?;
-    put_u16(out, block.instance_len)?;
-    put_u16(out, statements)?;
-    put_u16(out, 0)?;
+    out.extend_from_slice(&[block.kind, (block.params.len() % 256) as u8])?;
+    put_u16s(out, &[block.number, block.local_len, block.instance_len])?;
+    put_u16s(out, &[statements, 0])?;
     put_u32(out, long(code.len()))?;
     for param in block.params {
         let (section, width, byte) = *param;
-        out.push(section)?;
-        out.push(width)?;
-        put_u16(out, byte)?;
-        put_u16(out, 0)?;
+        out.extend_from_slice(&[section, width])?;
+        put_u16s(out, &[byte, 0])?;
     }
     out.extend_from_slice(code)?;
     for line in 0..statements {
@@ -160,17 +157,11 @@ pub fn put_header(
 ) -> Result<(), AllocError> {
     put_hex(out, "53374642 0001 0000")?;
     put_u32(out, total)?;
-    put_u16(out, blocks)?;
-    put_u16(out, datas)?;
-    put_u16(out, names)?;
-    put_u16(out, 0)
+    put_u16s(out, &[blocks, datas, names, 0])
 }
 
 pub fn put_data(out: &mut Vec<u8>, data: &Data) -> Result<(), AllocError> {
-    put_u16(out, data.number)?;
-    put_u16(out, data.instance)?;
-    put_u16(out, data.len)?;
-    put_u16(out, 0)?;
+    put_u16s(out, &[data.number, data.instance, data.len, 0])?;
     for _ in 0..data.len {
         out.push(0)?;
     }

@@ -1,3 +1,4 @@
+use crate::compare::same;
 use image_file::{LoadError, LoadFault, load};
 use std::test::Fail;
 
@@ -59,7 +60,7 @@ fn altered_images(rt: HostRuntime) -> Result<(), Fail> {
         } else {
             Some(LoadFault { at, code })
         };
-        assert_eq!(rt; fault_of(&rt, &bytes), wanted, "{place}");
+        same(&rt, (place, byte), fault_of(&rt, &bytes), wanted);
     }
     Ok(())
 }
@@ -69,10 +70,8 @@ fn altered_images(rt: HostRuntime) -> Result<(), Fail> {
 fn longer_image(rt: HostRuntime) -> Result<(), Fail> {
     let mut bytes = Vec::from_slice(rt.alloc(), &EXAMPLE)?;
     bytes.push(0)?;
-    assert_eq!(rt;
-        fault_of(&rt, bytes.as_slice()),
-        Some(LoadFault { at: 80, code: 10 })
-    );
+    let wanted = Some(LoadFault { at: 80, code: 10 });
+    same(&rt, "81 bytes", fault_of(&rt, bytes.as_slice()), wanted);
     Ok(())
 }
 
@@ -88,11 +87,8 @@ fn cut_images(rt: HostRuntime) -> Result<(), Fail> {
         (79, 8),
     ] {
         let (bytes, _) = EXAMPLE.split_at(len);
-        assert_eq!(rt;
-            fault_of(&rt, bytes),
-            Some(LoadFault { at, code: 3 }),
-            "{len}"
-        );
+        let wanted = Some(LoadFault { at, code: 3 });
+        same(&rt, len, fault_of(&rt, bytes), wanted);
     }
     Ok(())
 }

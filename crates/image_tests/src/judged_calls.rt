@@ -1,6 +1,7 @@
 //! Faults 7 that need the blocks that are called.
 
 use crate::building::{Block, Parameter, db, fault_of, fb, fc, image, ob};
+use crate::compare::same;
 use std::alloc::Global;
 use std::process::Abort;
 use std::test::Fail;
@@ -29,11 +30,13 @@ fn agree(rt: &impl Abort, alloc: Global, rows: &[Row]) -> Result<(), Fail> {
             fb(3, 20, &[], "FB 00"),
         ];
         let bytes = image(alloc, &blocks, &[db(5, 4), db(6, 3), db(10, 4)], &[])?;
+        let wanted = if faulty {
+            (36 + u64::from(at), 7)
+        } else {
+            (0, 0)
+        };
         let (found_at, found) = fault_of(alloc, bytes.as_slice());
-        assert_eq!(rt; found, if faulty { 7 } else { 0 }, "{code}");
-        if faulty {
-            assert_eq!(rt; u64::from(found_at), 36 + u64::from(at), "{code}");
-        }
+        same(rt, code, (u64::from(found_at), found), wanted);
     }
     Ok(())
 }
@@ -263,7 +266,8 @@ fn parameters_passed_on(rt: HostRuntime) -> Result<(), Fail> {
     for (code, params, fault) in rows {
         let blocks: [Block; 2] = [fc(1, &[(1, 3, 0), (2, 3, 0)], code), fc(2, params, "FB 00")];
         let bytes = image(rt.alloc(), &blocks, &[], &[])?;
-        assert!(rt; fault_of(rt.alloc(), bytes.as_slice()) == fault, "{code}");
+        let found = fault_of(rt.alloc(), bytes.as_slice());
+        same(&rt, (code, params), found, fault);
     }
     Ok(())
 }
@@ -275,11 +279,13 @@ fn calls_beside_other_faults(rt: HostRuntime) -> Result<(), Fail> {
     let absent = ob("F8 0D 02 0009 0000; FB 00");
     let name = "02 41 42 81 01 0000 00";
     let whole = image(rt.alloc(), &[absent], &[db(10, 4)], &[name])?;
-    assert!(rt; fault_of(rt.alloc(), whole.as_slice()) == (36, 7));
+    let found = fault_of(rt.alloc(), whole.as_slice());
+    same(&rt, "the absent function alone", found, (36, 7));
     // The second function has a fault 5 at its only op, which begins at 53 + 16.
     let bad = fc(1, &[], "80 00");
     let bytes = image(rt.alloc(), &[absent, bad], &[], &[])?;
-    assert!(rt; fault_of(rt.alloc(), bytes.as_slice()) == (69, 5));
+    let found = fault_of(rt.alloc(), bytes.as_slice());
+    same(&rt, "a second function", found, (69, 5));
     // Cut off within the name, which begins at 65, and within the data block's bytes, which begin at 61.
     for (len, fault) in [(70_u32, (36, 7)), (64, (61, 3))] {
         let mut bytes = image(rt.alloc(), &[absent], &[db(10, 4)], &[name])?;
@@ -288,7 +294,7 @@ fn calls_beside_other_faults(rt: HostRuntime) -> Result<(), Fail> {
             bytes[10] = 0;
             bytes[11] = (len % 256) as u8;
         }
-        assert!(rt; fault_of(rt.alloc(), bytes.as_slice()) == fault, "{len}");
+        same(&rt, len, fault_of(rt.alloc(), bytes.as_slice()), fault);
     }
     Ok(())
 }

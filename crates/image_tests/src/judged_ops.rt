@@ -1,6 +1,7 @@
 //! Faults 5 to 8 that an op has by itself, its statement and its block.
 
 use crate::building::{db, fault_of, fb, fc, image, ob};
+use crate::compare::same;
 use std::alloc::Global;
 use std::process::Abort;
 use std::test::Fail;
@@ -15,8 +16,7 @@ fn agree_in_ob(rt: &impl Abort, alloc: Global, rows: &[Row]) -> Result<(), Fail>
         let bytes = image(alloc, &[ob(code)], &[db(10, 4)], &[])?;
         let at = if fault == 0 { 0 } else { 36 + u64::from(at) };
         let (found_at, found) = fault_of(alloc, bytes.as_slice());
-        assert_eq!(rt; found, fault, "{code}");
-        assert_eq!(rt; u64::from(found_at), at, "{code}");
+        same(rt, code, (u64::from(found_at), found), (at, fault));
     }
     Ok(())
 }
@@ -259,8 +259,7 @@ fn parameters_of_a_function(rt: HostRuntime) -> Result<(), Fail> {
         let bytes = image(rt.alloc(), &[block], &[], &[])?;
         let at = if fault == 0 { 0 } else { 54 + u64::from(at) };
         let (found_at, found) = fault_of(rt.alloc(), bytes.as_slice());
-        assert_eq!(rt; found, fault, "{code}");
-        assert_eq!(rt; u64::from(found_at), at, "{code}");
+        same(&rt, code, (u64::from(found_at), found), (at, fault));
     }
     Ok(())
 }
@@ -278,10 +277,11 @@ fn written_inputs(rt: HostRuntime) -> Result<(), Fail> {
     ] {
         let block = fc(1, &[(1, 1, 0)], code);
         let bytes = image(rt.alloc(), &[block], &[], &[])?;
-        assert!(rt; fault_of(rt.alloc(), bytes.as_slice()) == fault, "{code}");
+        same(&rt, code, fault_of(rt.alloc(), bytes.as_slice()), fault);
     }
     let block = fb(1, 2, &[(1, 1, 0)], "90 05 00 01; FB 00");
     let bytes = image(rt.alloc(), &[block], &[], &[])?;
-    assert!(rt; fault_of(rt.alloc(), bytes.as_slice()) == (42, 7));
+    let found = fault_of(rt.alloc(), bytes.as_slice());
+    same(&rt, "a function block's input", found, (42, 7));
     Ok(())
 }

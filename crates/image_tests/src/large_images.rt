@@ -3,6 +3,7 @@
 use crate::building::{
     Block, db, fault_of, fc, ob, put_code_block, put_data, put_header, put_hex, put_u32,
 };
+use crate::compare::same;
 use std::alloc::{AllocError, Global};
 use std::test::Fail;
 
@@ -31,13 +32,15 @@ fn image_of(alloc: Global, code: &[u8], statements: u16) -> Result<Vec<u8>, Allo
 fn most_statements(rt: HostRuntime) -> Result<(), Fail> {
     let code = code_of(rt.alloc(), 65_534, 0)?;
     let mut image = image_of(rt.alloc(), code.as_slice(), 65_535)?;
-    assert_eq!(rt; image.len(), 393_246);
-    assert!(rt; fault_of(rt.alloc(), image.as_slice()) == (0, 0));
     let len = image.len();
+    same(&rt, "length", len, 393_246);
+    let found = fault_of(rt.alloc(), image.as_slice());
+    same(&rt, "lines that rise", found, (0, 0));
     if len > 4 {
         image[len - 2] = 0;
     }
-    assert!(rt; fault_of(rt.alloc(), image.as_slice()) == (393_242, 9));
+    let found = fault_of(rt.alloc(), image.as_slice());
+    same(&rt, "the line of BE altered", found, (393_242, 9));
     Ok(())
 }
 
@@ -54,7 +57,7 @@ fn longest_jump_list(rt: HostRuntime) -> Result<(), Fail> {
         }
         put_hex(&mut code, "FB 00")?;
         let image = image_of(rt.alloc(), code.as_slice(), jumps + 2)?;
-        assert!(rt; fault_of(rt.alloc(), image.as_slice()) == fault, "{jumps}");
+        same(&rt, jumps, fault_of(rt.alloc(), image.as_slice()), fault);
     }
     Ok(())
 }
@@ -74,7 +77,7 @@ fn longest_statement(rt: HostRuntime) -> Result<(), Fail> {
         }
         put_hex(&mut code, "96 00 FB 00")?;
         let image = image_of(rt.alloc(), code.as_slice(), 2)?;
-        assert!(rt; fault_of(rt.alloc(), image.as_slice()) == fault, "{ops}");
+        same(&rt, ops, fault_of(rt.alloc(), image.as_slice()), fault);
     }
     Ok(())
 }
@@ -91,8 +94,8 @@ fn most_data(rt: HostRuntime) -> Result<(), Fail> {
         for number in 0..count {
             put_data(&mut image, &db(number + 1, 16_384))?;
         }
-        assert_eq!(rt; image.len(), total as usize);
-        assert!(rt; fault_of(rt.alloc(), image.as_slice()) == fault, "{count}");
+        let found = fault_of(rt.alloc(), image.as_slice());
+        same(&rt, count, (image.len(), found), (total as usize, fault));
     }
     Ok(())
 }
@@ -106,7 +109,7 @@ fn most_data_blocks(rt: HostRuntime) -> Result<(), Fail> {
         for number in 0..count {
             put_data(&mut image, &db(number + 1, 0))?;
         }
-        assert!(rt; fault_of(rt.alloc(), image.as_slice()) == fault, "{count}");
+        same(&rt, count, fault_of(rt.alloc(), image.as_slice()), fault);
     }
     Ok(())
 }
@@ -125,8 +128,8 @@ fn longest_image(rt: HostRuntime) -> Result<(), Fail> {
         }
         let last = code_of(rt.alloc(), 21_803, checks)?;
         put_code_block(&mut image, &fc(21, &[], ""), last.as_slice(), 21_804)?;
-        assert_eq!(rt; image.len(), total as usize);
-        assert!(rt; fault_of(rt.alloc(), image.as_slice()) == fault);
+        let found = fault_of(rt.alloc(), image.as_slice());
+        same(&rt, checks, (image.len(), found), (total as usize, fault));
     }
     Ok(())
 }

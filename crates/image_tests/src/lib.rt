@@ -6,6 +6,8 @@ mod altered_fields;
 #[cfg(test)]
 mod building;
 #[cfg(test)]
+mod compare;
+#[cfg(test)]
 mod images;
 #[cfg(test)]
 mod judged_calls;
@@ -27,5 +29,7 @@ mod programs_made;
 mod readers;
 #[cfg(test)]
 mod record_numbers;
+#[cfg(test)]
+mod words_and_names;
 #[cfg(test)]
 mod written_programs;

@@ -1,5 +1,6 @@
 //! What names find, and the names of jumps and conditions.
 
+use crate::compare::same;
 use flat_code::{JUMPS, NameEntry, Names, condition_of, flag_of, jump_of};
 use plc_base::{Area, Place, Width};
 use std::alloc::{AllocError, Global};
@@ -29,7 +30,7 @@ fn names_without_case(rt: HostRuntime) -> Result<(), Fail> {
     }
     assert!(rt; Names::are_in_order(list.as_slice()));
     let names = Names::new(list);
-    assert_eq!(rt; names.as_slice().len(), 5);
+    same(&rt, "names", names.as_slice().len(), 5);
     let rows: [(&[u8], Option<u16>); 12] = [
         (b"a", Some(0)),
         (b"A", Some(0)),
@@ -45,7 +46,8 @@ fn names_without_case(rt: HostRuntime) -> Result<(), Fail> {
         (b"ZZ", None),
     ];
     for (name, byte) in rows {
-        assert!(rt; names.find(name).map(|found| found.0.byte) == byte);
+        let found = names.find(name).map(|found| found.0.byte);
+        same(&rt, name, found, byte);
     }
     Ok(())
 }
@@ -66,37 +68,40 @@ fn names_in_order(rt: HostRuntime) -> Result<(), Fail> {
         for name in names {
             list.push(entry(rt.alloc(), name, 0)?)?;
         }
-        assert_eq!(rt; Names::are_in_order(list.as_slice()), right);
+        same(&rt, names, Names::are_in_order(list.as_slice()), right);
     }
     Ok(())
 }
 
 // JU JL JC JCN JCB JNB JBI JNBI JO JOS JZ JN JP JM JPZ JMZ JUO LOOP, from 0.
 #[test]
-fn numbers_of_jumps_and_conditions(rt: HostRuntime) -> Result<(), Fail> {
+fn numbers_of_jumps(rt: HostRuntime) -> Result<(), Fail> {
     let jumps = [
         "Ju", "Jl", "Jc", "Jcn", "Jcb", "Jnb", "Jbi", "Jnbi", "Jo", "Jos", "Jz", "Jn", "Jp", "Jm",
         "Jpz", "Jmz", "Juo", "Loop",
     ];
-    assert_eq!(rt; JUMPS.len(), jumps.len());
+    same(&rt, "jumps", JUMPS.len(), jumps.len());
     for kind in 0..18u8 {
         let jump = jump_of(kind);
-        assert_eq!(rt;
-            format!(in rt.alloc(); "{jump:?}")?.as_str(),
-            jumps[kind as usize]
-        );
-        assert_eq!(rt; jump.kind(), kind);
+        let spelled = format!(in rt.alloc(); "{jump:?}")?;
+        let found = (spelled.as_str(), jump.kind());
+        same(&rt, kind, found, (jumps[kind as usize], kind));
     }
+    Ok(())
+}
+
+// BR OV OS ==0 <>0 >0 <0 >=0 <=0 UO, from 1.
+#[test]
+fn numbers_of_conditions(rt: HostRuntime) -> Result<(), Fail> {
     let flags = [
         "Br", "Ov", "Os", "EqZero", "NeZero", "GtZero", "LtZero", "GeZero", "LeZero", "Uo",
     ];
     for condition in 1..11u8 {
         let flag = flag_of(condition);
-        assert_eq!(rt;
-            format!(in rt.alloc(); "{flag:?}")?.as_str(),
-            flags[condition as usize - 1]
-        );
-        assert_eq!(rt; condition_of(flag), condition);
+        let spelled = format!(in rt.alloc(); "{flag:?}")?;
+        let found = (spelled.as_str(), condition_of(flag));
+        let name = flags[condition as usize - 1];
+        same(&rt, condition, found, (name, condition));
     }
     Ok(())
 }

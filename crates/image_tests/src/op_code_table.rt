@@ -3,6 +3,7 @@
 
 ghost use Rattle.std.specs.Prelude.{◌<◌};
 
+use crate::compare::same;
 use flat_code::{
     Adding, CallWord, Comparison, EndWord, Joined, Logic, Number, Operand, Passed, PointerWord,
     Shift, StartWord, Takes, Word, taken_by, word_of,
@@ -365,62 +366,63 @@ fn greatest_literal(takes: Takes) -> Option<u32> {
 }
 
 /// An operand of each form but 00 and 01, in the order of the list.
-fn operands() -> [Operand; 15] {
-    let (area, width, byte, bit) = (Area::M, Width::Word, 2, 0);
-    let from = Area::L;
-    let actual = Passed::Literal { value: 7 };
-    [
-        Operand::Direct {
-            area,
-            width,
-            byte,
-            bit,
-        },
-        Operand::ByMemory {
-            area,
-            width,
-            from,
-            byte,
-        },
-        Operand::ByRegister {
-            area: None,
-            width,
-            register: 1,
-            bits: 8,
-        },
-        Operand::Parameter { index: 0, width },
-        Operand::Numbered { kind: 1, number: 3 },
-        Operand::NumberedBy {
-            kind: 1,
-            from,
-            byte,
-        },
-        Operand::Numbered { kind: 2, number: 3 },
-        Operand::NumberedBy {
-            kind: 2,
-            from,
-            byte,
-        },
-        Operand::Jump { kind: 0, target: 6 },
-        Operand::OfStatus { condition: 1 },
-        Operand::UseDb { number: 10 },
-        Operand::Pass { index: 0, actual },
-        Operand::Called {
-            kind: 2,
-            number: 1,
-            instance: 0,
-        },
-        Operand::OpenBlock {
-            register: 1,
-            number: 10,
-        },
-        Operand::OpenBy {
-            register: 1,
-            from,
-            byte,
-        },
-    ]
-}
+static OPERANDS: [Operand; 15] = [
+    Operand::Direct {
+        area: Area::M,
+        width: Width::Word,
+        byte: 2,
+        bit: 0,
+    },
+    Operand::ByMemory {
+        area: Area::M,
+        width: Width::Word,
+        from: Area::L,
+        byte: 2,
+    },
+    Operand::ByRegister {
+        area: None,
+        width: Width::Word,
+        register: 1,
+        bits: 8,
+    },
+    Operand::Parameter {
+        index: 0,
+        width: Width::Word,
+    },
+    Operand::Numbered { kind: 1, number: 3 },
+    Operand::NumberedBy {
+        kind: 1,
+        from: Area::L,
+        byte: 2,
+    },
+    Operand::Numbered { kind: 2, number: 3 },
+    Operand::NumberedBy {
+        kind: 2,
+        from: Area::L,
+        byte: 2,
+    },
+    Operand::Jump { kind: 0, target: 6 },
+    Operand::OfStatus { condition: 1 },
+    Operand::UseDb { number: 10 },
+    Operand::Pass {
+        index: 0,
+        actual: Passed::Literal { value: 7 },
+    },
+    Operand::Called {
+        kind: 2,
+        number: 1,
+        instance: 0,
+    },
+    Operand::OpenBlock {
+        register: 1,
+        number: 10,
+    },
+    Operand::OpenBy {
+        register: 1,
+        from: Area::L,
+        byte: 2,
+    },
+];
 
 /// The form of an operand as the list writes it.
 fn form(operand: &Operand) -> &'static str {
@@ -477,14 +479,13 @@ fn line(alloc: Global, code: u8) -> Result<String, AllocError>
     if let Some(most) = greatest_literal(takes) {
         write!(out, " 01:{most}")?;
     }
-    for operand in operands() {
+    for operand in OPERANDS {
         if takes.admits(&operand) {
             let form = form(&operand);
             write!(out, " {form}")?;
         }
     }
-    let [place, ..] = operands();
-    if takes.admits(&place) {
+    if takes.admits(&OPERANDS[0]) {
         put_widths(&mut out, takes)?;
     }
     Ok(out)
@@ -496,12 +497,10 @@ fn each_code_takes_what_the_list_says(rt: HostRuntime) -> Result<(), Fail> {
     for code in 0..128u8 {
         let want = lines.next().unwrap_or("no line");
         let line = line(rt.alloc(), code)?;
-        assert_eq!(rt; line.as_str(), want);
-        assert!(rt;
-            code == word_of(code).code() || want.ends_with('-'),
-            "code {code}"
-        );
+        same(&rt, code, line.as_str(), want);
+        let is_its_own = code == word_of(code).code() || want.ends_with('-');
+        same(&rt, ("code of the word of", code), is_its_own, true);
     }
-    assert!(rt; lines.next().is_none());
+    same(&rt, "a further line", lines.next(), None);
     Ok(())
 }

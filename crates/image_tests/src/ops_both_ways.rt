@@ -1,9 +1,11 @@
 //! Ops as bytes, both ways: the least and the greatest payload of each form of each instruction,
 //! and bytes that are no op.
 
+use crate::compare::same;
 use flat_code::{BadOp, Op, Operand, decode_op, encode_op};
 use plc_base::{Area, Width};
 use std::alloc::Global;
+use std::process::Abort;
 use std::test::*;
 
 // Each line has op codes and, behind |, form bytes with their payloads.
@@ -104,26 +106,36 @@ fn decoded(bytes: &[u8]) -> Result<(Op, u32), BadOp> {
     decode_op(bytes, 0)
 }
 
+/// An op is read to the end of its bytes, with its end mark, and spelled by the same bytes.
+fn is_read_and_spelled(
+    rt: &impl Abort,
+    alloc: Global,
+    code: &str,
+    mark: u8,
+    payload: &str,
+) -> Result<(), Fail> {
+    let mut bytes = op_bytes(alloc, byte_of(code) | mark, payload)?;
+    let len = bytes.len();
+    bytes.push(0xEF)?;
+    let Ok((op, end)) = decoded(bytes.as_slice()) else {
+        panic!(rt; "no op: {code} {payload}")
+    };
+    let what = (code, mark, payload);
+    same(rt, what, (end as usize, op.last), (len, mark == 128));
+    let mut spelled = Vec::new(alloc);
+    encode_op(&op, &mut spelled)?;
+    same(rt, what, spelled.as_slice(), &bytes[..len]);
+    Ok(())
+}
+
 #[test]
 fn each_op_is_read_and_spelled(rt: HostRuntime) -> Result<(), Fail> {
     for line in OPS.lines() {
         let (codes, payloads) = line.split_once('|').unwrap_or(("", ""));
         for code in codes.split_ascii_whitespace() {
             for payload in payloads.split(';') {
-                for mark in [0u8, 128] {
-                    let first = byte_of(code) | mark;
-                    let mut bytes = op_bytes(rt.alloc(), first, payload)?;
-                    let len = bytes.len();
-                    bytes.push(0xEF)?;
-                    let Ok((op, end)) = decoded(bytes.as_slice()) else {
-                        assert!(rt; false, "{code} {payload}");
-                        continue;
-                    };
-                    assert_eq!(rt; end as usize, len, "{code} {payload}");
-                    assert_eq!(rt; op.last, mark == 128);
-                    let mut spelled = Vec::new(rt.alloc());
-                    encode_op(&op, &mut spelled)?;
-                    assert_eq!(rt; spelled.as_slice(), &bytes[..len], "{code} {payload}");
+                for mark in [0, 128] {
+                    is_read_and_spelled(&rt, rt.alloc(), code, mark, payload)?;
                 }
             }
         }
@@ -138,13 +150,14 @@ fn other_bytes_are_no_op(rt: HostRuntime) -> Result<(), Fail> {
         for code in codes.split_ascii_whitespace() {
             for payload in payloads.split(';') {
                 let bytes = op_bytes(rt.alloc(), byte_of(code), payload)?;
-                assert!(rt; decoded(bytes.as_slice()).is_err(), "{code} {payload}");
+                let is_none = decoded(bytes.as_slice()).is_err();
+                same(&rt, (code, payload), is_none, true);
             }
         }
     }
-    assert!(rt; decode_op(&[0x16, 0], 1).is_err());
-    assert!(rt; decode_op(&[0x16, 0], 2).is_err());
-    assert!(rt; decode_op(&[0x16, 0], 3).is_err());
+    for at in [1, 2, 3] {
+        same(&rt, at, decode_op(&[0x16, 0], at).is_err(), true);
+    }
     Ok(())
 }
 
@@ -168,11 +181,10 @@ fn parts_of_ops(rt: HostRuntime) -> Result<(), Fail> {
         (0x7B, true, Operand::Nothing),
     ] {
         let (op, end): (Op, u32) = decode_op(&code, at)?;
-        assert_eq!(rt; op.code, code_of_op);
-        assert_eq!(rt; op.last, last);
-        assert!(rt; op.operand == operand);
+        same(&rt, at, (op.code, op.last), (code_of_op, last));
+        same(&rt, at, op.operand, operand);
         at = end;
     }
-    assert_eq!(rt; at, 20);
+    same(&rt, "end", at, 20);
     Ok(())
 }

@@ -2,6 +2,7 @@
 //! from the tables of forms and codes.
 
 use crate::building::put_hex;
+use crate::compare::same;
 use flat_code::{
     Adding, CallWord, EndWord, Joined, Logic, Number, Op, Operand, Passed, PointerWord, Shift,
     StartWord, Word, encode_op,
@@ -102,28 +103,30 @@ fn passed_in_block(number: u16, byte: u16, bit: u8) -> Passed {
     }
 }
 
-/// Each row's op is made, has the row's size, and is spelled by the row's bytes; the last op of a
+/// The row's op is made, has the row's size, and is spelled by the row's bytes; the last op of a
 /// statement by a code that is 128 higher.
+fn is_made(rt: &impl Abort, alloc: Global, row: &Row, last: bool) -> Result<(), Fail> {
+    let (word, operand, size, text) = *row;
+    let mut bytes = Vec::new(alloc);
+    put_hex(&mut bytes, text)?;
+    if last && !bytes.is_empty() {
+        bytes[0] |= 0x80;
+    }
+    let Some(op) = Op::taken(word, last, operand) else {
+        panic!(rt; "no op: {text}")
+    };
+    let mut spelled = Vec::new(alloc);
+    encode_op(&op, &mut spelled)?;
+    same(rt, text, spelled.as_slice(), bytes.as_slice());
+    same(rt, text, (op.size(), op.last), (size, last));
+    Ok(())
+}
+
+/// Each row's op is made, within a statement and as its last.
 fn are_made(rt: &impl Abort, alloc: Global, rows: &[Row]) -> Result<(), Fail> {
     for row in rows {
-        let (word, operand, size, text) = *row;
-        for last in [false, true] {
-            let mut bytes = Vec::new(alloc);
-            put_hex(&mut bytes, text)?;
-            if last && !bytes.is_empty() {
-                bytes[0] |= 0x80;
-            }
-            match Op::taken(word, last, operand) {
-                None => assert!(rt; false, "{text}"),
-                Some(op) => {
-                    let mut spelled = Vec::new(alloc);
-                    encode_op(&op, &mut spelled)?;
-                    assert_eq!(rt; spelled.as_slice(), bytes.as_slice(), "{text}");
-                    assert_eq!(rt; op.size(), size, "{text}");
-                    assert_eq!(rt; op.last, last, "{text}");
-                }
-            }
-        }
+        is_made(rt, alloc, row, false)?;
+        is_made(rt, alloc, row, true)?;
     }
     Ok(())
 }
@@ -282,9 +285,10 @@ fn ops_that_pass(rt: HostRuntime) -> Result<(), Fail> {
 
 /// No row's word takes the row's operand.
 fn are_refused(rt: &impl Abort, rows: &[(Word, Operand)]) {
-    for (at, row) in rows.iter().enumerate() {
+    for row in rows {
         let (word, operand) = *row;
-        assert!(rt; Op::taken(word, true, operand).is_none(), "{at}");
+        let is_none = Op::taken(word, true, operand).is_none();
+        same(rt, (word.code(), operand), is_none, true);
     }
 }
 

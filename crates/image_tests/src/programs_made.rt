@@ -1,6 +1,7 @@
 //! Programs made of blocks and names: what makes one, and what doesn't. Limits are those of the
 //! fields of an image.
 
+use crate::compare::same;
 use crate::images::EXAMPLE;
 use arrayvec::ArrayVec;
 use flat_code::{
@@ -20,19 +21,24 @@ type Data = (u16, Option<u16>, usize);
 /// A name and its variable.
 type Name = (&'static [u8], Place, Width);
 
-/// Appends an op that a word makes; an operand that it lacks appends none.
-fn put_op(code: &mut Vec<Op>, word: Word, last: bool, operand: Operand) -> Result<(), AllocError> {
-    if let Some(op) = Op::taken(word, last, operand) {
-        code.push(op)?;
+/// An op: its word, whether it is the last of its statement, and its operand.
+type Made = (Word, bool, Operand);
+
+/// The ops of these words; an operand that its word lacks makes none.
+fn code_of(alloc: Global, ops: &[Made]) -> Result<Vec<Op>, AllocError> {
+    let mut code = Vec::new(alloc);
+    for (word, last, operand) in ops {
+        if let Some(op) = Op::taken(*word, *last, *operand) {
+            code.push(op)?;
+        }
     }
-    Ok(())
+    Ok(code)
 }
 
 /// A code block with these parameters, the statement BE, and its line.
 fn code_block(alloc: Global, head: Head, params: &[Param]) -> Result<CodeBlock, AllocError> {
     let (kind, number, local_len, instance_len) = head;
-    let mut code = Vec::new(alloc);
-    put_op(&mut code, Word::End(EndWord::Be), true, Operand::Nothing)?;
+    let code = code_of(alloc, &[(Word::End(EndWord::Be), true, Operand::Nothing)])?;
     let lines = Vec::from_slice(alloc, &[1])?;
     let mut own = ArrayVec::new();
     for param in params {
@@ -116,19 +122,9 @@ fn code_blocks_by_themselves(rt: HostRuntime) -> Result<(), Fail> {
         ((BlockKind::Udt, 1, 0, 0), false),
     ] {
         let found = heads_make_one(rt.alloc(), &[head], &[])?;
-        let (kind, number, locals, instance) = head;
-        assert_eq!(rt; found, made, "{kind:?} {number} {locals} {instance}");
+        same(&rt, head, found, made);
     }
     Ok(())
-}
-
-fn param(section: u8, width: Width, byte: u16, bit: u8) -> Param {
-    Param {
-        section,
-        width,
-        byte,
-        bit,
-    }
 }
 
 /// Parameters of an OB, of an FC, and of an FB with four instance bytes.
@@ -137,31 +133,31 @@ fn parameters(rt: HostRuntime) -> Result<(), Fail> {
     let ob = (BlockKind::Ob, 1, 20, 0);
     let fc = (BlockKind::Fc, 1, 0, 0);
     let fb = (BlockKind::Fb, 1, 0, 4);
-    for (row, (head, param, made)) in [
-        (ob, param(1, Width::Bit, 0, 0), false),
-        (fc, param(1, Width::Bit, 0, 0), true),
-        (fc, param(3, Width::Dword, 0, 0), true),
-        (fc, param(0, Width::Bit, 0, 0), false),
-        (fc, param(4, Width::Bit, 0, 0), false),
-        (fc, param(1, Width::Bit, 1, 0), false),
-        (fc, param(1, Width::Bit, 0, 1), false),
-        (fb, param(2, Width::Word, 2, 0), true),
-        (fb, param(2, Width::Word, 3, 0), false),
-        (fb, param(1, Width::Dword, 0, 0), true),
-        (fb, param(1, Width::Dword, 1, 0), false),
-        (fb, param(1, Width::Bit, 3, 7), true),
-        (fb, param(1, Width::Bit, 3, 8), false),
-        (fb, param(1, Width::Bit, 4, 0), false),
-        (fb, param(1, Width::Byte, 65_535, 0), false),
-    ]
-    .into_iter()
-    .enumerate()
-    {
-        assert_eq!(rt;
-            heads_make_one(rt.alloc(), &[head], &[param])?,
-            made,
-            "{row}"
-        );
+    for (head, (section, width, byte, bit), made) in [
+        (ob, (1, Width::Bit, 0, 0), false),
+        (fc, (1, Width::Bit, 0, 0), true),
+        (fc, (3, Width::Dword, 0, 0), true),
+        (fc, (0, Width::Bit, 0, 0), false),
+        (fc, (4, Width::Bit, 0, 0), false),
+        (fc, (1, Width::Bit, 1, 0), false),
+        (fc, (1, Width::Bit, 0, 1), false),
+        (fb, (2, Width::Word, 2, 0), true),
+        (fb, (2, Width::Word, 3, 0), false),
+        (fb, (1, Width::Dword, 0, 0), true),
+        (fb, (1, Width::Dword, 1, 0), false),
+        (fb, (1, Width::Bit, 3, 7), true),
+        (fb, (1, Width::Bit, 3, 8), false),
+        (fb, (1, Width::Bit, 4, 0), false),
+        (fb, (1, Width::Byte, 65_535, 0), false),
+    ] {
+        let param = Param {
+            section,
+            width,
+            byte,
+            bit,
+        };
+        let found = heads_make_one(rt.alloc(), &[head], &[param])?;
+        same(&rt, (head, param), found, made);
     }
     Ok(())
 }
@@ -183,14 +179,14 @@ fn code_blocks_in_order(rt: HostRuntime) -> Result<(), Fail> {
         let (next_kind, next) = second;
         let heads = [(kind, number, 20, 0), (next_kind, next, 20, 0)];
         let found = heads_make_one(rt.alloc(), &heads, &[])?;
-        assert_eq!(rt; found, made, "{kind:?} {number} {next_kind:?} {next}");
+        same(&rt, (first, second), found, made);
     }
     Ok(())
 }
 
 #[test]
 fn data_blocks_by_themselves(rt: HostRuntime) -> Result<(), Fail> {
-    for (row, (data, made)) in [
+    for (data, made) in [
         ((1, None, 0), true),
         ((2047, None, 4), true),
         ((0, None, 4), false),
@@ -202,19 +198,13 @@ fn data_blocks_by_themselves(rt: HostRuntime) -> Result<(), Fail> {
         ((1, None, 16_384), true),
         ((1, None, 16_385), false),
         ((1, None, 65_536), false),
-    ]
-    .into_iter()
-    .enumerate()
-    {
-        assert_eq!(rt; data_makes_one(rt.alloc(), &[data])?, made, "{row}");
+    ] {
+        same(&rt, data, data_makes_one(rt.alloc(), &[data])?, made);
     }
     for (first, second, made) in [(1, 2, true), (2, 2, false), (2, 1, false)] {
         let datas = [(first, None, 4), (second, None, 4)];
-        assert_eq!(rt;
-            data_makes_one(rt.alloc(), &datas)?,
-            made,
-            "{first} {second}"
-        );
+        let found = data_makes_one(rt.alloc(), &datas)?;
+        same(&rt, (first, second), found, made);
     }
     Ok(())
 }
@@ -237,7 +227,7 @@ fn most_data_of_a_program(rt: HostRuntime) -> Result<(), Fail> {
             blocks.push(data_block(rt.alloc(), (2047, None, bytes))?)?;
         }
         let program = Program::new(Vec::new(rt.alloc()), blocks, Vec::new(rt.alloc()));
-        assert_eq!(rt; program.is_some(), made, "{count} {len}");
+        same(&rt, (count, len, more), program.is_some(), made);
     }
     Ok(())
 }
@@ -254,25 +244,20 @@ fn place(area: Area, number: u16, byte: u16, bit: u8) -> Place {
 /// A name is a variable in I, Q or M; only one of a bit has a bit.
 #[test]
 fn variables_of_names(rt: HostRuntime) -> Result<(), Fail> {
-    for (row, (place, width, made)) in [
-        (place(Area::I, 0, 0, 7), Width::Bit, true),
-        (place(Area::Q, 0, 65_535, 0), Width::Dword, true),
-        (place(Area::M, 0, 2, 0), Width::Byte, true),
-        (place(Area::M, 0, 2, 8), Width::Bit, false),
-        (place(Area::M, 0, 2, 1), Width::Word, false),
-        (place(Area::P, 0, 2, 0), Width::Word, false),
-        (place(Area::L, 0, 2, 0), Width::Word, false),
-        (place(Area::Db, 10, 2, 0), Width::Word, false),
-        (place(Area::M, 10, 2, 0), Width::Word, false),
-    ]
-    .into_iter()
-    .enumerate()
-    {
-        assert_eq!(rt;
-            names_make_one(rt.alloc(), &[(b"A", place, width)])?,
-            made,
-            "{row}"
-        );
+    for ((area, number, byte, bit), width, made) in [
+        ((Area::I, 0, 0, 7), Width::Bit, true),
+        ((Area::Q, 0, 65_535, 0), Width::Dword, true),
+        ((Area::M, 0, 2, 0), Width::Byte, true),
+        ((Area::M, 0, 2, 8), Width::Bit, false),
+        ((Area::M, 0, 2, 1), Width::Word, false),
+        ((Area::P, 0, 2, 0), Width::Word, false),
+        ((Area::L, 0, 2, 0), Width::Word, false),
+        ((Area::Db, 10, 2, 0), Width::Word, false),
+        ((Area::M, 10, 2, 0), Width::Word, false),
+    ] {
+        let place = place(area, number, byte, bit);
+        let found = names_make_one(rt.alloc(), &[(b"A", place, width)])?;
+        same(&rt, (place, width), found, made);
     }
     Ok(())
 }
@@ -296,9 +281,10 @@ fn bytes_of_names(rt: HostRuntime) -> Result<(), Fail> {
         (b"A_10", b"A_2", true),
     ];
     let place = place(Area::M, 0, 0, 0);
-    for (row, (first, second, made)) in rows.into_iter().enumerate() {
+    for (first, second, made) in rows {
         let names = [(first, place, Width::Word), (second, place, Width::Byte)];
-        assert_eq!(rt; names_make_one(rt.alloc(), &names)?, made, "{row}");
+        let found = names_make_one(rt.alloc(), &names)?;
+        same(&rt, (first, second), found, made);
     }
     Ok(())
 }
@@ -316,7 +302,9 @@ fn long_code(alloc: Global, passes: usize, last: Operand) -> Result<Vec<Op>, All
     if let Some(op) = Op::taken(Word::Pass, false, Operand::Pass { index: 0, actual }) {
         code.resize(passes, op)?;
     }
-    put_op(&mut code, Word::Load, true, last)?;
+    if let Some(op) = Op::taken(Word::Load, true, last) {
+        code.push(op)?;
+    }
     Ok(code)
 }
 
@@ -326,14 +314,11 @@ fn long_code(alloc: Global, passes: usize, last: Operand) -> Result<Vec<Op>, All
 fn longest_program(rt: HostRuntime) -> Result<(), Fail> {
     let five = Operand::Numbered { kind: 1, number: 1 };
     let six = Operand::Literal { value: 1 };
-    for (row, (passes, last, lines, made)) in [
+    for (passes, last, lines, made) in [
         (762_597, five, 0, true),
         (762_597, six, 0, false),
         (762_596, six, 3, false),
-    ]
-    .into_iter()
-    .enumerate()
-    {
+    ] {
         let mut block = code_block(rt.alloc(), (BlockKind::Fc, 1, 0, 0), &[])?;
         block.code = long_code(rt.alloc(), passes, last)?;
         block.lines = Vec::new(rt.alloc());
@@ -341,7 +326,7 @@ fn longest_program(rt: HostRuntime) -> Result<(), Fail> {
         let mut blocks = Vec::new(rt.alloc());
         blocks.push(block)?;
         let program = Program::new(blocks, Vec::new(rt.alloc()), Vec::new(rt.alloc()));
-        assert_eq!(rt; program.is_some(), made, "{row}");
+        same(&rt, (passes, last, lines), program.is_some(), made);
     }
     Ok(())
 }
@@ -354,17 +339,14 @@ fn example_code(alloc: Global, target: u32) -> Result<Vec<Op>, AllocError> {
         byte: 2,
         bit: 0,
     };
-    let mut code = Vec::new(alloc);
-    put_op(
-        &mut code,
-        Word::Jump,
-        true,
-        Operand::Jump { kind: 0, target },
-    )?;
-    put_op(&mut code, Word::UseDb, false, Operand::UseDb { number: 10 })?;
-    put_op(&mut code, Word::Transfer, true, place)?;
-    put_op(&mut code, Word::End(EndWord::Be), true, Operand::Nothing)?;
-    Ok(code)
+    let jump = Operand::Jump { kind: 0, target };
+    let ops = [
+        (Word::Jump, true, jump),
+        (Word::UseDb, false, Operand::UseDb { number: 10 }),
+        (Word::Transfer, true, place),
+        (Word::End(EndWord::Be), true, Operand::Nothing),
+    ];
+    code_of(alloc, &ops)
 }
 
 /// The example's program with other code and lines.
@@ -382,13 +364,11 @@ fn example(alloc: Global, code: Vec<Op>, lines: &[u32]) -> Result<Option<Program
 #[test]
 fn example_is_made(rt: HostRuntime) -> Result<(), Fail> {
     let code = example_code(rt.alloc(), 7)?;
-    match example(rt.alloc(), code, &[3, 4, 5])? {
-        None => assert!(rt; false, "the example"),
-        Some(program) => {
-            let written = write_image(rt.alloc(), &program)?;
-            assert_eq!(rt; written.as_slice(), EXAMPLE.as_slice());
-        }
-    }
+    let Some(program) = example(rt.alloc(), code, &[3, 4, 5])? else {
+        panic!(rt; "the example")
+    };
+    let written = write_image(rt.alloc(), &program)?;
+    same(&rt, "image", written.as_slice(), EXAMPLE.as_slice());
     Ok(())
 }
 
@@ -409,9 +389,9 @@ fn fault_of(alloc: Global, program: Option<Program>) -> (u32, u16) {
     }
 }
 
-/// Faults 5 to 9 are no bar to a program; it doesn't verify then. A 9 lies at 0.
+/// A jump or lines with a fault are no bar to a program; it doesn't verify then. A 9 lies at 0.
 #[test]
-fn programs_that_do_not_verify(rt: HostRuntime) -> Result<(), Fail> {
+fn jumps_and_lines_that_do_not_verify(rt: HostRuntime) -> Result<(), Fail> {
     let lines: [(u32, &[u32], (u32, u16)); 7] = [
         (7, &[3, 4, 5], (0, 0)),
         (18, &[3, 4, 5], (0, 0)),
@@ -424,15 +404,24 @@ fn programs_that_do_not_verify(rt: HostRuntime) -> Result<(), Fail> {
     for (target, lines, fault) in lines {
         let code = example_code(rt.alloc(), target)?;
         let program = example(rt.alloc(), code, lines)?;
-        assert!(rt; fault_of(rt.alloc(), program) == fault, "{target}");
+        let found = fault_of(rt.alloc(), program);
+        same(&rt, (target, lines), found, fault);
     }
+    Ok(())
+}
+
+/// Nor does a program with no code, or with a bracket that is closed and was not opened.
+#[test]
+fn code_that_does_not_verify(rt: HostRuntime) -> Result<(), Fail> {
     let program = example(rt.alloc(), Vec::new(rt.alloc()), &[])?;
-    assert!(rt; fault_of(rt.alloc(), program) == (0, 5));
-    let mut code = Vec::new(rt.alloc());
-    put_op(&mut code, Word::SetRlo, true, Operand::Nothing)?;
-    put_op(&mut code, Word::Unnest, true, Operand::Nothing)?;
-    put_op(&mut code, Word::End(EndWord::Be), true, Operand::Nothing)?;
+    same(&rt, "no code", fault_of(rt.alloc(), program), (0, 5));
+    let ops = [
+        (Word::SetRlo, true, Operand::Nothing),
+        (Word::Unnest, true, Operand::Nothing),
+        (Word::End(EndWord::Be), true, Operand::Nothing),
+    ];
+    let code = code_of(rt.alloc(), &ops)?;
     let program = example(rt.alloc(), code, &[1, 1, 2])?;
-    assert!(rt; fault_of(rt.alloc(), program) == (2, 8));
+    same(&rt, "SET and )", fault_of(rt.alloc(), program), (2, 8));
     Ok(())
 }

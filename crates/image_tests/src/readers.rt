@@ -1,10 +1,10 @@
 //! What the readers of a loaded program give.
 
+use crate::compare::same;
 use crate::images::EXAMPLE;
 use flat_code::{Op, Operand};
 use image_file::{Loaded, load};
 use plc_base::{BlockId, BlockKind};
-use std::test::Fail;
 
 /// Offsets in the code of OB 1: the op code there, whether it ends its statement, the offset after it,
 /// and the line of the statement that begins there (0 for none). The op code 0 says that no op begins.
@@ -43,20 +43,18 @@ fn is_jump_to_7(found: Option<(Op, u32)>) -> bool {
 }
 
 #[test]
-fn ops_and_lines(rt: HostRuntime) -> Result<(), Fail> {
+fn ops_and_lines(rt: HostRuntime) {
     let Ok(loaded) = load(rt.alloc(), &EXAMPLE) else {
-        assert!(rt; false, "the example");
-        return Ok(());
+        panic!(rt; "the example")
     };
     let ob = id(BlockKind::Ob, 1);
     for (at, code, last, next, line) in OPS {
-        assert_eq!(rt; shown(&loaded, ob, at), (code, last, next, line), "{at}");
+        same(&rt, at, shown(&loaded, ob, at), (code, last, next, line));
     }
-    assert!(rt; is_jump_to_7(loaded.op(ob, 0)));
+    same(&rt, "JU to 7", is_jump_to_7(loaded.op(ob, 0)), true);
     for other in [id(BlockKind::Fc, 1), id(BlockKind::Ob, 2049)] {
-        assert_eq!(rt; shown(&loaded, other, 0), (0, false, 0, 0));
+        same(&rt, other, shown(&loaded, other, 0), (0, false, 0, 0));
     }
-    Ok(())
 }
 
 fn sizes(loaded: &Loaded) -> Option<(u16, u16, u16, u32, usize)> {
@@ -75,18 +73,14 @@ fn data_len(loaded: &Loaded, number: u16) -> Option<usize> {
 }
 
 #[test]
-fn heads_and_data_blocks(rt: HostRuntime) -> Result<(), Fail> {
+fn heads_and_data_blocks(rt: HostRuntime) {
     let Ok(loaded) = load(rt.alloc(), &EXAMPLE) else {
-        assert!(rt; false, "the example");
-        return Ok(());
+        panic!(rt; "the example")
     };
-    assert_eq!(rt; sizes(&loaded), Some((20, 0, 3, 20, 0)));
-    assert_eq!(rt; data_len(&loaded, 10), Some(4));
-    assert_eq!(rt; data_len(&loaded, 1), None);
-    assert_eq!(rt;
-        loaded.blocks(),
-        [id(BlockKind::Ob, 1), id(BlockKind::Db, 10)].as_slice()
-    );
-    assert_eq!(rt; loaded.names().as_slice().len(), 0);
-    Ok(())
+    same(&rt, "OB 1", sizes(&loaded), Some((20, 0, 3, 20, 0)));
+    same(&rt, "DB 10", data_len(&loaded, 10), Some(4));
+    same(&rt, "DB 1", data_len(&loaded, 1), None);
+    let blocks = [id(BlockKind::Ob, 1), id(BlockKind::Db, 10)];
+    same(&rt, "blocks", loaded.blocks(), blocks.as_slice());
+    same(&rt, "names", loaded.names().as_slice().len(), 0);
 }

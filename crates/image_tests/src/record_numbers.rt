@@ -1,5 +1,6 @@
 //! The numbers of kinds, areas and widths in the records of an image.
 
+use crate::compare::same;
 use flat_code::{area_number, kind_number, width_number};
 use plc_base::{Area, BlockKind, Place, Width};
 
@@ -11,7 +12,7 @@ fn numbers_of_widths(rt: HostRuntime) {
         (Width::Word, 3),
         (Width::Dword, 4),
     ] {
-        assert_eq!(rt; width_number(width), number);
+        same(&rt, width, width_number(width), number);
     }
 }
 
@@ -26,7 +27,7 @@ fn numbers_of_kinds(rt: HostRuntime) {
         (BlockKind::Db, 0),
         (BlockKind::Udt, 0),
     ] {
-        assert_eq!(rt; kind_number(kind), number);
+        same(&rt, kind, kind_number(kind), number);
     }
 }
 
@@ -49,7 +50,7 @@ fn numbers_of_areas(rt: HostRuntime) {
                 byte: 4,
                 bit: 7,
             };
-            assert_eq!(rt; area_number(&place), want, "{area:?} {number}");
+            same(&rt, (area, number), area_number(&place), want);
         }
     }
 }

@@ -1,29 +1,40 @@
 //! Programs written as images, and verified without one.
 
 use crate::building::{Parameter, db, fb, fc, image, ob};
+use crate::compare::same;
 use crate::images::EXAMPLE;
+use flat_code::Program;
 use image_file::{load, verify, write_image};
+use std::alloc::Global;
+use std::process::Abort;
 use std::test::Fail;
+
+/// A program is written as this image.
+fn is_written_as(
+    rt: &impl Abort,
+    alloc: Global,
+    what: &str,
+    program: &Program,
+    image: &[u8],
+) -> Result<(), Fail> {
+    let written = write_image(alloc, program)?;
+    same(rt, what, written.as_slice(), image);
+    Ok(())
+}
 
 /// The example image is what its program is written as, and its program verifies.
 #[test]
 fn example_is_written(rt: HostRuntime) -> Result<(), Fail> {
     let Ok(loaded) = load(rt.alloc(), &EXAMPLE) else {
-        assert!(rt; false, "the example");
-        return Ok(());
+        panic!(rt; "the example")
     };
     let program = loaded.program(rt.alloc())?;
-    let written = write_image(rt.alloc(), &program)?;
-    assert!(rt; written.as_slice() == EXAMPLE.as_slice());
-    match verify(rt.alloc(), program) {
-        Ok(again) => {
-            let program = again.program(rt.alloc())?;
-            let written = write_image(rt.alloc(), &program)?;
-            assert!(rt; written.as_slice() == EXAMPLE.as_slice());
-        }
-        Err(_) => assert!(rt; false, "the example's program"),
-    }
-    Ok(())
+    is_written_as(&rt, rt.alloc(), "loaded", &program, &EXAMPLE)?;
+    let Ok(again) = verify(rt.alloc(), program) else {
+        panic!(rt; "the example's program")
+    };
+    let program = again.program(rt.alloc())?;
+    is_written_as(&rt, rt.alloc(), "verified", &program, &EXAMPLE)
 }
 
 /// An image with each kind of record is written again byte by byte: parameters, an instance, names, and
@@ -43,18 +54,18 @@ fn records_are_written(rt: HostRuntime) -> Result<(), Fail> {
         "03 41 43 44 82 03 0002 00",
         "01 FF 83 04 FFFF 00",
     ];
-    for bytes in [
-        image(rt.alloc(), &blocks, &[data, db(2047, 0)], &names)?,
-        image(rt.alloc(), &[], &[], &[])?,
+    for (what, bytes) in [
+        (
+            "all records",
+            image(rt.alloc(), &blocks, &[data, db(2047, 0)], &names)?,
+        ),
+        ("no record", image(rt.alloc(), &[], &[], &[])?),
     ] {
-        match load(rt.alloc(), bytes.as_slice()) {
-            Ok(loaded) => {
-                let program = loaded.program(rt.alloc())?;
-                let written = write_image(rt.alloc(), &program)?;
-                assert!(rt; written.as_slice() == bytes.as_slice());
-            }
-            Err(_) => assert!(rt; false, "records"),
-        }
+        let Ok(loaded) = load(rt.alloc(), bytes.as_slice()) else {
+            panic!(rt; "no image: {what}")
+        };
+        let program = loaded.program(rt.alloc())?;
+        is_written_as(&rt, rt.alloc(), what, &program, bytes.as_slice())?;
     }
     Ok(())
 }

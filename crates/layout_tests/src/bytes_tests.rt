@@ -1,4 +1,5 @@
 use crate::calls::first_bytes;
+use crate::compare::same;
 use std::test::Fail;
 
 /// A source whose first block is a data block, and its initial bytes, worked out by hand.
@@ -64,7 +65,7 @@ static BYTES: [Row; 12] = [
 fn initial_bytes(rt: HostRuntime) -> Result<(), Fail> {
     for (source, bytes) in &BYTES {
         let found = first_bytes(rt.alloc(), source)?;
-        assert_eq!(rt; found.as_slice(), *bytes, "{source:?}");
+        same(&rt, source, found.as_slice(), *bytes);
     }
     Ok(())
 }

@@ -1,14 +1,17 @@
-use block_layout::{Layouts, lay_out, lay_out_sound};
-use plc_base::SourceFault;
+use block_layout::{Layouts, Path, lay_out, lay_out_sound};
+use plc_base::{Area, Place, SourceFault, Width};
 use std::alloc::{AllocError, Global};
-use stl_ast::Tree;
+use stl_ast::{Name, PathStep, Tree};
 use stl_lexer::{SOURCE_LIMIT, lex};
 use stl_parser::parse;
-use stl_symbols::read_symbols;
+use stl_symbols::{SYMBOLS_LIMIT, Symbols, read_symbols};
 
 /// A source with the line and the rule of its refusal, worked out by hand; 0 and 0 where the layout
 /// breaks no rule.
 pub(crate) type Row = (&'static [u8], u32, u16);
+
+/// A step of a path: a name, or the index of an element where it has none.
+pub(crate) type Step = (&'static [u8], i32);
 
 fn parsed(alloc: Global, source: &[u8]) -> Result<Tree, SourceFault> {
     if source.len() > SOURCE_LIMIT {
@@ -18,11 +21,16 @@ fn parsed(alloc: Global, source: &[u8]) -> Result<Tree, SourceFault> {
     parse(alloc, &tokens)
 }
 
+/// The layouts of a tree without symbols, or its refusal.
+fn laid_tree(alloc: Global, tree: &Tree) -> Result<Layouts, SourceFault> {
+    let symbols = read_symbols(alloc, b"")?;
+    lay_out(alloc, tree, &symbols)
+}
+
 /// The layouts of a source without symbols, or its refusal.
 pub(crate) fn laid(alloc: Global, source: &[u8]) -> Result<Layouts, SourceFault> {
     let tree = parsed(alloc, source)?;
-    let symbols = read_symbols(alloc, b"")?;
-    lay_out(alloc, &tree, &symbols)
+    laid_tree(alloc, &tree)
 }
 
 /// The layouts of what is right in a source without symbols.
@@ -58,7 +66,50 @@ pub(crate) fn in_block(
 /// The initial bytes of the data block that is the first block of a source.
 pub(crate) fn first_bytes(alloc: Global, source: &[u8]) -> Result<Vec<u8>, SourceFault> {
     let tree = parsed(alloc, source)?;
-    let symbols = read_symbols(alloc, b"")?;
-    let layouts = lay_out(alloc, &tree, &symbols)?;
+    let layouts = laid_tree(alloc, &tree)?;
     Ok(layouts.initial_bytes(alloc, &tree, 0)?)
+}
+
+/// The symbols of a file, or its refusal; a longer file than the limit is told as want of memory.
+pub(crate) fn symbols_of(alloc: Global, file: &[u8]) -> Result<Symbols, SourceFault> {
+    if file.len() > SYMBOLS_LIMIT {
+        return Err(SourceFault::NoMemory);
+    }
+    read_symbols(alloc, file)
+}
+
+fn step_of(alloc: Global, name: &[u8], at: i32) -> Result<PathStep, AllocError> {
+    if name.is_empty() {
+        Ok(PathStep::Index { at })
+    } else {
+        Ok(PathStep::Named {
+            name: Name::new(alloc, name)?,
+        })
+    }
+}
+
+/// The path of these steps.
+pub(crate) fn path_of(alloc: Global, path: &[Step]) -> Result<Path, AllocError> {
+    let mut steps = Vec::new(alloc);
+    for (name, at) in path {
+        steps.push(step_of(alloc, name, *at)?)?;
+    }
+    Path::new(alloc, steps.as_slice())
+}
+
+/// A place that was found, with the width there.
+pub(crate) fn at(
+    area: Area,
+    number: u16,
+    byte: u16,
+    bit: u8,
+    width: Width,
+) -> Option<(Place, Width)> {
+    let place = Place {
+        area,
+        number,
+        byte,
+        bit,
+    };
+    Some((place, width))
 }

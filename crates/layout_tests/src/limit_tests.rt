@@ -1,4 +1,5 @@
 use crate::calls::{in_block, verdict};
+use crate::compare::same;
 use std::alloc::{AllocError, Global};
 use std::process::Abort;
 use std::test::Fail;
@@ -60,11 +61,8 @@ fn are_judged(
 ) -> Result<(), Fail> {
     for number in numbers {
         let source = in_block(alloc, before, number, behind)?;
-        assert_eq!(rt;
-            verdict(alloc, source.as_slice()),
-            expected,
-            "{before:?} {number:?}"
-        );
+        let found = verdict(alloc, source.as_slice());
+        same(rt, (before, number), found, expected);
     }
     Ok(())
 }
@@ -171,156 +169,252 @@ fn constants_that_fit(rt: HostRuntime) -> Result<(), Fail> {
         let first = in_block(alloc, b"TYPE UDT 1 STRUCT\na : ", kind, b" := ")?;
         let source = in_block(alloc, first.as_slice(), constant, b";\nEND_STRUCT END_TYPE")?;
         let expected = if *fits { (0, 0) } else { (2, 41) };
-        assert_eq!(rt;
-            verdict(alloc, source.as_slice()),
-            expected,
-            "{kind:?} {constant:?}"
-        );
+        let found = verdict(alloc, source.as_slice());
+        same(&rt, (kind, constant), found, expected);
     }
     Ok(())
 }
 
-/// A text so many times.
-fn repeated(alloc: Global, text: &[u8], count: u32) -> Result<Vec<u8>, AllocError> {
-    let mut all = Vec::new(alloc);
-    for _ in 0..count {
-        all.extend_from_slice(text)?;
-    }
-    Ok(all)
+/// What is repeated in a source.
+#[derive(Clone, Copy)]
+enum Piece {
+    /// The same text each time.
+    Alike {
+        text: &'static str,
+    },
+    /// A number from 1 on between two texts.
+    Numbered {
+        before: &'static str,
+        behind: &'static str,
+    },
 }
 
-/// These pieces, with a number between them, so many times.
-fn numbered(alloc: Global, before: &str, behind: &str, count: u32) -> Result<Vec<u8>, AllocError> {
-    let mut text = Vec::new(alloc);
-    for n in 1..=count {
-        let piece = format!(in alloc; "{before}{n}{behind}")?;
-        text.extend_from_slice(piece.as_bytes())?;
-    }
-    Ok(text)
-}
+/// A source that repeats a piece so many times between its head and its tail, with the line and the
+/// rule of its refusal; 0 and 0 where the layout breaks no rule.
+type Repeats = (&'static str, Piece, u32, &'static str, u32, u16);
+
+const PARAMETER: Piece = Piece::Numbered {
+    before: "p",
+    behind: " : BOOL;\n",
+};
+
+const STATEMENT: Piece = Piece::Alike { text: "SET;" };
+
+const DATA_BLOCK: Piece = Piece::Numbered {
+    before: "DATA_BLOCK DB ",
+    behind: " STRUCT a : BOOL; END_STRUCT BEGIN END_DATA_BLOCK\n",
+};
+
+/// A data block of a data type, which stands in the first line.
+const OF_UDT_1: Piece = Piece::Numbered {
+    before: "DATA_BLOCK DB ",
+    behind: " UDT 1 BEGIN END_DATA_BLOCK\n",
+};
+
+const LARGE: &str = "TYPE UDT 1 STRUCT a : ARRAY [1 .. 16384] OF BYTE; END_STRUCT END_TYPE\n";
+
+const HALF: &str = "TYPE UDT 1 STRUCT a : ARRAY [1 .. 8192] OF BYTE; END_STRUCT END_TYPE\n";
+
+const MORE: &str = "TYPE UDT 1 STRUCT a : ARRAY [1 .. 8194] OF BYTE; END_STRUCT END_TYPE\n";
+
+const END: &str = "END_VAR BEGIN END_FUNCTION";
 
 // The return value is one of the parameters.
-#[test]
-fn a_block_has_60_parameters(rt: HostRuntime) -> Result<(), Fail> {
-    let alloc = rt.alloc();
-    for (head, count, expected) in [
-        (b"\nFUNCTION FC 1 : VOID VAR_INPUT\n".as_slice(), 60, (0, 0)),
-        (b"\nFUNCTION FC 1 : VOID VAR_INPUT\n", 61, (2, 52)),
-        (b"\nFUNCTION FC 1 : INT VAR_OUTPUT\n", 59, (0, 0)),
-        (b"\nFUNCTION FC 1 : INT VAR_IN_OUT\n", 60, (2, 52)),
-        (b"\nFUNCTION FC 1 : INT VAR_TEMP\n", 61, (0, 0)),
-    ] {
-        let names = numbered(alloc, "p", " : BOOL;\n", count)?;
-        let source = in_block(alloc, head, names.as_slice(), b"END_VAR BEGIN END_FUNCTION")?;
-        assert_eq!(rt;
-            verdict(alloc, source.as_slice()),
-            expected,
-            "{head:?} {count}"
-        );
+static PARAMETERS: [Repeats; 5] = [
+    (
+        "\nFUNCTION FC 1 : VOID VAR_INPUT\n",
+        PARAMETER,
+        60,
+        END,
+        0,
+        0,
+    ),
+    (
+        "\nFUNCTION FC 1 : VOID VAR_INPUT\n",
+        PARAMETER,
+        61,
+        END,
+        2,
+        52,
+    ),
+    (
+        "\nFUNCTION FC 1 : INT VAR_OUTPUT\n",
+        PARAMETER,
+        59,
+        END,
+        0,
+        0,
+    ),
+    (
+        "\nFUNCTION FC 1 : INT VAR_IN_OUT\n",
+        PARAMETER,
+        60,
+        END,
+        2,
+        52,
+    ),
+    ("\nFUNCTION FC 1 : INT VAR_TEMP\n", PARAMETER, 61, END, 0, 0),
+];
+
+static DATA_BLOCKS: [Repeats; 3] = [
+    ("", DATA_BLOCK, 256, "", 0, 0),
+    ("", DATA_BLOCK, 257, "", 257, 53),
+    ("", DATA_BLOCK, 258, "", 257, 53),
+];
+
+// 128 blocks of 16,384 bytes, and 256 of 8,192.
+static DATA_BYTES: [Repeats; 7] = [
+    (LARGE, OF_UDT_1, 128, "", 0, 0),
+    (LARGE, OF_UDT_1, 129, "", 130, 54),
+    (LARGE, OF_UDT_1, 130, "", 130, 54),
+    (HALF, OF_UDT_1, 256, "", 0, 0),
+    // The 257th breaks both rules.
+    (HALF, OF_UDT_1, 257, "", 258, 53),
+    (MORE, OF_UDT_1, 255, "", 0, 0),
+    (MORE, OF_UDT_1, 256, "", 257, 54),
+];
+
+// Empty statements don't count.
+static STATEMENTS: [Repeats; 2] = [
+    (
+        "\nFUNCTION FC 1 : VOID BEGIN\n;;;",
+        STATEMENT,
+        65_534,
+        ";\nEND_FUNCTION",
+        0,
+        0,
+    ),
+    (
+        "\nFUNCTION FC 1 : VOID BEGIN\n;;;",
+        STATEMENT,
+        65_535,
+        ";\nEND_FUNCTION",
+        2,
+        55,
+    ),
+];
+
+/// Texts without an end of line, each of which breaks one rule.
+static LINES: [Repeats; 5] = [
+    (
+        "TYPE UDT 1 STRUCT ",
+        Piece::Alike {
+            text: "a : ARRAY [1 .. 16385] OF BYTE; ",
+        },
+        1,
+        "END_STRUCT END_TYPE ",
+        1,
+        51,
+    ),
+    (
+        "FUNCTION FC 1 : VOID VAR_INPUT ",
+        Piece::Numbered {
+            before: "p",
+            behind: " : BOOL; ",
+        },
+        61,
+        "END_VAR BEGIN END_FUNCTION ",
+        1,
+        52,
+    ),
+    (
+        "",
+        Piece::Numbered {
+            before: "DATA_BLOCK DB ",
+            behind: " STRUCT a : BOOL; END_STRUCT BEGIN END_DATA_BLOCK ",
+        },
+        257,
+        "",
+        1,
+        53,
+    ),
+    (
+        "FUNCTION FC 2 : VOID BEGIN ",
+        STATEMENT,
+        65_535,
+        " END_FUNCTION ",
+        1,
+        55,
+    ),
+    (
+        "FUNCTION FC 3 : VOID VAR_TEMP a : ",
+        Piece::Alike {
+            text: "ARRAY [1 .. 1] OF ",
+        },
+        9,
+        "INT; END_VAR BEGIN END_FUNCTION ",
+        1,
+        56,
+    ),
+];
+
+/// Adds a piece with its number.
+fn add(alloc: Global, source: &mut Vec<u8>, piece: Piece, n: u32) -> Result<(), AllocError> {
+    match piece {
+        Piece::Alike { text } => source.extend_from_slice(text.as_bytes()),
+        Piece::Numbered { before, behind } => {
+            let text = format!(in alloc; "{before}{n}{behind}")?;
+            source.extend_from_slice(text.as_bytes())
+        }
+    }
+}
+
+/// The source of a row.
+fn source_of(alloc: Global, row: &Repeats) -> Result<Vec<u8>, AllocError> {
+    let (head, piece, count, tail, ..) = row;
+    let mut source = Vec::new(alloc);
+    source.extend_from_slice(head.as_bytes())?;
+    for n in 1..=*count {
+        add(alloc, &mut source, *piece, n)?;
+    }
+    source.extend_from_slice(tail.as_bytes())?;
+    Ok(source)
+}
+
+fn all_agree(rt: &impl Abort, alloc: Global, rows: &[Repeats]) -> Result<(), Fail> {
+    for row in rows {
+        let source = source_of(alloc, row)?;
+        let found = verdict(alloc, source.as_slice());
+        same(rt, (row.0, row.2), found, (row.4, row.5));
     }
     Ok(())
+}
+
+#[test]
+fn a_block_has_60_parameters(rt: HostRuntime) -> Result<(), Fail> {
+    all_agree(&rt, rt.alloc(), &PARAMETERS)
 }
 
 #[test]
 fn a_source_has_256_data_blocks(rt: HostRuntime) -> Result<(), Fail> {
-    let alloc = rt.alloc();
-    let behind = " STRUCT a : BOOL; END_STRUCT BEGIN END_DATA_BLOCK\n";
-    for (count, expected) in [(256, (0, 0)), (257, (257, 53)), (258, (257, 53))] {
-        let source = numbered(alloc, "DATA_BLOCK DB ", behind, count)?;
-        assert_eq!(rt; verdict(alloc, source.as_slice()), expected);
-    }
-    Ok(())
+    all_agree(&rt, rt.alloc(), &DATA_BLOCKS)
 }
 
-// 128 blocks of 16,384 bytes, and 256 of 8,192.
 #[test]
 fn data_blocks_have_2097152_bytes(rt: HostRuntime) -> Result<(), Fail> {
-    let alloc = rt.alloc();
-    let large = b"TYPE UDT 1 STRUCT a : ARRAY [1 .. 16384] OF BYTE; END_STRUCT END_TYPE\n";
-    let half = b"TYPE UDT 1 STRUCT a : ARRAY [1 .. 8192] OF BYTE; END_STRUCT END_TYPE\n";
-    let more = b"TYPE UDT 1 STRUCT a : ARRAY [1 .. 8194] OF BYTE; END_STRUCT END_TYPE\n";
-    for (udt, count, expected) in [
-        (large.as_slice(), 128, (0, 0)),
-        (large.as_slice(), 129, (130, 54)),
-        (large.as_slice(), 130, (130, 54)),
-        (half.as_slice(), 256, (0, 0)),
-        // The 257th breaks both rules.
-        (half.as_slice(), 257, (258, 53)),
-        (more.as_slice(), 255, (0, 0)),
-        (more.as_slice(), 256, (257, 54)),
-    ] {
-        let blocks = numbered(
-            alloc,
-            "DATA_BLOCK DB ",
-            " UDT 1 BEGIN END_DATA_BLOCK\n",
-            count,
-        )?;
-        let source = in_block(alloc, udt, blocks.as_slice(), b"")?;
-        assert_eq!(rt; verdict(alloc, source.as_slice()), expected, "{count}");
-    }
-    Ok(())
+    all_agree(&rt, rt.alloc(), &DATA_BYTES)
 }
 
-// Empty statements don't count.
 #[test]
 fn a_block_has_65534_statements(rt: HostRuntime) -> Result<(), Fail> {
-    let alloc = rt.alloc();
-    for (count, expected) in [(65_534, (0, 0)), (65_535, (2, 55))] {
-        let statements = repeated(alloc, b"SET;", count)?;
-        let source = in_block(
-            alloc,
-            b"\nFUNCTION FC 1 : VOID BEGIN\n;;;",
-            statements.as_slice(),
-            b";\nEND_FUNCTION",
-        )?;
-        assert_eq!(rt; verdict(alloc, source.as_slice()), expected, "{count}");
-    }
-    Ok(())
+    all_agree(&rt, rt.alloc(), &STATEMENTS)
 }
 
-// Each text breaks one rule; behind one with a greater rule, on one line, the lesser rule is named.
+#[test]
+fn lines_that_break_one_rule(rt: HostRuntime) -> Result<(), Fail> {
+    all_agree(&rt, rt.alloc(), &LINES)
+}
+
+// Behind a text that breaks a greater rule, on one line, the lesser rule is named.
 #[test]
 fn the_least_rule_of_a_line(rt: HostRuntime) -> Result<(), Fail> {
     let alloc = rt.alloc();
-    let large = b"TYPE UDT 1 STRUCT a : ARRAY [1 .. 16385] OF BYTE; END_STRUCT END_TYPE ";
-    let parameters = numbered(alloc, "p", " : BOOL; ", 61)?;
-    let function = in_block(
-        alloc,
-        b"FUNCTION FC 1 : VOID VAR_INPUT ",
-        parameters.as_slice(),
-        b"END_VAR BEGIN END_FUNCTION ",
-    )?;
-    let behind = " STRUCT a : BOOL; END_STRUCT BEGIN END_DATA_BLOCK ";
-    let data_blocks = numbered(alloc, "DATA_BLOCK DB ", behind, 257)?;
-    let statements = repeated(alloc, b"SET;", 65_535)?;
-    let long = in_block(
-        alloc,
-        b"FUNCTION FC 2 : VOID BEGIN ",
-        statements.as_slice(),
-        b" END_FUNCTION ",
-    )?;
-    let bounds = repeated(alloc, b"ARRAY [1 .. 1] OF ", 9)?;
-    let deep = in_block(
-        alloc,
-        b"FUNCTION FC 3 : VOID VAR_TEMP a : ",
-        bounds.as_slice(),
-        b"INT; END_VAR BEGIN END_FUNCTION ",
-    )?;
-    let texts = [
-        (large.as_slice(), 51),
-        (function.as_slice(), 52),
-        (data_blocks.as_slice(), 53),
-        (long.as_slice(), 55),
-        (deep.as_slice(), 56),
-    ];
-    for (text, rule) in texts {
-        assert_eq!(rt; verdict(alloc, text), (1, rule));
-    }
-    for at in 1..texts.len() {
-        let (lesser, rule) = texts[at - 1];
-        let (greater, _) = texts[at];
-        let source = in_block(alloc, greater, lesser, b"")?;
-        assert_eq!(rt; verdict(alloc, source.as_slice()), (1, rule));
+    for at in 1..LINES.len() {
+        let lesser = source_of(alloc, &LINES[at - 1])?;
+        let greater = source_of(alloc, &LINES[at])?;
+        let source = in_block(alloc, greater.as_slice(), lesser.as_slice(), b"")?;
+        let rule = LINES[at - 1].5;
+        same(&rt, rule, verdict(alloc, source.as_slice()), (1, rule));
     }
     Ok(())
 }

@@ -1,10 +1,10 @@
-use crate::calls::{laid, laid_sound};
-use block_layout::{Layouts, Path, Section};
+use crate::calls::{Step, at, laid, laid_sound, path_of};
+use crate::compare::same;
+use block_layout::{Layouts, Section};
 use plc_base::{Area, BlockId, BlockKind, Place, Width};
-use std::alloc::{AllocError, Global};
+use std::alloc::Global;
 use std::process::Abort;
 use std::test::Fail;
-use stl_ast::{Name, PathStep};
 
 // BOOLs pack, BYTEs stand side by side, all else begins at an even byte; each section begins at one.
 static SOURCE: &[u8] = b"DATA_BLOCK DB 1
@@ -97,9 +97,6 @@ FB 1
 BEGIN
 END_DATA_BLOCK";
 
-/// A step of a path: a name, or the index of an element where it has none.
-type Step = (&'static [u8], i32);
-
 /// A path with the byte, the bit and the width that it leads to.
 type Row = (&'static [Step], u16, u8, Width);
 
@@ -145,6 +142,7 @@ static NOWHERE: [&[Step]; 10] = [
     &[(b"l", 0), (b"", 1)],
 ];
 
+/// The instance of the function block of `NESTED`.
 static VARIABLES: [Row; 7] = [
     (&[(b"a", 0)], 0, 0, Width::Bit),
     (&[(b"b", 0)], 1, 0, Width::Byte),
@@ -161,131 +159,114 @@ static TEMPORARIES: [Row; 3] = [
     (&[(b"k", 0)], 11, 0, Width::Bit),
 ];
 
-fn step_of(alloc: Global, name: &[u8], at: i32) -> Result<PathStep, AllocError> {
-    if name.is_empty() {
-        Ok(PathStep::Index { at })
-    } else {
-        Ok(PathStep::Named {
-            name: Name::new(alloc, name)?,
-        })
-    }
-}
+/// Components of the first data block of `SOURCE`.
+static PLAIN: [Row; 6] = [
+    (&[(b"a", 0)], 0, 0, Width::Bit),
+    (&[(b"B", 0)], 0, 1, Width::Bit),
+    (&[(b"c", 0)], 1, 0, Width::Byte),
+    (&[(b"d", 0)], 2, 0, Width::Word),
+    (&[(b"f", 0)], 6, 0, Width::Byte),
+    (&[(b"i", 0)], 10, 0, Width::Dword),
+];
 
-/// Where a path in a block leads to, if it does.
-fn led(
-    alloc: Global,
-    layouts: &Layouts,
+/// Variables of the function block of `SOURCE`.
+static INSTANCE: [Row; 2] = [
+    (&[(b"a", 0)], 0, 0, Width::Bit),
+    (&[(b"b", 0)], 2, 0, Width::Bit),
+];
+
+static TEMPORARY: [Row; 1] = [(&[(b"d", 0)], 2, 0, Width::Word)];
+
+/// The component behind the one that breaks a rule.
+static BEHIND: [Row; 1] = [(&[(b"c", 0)], 2, 0, Width::Word)];
+
+/// A section of a block.
+#[derive(Clone, Copy)]
+struct Part {
     id: BlockId,
     section: Section,
-    path: &[Step],
-) -> Result<Option<(Place, Width)>, AllocError> {
-    let mut steps = Vec::new(alloc);
-    for (name, at) in path {
-        steps.push(step_of(alloc, name, *at)?)?;
-    }
-    let path = Path::new(alloc, steps.as_slice())?;
-    Ok(layouts.offset(id, section, &path))
 }
 
-/// Where the component of one name in block 1 lies, if it does.
-fn offset(
+/// The components of a data block.
+const fn data(number: u16) -> Part {
+    Part {
+        id: BlockId {
+            kind: BlockKind::Db,
+            number,
+        },
+        section: Section::Global,
+    }
+}
+
+/// A section of function block 1.
+const fn variables(section: Section) -> Part {
+    Part {
+        id: BlockId {
+            kind: BlockKind::Fb,
+            number: 1,
+        },
+        section,
+    }
+}
+
+/// Where a path in a section leads to, or that it leads nowhere.
+fn leads(
+    rt: &impl Abort,
     alloc: Global,
     layouts: &Layouts,
-    kind: BlockKind,
-    section: Section,
-    name: &'static [u8],
-) -> Result<Option<(Place, Width)>, AllocError> {
-    led(
-        alloc,
-        layouts,
-        BlockId { kind, number: 1 },
-        section,
-        &[(name, 0)],
-    )
+    part: Part,
+    path: &[Step],
+    want: Option<(Place, Width)>,
+) -> Result<(), Fail> {
+    let steps = path_of(alloc, path)?;
+    let found = layouts.offset(part.id, part.section, &steps);
+    same(rt, path, found, want);
+    Ok(())
 }
 
-fn at(area: Area, number: u16, byte: u16, bit: u8, width: Width) -> Option<(Place, Width)> {
-    let place = Place {
-        area,
-        number,
-        byte,
-        bit,
-    };
-    Some((place, width))
+/// Each row of a section is in this area, of the data block of this number where it is one's.
+fn are_there(
+    rt: &impl Abort,
+    alloc: Global,
+    layouts: &Layouts,
+    part: Part,
+    area: Area,
+    rows: &[Row],
+) -> Result<(), Fail> {
+    let number = if area == Area::Db { part.id.number } else { 0 };
+    for (path, byte, bit, width) in rows {
+        let want = at(area, number, *byte, *bit, *width);
+        leads(rt, alloc, layouts, part, path, want)?;
+    }
+    Ok(())
 }
 
 #[test]
 fn components_of_a_data_block(rt: HostRuntime) -> Result<(), Fail> {
     let alloc = rt.alloc();
     let layouts = laid(alloc, SOURCE)?;
-    let rows: [(&[u8], u16, u8, Width); 6] = [
-        (b"a", 0, 0, Width::Bit),
-        (b"B", 0, 1, Width::Bit),
-        (b"c", 1, 0, Width::Byte),
-        (b"d", 2, 0, Width::Word),
-        (b"f", 6, 0, Width::Byte),
-        (b"i", 10, 0, Width::Dword),
-    ];
-    for (name, byte, bit, width) in rows {
-        let found = offset(alloc, &layouts, BlockKind::Db, Section::Global, name)?;
-        assert_eq!(rt; found, at(Area::Db, 1, byte, bit, width));
-    }
-    let structure = offset(alloc, &layouts, BlockKind::Db, Section::Global, b"g")?;
-    assert_eq!(rt; structure, None);
-    Ok(())
+    are_there(&rt, alloc, &layouts, data(1), Area::Db, &PLAIN)?;
+    // a structure
+    leads(&rt, alloc, &layouts, data(1), &[(b"g", 0)], None)
 }
 
 #[test]
 fn variables_of_a_function_block(rt: HostRuntime) -> Result<(), Fail> {
     let alloc = rt.alloc();
     let layouts = laid(alloc, SOURCE)?;
-    let input = offset(alloc, &layouts, BlockKind::Fb, Section::Instance, b"a")?;
-    assert_eq!(rt; input, at(Area::Di, 0, 0, 0, Width::Bit));
-    let output = offset(alloc, &layouts, BlockKind::Fb, Section::Instance, b"b")?;
-    assert_eq!(rt; output, at(Area::Di, 0, 2, 0, Width::Bit));
-    let temporary = offset(alloc, &layouts, BlockKind::Fb, Section::Temp, b"d")?;
-    assert_eq!(rt; temporary, at(Area::L, 0, 2, 0, Width::Word));
-    Ok(())
-}
-
-/// Each row of a section of a block is in its area there.
-fn are_there(
-    rt: &impl Abort,
-    alloc: Global,
-    layouts: &Layouts,
-    id: BlockId,
-    section: Section,
-    area: Area,
-    rows: &[Row],
-) -> Result<(), Fail> {
-    let number = if area == Area::Db { id.number } else { 0 };
-    for (path, byte, bit, width) in rows {
-        let found = led(alloc, layouts, id, section, path)?;
-        assert_eq!(rt; found, at(area, number, *byte, *bit, *width), "{path:?}");
-    }
-    Ok(())
+    let instance = variables(Section::Instance);
+    are_there(&rt, alloc, &layouts, instance, Area::Di, &INSTANCE)?;
+    let temporary = variables(Section::Temp);
+    are_there(&rt, alloc, &layouts, temporary, Area::L, &TEMPORARY)
 }
 
 #[test]
 fn nested_components(rt: HostRuntime) -> Result<(), Fail> {
     let alloc = rt.alloc();
     let layouts = laid(alloc, NESTED)?;
-    let id = BlockId {
-        kind: BlockKind::Db,
-        number: 1,
-    };
-    are_there(
-        &rt,
-        alloc,
-        &layouts,
-        id,
-        Section::Global,
-        Area::Db,
-        &COMPONENTS,
-    )?;
+    are_there(&rt, alloc, &layouts, data(1), Area::Db, &COMPONENTS)?;
     for path in &NOWHERE {
-        let found = led(alloc, &layouts, id, Section::Global, path)?;
-        assert_eq!(rt; found, None, "{path:?}");
+        leads(&rt, alloc, &layouts, data(1), path, None)?;
     }
     Ok(())
 }
@@ -295,46 +276,14 @@ fn nested_components(rt: HostRuntime) -> Result<(), Fail> {
 fn sections_of_a_function_block(rt: HostRuntime) -> Result<(), Fail> {
     let alloc = rt.alloc();
     let layouts = laid(alloc, NESTED)?;
-    let fb = BlockId {
-        kind: BlockKind::Fb,
-        number: 1,
-    };
-    let db = BlockId {
-        kind: BlockKind::Db,
-        number: 2,
-    };
-    are_there(
-        &rt,
-        alloc,
-        &layouts,
-        fb,
-        Section::Instance,
-        Area::Di,
-        &VARIABLES,
-    )?;
-    are_there(
-        &rt,
-        alloc,
-        &layouts,
-        db,
-        Section::Global,
-        Area::Db,
-        &VARIABLES,
-    )?;
-    are_there(
-        &rt,
-        alloc,
-        &layouts,
-        fb,
-        Section::Temp,
-        Area::L,
-        &TEMPORARIES,
-    )?;
-    let date = led(alloc, &layouts, fb, Section::Temp, &[(b"i", 0)])?;
-    assert_eq!(rt; date, None);
-    let temporary = led(alloc, &layouts, fb, Section::Instance, &[(b"h", 0)])?;
-    assert_eq!(rt; temporary, None);
-    Ok(())
+    let instance = variables(Section::Instance);
+    let temporary = variables(Section::Temp);
+    are_there(&rt, alloc, &layouts, instance, Area::Di, &VARIABLES)?;
+    are_there(&rt, alloc, &layouts, data(2), Area::Db, &VARIABLES)?;
+    are_there(&rt, alloc, &layouts, temporary, Area::L, &TEMPORARIES)?;
+    // a DATE_AND_TIME, and a temporary variable in the instance
+    leads(&rt, alloc, &layouts, temporary, &[(b"i", 0)], None)?;
+    leads(&rt, alloc, &layouts, instance, &[(b"h", 0)], None)
 }
 
 #[test]
@@ -343,9 +292,6 @@ fn what_breaks_a_rule_takes_no_place(rt: HostRuntime) -> Result<(), Fail> {
     let source =
         b"DATA_BLOCK DB 1 STRUCT a : INT; b : INT := 40000; c : INT; END_STRUCT BEGIN END_DATA_BLOCK";
     let layouts = laid_sound(alloc, source)?;
-    let broken = offset(alloc, &layouts, BlockKind::Db, Section::Global, b"b")?;
-    assert_eq!(rt; broken, None);
-    let behind = offset(alloc, &layouts, BlockKind::Db, Section::Global, b"c")?;
-    assert_eq!(rt; behind, at(Area::Db, 1, 2, 0, Width::Word));
-    Ok(())
+    leads(&rt, alloc, &layouts, data(1), &[(b"b", 0)], None)?;
+    are_there(&rt, alloc, &layouts, data(1), Area::Db, &BEHIND)
 }

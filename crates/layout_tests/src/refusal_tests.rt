@@ -1,4 +1,5 @@
 use crate::calls::{Row, in_block, verdict};
+use crate::compare::same;
 use std::alloc::Global;
 use std::process::Abort;
 use std::test::Fail;
@@ -378,13 +379,6 @@ static BODIES: [Row; 17] = [
     (b"SET;\nSET; L DB9.z; L DB1.z;", 4, 23),
 ];
 
-fn all_agree(rt: &impl Abort, alloc: Global, rows: &[Row]) -> Result<(), Fail> {
-    for row in rows {
-        assert_eq!(rt; verdict(alloc, row.0), (row.1, row.2), "{row:?}");
-    }
-    Ok(())
-}
-
 /// Each row stands between these pieces.
 fn all_agree_in(
     rt: &impl Abort,
@@ -395,11 +389,7 @@ fn all_agree_in(
 ) -> Result<(), Fail> {
     for row in rows {
         let source = in_block(alloc, before, row.0, behind)?;
-        assert_eq!(rt;
-            verdict(alloc, source.as_slice()),
-            (row.1, row.2),
-            "{row:?}"
-        );
+        same(rt, row, verdict(alloc, source.as_slice()), (row.1, row.2));
     }
     Ok(())
 }
@@ -437,7 +427,7 @@ fn settings(rt: HostRuntime) -> Result<(), Fail> {
 
 #[test]
 fn blocks(rt: HostRuntime) -> Result<(), Fail> {
-    all_agree(&rt, rt.alloc(), &BLOCKS)
+    all_agree_in(&rt, rt.alloc(), b"", &BLOCKS, b"")
 }
 
 #[test]

@@ -2,6 +2,7 @@
 ghost use Rattle.std.specs.Prelude.{◌≡◌, false};
 ghost use Rattle.lock_tests.specs.Workers.{IsFree};
 
+use crate::compare::same;
 use crate::notes::{Note, Register};
 use std::sync::Wait;
 use std::test::Fail;
@@ -80,8 +81,13 @@ fn each_threads_notes_stand_whole_and_in_order(rt: HostRuntime) -> Result<(), Fa
         panic!(rt; "all numbers are there")
     };
     let notes = register.notes.as_slice();
-    assert_eq!(rt; notes.len(), 2000);
-    assert!(rt; counts_to(notes, 1, 1000));
-    assert!(rt; counts_to(notes, 2, 1000));
+    same(&rt, "notes of both", notes.len(), 2000);
+    same(&rt, "the first's in order", counts_to(notes, 1, 1000), true);
+    same(
+        &rt,
+        "the second's in order",
+        counts_to(notes, 2, 1000),
+        true,
+    );
     Ok(())
 }

@@ -1,14 +1,18 @@
+use crate::compare::same;
 use arrayvec::ArrayVec;
 use plc_io::{MemFiles, MemSink, OpenGate};
 use s7_cli::{cmd_check, cmd_go, s7_main};
 use std::alloc::Global;
+use std::fmt::Debug;
+use std::process::Abort;
+use std::str::from_utf8;
 use std::sync::Wait;
 use std::test::Fail;
 use std::thread::Threads;
 
-const GO: [&str; 3] = ["go", "source", "history"];
+pub(crate) const GO: [&str; 3] = ["go", "source", "history"];
 
-const CHECK: [&str; 2] = ["check", "source"];
+pub(crate) const CHECK: [&str; 2] = ["check", "source"];
 
 /// OB 1 with one rung: output 4.0 is input 0.0 and not input 0.1.
 pub(crate) const RUNG: &[u8] =
@@ -25,6 +29,22 @@ pub(crate) fn two_files(alloc: Global, source: &[u8], history: &[u8]) -> Result<
     Ok(files)
 }
 
+/// The calls that are to fail: the one of this number alone.
+pub(crate) fn only(number: u64) -> ArrayVec<u64, 16> {
+    let mut calls = ArrayVec::new();
+    calls.push(number);
+    calls
+}
+
+/// The words of a call in the form that the program takes.
+pub(crate) fn list_of(alloc: Global, words: &[&str]) -> Result<Vec<String>, Fail> {
+    let mut list = Vec::new(alloc);
+    for word in words {
+        list.push(String::from_str(alloc, *word)?)?;
+    }
+    Ok(list)
+}
+
 /// The status of a call with these words.
 pub(crate) fn call<R: Threads + Wait + Sync>(
     rt: &R,
@@ -33,11 +53,24 @@ pub(crate) fn call<R: Threads + Wait + Sync>(
     files: &mut MemFiles,
     out: &mut MemSink,
 ) -> Result<u8, Fail> {
-    let mut list = Vec::new(alloc);
-    for word in words {
-        list.push(String::from_str(alloc, *word)?)?;
-    }
+    let list = list_of(alloc, words)?;
     Ok(s7_main(rt, alloc, &list, files, out, &OpenGate).code)
+}
+
+/// Calls with these words, and compares the status and what the sink took with those worked out by
+/// hand; `what` names the call where they differ.
+pub(crate) fn answers<R: Abort + Threads + Wait + Sync>(
+    rt: &R,
+    alloc: Global,
+    what: impl Debug + Drop,
+    words: &[&str],
+    mut files: MemFiles,
+    mut out: MemSink,
+    wanted: (u8, &[u8]),
+) -> Result<(), Fail> {
+    let code = call(rt, alloc, words, &mut files, &mut out)?;
+    same(rt, what, (code, out.taken.as_slice()), wanted);
+    Ok(())
 }
 
 // What was taken of each run, worked out by hand. The sink takes one byte of each piece.
@@ -116,11 +149,10 @@ fn runs_and_refusals(rt: HostRuntime) -> Result<(), Fail> {
         (b"", b"", 0, b"END 0 RUN\n"),
     ];
     for (source, history, status, text) in table {
-        let mut files = two_files(rt.alloc(), source, history)?;
-        let mut out = MemSink::new(rt.alloc(), 1);
-        let code = call(&rt, rt.alloc(), &GO, &mut files, &mut out)?;
-        assert_eq!(rt; code, status);
-        assert_eq!(rt; out.taken.as_slice(), text);
+        let what = (from_utf8(source), from_utf8(history));
+        let files = two_files(rt.alloc(), source, history)?;
+        let out = MemSink::new(rt.alloc(), 1);
+        answers(&rt, rt.alloc(), what, &GO, files, out, (status, text))?;
     }
     Ok(())
 }
@@ -132,15 +164,13 @@ fn the_two_commands(rt: HostRuntime) -> Result<(), Fail> {
     let mut files = two_files(alloc, RUNG, ONE_RUN)?;
     let mut out = MemSink::new(alloc, 64);
     let checked = cmd_check(alloc, "source", None, &mut files, &mut out);
-    assert_eq!(rt; checked.code, 0);
-    assert_eq!(rt; out.taken.as_slice(), b"OK\n".as_slice());
+    let told = (checked.code, out.taken.as_slice());
+    same(&rt, "check", told, (0, b"OK\n".as_slice()));
     let mut out = MemSink::new(alloc, 64);
     let run = cmd_go(alloc, "source", "history", None, &mut files, &mut out);
-    assert_eq!(rt; run.code, 0);
-    assert_eq!(rt;
-        out.taken.as_slice(),
-        b"@7 PQ 4 = 01\nEND 7 RUN\n".as_slice()
-    );
+    let told = (run.code, out.taken.as_slice());
+    let text = b"@7 PQ 4 = 01\nEND 7 RUN\n".as_slice();
+    same(&rt, "go", told, (0, text));
     Ok(())
 }
 
@@ -225,11 +255,10 @@ fn checks(rt: HostRuntime) -> Result<(), Fail> {
         ),
     ];
     for (source, status, text) in table {
-        let mut files = two_files(rt.alloc(), source, b"tick 1\n")?;
-        let mut out = MemSink::new(rt.alloc(), 1);
-        let code = call(&rt, rt.alloc(), &CHECK, &mut files, &mut out)?;
-        assert_eq!(rt; code, status);
-        assert_eq!(rt; out.taken.as_slice(), text);
+        let what = from_utf8(source);
+        let files = two_files(rt.alloc(), source, b"tick 1\n")?;
+        let out = MemSink::new(rt.alloc(), 1);
+        answers(&rt, rt.alloc(), what, &CHECK, files, out, (status, text))?;
     }
     Ok(())
 }
@@ -238,37 +267,23 @@ fn checks(rt: HostRuntime) -> Result<(), Fail> {
 // the second to its end, the third to the history.
 #[test]
 fn failed_reads(rt: HostRuntime) -> Result<(), Fail> {
-    for failing in [1, 2, 3] {
+    let wanted = (5, b"read fault\n".as_slice());
+    let failing: [(&[&str], u64); 5] = [(&GO, 1), (&GO, 2), (&GO, 3), (&CHECK, 1), (&CHECK, 2)];
+    for (words, read) in failing {
         let mut files = two_files(rt.alloc(), RUNG, ONE_RUN)?;
-        let mut calls = ArrayVec::new();
-        calls.push(failing);
-        files.fail_reads(calls);
-        let mut out = MemSink::new(rt.alloc(), 64);
-        let code = call(&rt, rt.alloc(), &GO, &mut files, &mut out)?;
-        assert_eq!(rt; code, 5);
-        assert_eq!(rt; out.taken.as_slice(), b"read fault\n".as_slice());
-    }
-    for failing in [1, 2] {
-        let mut files = two_files(rt.alloc(), RUNG, ONE_RUN)?;
-        let mut calls = ArrayVec::new();
-        calls.push(failing);
-        files.fail_reads(calls);
-        let mut out = MemSink::new(rt.alloc(), 64);
-        let code = call(&rt, rt.alloc(), &CHECK, &mut files, &mut out)?;
-        assert_eq!(rt; code, 5);
-        assert_eq!(rt; out.taken.as_slice(), b"read fault\n".as_slice());
+        files.fail_reads(only(read));
+        let out = MemSink::new(rt.alloc(), 64);
+        answers(&rt, rt.alloc(), (words, read), words, files, out, wanted)?;
     }
     let missing: [&[&str]; 3] = [
         &["go", "none", "history"],
         &["go", "source", "none"],
         &["check", "none"],
     ];
-    for list in missing {
-        let mut files = two_files(rt.alloc(), RUNG, ONE_RUN)?;
-        let mut out = MemSink::new(rt.alloc(), 64);
-        let code = call(&rt, rt.alloc(), list, &mut files, &mut out)?;
-        assert_eq!(rt; code, 5);
-        assert_eq!(rt; out.taken.as_slice(), b"read fault\n".as_slice());
+    for words in missing {
+        let files = two_files(rt.alloc(), RUNG, ONE_RUN)?;
+        let out = MemSink::new(rt.alloc(), 64);
+        answers(&rt, rt.alloc(), words, words, files, out, wanted)?;
     }
     Ok(())
 }
@@ -282,15 +297,11 @@ fn failed_push(rt: HostRuntime) -> Result<(), Fail> {
         (&CHECK, RUNG, 2, b"OK"),
         (&CHECK, b"SET;", 6, b"source"),
     ];
-    for (list, source, len, text) in table {
-        let mut files = two_files(rt.alloc(), source, ONE_RUN)?;
-        let mut calls = ArrayVec::new();
-        calls.push(2);
+    for (words, source, len, text) in table {
+        let files = two_files(rt.alloc(), source, ONE_RUN)?;
         let mut out = MemSink::new(rt.alloc(), len);
-        out.fail_pushes(calls);
-        let code = call(&rt, rt.alloc(), list, &mut files, &mut out)?;
-        assert_eq!(rt; code, 6);
-        assert_eq!(rt; out.taken.as_slice(), text);
+        out.fail_pushes(only(2));
+        answers(&rt, rt.alloc(), (words, len), words, files, out, (6, text))?;
     }
     Ok(())
 }
@@ -313,14 +324,13 @@ fn long_files(rt: HostRuntime) -> Result<(), Fail> {
         (&CHECK, 1_048_576, 0, 0, b"OK\n"),
         (&CHECK, 1_048_577, 0, 8, b"too long: source\n"),
     ];
-    for (list, source_len, history_len, status, text) in table {
+    for (words, source_len, history_len, status, text) in table {
+        let what = (words, source_len, history_len);
         let source = vec![in rt.alloc(); b' '; source_len]?;
         let history = vec![in rt.alloc(); b'\n'; history_len]?;
-        let mut files = two_files(rt.alloc(), &source, &history)?;
-        let mut out = MemSink::new(rt.alloc(), 64);
-        let code = call(&rt, rt.alloc(), list, &mut files, &mut out)?;
-        assert_eq!(rt; code, status);
-        assert_eq!(rt; out.taken.as_slice(), text);
+        let files = two_files(rt.alloc(), &source, &history)?;
+        let out = MemSink::new(rt.alloc(), 64);
+        answers(&rt, rt.alloc(), what, words, files, out, (status, text))?;
     }
     Ok(())
 }

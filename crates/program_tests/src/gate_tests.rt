@@ -1,5 +1,6 @@
 //! The gate is for the workers of a live run: `go` and `check` don't pass it.
-use crate::calls::{ONE_RUN, RUNG, two_files};
+use crate::calls::{CHECK, GO, ONE_RUN, RUNG, list_of, two_files};
+use crate::compare::same;
 use plc_io::{Gate, MemSink};
 use s7_cli::s7_main;
 use std::sync::atomic::{AtomicBool, Ordering};
@@ -22,24 +23,18 @@ fn no_command_passes_the_gate(rt: HostRuntime) -> Result<(), Fail> {
     let gate = WatchedGate {
         passed: AtomicBool::new(false),
     };
-    for words in [
-        ["go", "source", "history"].as_slice(),
-        ["check", "source"].as_slice(),
-    ] {
-        let mut list = Vec::new(rt.alloc());
-        for word in words {
-            list.push(String::from_str(rt.alloc(), *word)?)?;
-        }
+    let commands: [&[&str]; 2] = [&GO, &CHECK];
+    for words in commands {
+        let list = list_of(rt.alloc(), words)?;
         let mut files = two_files(rt.alloc(), RUNG, ONE_RUN)?;
         let mut out = MemSink::new(rt.alloc(), 1000);
-        assert_eq!(rt;
-            s7_main(&rt, rt.alloc(), &list, &mut files, &mut out, &gate).code,
-            0
-        );
-        assert!(rt; !gate.passed.load(Ordering::SeqCst));
+        let status = s7_main(&rt, rt.alloc(), &list, &mut files, &mut out, &gate);
+        let passed = gate.passed.load(Ordering::SeqCst);
+        same(&rt, words, (status.code, passed), (0, false));
     }
     // the gate does remember
     gate.pass(1, 1);
-    assert!(rt; gate.passed.load(Ordering::SeqCst));
+    let passed = gate.passed.load(Ordering::SeqCst);
+    same(&rt, "the pass by hand", passed, true);
     Ok(())
 }

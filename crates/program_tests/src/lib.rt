@@ -5,6 +5,10 @@
 #[cfg(test)]
 mod calls;
 #[cfg(test)]
+mod compare;
+#[cfg(test)]
+mod count_tests;
+#[cfg(test)]
 mod edge_tests;
 #[cfg(test)]
 mod gate_tests;

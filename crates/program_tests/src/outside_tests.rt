@@ -1,40 +1,46 @@
-use arrayvec::ArrayVec;
+use crate::calls::only;
+use crate::compare::same;
 use plc_io::{
     Bytes, Files, Gate, IoFault, MemFiles, MemSink, NamedFiles, OpenGate, RealFiles, RealSink,
     Sink, SureFiles, SureSink, push_all, read_to_limit,
 };
+use std::process::Abort;
 use std::test::Fail;
 
 /// A file of the test's own, in the folder where the tests run.
 const SCRATCH: &str = "outside_tests_scratch";
+
+/// A name, a place, and what comes: as many bytes as there is room for at most, none from the end on.
+type Read = (&'static str, u64, Result<usize, IoFault>);
+
+/// Reads row by row into `into`.
+fn are_read<F: Files>(rt: &impl Abort, files: &mut F, into: &mut [u8], reads: &[Read]) {
+    for (name, at, answer) in reads {
+        let count = files.read_some(*name, *at, into);
+        same(rt, (*name, *at), count, *answer);
+    }
+}
 
 #[test]
 fn real_files(rt: HostRuntime) -> Result<(), Fail> {
     let mut files = RealFiles::new(rt);
     let mut into = [0u8; 4];
     // The second write leaves nothing of the first: five lines of one digit, ten bytes.
-    assert_eq!(rt; files.write_whole(SCRATCH, b"a longer text"), Ok(()));
-    assert_eq!(rt; files.write_whole(SCRATCH, b"1\n2\n3\n4\n5\n"), Ok(()));
-    // name, place, what comes: up to four bytes, none from the end on
-    let table = [
+    for text in ["a longer text", "1\n2\n3\n4\n5\n"] {
+        let written = files.write_whole(SCRATCH, text.as_bytes());
+        same(&rt, text, written, Ok(()));
+    }
+    let reads = [
         (SCRATCH, 10, Ok(0)),
         (SCRATCH, 11, Ok(0)),
         (SCRATCH, 7, Ok(3)),
         ("no/such/file", 0, Err(IoFault::Failed)),
         (SCRATCH, 2, Ok(4)),
     ];
-    for (name, at, answer) in table {
-        assert_eq!(rt;
-            files.read_some(name, at, &mut into),
-            answer,
-            "{name} at {at}"
-        );
-    }
-    assert_eq!(rt; into, *b"2\n3\n");
-    assert_eq!(rt;
-        files.write_whole("no/such/file", b"7"),
-        Err(IoFault::Failed)
-    );
+    are_read(&rt, &mut files, &mut into, &reads);
+    same(&rt, "the bytes read last", into, *b"2\n3\n");
+    let fault = files.write_whole("no/such/file", b"7");
+    same(&rt, "no such folder", fault, Err(IoFault::Failed));
     std::fs::remove_file(&rt, SCRATCH)?;
     Ok(())
 }
@@ -44,21 +50,20 @@ fn large_real_file(rt: HostRuntime) -> Result<(), Fail> {
     // Four mebibytes, the greatest file that is read.
     let text = vec![in rt.alloc(); b'y'; 4_194_304]?;
     let mut files = RealFiles::new(rt);
-    assert_eq!(rt; files.write_whole("plc_io_tests_large", &text), Ok(()));
+    let written = files.write_whole("plc_io_tests_large", &text);
+    same(&rt, "the write", written, Ok(()));
     let bytes = read_to_limit(rt.alloc(), &mut files, "plc_io_tests_large", 4_194_304);
     std::fs::remove_file(&rt, "plc_io_tests_large")?;
-    assert!(rt; matches!(bytes, Ok(ref read) if read.len() == 4_194_304));
+    same(&rt, "the length", bytes?.len(), 4_194_304);
     Ok(())
 }
 
 #[test]
 fn standard_output(rt: HostRuntime) -> Result<(), Fail> {
     let mut out = RealSink::new(rt);
-    assert_eq!(rt; out.push(&[]), Ok(0));
-    assert_eq!(rt;
-        push_all(&mut out, b"written by a test of plc_io\n"),
-        Ok(())
-    );
+    same(&rt, "no bytes", out.push(&[]), Ok(0));
+    let written = push_all(&mut out, b"written by a test of plc_io\n");
+    same(&rt, "a line", written, Ok(()));
     Ok(())
 }
 
@@ -66,7 +71,7 @@ fn standard_output(rt: HostRuntime) -> Result<(), Fail> {
 fn open_gate(rt: HostRuntime) -> Result<(), Fail> {
     let gate = OpenGate;
     gate.pass(4, u64::MAX);
-    assert_eq!(rt; gate, OpenGate);
+    same(&rt, "the gate after a pass", gate, OpenGate);
     Ok(())
 }
 
@@ -77,11 +82,9 @@ fn files_in_memory(rt: HostRuntime) -> Result<(), Fail> {
     files.put("a", b"old")?;
     files.put("b", b"")?;
     files.put("a", b"0123456")?;
-    let mut calls = ArrayVec::new();
-    calls.push(7);
-    files.fail_reads(calls);
-    // name, place, what comes: up to three bytes, none from the end on; the seventh read is to fail
-    let table = [
+    // The seventh read.
+    files.fail_reads(only(7));
+    let reads = [
         ("a", 0, Ok(3)),
         ("a", 5, Ok(2)),
         ("a", 7, Ok(0)),
@@ -91,28 +94,24 @@ fn files_in_memory(rt: HostRuntime) -> Result<(), Fail> {
         ("a", 0, Err(IoFault::Failed)),
         ("a", 4, Ok(3)),
     ];
-    for (name, at, answer) in table {
-        assert_eq!(rt;
-            files.read_some(name, at, &mut into),
-            answer,
-            "{name} at {at}"
-        );
-    }
-    assert_eq!(rt; into, *b"456");
-    assert_eq!(rt; (files.reads.made, files.reads.failed), (8, 2));
+    are_read(&rt, &mut files, &mut into, &reads);
+    same(&rt, "the bytes read last", into, *b"456");
+    let counts = (files.reads.made, files.reads.failed);
+    same(&rt, "the counts of reads", counts, (8, 2));
     Ok(())
 }
 
 #[test]
 fn writes_in_memory(rt: HostRuntime) -> Result<(), Fail> {
     let mut files = MemFiles::new(rt.alloc());
-    let mut calls = ArrayVec::new();
-    calls.push(2);
-    files.fail_writes(calls);
-    assert_eq!(rt; files.write_whole("c", b"new"), Ok(()));
-    assert_eq!(rt; files.write_whole("c", b"newer"), Err(IoFault::Failed));
-    assert_eq!(rt; files.files.get("c"), Some(&b"new"[..]));
-    assert_eq!(rt; (files.writes.made, files.writes.failed), (2, 1));
+    files.fail_writes(only(2));
+    for (text, answer) in [("new", Ok(())), ("newer", Err(IoFault::Failed))] {
+        let written = files.write_whole("c", text.as_bytes());
+        same(&rt, text, written, answer);
+    }
+    same(&rt, "the file", files.files.get("c"), Some(&b"new"[..]));
+    let counts = (files.writes.made, files.writes.failed);
+    same(&rt, "the counts of writes", counts, (2, 1));
     Ok(())
 }
 
@@ -121,15 +120,10 @@ fn sure_files(rt: HostRuntime) -> Result<(), Fail> {
     let mut into = [0u8; 3];
     let mut files = SureFiles::new(rt.alloc());
     files.put("a", b"01234")?;
-    assert_eq!(rt; files.write_whole("b", b"new"), Ok(()));
-    for (name, at, count) in [("a", 3, 2), ("b", 0, 3), ("c", 0, 0)] {
-        assert_eq!(rt;
-            files.read_some(name, at, &mut into),
-            Ok(count),
-            "{name} at {at}"
-        );
-    }
-    assert_eq!(rt; into, *b"new");
+    same(&rt, "the write", files.write_whole("b", b"new"), Ok(()));
+    let reads = [("a", 3, Ok(2)), ("b", 0, Ok(3)), ("c", 0, Ok(0))];
+    are_read(&rt, &mut files, &mut into, &reads);
+    same(&rt, "the bytes read last", into, *b"new");
     Ok(())
 }
 
@@ -138,11 +132,12 @@ fn lists_from_vectors(rt: HostRuntime) -> Result<(), Fail> {
     let mut files = NamedFiles::new(rt.alloc());
     files.put("a", b"x")?;
     let files = NamedFiles::from_vec(files.into_vec());
-    assert_eq!(rt; files.get("a"), Some(&b"x"[..]));
-    assert_eq!(rt; files.as_slice().len(), 1);
+    same(&rt, "the file", files.get("a"), Some(&b"x"[..]));
+    same(&rt, "the count of files", files.as_slice().len(), 1);
     let mut bytes = Bytes::from_vec(Vec::from_slice(rt.alloc(), b"ab")?);
     bytes.append(b"c")?;
-    assert_eq!(rt; bytes.into_vec().as_slice(), b"abc".as_slice());
+    let bytes = bytes.into_vec();
+    same(&rt, "the bytes", bytes.as_slice(), b"abc".as_slice());
     Ok(())
 }
 
@@ -150,27 +145,28 @@ fn lists_from_vectors(rt: HostRuntime) -> Result<(), Fail> {
 fn sinks_in_memory(rt: HostRuntime) -> Result<(), Fail> {
     // One byte a push: eleven bytes, eleven pushes.
     let mut one = MemSink::new(rt.alloc(), 1);
-    assert_eq!(rt; push_all(&mut one, b"END 10 RUN\n"), Ok(()));
-    assert_eq!(rt; one.taken.as_slice(), b"END 10 RUN\n".as_slice());
-    assert_eq!(rt; one.pushes.made, 11);
+    let text = b"END 10 RUN\n".as_slice();
+    same(&rt, "by ones", push_all(&mut one, text), Ok(()));
+    same(&rt, "taken by ones", one.taken.as_slice(), text);
+    same(&rt, "the count of pushes", one.pushes.made, 11);
 
     // Three bytes a push, of which the third is to fail.
     let mut three = MemSink::new(rt.alloc(), 3);
-    let mut calls = ArrayVec::new();
-    calls.push(3);
-    three.fail_pushes(calls);
-    assert_eq!(rt; push_all(&mut three, b"0123456789"), Err(IoFault::Failed));
-    assert_eq!(rt; three.taken.as_slice(), b"012345".as_slice());
+    three.fail_pushes(only(3));
+    let text = b"0123456789".as_slice();
+    let fault = push_all(&mut three, text);
+    same(&rt, "by threes", fault, Err(IoFault::Failed));
+    let taken = three.taken.as_slice();
+    same(&rt, "taken by threes", taken, b"012345".as_slice());
 
     let mut sure = SureSink::new(rt.alloc());
-    assert_eq!(rt; sure.push(b"0123456789"), Ok(10));
-    assert_eq!(rt; sure.taken.as_slice(), b"0123456789".as_slice());
+    same(&rt, "at once", sure.push(text), Ok(10));
+    same(&rt, "taken at once", sure.taken.as_slice(), text);
     Ok(())
 }
 
 #[test]
 fn reading_to_a_limit(rt: HostRuntime) -> Result<(), Fail> {
-    let text = vec![in rt.alloc(); b'x'; 200_000]?;
     // length of the file, limit, bytes that come: those of the file, but at most one past the limit
     let table = [
         (0, 0, 0),
@@ -186,10 +182,9 @@ fn reading_to_a_limit(rt: HostRuntime) -> Result<(), Fail> {
     ];
     for (length, limit, count) in table {
         let mut files = MemFiles::new(rt.alloc());
-        assert!(rt; length <= text.len());
-        files.put("source", &text[..length])?;
+        files.put("source", &vec![in rt.alloc(); b'x'; length]?)?;
         let bytes = read_to_limit(rt.alloc(), &mut files, "source", limit)?;
-        assert_eq!(rt; bytes.len(), count, "{length} bytes within {limit}");
+        same(&rt, (length, limit), bytes.len(), count);
     }
     Ok(())
 }
@@ -199,12 +194,15 @@ fn failures_while_reading_to_a_limit(rt: HostRuntime) -> Result<(), Fail> {
     let mut files = MemFiles::new(rt.alloc());
     files.put("source", b"A I 0.0;")?;
     // The first two reads give the text and its end, and the fourth is the end of the text again.
-    let mut calls = ArrayVec::new();
-    calls.push(4);
-    files.fail_reads(calls);
-    for (name, fails) in [("source", false), ("source", true), ("symbols", true)] {
+    files.fail_reads(only(4));
+    let table = [
+        ("source", None),
+        ("source", Some(IoFault::Failed)),
+        ("symbols", Some(IoFault::Failed)),
+    ];
+    for (name, fault) in table {
         let answer = read_to_limit(rt.alloc(), &mut files, name, 100);
-        assert_eq!(rt; matches!(answer, Err(IoFault::Failed)), fails, "{name}");
+        same(&rt, (name, fault), answer.err(), fault);
     }
     Ok(())
 }

@@ -1,5 +1,5 @@
 //! Whole runs of the language: what `go` writes of a source along a history, worked out by hand.
-use crate::calls::{call, two_files};
+use crate::calls::{GO, answers, two_files};
 use plc_io::MemSink;
 use std::alloc::Global;
 use std::process::Abort;
@@ -17,17 +17,9 @@ fn are_run<R: Abort + Threads + Wait + Sync>(
     runs: &[Run],
 ) -> Result<(), Fail> {
     for (source, history, text) in runs {
-        let mut files = two_files(alloc, source.as_bytes(), history.as_bytes())?;
-        let mut out = MemSink::new(alloc, 1000);
-        let code = call(
-            rt,
-            alloc,
-            &["go", "source", "history"],
-            &mut files,
-            &mut out,
-        )?;
-        assert_eq!(rt; out.taken.as_slice(), text.as_bytes(), "{source}");
-        assert_eq!(rt; code, 0, "{source}");
+        let files = two_files(alloc, source.as_bytes(), history.as_bytes())?;
+        let out = MemSink::new(alloc, 1000);
+        answers(rt, alloc, *source, &GO, files, out, (0, text.as_bytes()))?;
     }
     Ok(())
 }

@@ -1,6 +1,5 @@
 //! Calls with a file of symbols: what symbols mean, and in which order files are read and checked.
-use crate::calls::{ONE_RUN, RUNG, call, two_files};
-use arrayvec::ArrayVec;
+use crate::calls::{ONE_RUN, RUNG, answers, only, two_files};
 use plc_io::{MemFiles, MemSink};
 use std::alloc::Global;
 use std::process::Abort;
@@ -34,11 +33,10 @@ fn are_told<R: Abort + Threads + Wait + Sync>(
     rows: &[Row],
 ) -> Result<(), Fail> {
     for (source, symbols, history, status, text) in rows {
-        let mut files = three_files(alloc, source, symbols, history)?;
-        let mut out = MemSink::new(alloc, 1000);
-        let code = call(rt, alloc, words, &mut files, &mut out)?;
-        assert_eq!(rt; out.taken.as_slice(), text.as_bytes(), "{source}");
-        assert_eq!(rt; code, *status, "{source}");
+        let files = three_files(alloc, source, symbols, history)?;
+        let out = MemSink::new(alloc, 1000);
+        let wanted = (*status, text.as_bytes());
+        answers(rt, alloc, (*source, *symbols), words, files, out, wanted)?;
     }
     Ok(())
 }
@@ -173,14 +171,13 @@ fn symbols_that_are_not_read(rt: HostRuntime) -> Result<(), Fail> {
         ),
     ];
     for (words, source_len, symbols_len, status, text) in table {
+        let what = (words, source_len, symbols_len);
         let source = vec![in rt.alloc(); b' '; source_len]?;
         let symbols = vec![in rt.alloc(); b'\n'; symbols_len]?;
         let mut files = two_files(rt.alloc(), &source, b"")?;
         files.put("symbols", &symbols)?;
-        let mut out = MemSink::new(rt.alloc(), 64);
-        let code = call(&rt, rt.alloc(), words, &mut files, &mut out)?;
-        assert_eq!(rt; out.taken.as_slice(), text);
-        assert_eq!(rt; code, status);
+        let out = MemSink::new(rt.alloc(), 64);
+        answers(&rt, rt.alloc(), what, words, files, out, (status, text))?;
     }
     Ok(())
 }
@@ -188,16 +185,13 @@ fn symbols_that_are_not_read(rt: HostRuntime) -> Result<(), Fail> {
 // The third and the fourth read are those of the symbols.
 #[test]
 fn failed_reads_of_symbols(rt: HostRuntime) -> Result<(), Fail> {
-    for failing in [3, 4] {
+    for read in [3, 4] {
         let mut files = two_files(rt.alloc(), RUNG, ONE_RUN)?;
         files.put("symbols", b"a,I 0.0,BOOL,\n")?;
-        let mut calls = ArrayVec::new();
-        calls.push(failing);
-        files.fail_reads(calls);
-        let mut out = MemSink::new(rt.alloc(), 64);
-        let code = call(&rt, rt.alloc(), &GO, &mut files, &mut out)?;
-        assert_eq!(rt; code, 5);
-        assert_eq!(rt; out.taken.as_slice(), b"read fault\n".as_slice());
+        files.fail_reads(only(read));
+        let out = MemSink::new(rt.alloc(), 64);
+        let wanted = (5, b"read fault\n".as_slice());
+        answers(&rt, rt.alloc(), ("read", read), &GO, files, out, wanted)?;
     }
     Ok(())
 }

@@ -1,4 +1,4 @@
-use crate::calls::{ONE_RUN, RUNG, call, two_files};
+use crate::calls::{ONE_RUN, RUNG, answers, two_files};
 use plc_io::MemSink;
 use s7_cli::law_of_words;
 use std::alloc::Global;
@@ -26,10 +26,9 @@ fn is_told<R: Abort + Threads + Wait + Sync>(
         let mut files = two_files(alloc, RUNG, ONE_RUN)?;
         files.put("--symbols", RUNG)?;
         files.put("none", b"")?;
-        let mut out = MemSink::new(alloc, 64);
-        let code = call(rt, alloc, words, &mut files, &mut out)?;
-        assert_eq!(rt; code, status, "{words:?}");
-        assert_eq!(rt; out.taken.as_slice(), text.as_bytes(), "{words:?}");
+        let out = MemSink::new(alloc, 64);
+        let wanted = (status, text.as_bytes());
+        answers(rt, alloc, *words, words, files, out, wanted)?;
     }
     Ok(())
 }

@@ -3,6 +3,8 @@
 #![tactic(auto)]
 
 #[cfg(test)]
+mod compare;
+#[cfg(test)]
 mod requests;
 #[cfg(test)]
 mod start_information;

@@ -1,3 +1,4 @@
+use crate::compare::same;
 use ob_sched::{StartEvent, StartInfo, is_ob};
 
 /// An event and a priority class, and the bytes 0 to 11 that they give; bytes 12 to 19 are 0.
@@ -86,8 +87,8 @@ const ROWS: [(StartEvent, u8, [u8; 12]); 13] = [
 fn bytes(rt: HostRuntime) {
     for (event, class, bytes) in ROWS {
         let info = StartInfo::new(event, class);
-        assert_eq!(rt; &info.bytes[..12], &bytes[..]);
-        assert_eq!(rt; &info.bytes[12..], &[0; 8][..]);
-        assert_eq!(rt; is_ob(event.ob()), true);
+        same(&rt, event, &info.bytes[..12], &bytes[..]);
+        same(&rt, event, &info.bytes[12..], &[0; 8][..]);
+        same(&rt, event, is_ob(event.ob()), true);
     }
 }

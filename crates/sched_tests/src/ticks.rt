@@ -1,4 +1,5 @@
-use crate::tools::{arrive, running, start_best};
+use crate::compare::same;
+use crate::tools::{expect_arrival, expect_best, running, start_best};
 use ob_sched::{Arrived, Passed, Sched, StartEvent, StartInfo};
 use plc_base::Mode;
 use std::process::Abort;
@@ -19,14 +20,34 @@ fn expect_tick(
     records: &[(u16, u16)],
 ) {
     let passed = sched.pass_ms(ms, mode, &[]);
-    assert_eq!(rt; passed.ms, passed_ms);
-    assert_eq!(rt; passed.stop, stop);
+    same(rt, (ms, mode), (passed.ms, passed.stop), (passed_ms, stop));
     expect_records(rt, &passed, records);
 }
 
 /// These records are left.
 fn expect_records(rt: &impl Abort, passed: &Passed, records: &[(u16, u16)]) {
-    assert_eq!(rt; passed.records.as_slice(), records);
+    same(rt, "records", passed.records.as_slice(), records);
+}
+
+/// A tick of a minute of RUN ends by the second cycle time, 302 ms from its begin. So many records are
+/// left, among them these at their places.
+fn expect_second_cycle_time(
+    rt: &impl Abort,
+    passed: &Passed,
+    records: usize,
+    rows: &[(usize, (u16, u16))],
+) {
+    same(rt, "tick", (passed.ms, passed.stop), (302, Some(10)));
+    same(rt, "count of records", passed.records.len(), records);
+    for (place, record) in rows {
+        let found = passed.records.as_slice().get(*place).copied();
+        same(rt, ("record", *place), found, Some(*record));
+    }
+}
+
+/// No request waits.
+fn nothing_waits(rt: &impl Abort, sched: &Sched, when: &str) {
+    same(rt, when, sched.best(Mode::Run), None);
 }
 
 // At 151 ms without a cycle point the cycle time is exceeded: without OB 80 the controller stops with
@@ -71,7 +92,7 @@ fn cycle_time(rt: HostRuntime) {
         None,
         &[(1, 1), (2, 80)],
     );
-    assert_eq!(rt; start_best(&mut sched, Mode::Run), (80, 26, 0x35));
+    expect_best(&rt, &mut sched, Mode::Run, (80, 26, 0x35));
 }
 
 // OB 38 alone stops by its second period. With OB 80 the tick goes on: OB 80 waits once, each further
@@ -83,24 +104,17 @@ fn long_ticks(rt: HostRuntime) {
 
     let mut sched = running(&rt, rt.alloc(), &[38, 80]);
     expect_tick(&rt, &mut sched, 20, Mode::Run, 20, None, &[(1, 38)]);
-    assert_eq!(rt; start_best(&mut sched, Mode::Run), (80, 26, 0x35));
-    assert_eq!(rt; start_best(&mut sched, Mode::Run), (38, 15, 0x11));
+    expect_best(&rt, &mut sched, Mode::Run, (80, 26, 0x35));
+    expect_best(&rt, &mut sched, Mode::Run, (38, 15, 0x11));
 
     let mut sched = running(&rt, rt.alloc(), &[38, 80]);
     let passed = sched.pass_ms(60_000, Mode::Run, &[]);
-    assert_eq!(rt; passed.ms, 302);
-    assert_eq!(rt; passed.stop, Some(10));
-    assert_eq!(rt; passed.records.len(), 59);
-    assert_eq!(rt; passed.records.as_slice()[0], (1, 38));
-    assert_eq!(rt; passed.records.as_slice()[58], (2, 80));
+    expect_second_cycle_time(&rt, &passed, 59, &[(0, (1, 38)), (58, (2, 80))]);
 
     // Of 103 records the last 100 are left.
     let mut sched = running(&rt, rt.alloc(), &[36, 37, 38, 80]);
     let passed = sched.pass_ms(60_000, Mode::Run, &[36, 37, 38]);
-    assert_eq!(rt; passed.ms, 302);
-    assert_eq!(rt; passed.records.len(), 100);
-    assert_eq!(rt; passed.records.as_slice()[0], (1, 38));
-    assert_eq!(rt; passed.records.as_slice()[1], (2, 80));
+    expect_second_cycle_time(&rt, &passed, 100, &[(0, (1, 38)), (1, (2, 80))]);
 }
 
 // The periods over 60,000 ms of RUN, each request started before the next millisecond is due: as many
@@ -111,7 +125,7 @@ fn periods(rt: HostRuntime) {
     let mut counts = [0u32; 9];
     for _ in 0..6_000 {
         passes(&rt, &mut sched, 4, Mode::Run);
-        assert_eq!(rt; sched.best(Mode::Run), None);
+        nothing_waits(&rt, &sched, "4 ms after a period");
         passes(&rt, &mut sched, 6, Mode::Run);
         sched.cycle_point();
         for _ in 0..9 {
@@ -122,7 +136,8 @@ fn periods(rt: HostRuntime) {
             }
         }
     }
-    assert_eq!(rt; counts, [12, 30, 60, 120, 300, 600, 1200, 3000, 6000]);
+    let wanted = [12, 30, 60, 120, 300, 600, 1200, 3000, 6000];
+    same(&rt, "OB 30 to 38", counts, wanted);
 }
 
 // A period that ends while its organization block is active is a time error; one of a disabled block,
@@ -132,10 +147,10 @@ fn cyclic_interrupts(rt: HostRuntime) {
     let mut sched = running(&rt, rt.alloc(), &[38, 80]);
     let passed = sched.pass_ms(10, Mode::Run, &[1, 38]);
     expect_records(&rt, &passed, &[(1, 38)]);
-    assert_eq!(rt; start_best(&mut sched, Mode::Run), (80, 26, 0x35));
+    expect_best(&rt, &mut sched, Mode::Run, (80, 26, 0x35));
     sched.disable(38);
     let passed = sched.pass_ms(10, Mode::Run, &[38]);
-    assert_eq!(rt; passed.records.is_empty(), true);
+    expect_records(&rt, &passed, &[]);
     sched.enable(38);
     passes(&rt, &mut sched, 5000, Mode::Startup);
     passes(&rt, &mut sched, 9, Mode::Run);
@@ -148,9 +163,9 @@ fn cyclic_interrupts(rt: HostRuntime) {
         None,
         &[],
     );
-    assert_eq!(rt; sched.best(Mode::Run), None);
+    nothing_waits(&rt, &sched, "1 ms before the period");
     passes(&rt, &mut sched, 1, Mode::Run);
-    assert_eq!(rt; start_best(&mut sched, Mode::Run), (38, 15, 0x11));
+    expect_best(&rt, &mut sched, Mode::Run, (38, 15, 0x11));
 }
 
 // Delays run in RUN and in STARTUP, and end by themselves, by CAN_DINT and by STOP. Within one
@@ -162,24 +177,24 @@ fn delays(rt: HostRuntime) {
     sched.start_delay(20, 9);
     sched.start_delay(20, 5);
     passes(&rt, &mut sched, 4, Mode::Startup);
-    assert_eq!(rt; sched.best(Mode::Run), None);
+    nothing_waits(&rt, &sched, "1 ms before the delay ends");
     passes(&rt, &mut sched, 1, Mode::Run);
-    assert_eq!(rt; sched.cancel_delay(20), false);
+    same(&rt, "delay that ended", sched.cancel_delay(20), false);
     sched.start_delay(20, 1);
     expect_tick(&rt, &mut sched, 1, Mode::Run, 1, None, &[(1, 20)]);
     sched.start_delay(20, 60_000);
-    assert_eq!(rt; sched.cancel_delay(20), true);
-    assert_eq!(rt; sched.cancel_delay(20), false);
-    assert_eq!(rt; start_best(&mut sched, Mode::Run), (80, 26, 0x35));
-    assert_eq!(rt; start_best(&mut sched, Mode::Run), (20, 3, 0x11));
+    same(&rt, "delay that runs", sched.cancel_delay(20), true);
+    same(&rt, "cancelled delay", sched.cancel_delay(20), false);
+    expect_best(&rt, &mut sched, Mode::Run, (80, 26, 0x35));
+    expect_best(&rt, &mut sched, Mode::Run, (20, 3, 0x11));
 
     sched.start_delay(23, 8);
     expect_tick(&rt, &mut sched, 100, Mode::Run, 8, Some(8), &[(3, 23)]);
-    assert_eq!(rt; sched.best(Mode::Run), None);
+    nothing_waits(&rt, &sched, "at the stop by OB 23");
 
     sched.start_delay(20, 3);
     sched.stop();
-    assert_eq!(rt; sched.cancel_delay(20), false);
+    same(&rt, "delay at STOP", sched.cancel_delay(20), false);
 }
 
 // The clock counts modulo 2^31, also in a tick of many milliseconds.
@@ -187,13 +202,25 @@ fn delays(rt: HostRuntime) {
 fn clock(rt: HostRuntime) {
     let mut sched = Sched::new(rt.alloc(), &[]).expect(&rt, "memory");
     passes(&rt, &mut sched, 0x7FFF_FFFF, Mode::Startup);
-    assert_eq!(rt; sched.clock(), 0x7FFF_FFFF);
+    same(&rt, "greatest clock", sched.clock(), 0x7FFF_FFFF);
     passes(&rt, &mut sched, 2, Mode::Startup);
-    assert_eq!(rt; sched.clock(), 1);
+    same(&rt, "clock past 2^31", sched.clock(), 1);
     sched.stop();
-    assert_eq!(rt; sched.clock(), 1);
+    same(&rt, "clock at STOP", sched.clock(), 1);
     sched.restart();
-    assert_eq!(rt; sched.clock(), 0);
+    same(&rt, "clock at a restart", sched.clock(), 0);
+}
+
+/// The best request in RUN is this error: its organization block, start code, priority class, and the
+/// block that it concerns. It is started, with the class of RUN.
+fn expect_error(rt: &impl Abort, sched: &mut Sched, error: (u16, u8, u8, u8)) {
+    let Some(best) = sched.best(Mode::Run) else {
+        panic!(rt; "no request: {error:?}")
+    };
+    let (ob, _, _, _) = error;
+    let bytes = best.info.bytes;
+    same(rt, "best", (best.ob, bytes[1], bytes[2], bytes[7]), error);
+    same(rt, error, start_best(sched, Mode::Run), (ob, 26, 0x35));
 }
 
 // A request with all that follows: one that finds its queue full is a time error, with a start code of
@@ -208,44 +235,34 @@ fn errors(rt: HostRuntime) {
         sched.request(Mode::Run, 40, info, &mut passed);
     }
     expect_records(&rt, &passed, &[(1, 40), (1, 40), (2, 80)]);
-    let best = sched
-        .best(Mode::Run)
-        .map(|best| (best.ob, best.info.bytes[1], best.info.bytes[7]));
-    assert_eq!(rt; best, Some((80, 0x07, 40)));
-    assert_eq!(rt; start_best(&mut sched, Mode::Run), (80, 26, 0x35));
+    expect_error(&rt, &mut sched, (80, 0x07, 26, 40));
 
-    assert_eq!(rt; arrive(&rt, &mut sched, 10, 0), Arrived::Queued);
+    expect_arrival(&rt, &mut sched, 10, 0, Arrived::Queued);
     sched.request(Mode::Run, 10, info, &mut passed);
-    let best = sched
-        .best(Mode::Run)
-        .map(|best| (best.ob, best.info.bytes[1], best.info.bytes[7]));
-    assert_eq!(rt; best, Some((80, 0x02, 10)));
-    assert_eq!(rt; start_best(&mut sched, Mode::Run), (80, 26, 0x35));
+    expect_error(&rt, &mut sched, (80, 0x02, 26, 10));
 
     sched.request(Mode::Startup, 11, info, &mut passed);
     sched.request(Mode::Startup, 12, info, &mut passed);
-    let best = sched
-        .best(Mode::Run)
-        .map(|best| (best.ob, best.info.bytes[2], best.info.bytes[7]));
-    assert_eq!(rt; best, Some((85, 28, 11)));
-    expect_records(
-        &rt,
-        &passed,
-        &[
-            (1, 40),
-            (1, 40),
-            (2, 80),
-            (1, 10),
-            (3, 11),
-            (3, 12),
-            (2, 85),
-        ],
-    );
-    assert_eq!(rt; passed.stop, None);
+    expect_error(&rt, &mut sched, (85, 0xA1, 28, 11));
+    let records = [
+        (1, 40),
+        (1, 40),
+        (2, 80),
+        (1, 10),
+        (3, 11),
+        (3, 12),
+        (2, 85),
+    ];
+    expect_records(&rt, &passed, &records);
+    same(&rt, "stop with OB 85", passed.stop, None);
+}
 
+#[test]
+fn errors_without_their_blocks(rt: HostRuntime) {
     let mut sched = running(&rt, rt.alloc(), &[]);
     let mut passed = Passed::new();
+    let info = StartInfo::new(StartEvent::Arrival { ob: 40, value: 0 }, 16);
     sched.request(Mode::Run, 10, info, &mut passed);
     expect_records(&rt, &passed, &[(3, 10)]);
-    assert_eq!(rt; passed.stop, Some(8));
+    same(&rt, "stop without OB 85", passed.stop, Some(8));
 }

@@ -1,3 +1,4 @@
+use crate::compare::same;
 use ob_sched::{Arrived, Sched, StartInfo, can_wait};
 use plc_base::Mode;
 use std::alloc::Global;
@@ -14,6 +15,18 @@ pub(crate) fn running(rt: &impl Abort, alloc: Global, loaded: &[u16]) -> Sched {
 pub(crate) fn arrive(rt: &impl Abort, sched: &mut Sched, ob: u16, number: u8) -> Arrived {
     assert!(rt; can_wait(ob));
     sched.arrive(ob, numbered(number))
+}
+
+/// A request with this number in its start information is answered so.
+pub(crate) fn expect_arrival(
+    rt: &impl Abort,
+    sched: &mut Sched,
+    ob: u16,
+    number: u8,
+    answer: Arrived,
+) {
+    let arrived = arrive(rt, sched, ob, number);
+    same(rt, (ob, number), arrived, answer);
 }
 
 /// A start information with this number in its first byte.
@@ -33,4 +46,10 @@ pub(crate) fn start_best(sched: &mut Sched, mode: Mode) -> (u16, u8, u8) {
             (best.ob, best.class, best.info.bytes[0])
         }
     }
+}
+
+/// The best request is this one, in the form of `start_best`.
+pub(crate) fn expect_best(rt: &impl Abort, sched: &mut Sched, mode: Mode, want: (u16, u8, u8)) {
+    let best = start_best(sched, mode);
+    same(rt, mode, best, want);
 }

@@ -1,4 +1,5 @@
 //! The nine system functions, with every return value.
+use crate::compare::same;
 use crate::tools::cycle;
 use ob_sched::{Arrived, Sched, StartInfo};
 use plc_base::Mode;
@@ -9,20 +10,22 @@ use sys_funcs::{can_dint, dis_airt, dis_irt, en_airt, en_irt, re_trigr, srt_dint
 fn interrupts_are_delayed_and_enabled_again(rt: HostRuntime) -> Result<(), Fail> {
     let mut s = Sched::new(rt.alloc(), &[1, 40])?;
     let mut a = cycle();
-    assert_eq!(rt; dis_airt(&mut s, &mut a), 1);
-    assert_eq!(rt; dis_airt(&mut s, &mut a), 2);
-    assert!(rt; a.regs().status.br);
-    assert_eq!(rt; en_airt(&mut s, &mut a), 1);
-    assert_eq!(rt; en_airt(&mut s, &mut a), 0);
-    assert!(rt; a.regs().status.br);
-    assert_eq!(rt; en_airt(&mut s, &mut a), 0x8080);
-    assert!(rt; !a.regs().status.br);
-    assert_eq!(rt; a.delay(), 0);
+    same(&rt, "first DIS_AIRT", dis_airt(&mut s, &mut a), 1);
+    same(&rt, "second DIS_AIRT", dis_airt(&mut s, &mut a), 2);
+    same(&rt, "BR of DIS_AIRT", a.regs().status.br, true);
+    same(&rt, "first EN_AIRT", en_airt(&mut s, &mut a), 1);
+    same(&rt, "second EN_AIRT", en_airt(&mut s, &mut a), 0);
+    same(&rt, "BR of EN_AIRT", a.regs().status.br, true);
+    same(&rt, "third EN_AIRT", en_airt(&mut s, &mut a), 0x8080);
+    same(&rt, "BR of its error code", a.regs().status.br, false);
+    same(&rt, "delays left", a.delay(), 0);
     a.set_delay(32_766);
-    assert_eq!(rt; dis_airt(&mut s, &mut a), 32_767);
-    assert_eq!(rt; dis_airt(&mut s, &mut a), 32_767);
-    assert!(rt; a.regs().status.br);
-    assert_eq!(rt; (a.class(), a.ob(), a.depth()), (1, 1, 1));
+    same(&rt, "the last one", dis_airt(&mut s, &mut a), 32_767);
+    same(&rt, "one more", dis_airt(&mut s, &mut a), 32_767);
+    same(&rt, "BR of one more", a.regs().status.br, true);
+    same(&rt, "priority class", a.class(), 1);
+    same(&rt, "organization block", a.ob(), 1);
+    same(&rt, "frames", a.depth(), 1);
     Ok(())
 }
 
@@ -55,18 +58,10 @@ fn modes_of_disabling_and_their_refusals(rt: HostRuntime) -> Result<(), Fail> {
         (255, 9, 0x8091),
     ];
     for (mode, ob_nr, value) in table {
-        assert_eq!(rt;
-            dis_irt(&mut s, &mut a, mode, ob_nr),
-            value,
-            "DIS_IRT {mode} {ob_nr}"
-        );
-        assert_eq!(rt; a.regs().status.br, value == 0);
-        assert_eq!(rt;
-            en_irt(&mut s, &mut a, mode, ob_nr),
-            value,
-            "EN_IRT {mode} {ob_nr}"
-        );
-        assert_eq!(rt; a.regs().status.br, value == 0);
+        let dis = (dis_irt(&mut s, &mut a, mode, ob_nr), a.regs().status.br);
+        let en = (en_irt(&mut s, &mut a, mode, ob_nr), a.regs().status.br);
+        let answer = (value, value == 0);
+        same(&rt, (mode, ob_nr), (dis, en), (answer, answer));
     }
     Ok(())
 }
@@ -75,19 +70,21 @@ fn modes_of_disabling_and_their_refusals(rt: HostRuntime) -> Result<(), Fail> {
 fn requests_of_disabled_blocks_are_dropped(rt: HostRuntime) -> Result<(), Fail> {
     let mut s = Sched::new(rt.alloc(), &[1, 10, 20, 40, 41])?;
     let mut a = cycle();
-    assert_eq!(rt; dis_irt(&mut s, &mut a, 0, 0), 0);
-    assert_eq!(rt; s.arrive(10, StartInfo::default()), Arrived::Dropped);
-    assert_eq!(rt; s.arrive(41, StartInfo::default()), Arrived::Dropped);
+    let info = StartInfo::default();
+    let (dropped, queued) = (Arrived::Dropped, Arrived::Queued);
+    same(&rt, "all disabled", dis_irt(&mut s, &mut a, 0, 0), 0);
+    same(&rt, "OB 10 of all", s.arrive(10, info), dropped);
+    same(&rt, "OB 41 of all", s.arrive(41, info), dropped);
     // the group of OB 40 again, then OB 41 not
-    assert_eq!(rt; en_irt(&mut s, &mut a, 1, 40), 0);
-    assert_eq!(rt; dis_irt(&mut s, &mut a, 2, 41), 0);
-    assert_eq!(rt; s.arrive(40, StartInfo::default()), Arrived::Queued);
-    assert_eq!(rt; s.arrive(41, StartInfo::default()), Arrived::Dropped);
-    assert_eq!(rt; s.arrive(10, StartInfo::default()), Arrived::Dropped);
+    same(&rt, "OB 40 to 47", en_irt(&mut s, &mut a, 1, 40), 0);
+    same(&rt, "without OB 41", dis_irt(&mut s, &mut a, 2, 41), 0);
+    same(&rt, "OB 40", s.arrive(40, info), queued);
+    same(&rt, "OB 41", s.arrive(41, info), dropped);
+    same(&rt, "OB 10", s.arrive(10, info), dropped);
     // another group's first number changes nothing here
-    assert_eq!(rt; en_irt(&mut s, &mut a, 1, 20), 0);
-    assert_eq!(rt; s.arrive(10, StartInfo::default()), Arrived::Dropped);
-    assert_eq!(rt; s.arrive(20, StartInfo::default()), Arrived::Queued);
+    same(&rt, "OB 20 to 23", en_irt(&mut s, &mut a, 1, 20), 0);
+    same(&rt, "OB 10 beside them", s.arrive(10, info), dropped);
+    same(&rt, "OB 20 of them", s.arrive(20, info), queued);
     Ok(())
 }
 
@@ -109,12 +106,9 @@ fn delays_start_and_end(rt: HostRuntime) -> Result<(), Fail> {
         (20, 5, 0),
     ];
     for (ob_nr, dtime, value) in table {
-        assert_eq!(rt;
-            srt_dint(&mut s, &mut a, ob_nr, dtime, 0xFFFF),
-            value,
-            "OB {ob_nr}, {dtime} ms"
-        );
-        assert_eq!(rt; a.regs().status.br, value == 0);
+        let returned = srt_dint(&mut s, &mut a, ob_nr, dtime, 0xFFFF);
+        let found = (returned, a.regs().status.br);
+        same(&rt, (ob_nr, dtime), found, (value, value == 0));
     }
     // OB_NR, RET_VAL of CAN_DINT
     let table = [
@@ -126,8 +120,9 @@ fn delays_start_and_end(rt: HostRuntime) -> Result<(), Fail> {
         (23, 0),
     ];
     for (ob_nr, value) in table {
-        assert_eq!(rt; can_dint(&mut s, &mut a, ob_nr), value, "OB {ob_nr}");
-        assert_eq!(rt; a.regs().status.br, value == 0);
+        let returned = can_dint(&mut s, &mut a, ob_nr);
+        let found = (returned, a.regs().status.br);
+        same(&rt, ob_nr, found, (value, value == 0));
     }
     Ok(())
 }
@@ -136,13 +131,13 @@ fn delays_start_and_end(rt: HostRuntime) -> Result<(), Fail> {
 fn a_delay_that_starts_anew_ends_after_its_new_time(rt: HostRuntime) -> Result<(), Fail> {
     let mut s = Sched::new(rt.alloc(), &[1, 20])?;
     let mut a = cycle();
-    assert_eq!(rt; srt_dint(&mut s, &mut a, 20, 3, 0), 0);
+    same(&rt, "3 ms", srt_dint(&mut s, &mut a, 20, 3, 0), 0);
     s.pass_ms(2, Mode::Run, &[]);
-    assert_eq!(rt; srt_dint(&mut s, &mut a, 20, 5, 0), 0);
+    same(&rt, "5 ms anew", srt_dint(&mut s, &mut a, 20, 5, 0), 0);
     s.pass_ms(4, Mode::Run, &[]);
-    assert!(rt; s.best(Mode::Run).is_none());
+    same(&rt, "after 4 ms", s.best(Mode::Run).is_some(), false);
     s.pass_ms(1, Mode::Run, &[]);
-    assert!(rt; s.best(Mode::Run).is_some());
+    same(&rt, "after 5 ms", s.best(Mode::Run).is_some(), true);
     Ok(())
 }
 
@@ -150,16 +145,16 @@ fn a_delay_that_starts_anew_ends_after_its_new_time(rt: HostRuntime) -> Result<(
 fn cycle_time_stop_and_clock(rt: HostRuntime) -> Result<(), Fail> {
     let mut s = Sched::new(rt.alloc(), &[1])?;
     let mut a = cycle();
-    assert_eq!(rt; time_tck(&mut s, &mut a), 0);
+    same(&rt, "TIME_TCK at first", time_tck(&mut s, &mut a), 0);
     s.pass_ms(150, Mode::Run, &[]);
-    assert_eq!(rt; time_tck(&mut s, &mut a), 150);
-    assert!(rt; a.regs().status.br);
+    same(&rt, "TIME_TCK", time_tck(&mut s, &mut a), 150);
+    same(&rt, "BR of TIME_TCK", a.regs().status.br, true);
     // the cycle counter begins anew, so 150 ms more are no time error
     re_trigr(&mut s, &mut a);
-    assert_eq!(rt; s.pass_ms(150, Mode::Run, &[]).stop, None);
-    assert_eq!(rt; time_tck(&mut s, &mut a), 300);
-    assert_eq!(rt; s.pass_ms(1, Mode::Run, &[]).stop, Some(9));
-    assert_eq!(rt; stp(&mut s, &mut a), 1);
-    assert!(rt; a.regs().status.br);
+    same(&rt, "150 ms", s.pass_ms(150, Mode::Run, &[]).stop, None);
+    same(&rt, "TIME_TCK then", time_tck(&mut s, &mut a), 300);
+    same(&rt, "1 ms more", s.pass_ms(1, Mode::Run, &[]).stop, Some(9));
+    same(&rt, "stop cause of STP", stp(&mut s, &mut a), 1);
+    same(&rt, "BR of STP", a.regs().status.br, true);
     Ok(())
 }

@@ -2,8 +2,12 @@
 #![tactic(auto)]
 
 #[cfg(test)]
+mod compare;
+#[cfg(test)]
 mod frame_tests;
 #[cfg(test)]
 mod function_tests;
+#[cfg(test)]
+mod part_tests;
 #[cfg(test)]
 mod tools;

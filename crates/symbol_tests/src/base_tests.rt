@@ -1,3 +1,4 @@
+use crate::compare::same;
 use plc_base::Refusal;
 use std::alloc::AllocError;
 use std::test::Fail;
@@ -20,10 +21,10 @@ fn the_lesser_refusal_is_of_the_first_line_and_then_of_the_least_rule(rt: HostRu
         (Some(c), Some(b), Some(b)),
         (Some(c), Some(c), Some(c)),
     ] {
-        assert_eq!(rt; lesser(first, second), least);
+        same(&rt, (first, second), lesser(first, second), least);
     }
-    assert_eq!(rt; broken_if(true, 7, 41), Some(refusal(7, 41)));
-    assert_eq!(rt; broken_if(false, 7, 41), None);
+    same(&rt, "broken", broken_if(true, 7, 41), Some(refusal(7, 41)));
+    same(&rt, "not broken", broken_if(false, 7, 41), None);
 }
 
 /// A number of two digits is a line, and the one digit above it a rule; a number below 100 is none.
@@ -45,8 +46,11 @@ fn the_least_refusal_of_a_list(rt: HostRuntime) -> Result<(), Fail> {
         (&[340, 350, 240, 940, 260], Some(refusal(40, 2))),
     ];
     for (numbers, least) in rows {
-        assert_eq!(rt; least_of(numbers, rule_of), least);
-        assert_eq!(rt; try_least_of(numbers, try_rule_of)?, least);
+        let found = (
+            least_of(numbers, rule_of),
+            try_least_of(numbers, try_rule_of)?,
+        );
+        same(&rt, numbers, found, (least, least));
     }
     Ok(())
 }
@@ -66,7 +70,7 @@ fn names_have_first_places(rt: HostRuntime) -> Result<(), Fail> {
         (b"ab", None),
     ];
     for (name, place) in rows {
-        assert_eq!(rt; names.place(name), place, "{name:?}");
+        same(&rt, name, names.place(name), place);
     }
     Ok(())
 }
@@ -78,7 +82,7 @@ fn numbers_have_first_places(rt: HostRuntime) -> Result<(), Fail> {
         numbers.add(number)?;
     }
     for (number, place) in [(7, Some(0)), (65_535, Some(1)), (0, Some(3)), (1, None)] {
-        assert_eq!(rt; numbers.place(number), place);
+        same(&rt, number, numbers.place(number), place);
     }
     Ok(())
 }

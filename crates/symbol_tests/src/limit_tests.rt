@@ -1,4 +1,5 @@
 use crate::calls::{read, verdict};
+use crate::compare::same;
 use std::alloc::{AllocError, Global};
 use std::test::Fail;
 use stl_symbols::{SYMBOLS_LIMIT, Target};
@@ -22,7 +23,7 @@ fn a_file_has_65535_symbols(rt: HostRuntime) -> Result<(), Fail> {
     let mut file = file_of(rt.alloc(), MOST)?;
     file.extend_from_slice(b"0,VAT 1,,\nx,SDB 2,,\n")?;
     let symbols = read(rt.alloc(), file.as_slice())?;
-    assert_eq!(rt; symbols.list().len(), 65_535);
+    same(&rt, "symbols", symbols.list().len(), 65_535);
     let rows: [(&[u8], Option<Target>); 4] = [
         (b"0", Some(Target::Timer { number: 0 })),
         (b"FFFE", Some(Target::Timer { number: 4 })),
@@ -30,7 +31,7 @@ fn a_file_has_65535_symbols(rt: HostRuntime) -> Result<(), Fail> {
         (b"ffff", None),
     ];
     for (name, target) in rows {
-        assert_eq!(rt; symbols.lookup(name), target, "{name:?}");
+        same(&rt, name, symbols.lookup(name), target);
     }
     Ok(())
 }
@@ -42,7 +43,8 @@ fn the_next_symbol_breaks_rule_15(rt: HostRuntime) -> Result<(), Fail> {
     for line in [new_name, name_twice] {
         let mut file = file_of(rt.alloc(), MOST)?;
         file.extend_from_slice(line)?;
-        assert_eq!(rt; verdict(rt.alloc(), file.as_slice()), (65_536, 15));
+        let found = verdict(rt.alloc(), file.as_slice());
+        same(&rt, line, found, (65_536, 15));
     }
     Ok(())
 }
@@ -58,7 +60,7 @@ fn a_file_has_1048576_bytes(rt: HostRuntime) -> Result<(), Fail> {
         (b'\r', (1, 14)),
     ] {
         let file = Vec::from_elem(rt.alloc(), byte, SYMBOLS_LIMIT)?;
-        assert_eq!(rt; verdict(rt.alloc(), file.as_slice()), refused, "{byte}");
+        same(&rt, byte, verdict(rt.alloc(), file.as_slice()), refused);
     }
     Ok(())
 }

@@ -1,4 +1,5 @@
 use crate::calls::read;
+use crate::compare::same;
 use plc_base::{Area, BlockId, BlockKind, Place, Width};
 use std::test::Fail;
 use stl_symbols::Target;
@@ -49,11 +50,10 @@ fn an_export_of_step_7(rt: HostRuntime) -> Result<(), Fail> {
         (b"SET_TINT", block(BlockKind::Sfc, 28)),
         (b"Total", variable(Area::M, Width::Dword, 20, 0)),
     ];
-    assert_eq!(rt; symbols.list().len(), exported.len());
-    for (symbol, expected) in symbols.list().iter().zip(exported.iter()) {
-        assert_eq!(rt; symbol.name.as_slice(), expected.0);
-        assert_eq!(rt; symbol.target, expected.1);
-        assert_eq!(rt; symbols.lookup(expected.0), Some(expected.1));
+    same(&rt, "symbols", symbols.list().len(), exported.len());
+    for (symbol, (name, target)) in symbols.list().iter().zip(exported.iter()) {
+        let found = (symbol.name.as_slice(), symbol.target, symbols.lookup(name));
+        same(&rt, name, found, (*name, *target, Some(*target)));
     }
     Ok(())
 }
@@ -73,7 +73,7 @@ fn names_are_found_without_case(rt: HostRuntime) -> Result<(), Fail> {
         (b"Enable                   ", None),
     ];
     for (name, target) in rows {
-        assert_eq!(rt; symbols.lookup(name), target, "{name:?}");
+        same(&rt, name, symbols.lookup(name), target);
     }
     Ok(())
 }
@@ -90,12 +90,14 @@ fn names_as_the_file_has_them(rt: HostRuntime) -> Result<(), Fail> {
         (b"c\"d", variable(Area::M, Width::Byte, 3, 0)),
         (b"\xC4", Target::Counter { number: 0 }),
     ];
-    assert_eq!(rt; symbols.list().len(), expected.len());
+    same(&rt, "symbols", symbols.list().len(), expected.len());
     for (symbol, (name, target)) in symbols.list().iter().zip(expected.iter()) {
-        assert_eq!(rt; symbol.name.as_slice(), *name);
-        assert_eq!(rt; symbol.target, *target);
+        let found = (symbol.name.as_slice(), symbol.target);
+        same(&rt, name, found, (*name, *target));
     }
-    assert_eq!(rt; symbols.lookup(b" A \"B\""), Some(expected[0].1));
-    assert_eq!(rt; symbols.lookup(b"\xE4"), None);
+    let quoted = symbols.lookup(b" A \"B\"");
+    same(&rt, "the name with a quote", quoted, Some(expected[0].1));
+    let other = symbols.lookup(b"\xE4");
+    same(&rt, "a letter that is no ASCII one", other, None);
     Ok(())
 }

@@ -1,4 +1,5 @@
 use crate::calls::verdict;
+use crate::compare::same;
 use csv::{ByteRecord, ReaderBuilder};
 use std::alloc::Global;
 use std::process::Abort;
@@ -150,7 +151,7 @@ static NAMES: [Row; 12] = [
 
 fn are_refused<R: Abort>(rt: &R, alloc: Global, rows: &[Row]) {
     for (file, line, rule) in rows {
-        assert_eq!(rt; verdict(alloc, file), (*line, *rule), "{file:?}");
+        same(rt, file, verdict(alloc, file), (*line, *rule));
     }
 }
 
@@ -189,7 +190,7 @@ fn lines_as_csv_reads_them(rt: HostRuntime) -> Result<(), Fail> {
             continue;
         }
         let is_record = is_record_of_four(rt.alloc(), line)?;
-        assert_eq!(rt; is_record, *rule != 14, "{line:?}");
+        same(&rt, line, is_record, *rule != 14);
     }
     Ok(())
 }

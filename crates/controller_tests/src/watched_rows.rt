@@ -1,0 +1,51 @@
+//! The numbers of a program's data blocks, and the mode that is seen where it changes.
+use cpu::{Observer, Parts, data_numbers};
+use image_file::{Loaded, load};
+use plc_base::Mode;
+use std::alloc::Global;
+use std::test::Fail;
+use test_images::assembled;
+
+fn loaded(alloc: Global, program: &str) -> Result<Loaded, Fail> {
+    let image = assembled(alloc, program)?;
+    Ok(load(alloc, image.bytes.as_slice())?)
+}
+
+#[test]
+fn numbers_of_data_blocks(rt: HostRuntime) -> Result<(), Fail> {
+    let rows: [(&str, &[u16]); 3] = [
+        ("NOP #0", &[]),
+        ("NOP #0 | FC 7 0 0 { NOP #0", &[]),
+        (
+            "NOP #0 | FC 7 0 0 { NOP #0 | DB 2 { 00 00 | DB 10 { 00 00 | DB 300 { 00 00",
+            &[2, 10, 300],
+        ),
+    ];
+    for (program, numbers) in rows {
+        let found = data_numbers(rt.alloc(), &loaded(rt.alloc(), program)?)?;
+        assert_eq!(rt; found.as_slice(), numbers, "{program}");
+    }
+    Ok(())
+}
+
+/// A start with OB 100 is in STARTUP, one without it in RUN.
+#[test]
+fn a_mode_is_seen_where_it_changes(rt: HostRuntime) -> Result<(), Fail> {
+    let run = Parts::start(rt.alloc(), &loaded(rt.alloc(), "NOP #0")?)?;
+    let startup = Parts::start(rt.alloc(), &loaded(rt.alloc(), "OB 100 20 0 { NOP #0")?)?;
+    let mut observer = Observer::new(&run);
+    assert!(rt; observer.seen().mode.is_none());
+    for (state, mode) in [
+        (&run, None),
+        (&startup, Some(Mode::Startup)),
+        (&startup, None),
+        (&run, Some(Mode::Run)),
+    ] {
+        observer.look(state);
+        assert!(rt; observer.seen().mode == mode);
+        assert!(rt; observer.seen().outputs.as_slice().is_empty());
+    }
+    observer.pass();
+    assert!(rt; observer.seen().mode.is_none());
+    Ok(())
+}
