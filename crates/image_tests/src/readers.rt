@@ -1,10 +1,12 @@
 //! What the readers of a loaded program give.
 
+use crate::building::{fb, image};
 use crate::compare::same;
 use crate::images::EXAMPLE;
-use flat_code::{Op, Operand};
+use flat_code::{Op, Operand, Param};
 use image_file::{Loaded, load};
-use plc_base::{BlockId, BlockKind};
+use plc_base::{BlockId, BlockKind, Width};
+use std::test::Fail;
 
 /// Offsets in the code of OB 1: the op code there, whether it ends its statement, the offset after it,
 /// and the line of the statement that begins there (0 for none). The op code 0 says that no op begins.
@@ -83,4 +85,31 @@ fn heads_and_data_blocks(rt: HostRuntime) {
     let blocks = [id(BlockKind::Ob, 1), id(BlockKind::Db, 10)];
     same(&rt, "blocks", loaded.blocks(), blocks.as_slice());
     same(&rt, "names", loaded.names().as_slice().len(), 0);
+}
+
+/// A function block with an input bit at 0.0 and an output word at 2, whose code is BE alone.
+#[test]
+fn code_of_a_block(rt: HostRuntime) -> Result<(), Fail> {
+    let block = fb(1, 4, &[(1, 1, 0), (2, 3, 2)], "FB 00");
+    let bytes = image(rt.alloc(), &[block], &[], &[])?;
+    let loaded = load(rt.alloc(), bytes.as_slice())?;
+    let absent = loaded.code(id(BlockKind::Fc, 1)).is_none();
+    same(&rt, "no FC 1", absent, true);
+    let code = loaded.code(id(BlockKind::Fb, 1)).ok_or("no FB 1")?;
+    same(&rt, "bytes", (code.local_len(), code.instance_len()), (20, 4));
+    let output = Param {
+        section: 2,
+        width: Width::Word,
+        byte: 2,
+        bit: 0,
+    };
+    let params = [Param::default(), output];
+    same(&rt, "parameters", code.params(), params.as_slice());
+    let head = code.head();
+    same(&rt, "head", (head.statements, head.code_len), (1, 2));
+    let be = code.op(0).map(|(op, next)| (op.code, op.last, next));
+    same(&rt, "BE", be, Some((0x7B, true, 2)));
+    same(&rt, "no op", code.op(1).is_none(), true);
+    same(&rt, "lines", (code.line(0), code.line(1)), (Some(1), None));
+    Ok(())
 }

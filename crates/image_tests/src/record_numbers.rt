@@ -1,7 +1,7 @@
 //! The numbers of kinds, areas and widths in the records of an image.
 
 use crate::compare::same;
-use flat_code::{area_number, kind_number, width_number};
+use flat_code::{area_number, kind_number, width_number, width_of_number};
 use plc_base::{Area, BlockKind, Place, Width};
 
 #[test]
@@ -13,6 +13,22 @@ fn numbers_of_widths(rt: HostRuntime) {
         (Width::Dword, 4),
     ] {
         same(&rt, width, width_number(width), number);
+    }
+}
+
+/// A number that names no width gives a bit.
+#[test]
+fn widths_of_numbers(rt: HostRuntime) {
+    for (number, width) in [
+        (0, Width::Bit),
+        (1, Width::Bit),
+        (2, Width::Byte),
+        (3, Width::Word),
+        (4, Width::Dword),
+        (5, Width::Bit),
+        (255, Width::Bit),
+    ] {
+        same(&rt, number, width_of_number(number), width);
     }
 }
 

@@ -7,6 +7,8 @@ mod calls;
 #[cfg(test)]
 mod compare;
 #[cfg(test)]
+mod compiling_tests;
+#[cfg(test)]
 mod count_tests;
 #[cfg(test)]
 mod edge_tests;

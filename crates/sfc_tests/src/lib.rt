@@ -4,6 +4,8 @@
 #[cfg(test)]
 mod compare;
 #[cfg(test)]
+mod entering_tests;
+#[cfg(test)]
 mod frame_tests;
 #[cfg(test)]
 mod function_tests;
