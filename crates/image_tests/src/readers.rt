@@ -96,7 +96,12 @@ fn code_of_a_block(rt: HostRuntime) -> Result<(), Fail> {
     let absent = loaded.code(id(BlockKind::Fc, 1)).is_none();
     same(&rt, "no FC 1", absent, true);
     let code = loaded.code(id(BlockKind::Fb, 1)).ok_or("no FB 1")?;
-    same(&rt, "bytes", (code.local_len(), code.instance_len()), (20, 4));
+    same(
+        &rt,
+        "bytes",
+        (code.local_len(), code.instance_len()),
+        (20, 4),
+    );
     let output = Param {
         section: 2,
         width: Width::Word,
