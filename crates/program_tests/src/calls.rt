@@ -283,7 +283,15 @@ fn failed_reads(rt: HostRuntime) -> Result<(), Fail> {
     for words in missing {
         let files = two_files(rt.alloc(), RUNG, ONE_RUN)?;
         let out = MemSink::new(rt.alloc(), 64);
-        answers(&rt, rt.alloc(), words, words, files, out, wanted)?;
+        answers(
+            &rt,
+            rt.alloc(),
+            ("missing", words),
+            words,
+            files,
+            out,
+            wanted,
+        )?;
     }
     Ok(())
 }
