@@ -283,15 +283,8 @@ fn failed_reads(rt: HostRuntime) -> Result<(), Fail> {
     for words in missing {
         let files = two_files(rt.alloc(), RUNG, ONE_RUN)?;
         let out = MemSink::new(rt.alloc(), 64);
-        answers(
-            &rt,
-            rt.alloc(),
-            ("missing", words),
-            words,
-            files,
-            out,
-            wanted,
-        )?;
+        let what = ("missing", words);
+        answers(&rt, rt.alloc(), what, words, files, out, wanted)?;
     }
     Ok(())
 }
