@@ -6,7 +6,7 @@ use std::test::Fail;
 use stl_ast::Tree;
 use stl_lexer::{SOURCE_LIMIT, lex};
 use stl_parser::parse;
-use stl_symbols::{SYMBOLS_LIMIT, Symbols, read_symbols};
+use stl_symbols::{SYMBOLS_LIMIT, read_symbols};
 use stl_types::check;
 
 /// What stands on the first line of each source of a body: blocks that it can name, and the head of
@@ -28,7 +28,7 @@ static BEFORE: [&[u8]; 11] = [
 static BEHIND: &[u8] = b"\nEND_FUNCTION";
 
 /// The symbols of the sources of bodies.
-pub(crate) static SYMBOLS: &[u8] = b"\"Motor\",\"M 0.0\",\"BOOL\",\"\"
+static SYMBOLS: &[u8] = b"\"Motor\",\"M 0.0\",\"BOOL\",\"\"
 \"Speed\",\"MW 2\",\"INT\",\"\"
 \"Outside\",\"PIW 4\",\"WORD\",\"\"
 \"Delay\",\"T 5\",\"TIMER\",\"\"
@@ -42,23 +42,13 @@ pub(crate) static SYMBOLS: &[u8] = b"\"Motor\",\"M 0.0\",\"BOOL\",\"\"
 /// second line on; 0 and 0 where it breaks no rule of statements.
 pub(crate) type Row = (&'static [u8], u32, u16);
 
-/// The tree of a source, and the symbols of a file.
-pub(crate) fn parsed(
-    alloc: Global,
-    symbols: &[u8],
-    source: &[u8],
-) -> Result<(Tree, Symbols), SourceFault> {
+fn checked(alloc: Global, symbols: &[u8], source: &[u8]) -> Result<(), SourceFault> {
     if source.len() > SOURCE_LIMIT || symbols.len() > SYMBOLS_LIMIT {
         return Err(SourceFault::NoMemory);
     }
     let tokens = lex(alloc, source)?;
     let tree = parse(alloc, &tokens)?;
     let symbols = read_symbols(alloc, symbols)?;
-    Ok((tree, symbols))
-}
-
-fn checked(alloc: Global, symbols: &[u8], source: &[u8]) -> Result<(), SourceFault> {
-    let (tree, symbols) = parsed(alloc, symbols, source)?;
     let layouts = lay_out_sound(alloc, &tree, &symbols)?;
     let _ = check(alloc, &tree, &symbols, &layouts)?;
     Ok(())

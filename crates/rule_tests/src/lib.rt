@@ -1,5 +1,4 @@
-//! Tests of the rules of statements, of what statements name, and of parts of their code. The library
-//! itself is empty.
+//! Tests of the rules of statements. The library itself is empty.
 #![tactic(auto)]
 
 #[cfg(test)]
@@ -8,12 +7,6 @@ mod body_tests;
 mod call_tests;
 #[cfg(test)]
 mod calls;
-#[cfg(test)]
-mod code_tests;
-#[cfg(test)]
-mod compare;
-#[cfg(test)]
-mod scope_tests;
 #[cfg(test)]
 mod source_tests;
 #[cfg(test)]
