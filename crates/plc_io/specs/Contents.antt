@@ -26,7 +26,7 @@ pub record IsPiece (all : List ℕ) (at : ℕ) (into : List ℕ) (n : ℕ) : Typ
   pub within : n ≤ length all - at
   pub none : n ≡ 0 → 0 < length into → length all ≤ at
 
--- a read of the file `name` from place `at` on put `n` bytes into the front of `into`: where contents are told, the file is there and these are its bytes
+-- a read of the file `name` from place `at` on put `n` bytes to the start of `into`: where contents are told, the file is there and these are its bytes
 pub record ReadsFrom (c : Contents) (name : List ℕ) (at : ℕ) (into : List ℕ) (n : ℕ) : Type 0 where
   pub fits : n ≤ length into
   pub bytes : c.told ≡ true → (all : List ℕ) × (c.at name ≡ Some all) × IsPiece all at into n
@@ -35,7 +35,7 @@ pub record ReadsFrom (c : Contents) (name : List ℕ) (at : ℕ) (into : List �
 abbrev pub IsFront : Contents → List ℕ → ℕ → List ℕ → Type 0
 IsFront c name most bytes = c.told ≡ true → (all : List ℕ) × (c.at name ≡ Some all) × (bytes ≡ take most all)
 
--- where contents are told, a write that was cut short left what the file held, or a front of the bytes to write
+-- where contents are told, a write that was cut short left what the file held, or the first of the bytes to write
 abbrev pub IsCutShort : Contents → Contents → List ℕ → List ℕ → Type 0
 IsCutShort before after name bytes =
     before.told ≡ true → (after.at name ≡ before.at name) ⊎ ((n : ℕ) × (after.at name ≡ Some (take n bytes)))

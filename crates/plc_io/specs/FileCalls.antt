@@ -17,7 +17,7 @@ pub record LeavesRead {X : Type 0} (before after : FilesAt) (name : List ℕ) (r
   pub reads : CountsAt before.failed_reads after.failed_reads name result
   pub writes : SameCounts before.failed_writes after.failed_writes
 
--- the file holds what was written, or, behind a failure, what it held, or a front of what was to be written
+-- the file holds what was written, or, after a failure, what it held, or the first bytes of what was to be written
 abbrev pub HoldsWritten : {X : Type 0} → FilesAt → FilesAt → List ℕ → List ℕ → Result X IoFault → Type 0
 HoldsWritten before after name bytes (Ok x) = Agrees after.contents name bytes
 HoldsWritten before after name bytes (Err fault) = IsCutShort before.contents after.contents name bytes

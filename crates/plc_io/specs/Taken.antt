@@ -8,7 +8,7 @@ use Rattle.plc_io.specs.Moments.{SinkAt}
 abbrev pub Took : SinkAt → SinkAt → List ℕ → Type 0
 Took before after bytes = after.taken ≡ option_map (λ had. had ++ bytes) before.taken
 
--- some front of these bytes was taken
+-- some of these bytes, from the first on, were taken
 abbrev pub TookPrefix : SinkAt → SinkAt → List ℕ → Type 0
 TookPrefix before after bytes = (n : ℕ) × Took before after (take n bytes)
 
@@ -18,7 +18,7 @@ pub record TookFront (before after : SinkAt) (bytes : List ℕ) (n : ℕ) : Type
   pub within : n ≤ length bytes
   pub some : 0 < length bytes → 0 < n
 
--- what an offer of a piece took: as many bytes from its front as are told, or, where it failed, none
+-- what an offer of a piece took: as many of its first bytes as are told, or, where it failed, none
 abbrev pub TookOffer : SinkAt → SinkAt → List ℕ → Result ℕ IoFault → Type 0
 TookOffer before after bytes (Ok n) = TookFront before after bytes n
 TookOffer before after bytes (Err fault) = after.taken ≡ before.taken
@@ -28,7 +28,7 @@ pub record Offered (before after : SinkAt) (bytes : List ℕ) (result : Result �
   pub taken : TookOffer before after bytes result
   pub faults : Counts before.faults after.faults result
 
--- what the writing of a text took: all of it, or, where it failed, a front
+-- what the writing of a text took: all of it, or, where it failed, some of its first bytes
 abbrev pub TookText : {X : Type 0} → SinkAt → SinkAt → List ℕ → Result X IoFault → Type 0
 TookText before after text (Ok x) = Took before after text
 TookText before after text (Err fault) = TookPrefix before after text

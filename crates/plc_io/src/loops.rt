@@ -71,7 +71,7 @@ fn read_more<F: Files>(
 }
 
 /// Offers the rest of a text to the sink until it has taken all. After a failure it has taken some
-/// front of the text.
+/// of its first bytes.
 pub fn push_all<K: Sink>(out: &mut K, bytes: &[u8]) -> Result<(), IoFault>
     ensures { Wrote (K.shown out.old) (K.shown out.new) bytes.now result }
 {

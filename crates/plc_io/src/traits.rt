@@ -14,7 +14,7 @@ pub trait Files {
     // What the files show at one moment: contents, and counts of failed reads and writes.
     ghost shown: { Self → FilesAt };
 
-    /// Reads bytes of the file from place `at` on into the front of `into`, and answers how many: 0
+    /// Reads bytes of the file from place `at` on to the start of `into`, and answers how many: 0
     /// exactly from the file's end on, or where `into` is empty. A name without file is a failed
     /// read, except where an implementation takes it for an empty file.
     fn read_some(&mut self, name: &str, at: u64, into: &mut [u8]) -> Result<usize, IoFault>
@@ -22,7 +22,7 @@ pub trait Files {
         ensures leaves { LeavesRead (shown self.old) (shown self.new) name.now result };
 
     /// Makes `bytes` the whole contents of the file. After a failure the file holds what it held, or
-    /// a front of `bytes`. No other file changes.
+    /// the first of `bytes`. No other file changes.
     fn write_whole(&mut self, name: &str, bytes: &[u8]) -> Result<(), IoFault>
         ensures { LeavesWritten (shown self.old) (shown self.new) name.now bytes.now result };
 }
@@ -34,7 +34,7 @@ pub trait Sink {
     // What the sink shows at one moment: the bytes taken, and a count of failed pushes.
     ghost shown: { Self → SinkAt };
 
-    /// Offers a piece, and answers how many bytes from its front were taken: at least one of a
+    /// Offers a piece, and answers how many of its first bytes were taken: at least one of a
     /// nonempty piece. After a failure nothing of it was taken.
     fn push(&mut self, bytes: &[u8]) -> Result<usize, IoFault>
         ensures { Offered (shown self.old) (shown self.new) bytes.now result };

@@ -2,8 +2,6 @@
 #![tactic(auto)]
 
 #[cfg(test)]
-mod compare;
-#[cfg(test)]
 mod entering_tests;
 #[cfg(test)]
 mod frame_tests;
