@@ -1,6 +1,6 @@
+use crate::compare::same;
 use plc_base::Flag;
 use status_word::{Brackets, Check, NESTING_DEPTH, Regs, Status};
-use test_compare::same;
 
 /// Code, /FC, RLO, OR and the bit read; then RLO and OR afterwards.
 const CHECKS: [(Check, bool, bool, bool, bool, bool, bool); 13] = [

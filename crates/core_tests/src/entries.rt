@@ -1,4 +1,4 @@
-use test_compare::same;
+use crate::compare::same;
 use var_access::{Entry, What};
 
 // Worker 0 makes no entry, PIB 128 to 255 don't exist, and no interrupt requests OB 18 or OB 39.

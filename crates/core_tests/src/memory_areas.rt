@@ -1,8 +1,8 @@
+use crate::compare::same;
 use plc_base::{Area, Place, Width};
 use plc_mem::{Memory, Missing, operands};
 use std::alloc::Global;
 use std::process::Abort;
-use test_compare::same;
 
 const fn at(area: Area, byte: u16, bit: u8) -> Place {
     Place {

@@ -1,10 +1,10 @@
+use crate::compare::same;
 use plc_base::{
     Area, BadArea, BadBcd, Place, SourceFault, TimeBase, TooLong, Width, bcd_to_int,
     bcd_to_unsigned, bcd7_to_dint, capped_decimal, decimal_up_to, dint_to_bcd7, int_to_bcd,
     ms_of_s5time, place_of_pointer, pointer_of_place, s5time_of_ms, unsigned_to_bcd,
 };
 use std::alloc::AllocError;
-use test_compare::same;
 
 // Digit by digit as the manual writes them: 16#F012 is minus, 0, 1, 2.
 #[test]

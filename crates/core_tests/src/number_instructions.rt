@@ -1,5 +1,6 @@
 // In the tables a status word is its number: /FC 1, RLO 2, STA 4, OR 8, OS 16#10, OV 16#20,
 // CC 0 16#40, CC 1 16#80, BR 16#100.
+use crate::compare::same;
 use alu::{
     Compare, add_const, add_const_wide, add_d, add_i, and_d, and_w, btd, bti, cad, caw, compare_d,
     compare_i, dec, div_d, div_i, dtb, inc, inv_d, inv_i, itb, itd, mod_d, mul_d, mul_i, neg_d,
@@ -8,7 +9,6 @@ use alu::{
 };
 use plc_base::BadBcd;
 use status_word::{Regs, Status};
-use test_compare::same;
 
 fn regs(a2: u32, a1: u32, stw: u32) -> Regs {
     let mut regs = Regs::new();

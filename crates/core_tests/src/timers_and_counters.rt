@@ -1,4 +1,4 @@
-use test_compare::same;
+use crate::compare::same;
 use timers_counters::TimerFault::{BadBcd, NoNumber};
 use timers_counters::TimerKind::{Sd, Se, Sf, Sp, Ss};
 use timers_counters::{Counters, TimerFault, TimerKind, Timers};

@@ -1,6 +1,6 @@
+use crate::compare::same;
 use std::alloc::{AllocError, Global};
 use stl_ast::{Bounds, Declaration, Declarations, ElementType, Name, Sequence, TypeTree};
-use test_compare::same;
 
 /// A chain of structures, each inside the one before.
 fn chain(alloc: Global, depth: u32) -> Result<Declarations, AllocError> {

@@ -4,6 +4,8 @@
 #[cfg(test)]
 mod clause_tests;
 #[cfg(test)]
+mod compare;
+#[cfg(test)]
 mod depth_tests;
 #[cfg(test)]
 mod describe;

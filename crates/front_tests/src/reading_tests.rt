@@ -3,11 +3,11 @@ ghost use Rattle.stl_ast.specs.Operands.{IsOperand};
 ghost use Rattle.stl_ast.specs.Statements.{IsStatement};
 ghost use Rattle.stl_ast.specs.WellFormed.{IsBlock, IsWellFormed};
 
+use crate::compare::same;
 use crate::rows::parsed;
 use plc_base::{BlockKind, Width};
 use std::test::Fail;
 use stl_ast::{Block, Operand, Statement, Tree};
-use test_compare::same;
 
 /// A block of each kind that a source declares.
 const EACH_KIND: &str = "ORGANIZATION_BLOCK OB 1 BEGIN A I 0.3; L MW 2; END_ORGANIZATION_BLOCK

@@ -1,10 +1,10 @@
+use crate::compare::same;
 use crate::rows::verdict;
 use std::alloc::{AllocError, Global};
 use std::process::Abort;
 use std::test::Fail;
 use stl_ast::law_of_components;
 use stl_parser::law_of_clauses;
-use test_compare::same;
 
 /// Each source with the line and the rule of its refusal, worked out by hand from the grammar and
 /// docs/REFUSALS.md.

@@ -1,6 +1,7 @@
 ghost use Rattle.std.specs.Prelude.{IfOk};
 ghost use Rattle.stl_ast.specs.WellFormed.{IsWellFormed};
 
+use crate::compare::same;
 use crate::describe::described;
 use plc_base::{Refusal, SourceFault};
 use std::alloc::{AllocError, Global};
@@ -9,7 +10,6 @@ use std::test::Fail;
 use stl_ast::Tree;
 use stl_lexer::{SOURCE_LIMIT, lex};
 use stl_parser::parse;
-use test_compare::same;
 
 /// The tree of a source, or its refusal.
 pub(crate) fn parsed(alloc: Global, source: &[u8]) -> Result<Tree, SourceFault>

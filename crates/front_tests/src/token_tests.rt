@@ -1,3 +1,4 @@
+use crate::compare::same;
 use plc_base::{Refusal, SourceFault};
 use std::alloc::Global;
 use std::test::Fail;
@@ -9,7 +10,6 @@ use stl_lexer::{
     SOURCE_LIMIT, TokenKind, Tokens, behind_prefix, first_letter, law_of_time_literals,
     law_of_tokens, lex, mark_text, milliseconds_within,
 };
-use test_compare::same;
 
 struct Cut {
     source: &'static [u8],

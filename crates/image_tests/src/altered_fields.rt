@@ -1,8 +1,8 @@
 //! One byte of an image altered: the faults of its fields.
 
 use crate::building::{Block, Data, db, fault_of, fc, image, put_hex};
+use crate::compare::same;
 use std::test::Fail;
-use test_compare::same;
 
 /// An FB 1 with four instance bytes, the parameters IN word at 0 and OUT word at 2, and no statement
 /// but BE; its instance DB 5 of four bytes; the names AB, a bit of I, and AC, a word of M.

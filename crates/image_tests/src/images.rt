@@ -1,6 +1,6 @@
+use crate::compare::same;
 use image_file::{LoadError, LoadFault, load};
 use std::test::Fail;
-use test_compare::same;
 
 /// The image of an OB 1 with `JU x;` and `x: T DB10.DBW 2;`, and of a DB 10 of four bytes.
 pub static EXAMPLE: [u8; 80] = [

@@ -1,10 +1,10 @@
 //! Faults 7 that need the blocks that are called.
 
 use crate::building::{Block, Parameter, db, fault_of, fb, fc, image, ob};
+use crate::compare::same;
 use std::alloc::Global;
 use std::process::Abort;
 use std::test::Fail;
-use test_compare::same;
 
 /// The code of an OB 1, the offset in the code of its fault, and whether it has one.
 type Row = (&'static str, u32, bool);

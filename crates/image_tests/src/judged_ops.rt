@@ -1,10 +1,10 @@
 //! Faults 5 to 8 that an op has by itself, its statement and its block.
 
 use crate::building::{db, fault_of, fb, fc, image, ob};
+use crate::compare::same;
 use std::alloc::Global;
 use std::process::Abort;
 use std::test::Fail;
-use test_compare::same;
 
 /// The code of a block, the offset in the code of its fault, and the fault's code; 0 for none.
 type Row = (&'static str, u32, u16);

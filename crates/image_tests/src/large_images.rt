@@ -3,9 +3,9 @@
 use crate::building::{
     Block, db, fault_of, fc, ob, put_code_block, put_data, put_header, put_hex, put_u32,
 };
+use crate::compare::same;
 use std::alloc::{AllocError, Global};
 use std::test::Fail;
-use test_compare::same;
 
 /// Code with so many statements SET, some of them A BR, and BE.
 fn code_of(alloc: Global, statements: u32, checks: u32) -> Result<Vec<u8>, AllocError> {

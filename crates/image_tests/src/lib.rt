@@ -6,6 +6,8 @@ mod altered_fields;
 #[cfg(test)]
 mod building;
 #[cfg(test)]
+mod compare;
+#[cfg(test)]
 mod images;
 #[cfg(test)]
 mod judged_calls;

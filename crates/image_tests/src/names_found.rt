@@ -1,10 +1,10 @@
 //! What names find, and the names of jumps and conditions.
 
+use crate::compare::same;
 use flat_code::{JUMPS, NameEntry, Names, condition_of, flag_of, jump_of};
 use plc_base::{Area, Place, Width};
 use std::alloc::{AllocError, Global};
 use std::test::*;
-use test_compare::same;
 
 fn entry(alloc: Global, name: &[u8], byte: u16) -> Result<NameEntry, AllocError> {
     let mut own = Vec::new(alloc);

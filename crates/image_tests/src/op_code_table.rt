@@ -3,6 +3,7 @@
 
 ghost use Rattle.std.specs.Prelude.{◌<◌};
 
+use crate::compare::same;
 use flat_code::{
     Adding, CallWord, Comparison, EndWord, Joined, Logic, Number, Operand, Passed, PointerWord,
     Shift, StartWord, Takes, Word, taken_by, word_of,
@@ -10,7 +11,6 @@ use flat_code::{
 use plc_base::{Area, Width};
 use std::alloc::{AllocError, Global};
 use std::test::*;
-use test_compare::same;
 
 // Code, instruction, the forms of its operand; behind 01 the greatest literal, behind 06 and 07
 // timer or counter, behind / the widths in bits.

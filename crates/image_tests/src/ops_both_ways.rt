@@ -1,12 +1,12 @@
 //! Ops as bytes, both ways: the least and the greatest payload of each form of each instruction,
 //! and bytes that are no op.
 
+use crate::compare::same;
 use flat_code::{BadOp, Op, Operand, decode_op, encode_op};
 use plc_base::{Area, Width};
 use std::alloc::Global;
 use std::process::Abort;
 use std::test::*;
-use test_compare::same;
 
 // Each line has op codes and, behind |, form bytes with their payloads.
 const OPS: &str = "\

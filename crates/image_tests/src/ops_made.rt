@@ -2,6 +2,7 @@
 //! from the tables of forms and codes.
 
 use crate::building::put_hex;
+use crate::compare::same;
 use flat_code::{
     Adding, CallWord, EndWord, Joined, Logic, Number, Op, Operand, Passed, PointerWord, Shift,
     StartWord, Word, encode_op,
@@ -10,7 +11,6 @@ use plc_base::{Area, Width};
 use std::alloc::Global;
 use std::process::Abort;
 use std::test::Fail;
-use test_compare::same;
 
 /// A word and an operand that it takes, how many bytes their op has, and these without end mark.
 type Row = (Word, Operand, u32, &'static str);

@@ -1,6 +1,7 @@
 //! Programs made of blocks and names: what makes one, and what doesn't. Limits are those of the
 //! fields of an image.
 
+use crate::compare::same;
 use crate::images::EXAMPLE;
 use arrayvec::ArrayVec;
 use flat_code::{
@@ -10,7 +11,6 @@ use image_file::{VerifyError, VerifyFault, verify, write_image};
 use plc_base::{Area, BlockId, BlockKind, Place, Width};
 use std::alloc::{AllocError, Global};
 use std::test::Fail;
-use test_compare::same;
 
 /// Kind, number, local bytes and instance bytes of a code block.
 type Head = (BlockKind, u16, u16, u16);

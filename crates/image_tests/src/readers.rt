@@ -1,12 +1,12 @@
 //! What the readers of a loaded program give.
 
 use crate::building::{fb, image};
+use crate::compare::same;
 use crate::images::EXAMPLE;
 use flat_code::{Op, Operand, Param};
 use image_file::{Loaded, load};
 use plc_base::{BlockId, BlockKind, Width};
 use std::test::Fail;
-use test_compare::same;
 
 /// Offsets in the code of OB 1: the op code there, whether it ends its statement, the offset after it,
 /// and the line of the statement that begins there (0 for none). The op code 0 says that no op begins.

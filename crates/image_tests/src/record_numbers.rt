@@ -1,8 +1,8 @@
 //! The numbers of kinds, areas and widths in the records of an image.
 
+use crate::compare::same;
 use flat_code::{area_number, kind_number, width_number, width_of_number};
 use plc_base::{Area, BlockKind, Place, Width};
-use test_compare::same;
 
 #[test]
 fn numbers_of_widths(rt: HostRuntime) {

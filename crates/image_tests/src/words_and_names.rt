@@ -1,10 +1,10 @@
 //! What the word of an instruction takes, and how names are ordered and spelled.
 
+use crate::compare::same;
 use flat_code::{
     Adding, Logic, Operand, PointerWord, Shift, StartWord, Word, ends_blank, is_name_before,
     is_upper_case, taken_by_word,
 };
-use test_compare::same;
 
 fn literal(value: u32) -> Operand {
     Operand::Literal { value }

@@ -1,13 +1,13 @@
 //! Programs written as images, and verified without one.
 
 use crate::building::{Parameter, db, fb, fc, image, ob};
+use crate::compare::same;
 use crate::images::EXAMPLE;
 use flat_code::Program;
 use image_file::{load, verify, write_image};
 use std::alloc::Global;
 use std::process::Abort;
 use std::test::Fail;
-use test_compare::same;
 
 /// A program is written as this image.
 fn is_written_as(

@@ -1,6 +1,6 @@
 use crate::calls::first_bytes;
+use crate::compare::same;
 use std::test::Fail;
-use test_compare::same;
 
 /// A source whose first block is a data block, and its initial bytes, worked out by hand.
 type Row = (&'static [u8], &'static [u8]);

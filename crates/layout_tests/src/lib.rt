@@ -6,6 +6,8 @@ mod bytes_tests;
 #[cfg(test)]
 mod calls;
 #[cfg(test)]
+mod compare;
+#[cfg(test)]
 mod limit_tests;
 #[cfg(test)]
 mod offset_tests;

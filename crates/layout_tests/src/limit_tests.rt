@@ -1,8 +1,8 @@
 use crate::calls::{in_block, verdict};
+use crate::compare::same;
 use std::alloc::{AllocError, Global};
 use std::process::Abort;
 use std::test::Fail;
-use test_compare::same;
 
 /// What stands before and behind the number of a block, the numbers that are right, and others.
 type Numbers = (

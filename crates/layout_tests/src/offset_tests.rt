@@ -1,10 +1,10 @@
 use crate::calls::{Step, at, laid, laid_sound, path_of};
+use crate::compare::same;
 use block_layout::{Layouts, Section};
 use plc_base::{Area, BlockId, BlockKind, Place, Width};
 use std::alloc::Global;
 use std::process::Abort;
 use std::test::Fail;
-use test_compare::same;
 
 // BOOLs pack, BYTEs stand side by side, all else begins at an even byte; each section begins at one.
 static SOURCE: &[u8] = b"DATA_BLOCK DB 1

@@ -1,4 +1,5 @@
 use crate::calls::{Step, at, laid_sound, path_of, symbols_of};
+use crate::compare::same;
 use block_layout::{
     Cell, Layouts, Member, Spot, Walk, bits_of, is_parameter, named_block, placed, plain_bits,
 };
@@ -6,7 +7,6 @@ use plc_base::{Area, BlockId, BlockKind, Width};
 use std::process::Abort;
 use std::test::Fail;
 use stl_ast::{BlockName, Literal, Name, PartKind, Simple};
-use test_compare::same;
 
 /// The types with their bits and widths.
 static TYPES: [(Simple, u64, Width); 9] = [

@@ -1,8 +1,8 @@
 use crate::calls::{Row, in_block, verdict};
+use crate::compare::same;
 use std::alloc::Global;
 use std::process::Abort;
 use std::test::Fail;
-use test_compare::same;
 
 /// Declarations of the structure of DB 1, from line 3 on.
 static NAMES: [Row; 8] = [

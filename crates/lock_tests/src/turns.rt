@@ -1,10 +1,10 @@
 //! One thread with several passes.
 ghost use Rattle.std.specs.Prelude.{◌≡◌, [], ◌∷◌, IfOk};
 
+use crate::compare::same;
 use crate::notes::{Note, Register};
 use std::alloc::Global;
 use std::test::Fail;
-use test_compare::same;
 use tracked_lock::{NoMemory, Pass, SeatsOut, TrackedLock};
 
 /// A register without notes.

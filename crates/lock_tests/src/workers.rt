@@ -2,11 +2,11 @@
 ghost use Rattle.std.specs.Prelude.{◌≡◌, false};
 ghost use Rattle.lock_tests.specs.Workers.{IsFree};
 
+use crate::compare::same;
 use crate::notes::{Note, Register};
 use std::sync::Wait;
 use std::test::Fail;
 use std::thread::{Threads, join};
-use test_compare::same;
 use tracked_lock::{NoMemory, Pass, TrackedLock};
 
 /// Adds so many notes under the pass's number, 0, 1, 2 and so on, a turn each.

@@ -1,3 +1,4 @@
+use crate::compare::same;
 use arrayvec::ArrayVec;
 use plc_io::{MemFiles, MemSink, OpenGate};
 use s7_cli::{cmd_check, cmd_go, s7_main};
@@ -8,7 +9,6 @@ use std::str::from_utf8;
 use std::sync::Wait;
 use std::test::Fail;
 use std::thread::Threads;
-use test_compare::same;
 
 pub(crate) const GO: [&str; 3] = ["go", "source", "history"];
 

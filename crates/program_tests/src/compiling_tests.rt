@@ -1,12 +1,12 @@
 //! Sources compiled and checked, and programs run, by the calls behind the commands.
 use crate::calls::{ONE_RUN, RUNG};
+use crate::compare::same;
 use compiler::{CompileFault, compiled, judged};
 use event_text::read_history;
 use plc_base::Refusal;
 use plc_io::MemSink;
 use run_text::{Line, replay_text};
 use std::test::Fail;
-use test_compare::same;
 
 /// The most bytes of a source, and of a symbols file.
 const LIMIT: usize = 1_048_576;

@@ -1,7 +1,7 @@
 //! Counted calls, some of which are to fail.
 use crate::calls::only;
+use crate::compare::same;
 use plc_io::{Calls, IoFault};
-use test_compare::same;
 
 #[test]
 fn calls_are_counted(rt: HostRuntime) {

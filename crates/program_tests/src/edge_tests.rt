@@ -1,10 +1,10 @@
+use crate::compare::same;
 use event_text::{HistoryFault, read_history};
 use plc_base::{BlockId, BlockKind, Mode, Refusal, Spot};
 use run_text::{Line, end_line, mode_line, output_line, row_line};
 use s7_cli::{Failure, File, failure_line};
 use std::process::Abort;
 use std::test::Fail;
-use test_compare::same;
 use var_access::{Entry, What};
 
 // How many entries each text spells, counted by hand: one for each step, input and arrival.

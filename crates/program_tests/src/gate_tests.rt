@@ -1,10 +1,10 @@
 //! The gate is for the workers of a live run: `go` and `check` don't pass it.
 use crate::calls::{CHECK, GO, ONE_RUN, RUNG, list_of, two_files};
+use crate::compare::same;
 use plc_io::{Gate, MemSink};
 use s7_cli::s7_main;
 use std::sync::atomic::{AtomicBool, Ordering};
 use std::test::Fail;
-use test_compare::same;
 
 /// A gate that remembers that somebody passed it.
 #[derive(Drop)]

@@ -5,6 +5,8 @@
 #[cfg(test)]
 mod calls;
 #[cfg(test)]
+mod compare;
+#[cfg(test)]
 mod compiling_tests;
 #[cfg(test)]
 mod count_tests;

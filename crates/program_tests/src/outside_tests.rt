@@ -1,11 +1,11 @@
 use crate::calls::only;
+use crate::compare::same;
 use plc_io::{
     Bytes, Files, Gate, IoFault, MemFiles, MemSink, NamedFiles, OpenGate, RealFiles, RealSink,
     Sink, SureFiles, SureSink, push_all, read_to_limit,
 };
 use std::process::Abort;
 use std::test::Fail;
-use test_compare::same;
 
 /// A file of the test's own, in the folder where the tests run.
 const SCRATCH: &str = "outside_tests_scratch";

@@ -1,6 +1,6 @@
+use crate::compare::same;
 use ob_sched::{can_wait, class_in};
 use plc_base::Mode;
-use test_compare::same;
 
 // Organization blocks with their priority classes in RUN and in STARTUP: the first and the last one of
 // each kind.

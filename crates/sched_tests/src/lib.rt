@@ -5,6 +5,8 @@
 #[cfg(test)]
 mod classes;
 #[cfg(test)]
+mod compare;
+#[cfg(test)]
 mod requests;
 #[cfg(test)]
 mod start_information;

@@ -1,8 +1,8 @@
+use crate::compare::same;
 use crate::tools::{expect_arrival, expect_best, running, start_best};
 use ob_sched::{Arrived, Sched, laws};
 use plc_base::Mode;
 use std::process::Abort;
-use test_compare::same;
 
 /// All organization blocks that can wait, with their priority classes in RUN.
 const CLASSES: [(u16, u8); 32] = [

@@ -1,5 +1,5 @@
+use crate::compare::same;
 use ob_sched::{StartEvent, StartInfo, is_ob};
-use test_compare::same;
 
 /// An event and a priority class, and the bytes 0 to 11 that they give; bytes 12 to 19 are 0.
 const ROWS: [(StartEvent, u8, [u8; 12]); 13] = [

@@ -1,8 +1,8 @@
+use crate::compare::same;
 use crate::tools::{expect_arrival, expect_best, running, start_best};
 use ob_sched::{Arrived, Passed, Sched, StartEvent, StartInfo};
 use plc_base::Mode;
 use std::process::Abort;
-use test_compare::same;
 
 /// A tick passes all its milliseconds with no stop and no record.
 fn passes(rt: &impl Abort, sched: &mut Sched, ms: u32, mode: Mode) {

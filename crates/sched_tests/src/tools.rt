@@ -1,8 +1,8 @@
+use crate::compare::same;
 use ob_sched::{Arrived, Sched, StartInfo, can_wait};
 use plc_base::Mode;
 use std::alloc::Global;
 use std::process::Abort;
-use test_compare::same;
 
 /// A scheduler in RUN, with these organization blocks loaded.
 pub(crate) fn running(rt: &impl Abort, alloc: Global, loaded: &[u16]) -> Sched {

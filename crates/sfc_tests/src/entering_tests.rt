@@ -1,10 +1,10 @@
 //! A block that is entered once more and left, an activation that begins anew, and what is copied.
+use crate::compare::same;
 use crate::tools::{cycle, frame};
 use frames::{Activation, Binding, Bindings, Frame, Locals};
 use plc_base::{BlockId, BlockKind, Width};
 use status_word::{Check, Regs};
 use std::process::Abort;
-use test_compare::same;
 
 // The number of the block of a frame and how many local bytes it has, by its place in the list.
 fn frame_at(a: &Activation, place: u8) -> Option<(u16, u16)> {

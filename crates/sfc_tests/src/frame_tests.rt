@@ -1,9 +1,9 @@
 //! Blocks entered and left, and their local bytes.
+use crate::compare::same;
 use crate::tools::{cycle, frame};
 use frames::{Activation, FrameFault};
 use plc_base::BlockKind;
 use std::test::Fail;
-use test_compare::same;
 
 #[test]
 fn sixteen_frames_stand_at_most(rt: HostRuntime) -> Result<(), Fail> {

@@ -1,10 +1,10 @@
 //! The nine system functions, with every return value.
+use crate::compare::same;
 use crate::tools::cycle;
 use ob_sched::{Arrived, Sched, StartInfo};
 use plc_base::Mode;
 use std::test::Fail;
 use sys_funcs::{can_dint, dis_airt, dis_irt, en_airt, en_irt, re_trigr, srt_dint, stp, time_tck};
-use test_compare::same;
 
 #[test]
 fn interrupts_are_delayed_and_enabled_again(rt: HostRuntime) -> Result<(), Fail> {

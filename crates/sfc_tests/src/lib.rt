@@ -2,6 +2,8 @@
 #![tactic(auto)]
 
 #[cfg(test)]
+mod compare;
+#[cfg(test)]
 mod entering_tests;
 #[cfg(test)]
 mod frame_tests;

@@ -1,9 +1,9 @@
 //! Local bytes, bindings, registers and a frame by themselves.
+use crate::compare::same;
 use crate::tools::cycle;
 use frames::{Binding, Bindings, Frame, Locals};
 use status_word::Regs;
 use std::test::Fail;
-use test_compare::same;
 
 #[test]
 fn local_bytes_are_set_and_cleared(rt: HostRuntime) -> Result<(), Fail> {

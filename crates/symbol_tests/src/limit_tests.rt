@@ -1,8 +1,8 @@
 use crate::calls::{read, verdict};
+use crate::compare::same;
 use std::alloc::{AllocError, Global};
 use std::test::Fail;
 use stl_symbols::{SYMBOLS_LIMIT, Target};
-use test_compare::same;
 
 /// The most symbols of a file.
 const MOST: u32 = 65_535;

@@ -1,8 +1,8 @@
 use crate::calls::read;
+use crate::compare::same;
 use plc_base::{Area, BlockId, BlockKind, Place, Width};
 use std::test::Fail;
 use stl_symbols::Target;
-use test_compare::same;
 
 fn variable(area: Area, width: Width, byte: u16, bit: u8) -> Target {
     Target::Variable {

@@ -1,9 +1,9 @@
 use crate::calls::verdict;
+use crate::compare::same;
 use csv::{ByteRecord, ReaderBuilder};
 use std::alloc::Global;
 use std::process::Abort;
 use std::test::Fail;
-use test_compare::same;
 
 /// A symbols file with the line and the rule of its refusal, worked out by hand from
 /// docs/FORMATS.md; 0 and 0 where it is right.

@@ -1,11 +1,8 @@
-//! The comparison that the crates of tests share.
-#![tactic(auto)]
-
 use std::fmt::Debug;
 use std::process::Abort;
 
 /// Compares a result with the value worked out by hand; `what` names it where they differ.
-pub fn same<T: PartialEq + Debug + Drop>(
+pub(crate) fn same<T: PartialEq + Debug + Drop>(
     rt: &impl Abort,
     what: impl Debug + Drop,
     got: T,
