@@ -7,6 +7,7 @@
 ghost use Rattle.std.specs.Prelude.{◌≡◌, ◌≤◌, ◌<◌, ◌^◌, length, IfOk};
 ghost use Rattle.var_access.specs.Entry.{IsValid};
 
+use crate::compare::same;
 use controller::{Controller, Observed};
 use image_file::{Loaded, load};
 use plc_base::{BlockKind, Mode, Spot};
@@ -109,23 +110,31 @@ fn write_observed(alloc: Global, out: &mut String, n: u64, seen: &Observed) -> W
     Ok(())
 }
 
-pub(crate) fn write_end(
+/// Writes a data block, which is the same by its number as by its place.
+fn write_data_block(
     alloc: Global,
     rt: &impl Abort,
     out: &mut String,
     controller: &Controller,
+    number: u16,
+    bytes: &[u8],
 ) -> Written {
+    same(rt, number, controller.db_bytes(number), Some(bytes));
+    out.push_str(format!(in alloc; " | DB {number} ")?.as_str())?;
+    for byte in bytes {
+        hexadecimal(alloc, out, *byte)?;
+    }
+    Ok(())
+}
+
+fn write_end(alloc: Global, rt: &impl Abort, out: &mut String, controller: &Controller) -> Written {
     out.push_str(format!(in alloc; "END {} ", controller.history_len())?.as_str())?;
     write_mode(alloc, out, controller.mode())?;
     for place in 0..256 {
         let Some((number, bytes)) = controller.data_block(place) else {
             break;
         };
-        assert_eq!(rt; controller.db_bytes(number), Some(bytes));
-        out.push_str(format!(in alloc; " | DB {number} ")?.as_str())?;
-        for byte in bytes {
-            hexadecimal(alloc, out, *byte)?;
-        }
+        write_data_block(alloc, rt, out, controller, number, bytes)?;
     }
     Ok(())
 }
@@ -146,6 +155,21 @@ pub(crate) fn apply_entry(
     Ok(())
 }
 
+/// The text of entries, from the controller's state on, with its end.
+pub(crate) fn entries_text(
+    alloc: Global,
+    rt: &impl Abort,
+    controller: &mut Controller,
+    entries: &[Entry],
+) -> Result<String, Fail> {
+    let mut out = String::new(alloc);
+    for entry in entries {
+        apply_entry(alloc, rt, controller, &mut out, *entry)?;
+    }
+    write_end(alloc, rt, &mut out, controller)?;
+    Ok(out)
+}
+
 /// Applies the entries of a line.
 fn apply(
     alloc: Global,
@@ -164,7 +188,8 @@ fn apply(
 /// The most entries of a run.
 const MOST_ENTRIES: u64 = 100_000;
 
-fn loaded(alloc: Global, program: &str) -> Result<Loaded, Fail> {
+/// A program that is spelled as text.
+pub(crate) fn loaded(alloc: Global, program: &str) -> Result<Loaded, Fail> {
     let image = assembled(alloc, program)?;
     match load(alloc, image.bytes.as_slice()) {
         Ok(loaded) => Ok(loaded),
@@ -196,7 +221,7 @@ pub(crate) fn run_text(
 pub(crate) fn all_hold(rt: &impl Abort, alloc: Global, rows: &[Row]) -> Result<(), Fail> {
     for (program, history, text) in rows {
         let shown = run_text(alloc, rt, program, history)?;
-        assert_eq!(rt; shown.as_str(), *text, "{program}: {history}");
+        same(rt, (*program, *history), shown.as_str(), *text);
     }
     Ok(())
 }

@@ -4,6 +4,7 @@
 //! of a higher class tells its number at once, one of no higher class doesn't. At last the block itself
 //! tells that it wasn't interrupted besides. Each statement of its code is a step of the history.
 use crate::bench::run_text;
+use crate::compare::same;
 use std::alloc::{AllocError, Global};
 use std::test::Fail;
 
@@ -243,7 +244,7 @@ fn each_class_with_each_other(rt: HostRuntime) -> Result<(), Fail> {
         let run = run_of(alloc, *ob, *class, *by)?;
         let program = program_of(alloc, *ob, run.code.as_str())?;
         let shown = run_text(alloc, &rt, program.as_str(), run.history.as_str())?;
-        assert_eq!(rt; shown.as_str(), run.text.as_str(), "OB {ob}");
+        same(&rt, *ob, shown.as_str(), run.text.as_str());
     }
     Ok(())
 }

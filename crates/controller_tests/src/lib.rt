@@ -7,6 +7,8 @@ mod bench;
 #[cfg(test)]
 mod class_rows;
 #[cfg(test)]
+mod compare;
+#[cfg(test)]
 mod error_rows;
 #[cfg(test)]
 mod interrupt_rows;

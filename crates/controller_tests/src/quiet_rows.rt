@@ -1,5 +1,6 @@
 //! Steps that show nothing are passed in a row, and all comes out as one by one.
-use crate::bench::{apply_entry, controller_of, write_end};
+use crate::bench::{apply_entry, controller_of, entries_text};
+use crate::compare::same;
 use controller::leading_steps;
 use plc_base::Mode;
 use std::alloc::{AllocError, Global};
@@ -80,25 +81,16 @@ fn quiet_text(
     let mut controller = controller_of(alloc, program)?;
     controller.reserve(entries.len() as u64)?;
     let made = controller.step_quietly(&entries[..leading_steps(entries)]);
-    assert_eq!(rt; made, in_a_row, "{program}");
-    assert_eq!(rt; controller.history_len(), made as u64);
+    same(rt, program, made, in_a_row);
+    same(rt, program, controller.history_len(), made as u64);
     assert!(rt; controller.mode() == Mode::Startup, "{program}");
-    let mut out = String::new(alloc);
-    for entry in &entries[made..] {
-        apply_entry(alloc, rt, &mut controller, &mut out, *entry)?;
-    }
-    write_end(alloc, rt, &mut out, &controller)?;
-    Ok(out)
+    entries_text(alloc, rt, &mut controller, &entries[made..])
 }
 
+/// The text of all entries, one by one.
 fn text(alloc: Global, rt: &impl Abort, program: &str, entries: &[Entry]) -> Result<String, Fail> {
     let mut controller = controller_of(alloc, program)?;
-    let mut out = String::new(alloc);
-    for entry in entries {
-        apply_entry(alloc, rt, &mut controller, &mut out, *entry)?;
-    }
-    write_end(alloc, rt, &mut out, &controller)?;
-    Ok(out)
+    entries_text(alloc, rt, &mut controller, entries)
 }
 
 #[test]
@@ -107,9 +99,9 @@ fn steps_are_passed(rt: HostRuntime) -> Result<(), Fail> {
     for (program, first, in_a_row, then, shown) in &ROWS {
         let entries = entries_of(alloc, *first, *then)?;
         let one_by_one = text(alloc, &rt, program, entries.as_slice())?;
-        assert_eq!(rt; one_by_one.as_str(), *shown, "{program}");
+        same(&rt, *program, one_by_one.as_str(), *shown);
         let quiet = quiet_text(alloc, &rt, program, entries.as_slice(), *in_a_row)?;
-        assert_eq!(rt; quiet.as_str(), *shown, "{program}");
+        same(&rt, *program, quiet.as_str(), *shown);
     }
     Ok(())
 }
@@ -125,9 +117,9 @@ fn a_request_that_waits_ends_the_row(rt: HostRuntime) -> Result<(), Fail> {
     let arrival = |ob: u16| entry_of(What::Arrive { ob, value: 0 });
     apply_entry(alloc, &rt, &mut controller, &mut out, arrival(40))?;
     controller.reserve(steps.len() as u64)?;
-    assert_eq!(&rt; controller.step_quietly(steps), 5);
+    same(&rt, "nothing waits", controller.step_quietly(steps), 5);
     apply_entry(alloc, &rt, &mut controller, &mut out, arrival(10))?;
     controller.reserve(steps.len() as u64)?;
-    assert_eq!(&rt; controller.step_quietly(steps), 0);
+    same(&rt, "OB 10 waits", controller.step_quietly(steps), 0);
     Ok(())
 }

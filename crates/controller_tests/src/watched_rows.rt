@@ -1,15 +1,9 @@
 //! The numbers of a program's data blocks, and the mode that is seen where it changes.
+use crate::bench::loaded;
+use crate::compare::same;
 use cpu::{Observer, Parts, data_numbers};
-use image_file::{Loaded, load};
 use plc_base::Mode;
-use std::alloc::Global;
 use std::test::Fail;
-use test_images::assembled;
-
-fn loaded(alloc: Global, program: &str) -> Result<Loaded, Fail> {
-    let image = assembled(alloc, program)?;
-    Ok(load(alloc, image.bytes.as_slice())?)
-}
 
 #[test]
 fn numbers_of_data_blocks(rt: HostRuntime) -> Result<(), Fail> {
@@ -23,7 +17,7 @@ fn numbers_of_data_blocks(rt: HostRuntime) -> Result<(), Fail> {
     ];
     for (program, numbers) in rows {
         let found = data_numbers(rt.alloc(), &loaded(rt.alloc(), program)?)?;
-        assert_eq!(rt; found.as_slice(), numbers, "{program}");
+        same(&rt, program, found.as_slice(), numbers);
     }
     Ok(())
 }
