@@ -149,7 +149,7 @@ fn peripherals(rt: HostRuntime) {
     let written = memory.write(at(Area::Q, 0, 0), Width::Byte, 0x99);
     same(&rt, "T QB 0", written, Ok(()));
     same(&rt, "PQB 0 before the refresh", memory.output(0), Some(0));
-    let before = memory.outputs().copied();
+    let mut before = memory.outputs().copied();
     memory.refresh();
     let read = memory.read(at(Area::I, 0, 0), Width::Byte);
     same(&rt, "IB 0 after the refresh", read, Ok(0x55));
@@ -163,6 +163,9 @@ fn peripherals(rt: HostRuntime) {
         let next = outputs.next_change(&before, from);
         same(&rt, ("next change from", from), next, changed);
     }
+    before.copy_from(outputs);
+    let next = outputs.next_change(&before, 0);
+    same(&rt, "no change against a copy", next, None);
     memory.clear_outputs();
     same(&rt, "PQB 0 cleared", memory.output(0), Some(0));
     same(&rt, "PQB 700 cleared", memory.output(700), Some(0));

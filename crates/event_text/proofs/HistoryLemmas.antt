@@ -8,7 +8,7 @@ use Rattle.var_access.specs.declared.entries.Entry.{Entry}
 use Rattle.event_text.specs.declared.histories.HistoryFault.{HistoryFault}
 use Rattle.event_text.specs.declared.histories.HistoryFault.TheVariants.{Refused, NoMemory}
 use Rattle.event_text.specs.HistoryFault.{AddFault, IsHistoryFault}
-use Rattle.event_text.specs.History.{entries_of_line, entries_of_lines, steps_in, most_steps, with_few_steps, not_built, or_refused, history_of}
+use Rattle.event_text.specs.History.{entries_of_line, entries_of_lines, steps_in, most_steps, with_few_steps, refused_history, or_refused, history_of}
 
 -- these entries were read of a text, and the rest of it follows
 pub record GoesOn (text : List ℕ) (done : List Entry) (rest : List ℕ) : Type 0 where
@@ -31,7 +31,7 @@ unfolding history_of
 history_of-is text o is = ap (λ (p : Option (List Entry)). or_refused (option_and_then with_few_steps p)) is
 
 -- a line that isn't right
-pub history_of-wrong : (text : List ℕ) (done : List Entry) (rest line behind : List ℕ) → GoesOn text done rest → lines rest ≡ line ∷ lines behind → entries_of_line line ≡ None → history_of text ≡ Err not_built
+pub history_of-wrong : (text : List ℕ) (done : List Entry) (rest line behind : List ℕ) → GoesOn text done rest → lines rest ≡ line ∷ lines behind → entries_of_line line ≡ None → history_of text ≡ Err refused_history
 history_of-wrong text done rest line behind so_far first wrong =
     let of_rest = ap entries_of_lines first ∙ first_of_lines line (lines behind) None wrong in
     history_of-is text None (so_far.all ∙ ap (option_map (λ es. done ++ es)) of_rest)
@@ -60,7 +60,7 @@ many-after done None many = refl
 many-after done (Some es) many = with_few_steps-many (done ++ es) (omega (arith, steps_in-append done es))
 
 -- more steps than a history may have
-pub history_of-many : (text : List ℕ) (done : List Entry) (rest : List ℕ) → GoesOn text done rest → most_steps < steps_in done → history_of text ≡ Err not_built
+pub history_of-many : (text : List ℕ) (done : List Entry) (rest : List ℕ) → GoesOn text done rest → most_steps < steps_in done → history_of text ≡ Err refused_history
 history_of-many text done rest so_far many =
     history_of-is text _ so_far.all ∙ ap or_refused (many-after done (entries_of_lines (lines rest)) many)
 

@@ -159,12 +159,12 @@ with_few_steps es = if nat_le (steps_in es) most_steps then Some es else None
 
 -- a text that is no history is refused by line 0 and rule 99: which line breaks which rule isn't told
 -- yet
-abbrev pub not_built : Refusal
-not_built = record { line = 0; rule = 99 }
+abbrev pub refused_history : Refusal
+refused_history = record { line = 0; rule = 99 }
 
 -- the entries, or the one refusal there is, for a wrong line and for too many steps alike
 abbrev pub or_refused : Option (List Entry) → Result (List Entry) Refusal
-or_refused None = Err not_built
+or_refused None = Err refused_history
 or_refused (Some entries) = Ok entries
 
 -- the entries that a text spells, or its refusal

@@ -1,12 +1,14 @@
 use crate::calls::{Step, at, laid_sound, path_of, symbols_of};
 use crate::compare::same;
 use block_layout::{
-    Cell, Layouts, Member, Spot, Walk, bits_of, is_parameter, named_block, placed, plain_bits,
+    Cell, Layouts, Member, Path, Spot, Walk, bits_of, fits, is_parameter, named_block, placed,
+    plain_bits, width_of,
 };
 use plc_base::{Area, BlockId, BlockKind, Width};
 use std::process::Abort;
 use std::test::Fail;
-use stl_ast::{BlockName, Literal, Name, PartKind, Simple};
+use stl_ast::{BlockName, Literal, Name, PartKind, PathStep, Simple};
+use stl_symbols::Symbols;
 
 /// The types with their bits and widths.
 static TYPES: [(Simple, u64, Width); 9] = [
@@ -27,6 +29,7 @@ fn bits_of_types_and_constants(rt: HostRuntime) {
     for (kind, bits, width) in &TYPES {
         let found = (plain_bits(*kind), placed(Area::Db, 7, 80, *kind));
         same(&rt, *kind, found, (*bits, at(Area::Db, 7, 10, 0, *width)));
+        same(&rt, *kind, width_of(*kind), *width);
     }
     for (bits, place) in [
         (83, at(Area::L, 0, 10, 3, Width::Bit)),
@@ -50,6 +53,27 @@ fn bits_of_types_and_constants(rt: HostRuntime) {
     ];
     for (constant, bits) in &constants {
         same(&rt, "bits of a constant", bits_of(constant), *bits);
+    }
+}
+
+// Each constant with a type that it fits and one that it doesn't.
+#[test]
+fn types_that_constants_fit(rt: HostRuntime) {
+    let rows = [
+        (Literal::Truth { value: true }, Simple::Bool, Simple::Byte),
+        (Literal::Number { value: -2 }, Simple::Int, Simple::Word),
+        (Literal::Binary { value: 10 }, Simple::Byte, Simple::Int),
+        (Literal::Byte { value: 0xC3 }, Simple::Byte, Simple::Word),
+        (Literal::Word { value: 0x100 }, Simple::Word, Simple::Byte),
+        (Literal::Dword { value: 1 }, Simple::Dint, Simple::Word),
+        (Literal::Long { value: -2 }, Simple::Dint, Simple::Dword),
+        (Literal::Count { value: 123 }, Simple::Word, Simple::Int),
+        (Literal::Time { ms: -1_000 }, Simple::Time, Simple::S5time),
+        (Literal::S5time { ms: 10 }, Simple::S5time, Simple::Time),
+    ];
+    for (constant, right, wrong) in &rows {
+        let found = (fits(constant, *right), fits(constant, *wrong));
+        same(&rt, (*right, *wrong), found, (true, false));
     }
 }
 
@@ -183,6 +207,70 @@ fn declarations_of_blocks(rt: HostRuntime) -> Result<(), Fail> {
     same(&rt, "J", layouts.has_component(1, b"J"), false);
     same(&rt, "E", layouts.has_component(0, b"E"), false);
     Ok(())
+}
+
+const fn id(kind: BlockKind, number: u16) -> BlockId {
+    BlockId { kind, number }
+}
+
+// The last byte of DB 1 ends with the word that `l` begins: 96 bits before it, and 16.
+fn blocks_are_placed(rt: &impl Abort, layouts: &Layouts) {
+    same(rt, "blocks", layouts.list().len(), 3);
+    for (block, place, bits) in [
+        (id(BlockKind::Fb, 1), Some(0), Some(64)),
+        (id(BlockKind::Db, 1), Some(1), Some(112)),
+        (id(BlockKind::Fc, 1), None, None),
+    ] {
+        let layout = layouts.lookup(block);
+        let found = (layouts.place(block), layout.map(|b| b.components.bits()));
+        same(rt, block, found, (place, bits));
+    }
+    are_declared(rt, layouts.parameters(0), &VARIABLES[..3]);
+    are_declared(rt, layouts.parameters(1), &[]);
+}
+
+// The symbol of a function block means no data block.
+fn data_blocks_are_found(rt: &impl Abort, layouts: &Layouts, symbols: &Symbols) {
+    for (block, place) in [
+        (id(BlockKind::Db, 1), Some(1)),
+        (id(BlockKind::Db, 2), None),
+        (id(BlockKind::Fb, 1), None),
+    ] {
+        let name = BlockName::Number { id: block };
+        same(rt, block, layouts.data_block(symbols, &name), place);
+    }
+}
+
+#[test]
+fn places_of_blocks(rt: HostRuntime) -> Result<(), Fail> {
+    let layouts = laid_sound(rt.alloc(), SOURCE)?;
+    blocks_are_placed(&rt, &layouts);
+    let symbols = symbols_of(rt.alloc(), b"\"Recipe\",\"DB 1\",\"DB 1\",\"\"")?;
+    data_blocks_are_found(&rt, &layouts, &symbols);
+    let recipe = BlockName::Quoted {
+        name: Name::new(rt.alloc(), b"recipe")?,
+    };
+    same(
+        &rt,
+        "recipe",
+        layouts.data_block(&symbols, &recipe),
+        Some(1),
+    );
+    Ok(())
+}
+
+// The name is folded to upper case.
+#[test]
+fn path_behind_a_name(rt: HostRuntime) -> Result<(), Fail> {
+    let name = Name::new(rt.alloc(), b"k")?;
+    let path = Path::behind(rt.alloc(), &name, &[PathStep::Index { at: 4 }])?;
+    match path.steps() {
+        [PathStep::Named { name }, PathStep::Index { at }] => {
+            same(&rt, "k[4]", (name.as_bytes(), *at), (b"K".as_slice(), 4));
+            Ok(())
+        }
+        _ => Err(Fail::new("a name and an index")),
+    }
 }
 
 /// A path with the place, the depth and the offset of the spot that it reaches, and the name and the

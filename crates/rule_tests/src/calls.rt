@@ -1,12 +1,14 @@
+use crate::compare::same;
 use block_layout::lay_out_sound;
 use plc_base::SourceFault;
 use std::alloc::{AllocError, Global};
 use std::process::Abort;
+use std::str::from_utf8;
 use std::test::Fail;
 use stl_ast::Tree;
 use stl_lexer::{SOURCE_LIMIT, lex};
 use stl_parser::parse;
-use stl_symbols::{SYMBOLS_LIMIT, read_symbols};
+use stl_symbols::{SYMBOLS_LIMIT, Symbols, read_symbols};
 use stl_types::check;
 
 /// What stands on the first line of each source of a body: blocks that it can name, and the head of
@@ -28,7 +30,7 @@ static BEFORE: [&[u8]; 11] = [
 static BEHIND: &[u8] = b"\nEND_FUNCTION";
 
 /// The symbols of the sources of bodies.
-static SYMBOLS: &[u8] = b"\"Motor\",\"M 0.0\",\"BOOL\",\"\"
+pub(crate) static SYMBOLS: &[u8] = b"\"Motor\",\"M 0.0\",\"BOOL\",\"\"
 \"Speed\",\"MW 2\",\"INT\",\"\"
 \"Outside\",\"PIW 4\",\"WORD\",\"\"
 \"Delay\",\"T 5\",\"TIMER\",\"\"
@@ -42,16 +44,33 @@ static SYMBOLS: &[u8] = b"\"Motor\",\"M 0.0\",\"BOOL\",\"\"
 /// second line on; 0 and 0 where it breaks no rule of statements.
 pub(crate) type Row = (&'static [u8], u32, u16);
 
-fn checked(alloc: Global, symbols: &[u8], source: &[u8]) -> Result<(), SourceFault> {
-    if source.len() > SOURCE_LIMIT || symbols.len() > SYMBOLS_LIMIT {
+/// The tree of a source, or its refusal; a longer source than the limit is told as want of memory.
+pub(crate) fn parsed(alloc: Global, source: &[u8]) -> Result<Tree, SourceFault> {
+    if source.len() > SOURCE_LIMIT {
         return Err(SourceFault::NoMemory);
     }
     let tokens = lex(alloc, source)?;
-    let tree = parse(alloc, &tokens)?;
-    let symbols = read_symbols(alloc, symbols)?;
-    let layouts = lay_out_sound(alloc, &tree, &symbols)?;
-    let _ = check(alloc, &tree, &symbols, &layouts)?;
+    parse(alloc, &tokens)
+}
+
+/// The symbols of a file, or its refusal; a longer file than the limit is told as want of memory.
+pub(crate) fn symbols_of(alloc: Global, file: &[u8]) -> Result<Symbols, SourceFault> {
+    if file.len() > SYMBOLS_LIMIT {
+        return Err(SourceFault::NoMemory);
+    }
+    read_symbols(alloc, file)
+}
+
+fn tree_checked(alloc: Global, tree: &Tree, symbols: &Symbols) -> Result<(), SourceFault> {
+    let layouts = lay_out_sound(alloc, tree, symbols)?;
+    let _ = check(alloc, tree, symbols, &layouts)?;
     Ok(())
+}
+
+fn checked(alloc: Global, symbols: &[u8], source: &[u8]) -> Result<(), SourceFault> {
+    let tree = parsed(alloc, source)?;
+    let symbols = symbols_of(alloc, symbols)?;
+    tree_checked(alloc, &tree, &symbols)
 }
 
 /// The line and the rule of the refusal of a source; 0 and 0 where there is none, and 0 and 1 for want
@@ -79,7 +98,8 @@ pub(crate) fn with_body(alloc: Global, body: &[u8]) -> Result<Vec<u8>, AllocErro
 pub(crate) fn bodies_agree(rt: &impl Abort, alloc: Global, rows: &[Row]) -> Result<(), Fail> {
     for row in rows {
         let source = with_body(alloc, row.0)?;
-        assert_eq!(rt; verdict(alloc, SYMBOLS, source.as_slice()), (row.1, row.2));
+        let found = verdict(alloc, SYMBOLS, source.as_slice());
+        same(rt, from_utf8(row.0), found, (row.1, row.2));
     }
     Ok(())
 }
@@ -87,7 +107,12 @@ pub(crate) fn bodies_agree(rt: &impl Abort, alloc: Global, rows: &[Row]) -> Resu
 /// Each whole source is refused as its row says.
 pub(crate) fn sources_agree(rt: &impl Abort, alloc: Global, rows: &[Row]) -> Result<(), Fail> {
     for row in rows {
-        assert_eq!(rt; verdict(alloc, b"", row.0), (row.1, row.2));
+        same(
+            rt,
+            from_utf8(row.0),
+            verdict(alloc, b"", row.0),
+            (row.1, row.2),
+        );
     }
     Ok(())
 }

@@ -8,6 +8,10 @@ mod call_tests;
 #[cfg(test)]
 mod calls;
 #[cfg(test)]
+mod compare;
+#[cfg(test)]
+mod scope_tests;
+#[cfg(test)]
 mod source_tests;
 #[cfg(test)]
 mod word_tests;
