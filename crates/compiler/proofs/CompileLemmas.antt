@@ -115,7 +115,7 @@ tokens_refused source found.NoMemory refused = tt
 pub symbols_refused : (source : List ℕ) (symbols : Option (List ℕ)) (fault : SourceFault)
     → Finds (HasSymbols symbols) (Err fault) → RefusesBy source symbols (fault_in_symbols fault)
 unfolding IsJudged
-symbols_refused source symbols (found.Refused refusal) h = h
+symbols_refused source symbols (found.Refused refusal) h = inl (refusal, refl, h)
 symbols_refused source symbols found.NoMemory h = tt
 
 with_tree : (source : List ℕ) (symbols : List Symbol) (refusal : Refusal)
@@ -131,7 +131,7 @@ pub tree_fault : (source : List ℕ) (symbols : Option (List ℕ)) (list : List 
     → RefusesBy source symbols (fault_in_source fault)
 unfolding IsJudged
 tree_fault source symbols list (found.Refused refusal) has h =
-    (list, has, with_tree source list refusal h)
+    inr (list, has, (refusal, refl, with_tree source list refusal h))
 tree_fault source symbols list found.NoMemory has h = tt
 
 pub program_fault : (source : List ℕ) (symbols : Option (List ℕ)) (list : List Symbol)
@@ -141,7 +141,7 @@ pub program_fault : (source : List ℕ) (symbols : Option (List ℕ)) (list : Li
     → RefusesBy source symbols (fault_in_source fault)
 unfolding IsJudged
 program_fault source symbols list tree (found.Refused refusal) has (tokens, are, is) h =
-    (list, has, inr (tokens, are, inr (tree, is, inl h)))
+    inr (list, has, (refusal, refl, inr (tokens, are, inr (tree, is, inl h))))
 program_fault source symbols list tree found.NoMemory has at h = tt
 
 -- the symbols file, by the files as they are read

@@ -1,17 +1,17 @@
 -- Where a statement can go it is there, and so is its line.
-use Rattle.std.proofs.Common.{◌≡◌, ℕ, true, [], Option, Some, None, IsSome, refl}
+use Rattle.std.proofs.Common.{◌≡◌, ℕ, true, Option, Some, None, IsSome, refl}
 use Rattle.std.specs.Option.{option_map, option_and_then}
 use Rattle.plc_base.specs.declared.BlockId.{BlockId}
 use Rattle.plc_base.specs.declared.Spot.{Spot}
 use Rattle.frames.specs.declared.Activation.{Activation}
 use Rattle.flat_code.specs.Placed.{line_placed}
 use Rattle.flat_code.specs.Programs.{CodeBlock, Program}
-use Rattle.plc_mem.specs.Fresh.{fresh}
 use Rattle.image_file.specs.Readers.{block_of, line_of}
 use Rattle.machine.specs.Code.{Code, Fetched}
 use Rattle.machine.specs.Flat.{code_of, statement_at, run_at, most_ops, Run, fetched_of}
 use Rattle.machine.specs.Statement.{World, Goes, fetched, statement}
 use Rattle.cpu.specs.Ready.{HasStatement, CanGo}
+use Rattle.cpu.specs.Start.{world_at_rest}
 use Rattle.cpu.specs.Stopping.{spot_at}
 
 fetched_there : (code : Code) (f : Option Fetched) (a : Activation) (w : World)
@@ -61,9 +61,7 @@ unfolding HasStatement
 spot_read p block at there = block_spot block at (block_of block p.code_blocks) there
 
 -- the same where the activation can go
-some_world : World
-some_world = record { memory = fresh []; timers = []; counters = [] }
-
 pub can_go_there : (code : Code) (a : Activation) → CanGo code a
     → HasStatement code a.running.frame.block a.running.frame.at
-can_go_there code a can = statement_there code a some_world (can.there some_world)
+can_go_there code a can =
+    statement_there code a (world_at_rest code) (can.there (world_at_rest code))

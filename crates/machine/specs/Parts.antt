@@ -41,7 +41,7 @@ parts_of s m t n = record { own = own_of s; memory = m; timers = t; counters = n
 
 -- the running block with these parts; its block and position stay
 abbrev pub with_own : Running → Own → Running
-with_own s o = record { regs = o.regs; frame = with_inner s.frame o.inner; locals = o.locals }
+with_own s o = record s { regs = o.regs; frame = with_inner s.frame o.inner; locals = o.locals }
 
 -- what comes of a first result, or its error
 abbrev pub then_ok : {A B : Type 0} → Result A ℕ → (A → Result B ℕ) → Result B ℕ

@@ -1,5 +1,5 @@
 -- A source is checked in one way.
-use Rattle.std.proofs.Common.{◌≡◌, refl, sym, ap, subst, ◌∙◌, ℕ, List, [], Option, Some, None, Result, Ok, Err, ◌⊎◌, inl, inr}
+use Rattle.std.proofs.Common.{◌≡◌, refl, sym, ◌∙◌, ℕ, List, [], Option, Some, None, Result, Ok, Err, ◌⊎◌, inl, inr}
 use Rattle.plc_base.specs.declared.refusals.Refusal.{Refusal}
 use Rattle.machine.specs.Code.{Code}
 use Rattle.stl_lexer.specs.declared.kinds.Token.{Token}
@@ -9,9 +9,9 @@ use Rattle.stl_parser.specs.Source.{IsTreeUnique, TreeExcludesViolation, IsViola
 use Rattle.stl_symbols.specs.Least.{least}
 use Rattle.stl_symbols.specs.Symbol.{Symbol}
 use Rattle.stl_symbols.specs.Symbols.{symbols_of}
-use Rattle.sem_kept.specs.Stages.{InTurn, HasOneOutcome, HasOutcome}
+use Rattle.sem_kept.specs.Stages.{InTurn, Told, HasOneOutcome, HasOutcome}
 use Rattle.sem_kept.specs.Meaning.{HasSymbols, HasTokens, HasTree, refusals_of, sound_by, IsSound, code_in, HasCode, IsJudgedWith, Refused, InSymbols, InSource, IsJudged, MeansCode, IsRefusedSource, IsMeaningUnique, ExcludesRefusal, IsRefusalUnique, IsTotal}
-use Rattle.sem_kept.proofs.StageLemmas.{same_refusal, ok_same, err_same, ok_no_err, one_by_parts, in_turn_one, in_turn_some}
+use Rattle.sem_kept.proofs.StageLemmas.{same_refusal, one_by_parts, in_turn_one, in_turn_some, told_one, told_some}
 
 -- what is known of tokens and of clauses
 pub record Laws : Type 0 where
@@ -52,58 +52,26 @@ sound_one symbols tree x y is_x is_y = is_x ∙ sym is_y
 code_one : (symbols : List Symbol) → HasOneOutcome (HasCode symbols)
 code_one symbols tree x y is_x is_y = is_x ∙ sym is_y
 
-with_one : Laws → (source : List ℕ) (symbols : List Symbol) (x y : Result Code Refusal)
-    → IsJudgedWith source symbols x → IsJudgedWith source symbols y → x ≡ y
-with_one laws source symbols x y at_x at_y =
+with_one : Laws → (source : List ℕ) → HasOneOutcome (IsJudgedWith source)
+with_one laws source symbols =
     in_turn_one HasTokens (InTurn (HasTree source) (InTurn (IsSound symbols) (HasCode symbols)))
     (tokens_one laws)
     (in_turn_one (HasTree source) (InTurn (IsSound symbols) (HasCode symbols))
     (tree_one laws source)
     (in_turn_one (IsSound symbols) (HasCode symbols) (sound_one symbols) (code_one symbols)))
-    source x y at_x at_y
+    source
 
-symbols_one : (symbols : Option (List ℕ)) (x y : Result (List Symbol) Refusal)
-    → HasSymbols symbols x → HasSymbols symbols y → x ≡ y
+symbols_one : HasOneOutcome HasSymbols
 symbols_one None x y is_x is_y = is_x ∙ sym is_y
 symbols_one (Some bytes) x y is_x is_y = is_x ∙ sym is_y
-
--- the same outcome with the same symbols
-both_with : Laws → (source : List ℕ) (symbols : Option (List ℕ)) (l m : List Symbol)
-    (x y : Result Code Refusal)
-    → HasSymbols symbols (Ok l) → HasSymbols symbols (Ok m)
-    → IsJudgedWith source l x → IsJudgedWith source m y → x ≡ y
-both_with laws source symbols l m x y at_l at_m with_x with_y =
-    let same : m ≡ l = ok_same m l (symbols_one symbols (Ok m) (Ok l) at_m at_l) in
-    with_one laws source l x y with_x
-    (subst (λ (z : List Symbol). IsJudgedWith source z y) same with_y)
 
 judged_one : Laws → (source : List ℕ) (symbols : Option (List ℕ)) (x y : Result Code Refused)
     → IsJudged source symbols x → IsJudged source symbols y → x ≡ y
 unfolding IsJudged
-judged_one laws source symbols (Ok c) (Ok d) (l, at_l, with_c) (m, at_m, with_d) =
-    ap Ok (ok_same c d
-    (both_with laws source symbols l m (Ok c) (Ok d) at_l at_m with_c with_d))
-judged_one laws source symbols (Ok c) (Err (InSymbols r)) (l, at_l, with_c) at_r =
-    absurd (ok_no_err l r (symbols_one symbols (Ok l) (Err r) at_l at_r))
-judged_one laws source symbols (Ok c) (Err (InSource r)) (l, at_l, with_c) (m, at_m, with_r) =
-    absurd (ok_no_err c r
-    (both_with laws source symbols l m (Ok c) (Err r) at_l at_m with_c with_r))
-judged_one laws source symbols (Err (InSymbols r)) (Ok c) at_r (l, at_l, with_c) =
-    absurd (ok_no_err l r (symbols_one symbols (Ok l) (Err r) at_l at_r))
-judged_one laws source symbols (Err (InSymbols r)) (Err (InSymbols s)) at_r at_s =
-    ap (λ (z : Refusal). Err (InSymbols z))
-    (err_same r s (symbols_one symbols (Err r) (Err s) at_r at_s))
-judged_one laws source symbols (Err (InSymbols r)) (Err (InSource s)) at_r (l, at_l, with_s) =
-    absurd (ok_no_err l r (symbols_one symbols (Ok l) (Err r) at_l at_r))
-judged_one laws source symbols (Err (InSource r)) (Ok d) (l, at_l, with_r) (m, at_m, with_d) =
-    absurd (ok_no_err d r
-    (both_with laws source symbols m l (Ok d) (Err r) at_m at_l with_d with_r))
-judged_one laws source symbols (Err (InSource r)) (Err (InSymbols s)) (l, at_l, with_r) at_s =
-    absurd (ok_no_err l s (symbols_one symbols (Ok l) (Err s) at_l at_s))
-judged_one laws source symbols (Err (InSource r)) (Err (InSource s)) (l, at_l, with_r) (m, at_m, with_s) =
-    ap (λ (z : Refusal). Err (InSource z))
-    (err_same r s
-    (both_with laws source symbols l m (Err r) (Err s) at_l at_m with_r with_s))
+judged_one laws source =
+    in_turn_one (Told InSymbols HasSymbols) (Told InSource (IsJudgedWith source))
+    (told_one InSymbols HasSymbols symbols_one)
+    (told_one InSource (IsJudgedWith source) (with_one laws source))
 
 pub one_meaning : Laws → IsMeaningUnique
 one_meaning laws source symbols c d means_c means_d =
@@ -151,8 +119,7 @@ sound_some symbols tree = (sound_by tree (least (refusals_of symbols tree)), ref
 code_some : (symbols : List Symbol) → HasOutcome (HasCode symbols)
 code_some symbols tree = (Ok (code_in symbols tree), refl)
 
-with_some : Laws → (source : List ℕ) (symbols : List Symbol)
-    → (x : Result Code Refusal) × IsJudgedWith source symbols x
+with_some : Laws → (source : List ℕ) → HasOutcome (IsJudgedWith source)
 with_some laws source symbols =
     in_turn_some HasTokens (InTurn (HasTree source) (InTurn (IsSound symbols) (HasCode symbols)))
     (tokens_some laws)
@@ -162,30 +129,27 @@ with_some laws source symbols =
     (code_some symbols)))
     source
 
-symbols_some : (symbols : Option (List ℕ))
-    → (x : Result (List Symbol) Refusal) × HasSymbols symbols x
+symbols_some : HasOutcome HasSymbols
 symbols_some None = (Ok [], refl)
 symbols_some (Some bytes) = (symbols_of bytes, refl)
+
+judged_some : Laws → (source : List ℕ) (symbols : Option (List ℕ))
+    → (x : Result Code Refused) × IsJudged source symbols x
+unfolding IsJudged
+judged_some laws source =
+    in_turn_some (Told InSymbols HasSymbols) (Told InSource (IsJudgedWith source))
+    (told_some InSymbols HasSymbols symbols_some)
+    (told_some InSource (IsJudgedWith source) (with_some laws source))
 
 abbrev Judged : (source : List ℕ) (symbols : Option (List ℕ)) → Type 0
 Judged source symbols =
     ((code : Code) × MeansCode source symbols code)
     ⊎ ((refused : Refused) × IsRefusedSource source symbols refused)
 
-by_outcome : (source : List ℕ) (symbols : Option (List ℕ)) (list : List Symbol)
-    → HasSymbols symbols (Ok list) → (x : Result Code Refusal) × IsJudgedWith source list x
-    → Judged source symbols
-unfolding IsJudged
-by_outcome source symbols list has (Ok code, judged) = inl (code, (list, has, judged))
-by_outcome source symbols list has (Err refusal, judged) =
-    inr (InSource refusal, (list, has, judged))
-
-by_symbols : Laws → (source : List ℕ) (symbols : Option (List ℕ))
-    → (x : Result (List Symbol) Refusal) × HasSymbols symbols x → Judged source symbols
-unfolding IsJudged
-by_symbols laws source symbols (Ok list, has) =
-    by_outcome source symbols list has (with_some laws source list)
-by_symbols laws source symbols (Err refusal, has) = inr (InSymbols refusal, has)
+by_outcome : (source : List ℕ) (symbols : Option (List ℕ))
+    → (x : Result Code Refused) × IsJudged source symbols x → Judged source symbols
+by_outcome source symbols (Ok code, judged) = inl (code, judged)
+by_outcome source symbols (Err refused, judged) = inr (refused, judged)
 
 pub each_judged : Laws → IsTotal
-each_judged laws source symbols = by_symbols laws source symbols (symbols_some symbols)
+each_judged laws source symbols = by_outcome source symbols (judged_some laws source symbols)

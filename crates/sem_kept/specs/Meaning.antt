@@ -14,7 +14,7 @@ use Rattle.block_layout.specs.Table.{layout_refusals}
 use Rattle.stl_types.specs.Table.{statement_refusals}
 use Rattle.stl_codegen.specs.Generated.{code_blocks_of, data_blocks_of}
 use Rattle.compiled_code.specs.Statements.{stated_code}
-use Rattle.sem_kept.specs.Stages.{InTurn}
+use Rattle.sem_kept.specs.Stages.{InTurn, Told}
 
 -- ---- stages
 
@@ -74,11 +74,8 @@ pub data Refused : Type 0 where
 -- the symbols are checked first, and then the source with them
 unfoldable pub IsJudged :
     (source : List ℕ) (symbols : Option (List ℕ)) → Result Code Refused → Type 0
-IsJudged source symbols (Ok code) =
-    (list : List Symbol) × HasSymbols symbols (Ok list) × IsJudgedWith source list (Ok code)
-IsJudged source symbols (Err (InSymbols refusal)) = HasSymbols symbols (Err refusal)
-IsJudged source symbols (Err (InSource refusal)) =
-    (list : List Symbol) × HasSymbols symbols (Ok list) × IsJudgedWith source list (Err refusal)
+IsJudged source symbols outcome =
+    InTurn (Told InSymbols HasSymbols) (Told InSource (IsJudgedWith source)) symbols outcome
 
 -- this source with these symbols means this code
 abbrev pub MeansCode : (source : List ℕ) (symbols : Option (List ℕ)) → Code → Type 0
