@@ -22,6 +22,15 @@ fn numbers_of_data_blocks(rt: HostRuntime) -> Result<(), Fail> {
     Ok(())
 }
 
+#[test]
+fn first_bytes_of_data_blocks(rt: HostRuntime) -> Result<(), Fail> {
+    let program = loaded(rt.alloc(), "NOP #0 | DB 2 { 00 FF")?;
+    let parts = Parts::start(rt.alloc(), &program)?;
+    same(&rt, "DB 2", parts.db_bytes(2), Some(&[0x00, 0xFF][..]));
+    same(&rt, "DB 3", parts.db_bytes(3), None);
+    Ok(())
+}
+
 /// A start with OB 100 is in STARTUP, one without it in RUN.
 #[test]
 fn a_mode_is_seen_where_it_changes(rt: HostRuntime) -> Result<(), Fail> {

@@ -5,9 +5,10 @@ ghost use Rattle.stl_ast.specs.WellFormed.{IsBlock, IsWellFormed};
 
 use crate::compare::same;
 use crate::rows::parsed;
+use arrayvec::ArrayVec;
 use plc_base::{BlockKind, Width};
 use std::test::Fail;
-use stl_ast::{Block, Operand, Statement, Tree};
+use stl_ast::{Block, Characters, Name, Operand, Statement, Tree};
 
 /// A block of each kind that a source declares.
 const EACH_KIND: &str = "ORGANIZATION_BLOCK OB 1 BEGIN A I 0.3; L MW 2; END_ORGANIZATION_BLOCK
@@ -77,5 +78,16 @@ fn trees_of_each_kind_are_well_formed(rt: HostRuntime) -> Result<(), Fail> {
     let tree = parsed(rt.alloc(), EACH_KIND.as_bytes())?;
     same(&rt, "masks", masks_of_tree(&tree), 0b1000_1001);
     same(&rt, "blocks", tree.blocks.len(), 5);
+    Ok(())
+}
+
+#[test]
+fn names_and_characters(rt: HostRuntime) -> Result<(), Fail> {
+    let name = Name::from_vec(Vec::from_slice(rt.alloc(), b"ab")?);
+    same(&rt, "a name", name.as_bytes(), b"ab".as_slice());
+    let mut bytes = ArrayVec::new();
+    bytes.push(b'a');
+    let characters = Characters::new(bytes);
+    same(&rt, "characters", characters.as_slice(), b"a".as_slice());
     Ok(())
 }

@@ -2,6 +2,7 @@
 
 use crate::building::{Block, Data, db, fault_of, fc, image, put_hex};
 use crate::compare::same;
+use flat_code::Field;
 use std::test::Fail;
 
 /// An FB 1 with four instance bytes, the parameters IN word at 0 and OUT word at 2, and no statement
@@ -214,4 +215,24 @@ fn names_out_of_order(rt: HostRuntime) -> Result<(), Fail> {
         same(&rt, second, fault_of(rt.alloc(), bytes.as_slice()), fault);
     }
     Ok(())
+}
+
+/// Fields at their limits and beyond them, with the code of their fault.
+#[test]
+fn fields_by_themselves(rt: HostRuntime) {
+    for (field, fault) in [
+        (Field::Version { number: 1 }, None),
+        (Field::Version { number: 2 }, Some(2)),
+        (Field::Reserved { number: 1 }, Some(4)),
+        (Field::DataBlockCount { count: 256 }, None),
+        (Field::DataBlockCount { count: 257 }, Some(4)),
+        (Field::ParameterCount { kind: 2, count: 60 }, None),
+        (Field::ParameterCount { kind: 1, count: 1 }, Some(4)),
+        (Field::LocalBytes { kind: 1, bytes: 20 }, None),
+        (Field::LocalBytes { kind: 1, bytes: 19 }, Some(4)),
+        (Field::Line { before: 3, line: 3 }, None),
+        (Field::Line { before: 3, line: 2 }, Some(9)),
+    ] {
+        same(&rt, fault, field.fault(), fault);
+    }
 }

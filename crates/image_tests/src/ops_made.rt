@@ -119,6 +119,8 @@ fn is_made(rt: &impl Abort, alloc: Global, row: &Row, last: bool) -> Result<(), 
     encode_op(&op, &mut spelled)?;
     same(rt, text, spelled.as_slice(), bytes.as_slice());
     same(rt, text, (op.size(), op.last), (size, last));
+    let found = (op.word().code(), operand.fits());
+    same(rt, text, found, (word.code(), true));
     Ok(())
 }
 
@@ -333,7 +335,14 @@ fn more_operands_that_a_word_lacks(rt: HostRuntime) {
     are_refused(&rt, &rows);
 }
 
-/// A field beyond those of the form.
+/// Each row's operand has a field beyond those of its form, so its op isn't made.
+fn do_not_fit(rt: &impl Abort, rows: &[(Word, Operand)]) {
+    are_refused(rt, rows);
+    for (_, operand) in rows {
+        same(rt, *operand, operand.fits(), false);
+    }
+}
+
 #[test]
 fn operands_beyond_their_form(rt: HostRuntime) {
     let check = Word::Check(Joined::A);
@@ -350,7 +359,7 @@ fn operands_beyond_their_form(rt: HostRuntime) {
         (check, Operand::OfStatus { condition: 0 }),
         (check, Operand::OfStatus { condition: 11 }),
     ];
-    are_refused(&rt, &rows);
+    do_not_fit(&rt, &rows);
 }
 
 #[test]
@@ -367,5 +376,5 @@ fn more_operands_beyond_their_form(rt: HostRuntime) {
         (Word::Pass, pass(0, passed_place(0, 8))),
         (Word::Pass, pass(0, passed_in_block(1, 0, 8))),
     ];
-    are_refused(&rt, &rows);
+    do_not_fit(&rt, &rows);
 }

@@ -2,7 +2,7 @@ use crate::compare::same;
 use event_text::{HistoryFault, read_history};
 use plc_base::{BlockId, BlockKind, Mode, Refusal, Spot};
 use run_text::{Line, end_line, mode_line, output_line, row_line};
-use s7_cli::{Failure, File, failure_line};
+use s7_cli::{Failure, File, Status, failure_line};
 use std::process::Abort;
 use std::test::Fail;
 use var_access::{Entry, What};
@@ -160,45 +160,40 @@ fn lines_of_a_run(rt: HostRuntime) {
     spells(&rt, row_line(5, 32, b""), "DB 5 32 \n");
 }
 
+fn refused(file: File) -> Failure {
+    let refusal = Refusal { line: 4, rule: 20 };
+    Failure::Refused { file, refusal }
+}
+
+fn too_long(file: File) -> Failure {
+    Failure::TooLong { file }
+}
+
 // A failed write and want of memory have no line.
 #[test]
 fn lines_of_failures(rt: HostRuntime) {
-    let refusal = Refusal { line: 4, rule: 20 };
-    let source = File::Source;
-    let symbols = File::Symbols;
-    let history = File::History;
-    let lines: [(Failure, &str); 8] = [
-        (Failure::WordsRefused, "words refused\n"),
-        (Failure::ReadFault, "read fault\n"),
-        (
-            Failure::Refused {
-                file: source,
-                refusal,
-            },
-            "source refused: line 4 rule 20\n",
-        ),
-        (
-            Failure::Refused {
-                file: history,
-                refusal,
-            },
-            "history refused: line 4 rule 20\n",
-        ),
-        (
-            Failure::Refused {
-                file: symbols,
-                refusal,
-            },
-            "symbols refused: line 4 rule 20\n",
-        ),
-        (Failure::TooLong { file: symbols }, "too long: symbols\n"),
-        (Failure::TooLong { file: source }, "too long: source\n"),
-        (Failure::TooLong { file: history }, "too long: history\n"),
+    let (source, symbols, history) = (File::Source, File::Symbols, File::History);
+    let lines: [(Failure, u8, &str); 10] = [
+        (Failure::WordsRefused, 1, "words refused\n"),
+        (refused(source), 2, "source refused: line 4 rule 20\n"),
+        (refused(symbols), 2, "symbols refused: line 4 rule 20\n"),
+        (refused(history), 4, "history refused: line 4 rule 20\n"),
+        (Failure::ReadFault, 5, "read fault\n"),
+        (Failure::WriteFault, 6, ""),
+        (Failure::NoMemory, 7, ""),
+        (too_long(symbols), 8, "too long: symbols\n"),
+        (too_long(source), 8, "too long: source\n"),
+        (too_long(history), 8, "too long: history\n"),
     ];
-    for (failure, text) in lines {
+    for (failure, code, text) in lines {
         spells(&rt, failure_line(failure).unwrap_or(Line::new()), text);
+        same(
+            &rt,
+            failure,
+            failure_line(failure).is_none(),
+            text.is_empty(),
+        );
+        same(&rt, failure, Status::of(Err(failure)).code, code);
     }
-    for failure in [Failure::WriteFault, Failure::NoMemory] {
-        same(&rt, failure, failure_line(failure).is_none(), true);
-    }
+    same(&rt, "done", Status::of(Ok(())).code, 0);
 }

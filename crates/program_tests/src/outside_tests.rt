@@ -1,8 +1,8 @@
 use crate::calls::only;
 use crate::compare::same;
 use plc_io::{
-    Bytes, Files, Gate, IoFault, MemFiles, MemSink, NamedFiles, OpenGate, RealFiles, RealSink,
-    Sink, SureFiles, SureSink, push_all, read_to_limit,
+    Bytes, Files, Gate, IoFault, MemFiles, MemSink, NamedFile, NamedFiles, OpenGate, RealFiles,
+    RealSink, Sink, SureFiles, SureSink, push_all, read_to_limit,
 };
 use std::process::Abort;
 use std::test::Fail;
@@ -138,6 +138,16 @@ fn lists_from_vectors(rt: HostRuntime) -> Result<(), Fail> {
     bytes.append(b"c")?;
     let bytes = bytes.into_vec();
     same(&rt, "the bytes", bytes.as_slice(), b"abc".as_slice());
+    let empty = Bytes::new(rt.alloc()).into_vec();
+    same(&rt, "no bytes", empty.as_slice(), b"".as_slice());
+    Ok(())
+}
+
+#[test]
+fn a_file_with_its_name(rt: HostRuntime) -> Result<(), Fail> {
+    let file = NamedFile::new(rt.alloc(), "a", b"x")?;
+    let found = (file.name(), file.bytes());
+    same(&rt, "the file", found, ("a", b"x".as_slice()));
     Ok(())
 }
 
