@@ -73,88 +73,100 @@ pub(crate) fn answers<R: Abort + Threads + Wait + Sync>(
     Ok(())
 }
 
-// What was taken of each run, worked out by hand. The sink takes one byte of each piece.
-#[test]
-fn runs_and_refusals(rt: HostRuntime) -> Result<(), Fail> {
-    // source, history, status, text
-    let table: [(&[u8], &[u8], u8, &[u8]); 15] = [
-        (RUNG, ONE_RUN, 0, b"@7 PQ 4 = 01\nEND 7 RUN\n"),
-        (RUNG, b"in 0 01\nstep 5\n", 0, b"END 6 RUN\n"),
-        (b"", b"step 2\n", 0, b"END 2 RUN\n"),
-        // Two branches of A before =, joined by O: 0.2 is on, and 0.3 too.
-        (
-            b"ORGANIZATION_BLOCK OB 1\nBEGIN\nA I 0.0;\nA I 0.1;\nO;\nA I 0.2;\nA I 0.3;\n= Q 4.0;\nEND_ORGANIZATION_BLOCK\n",
-            b"in 0 0E\nstep 9\n",
-            0,
-            b"@10 PQ 4 = 01\nEND 10 RUN\n",
-        ),
-        // The first branch alone: 0.0 is on, and 0.1 too.
-        (
-            b"ORGANIZATION_BLOCK OB 1\nBEGIN\nA I 0.0;\nA I 0.1;\nO;\nA I 0.2;\nA I 0.3;\n= Q 4.0;\nEND_ORGANIZATION_BLOCK\n",
-            b"in 0 03\nstep 9\n",
-            0,
-            b"@10 PQ 4 = 01\nEND 10 RUN\n",
-        ),
-        // OB 40 interrupts behind the first A, whose result comes back.
-        (
-            b"ORGANIZATION_BLOCK OB 1\nBEGIN\nA I 0.0;\n= Q 4.0;\nEND_ORGANIZATION_BLOCK\nORGANIZATION_BLOCK OB 40\nBEGIN\nA I 0.1;\n= Q 5.0;\nEND_ORGANIZATION_BLOCK\n",
-            b"in 0 01\nstep 2\narrive 40\nstep 6\n",
-            0,
-            b"@10 PQ 4 = 01\nEND 10 RUN\n",
-        ),
-        // OB 40 isn't loaded.
-        (
-            RUNG,
-            b"in 0 01\nstep 6\narrive 40\n",
-            0,
-            b"@7 PQ 4 = 01\n@8 PQ 4 = 00\n@8 MODE STOP 8 AT OB 1 LINE 3\nEND 8 STOP 8\n",
-        ),
-        // The first interrupt starts OB 40, eight wait, and the tenth is one too many.
-        (
-            b"ORGANIZATION_BLOCK OB 40\nBEGIN\nSET;\nEND_ORGANIZATION_BLOCK\n",
-            b"arrive 40\narrive 40\narrive 40\narrive 40\narrive 40\narrive 40\narrive 40\narrive 40\narrive 40\narrive 40\n",
-            0,
-            b"@10 MODE STOP 9 AT OB 40 LINE 3\nEND 10 STOP 9\n",
-        ),
-        // A network with a title, which holds a `;`, words in lower case, a comment, no last line end.
-        (
-            b"ORGANIZATION_BLOCK OB 1\nBEGIN\nNETWORK\nTITLE = x ; y\na I 0.0 ; // c\n= Q 4.0;\nEND_ORGANIZATION_BLOCK",
-            b"in 0 01\nstep 5\n",
-            0,
-            b"@6 PQ 4 = 01\nEND 6 RUN\n",
-        ),
-        // M0.0 and M 0.0 are one bit, and `;` alone is no step.
-        (
-            b"ORGANIZATION_BLOCK OB 1\nBEGIN\nAN M0.0;\n= M 0.0;\n;\nA M0.0;\n= Q4.0;\nEND_ORGANIZATION_BLOCK\n",
-            b"step 7\n",
-            0,
-            b"@7 PQ 4 = 01\nEND 7 RUN\n",
-        ),
-        // A line that is no entry; a statement outside of a block, whatever the history is.
-        (RUNG, b"tick 0\n", 4, b"history refused: line 0 rule 99\n"),
-        (b"L 1;\n", ONE_RUN, 2, b"source refused: line 1 rule 11\n"),
-        (
-            b"L 1;\n",
-            b"tick 0\n",
-            2,
-            b"source refused: line 1 rule 11\n",
-        ),
-        // The line of the operand that names nothing, before that of the label.
-        (
-            b"ORGANIZATION_BLOCK OB 1\nBEGIN\nNOP 0;\nA \"nix\";\nSET;\nSET;\nSET;\nSET;\nJU nope;\nEND_ORGANIZATION_BLOCK\n",
-            ONE_RUN,
-            2,
-            b"source refused: line 4 rule 20\n",
-        ),
-        (b"", b"", 0, b"END 0 RUN\n"),
-    ];
-    for (source, history, status, text) in table {
+/// A source, a history, the status, and what is written, worked out by hand.
+type Row = (&'static [u8], &'static [u8], u8, &'static [u8]);
+
+/// Calls with these words over each row's source and history. The sink takes one byte of each piece.
+fn are_told<R: Abort + Threads + Wait + Sync>(
+    rt: &R,
+    alloc: Global,
+    words: &[&str],
+    rows: &[Row],
+) -> Result<(), Fail> {
+    for (source, history, status, text) in rows {
         let what = (from_utf8(source), from_utf8(history));
-        let files = two_files(rt.alloc(), source, history)?;
-        let out = MemSink::new(rt.alloc(), 1);
-        answers(&rt, rt.alloc(), what, &GO, files, out, (status, text))?;
+        let files = two_files(alloc, source, history)?;
+        let out = MemSink::new(alloc, 1);
+        answers(rt, alloc, what, words, files, out, (*status, text))?;
     }
     Ok(())
+}
+
+static RUNS: [Row; 15] = [
+    (RUNG, ONE_RUN, 0, b"@7 PQ 4 = 01\nEND 7 RUN\n"),
+    (RUNG, b"in 0 01\nstep 5\n", 0, b"END 6 RUN\n"),
+    (b"", b"step 2\n", 0, b"END 2 RUN\n"),
+    // Two branches of A before =, joined by O: 0.2 is on, and 0.3 too.
+    (
+        b"ORGANIZATION_BLOCK OB 1\nBEGIN\nA I 0.0;\nA I 0.1;\nO;\nA I 0.2;\nA I 0.3;\n= Q 4.0;\nEND_ORGANIZATION_BLOCK\n",
+        b"in 0 0E\nstep 9\n",
+        0,
+        b"@10 PQ 4 = 01\nEND 10 RUN\n",
+    ),
+    // The first branch alone: 0.0 is on, and 0.1 too.
+    (
+        b"ORGANIZATION_BLOCK OB 1\nBEGIN\nA I 0.0;\nA I 0.1;\nO;\nA I 0.2;\nA I 0.3;\n= Q 4.0;\nEND_ORGANIZATION_BLOCK\n",
+        b"in 0 03\nstep 9\n",
+        0,
+        b"@10 PQ 4 = 01\nEND 10 RUN\n",
+    ),
+    // OB 40 interrupts behind the first A, whose result comes back.
+    (
+        b"ORGANIZATION_BLOCK OB 1\nBEGIN\nA I 0.0;\n= Q 4.0;\nEND_ORGANIZATION_BLOCK\nORGANIZATION_BLOCK OB 40\nBEGIN\nA I 0.1;\n= Q 5.0;\nEND_ORGANIZATION_BLOCK\n",
+        b"in 0 01\nstep 2\narrive 40\nstep 6\n",
+        0,
+        b"@10 PQ 4 = 01\nEND 10 RUN\n",
+    ),
+    // OB 40 isn't loaded.
+    (
+        RUNG,
+        b"in 0 01\nstep 6\narrive 40\n",
+        0,
+        b"@7 PQ 4 = 01\n@8 PQ 4 = 00\n@8 MODE STOP 8 AT OB 1 LINE 3\nEND 8 STOP 8\n",
+    ),
+    // The first interrupt starts OB 40, eight wait, and the tenth is one too many.
+    (
+        b"ORGANIZATION_BLOCK OB 40\nBEGIN\nSET;\nEND_ORGANIZATION_BLOCK\n",
+        b"arrive 40\narrive 40\narrive 40\narrive 40\narrive 40\narrive 40\narrive 40\narrive 40\narrive 40\narrive 40\n",
+        0,
+        b"@10 MODE STOP 9 AT OB 40 LINE 3\nEND 10 STOP 9\n",
+    ),
+    // A network with a title, which holds a `;`, words in lower case, a comment, no last line end.
+    (
+        b"ORGANIZATION_BLOCK OB 1\nBEGIN\nNETWORK\nTITLE = x ; y\na I 0.0 ; // c\n= Q 4.0;\nEND_ORGANIZATION_BLOCK",
+        b"in 0 01\nstep 5\n",
+        0,
+        b"@6 PQ 4 = 01\nEND 6 RUN\n",
+    ),
+    // M0.0 and M 0.0 are one bit, and `;` alone is no step.
+    (
+        b"ORGANIZATION_BLOCK OB 1\nBEGIN\nAN M0.0;\n= M 0.0;\n;\nA M0.0;\n= Q4.0;\nEND_ORGANIZATION_BLOCK\n",
+        b"step 7\n",
+        0,
+        b"@7 PQ 4 = 01\nEND 7 RUN\n",
+    ),
+    // A line that is no entry; a statement outside of a block, whatever the history is.
+    (RUNG, b"tick 0\n", 4, b"history refused: line 0 rule 99\n"),
+    (b"L 1;\n", ONE_RUN, 2, b"source refused: line 1 rule 11\n"),
+    (
+        b"L 1;\n",
+        b"tick 0\n",
+        2,
+        b"source refused: line 1 rule 11\n",
+    ),
+    // The line of the operand that names nothing, before that of the label.
+    (
+        b"ORGANIZATION_BLOCK OB 1\nBEGIN\nNOP 0;\nA \"nix\";\nSET;\nSET;\nSET;\nSET;\nJU nope;\nEND_ORGANIZATION_BLOCK\n",
+        ONE_RUN,
+        2,
+        b"source refused: line 4 rule 20\n",
+    ),
+    (b"", b"", 0, b"END 0 RUN\n"),
+];
+
+#[test]
+fn runs_and_refusals(rt: HostRuntime) -> Result<(), Fail> {
+    are_told(&rt, rt.alloc(), &GO, &RUNS)
 }
 
 // The commands by themselves, with the names of their files in place of words.
@@ -176,91 +188,97 @@ fn the_two_commands(rt: HostRuntime) -> Result<(), Fail> {
 
 // What `check` answers: the rules of tokens come first, then those of clauses, of each the first place
 // in the text; then those of blocks and statements together, the least line and rule.
+static CHECKS: [Row; 18] = [
+    (RUNG, b"", 0, b"OK\n"),
+    (b"", b"", 0, b"OK\n"),
+    (b"// nothing\n", b"", 0, b"OK\n"),
+    // 2H46M31S is 9,991,000 ms, one second too much.
+    (
+        b"ORGANIZATION_BLOCK OB 1\nBEGIN\nL S5T#2H46M31S;\nEND_ORGANIZATION_BLOCK",
+        b"",
+        2,
+        b"source refused: line 3 rule 4\n",
+    ),
+    (
+        b"L 1;\n\nA I 0.0 $;\n",
+        b"",
+        2,
+        b"source refused: line 3 rule 1\n",
+    ),
+    (b"A \"Motor\n", b"", 2, b"source refused: line 1 rule 2\n"),
+    (b"\nL T#5;\n", b"", 2, b"source refused: line 2 rule 3\n"),
+    // There is no bit 8.
+    (
+        b"ORGANIZATION_BLOCK OB 1\nBEGIN\nL 1;\nL M 0.8;\nEND_ORGANIZATION_BLOCK\n",
+        b"",
+        2,
+        b"source refused: line 4 rule 10\n",
+    ),
+    (b"\n\nSET;\n", b"", 2, b"source refused: line 3 rule 11\n"),
+    (
+        b"ORGANIZATION_BLOCK OB 1\nBEGIN\nabcde: SET;\nEND_ORGANIZATION_BLOCK\n",
+        b"",
+        2,
+        b"source refused: line 3 rule 12\n",
+    ),
+    // The line of the last token, and not of the comment.
+    (
+        b"ORGANIZATION_BLOCK OB 1\nBEGIN\n// and no end\n",
+        b"",
+        2,
+        b"source refused: line 2 rule 13\n",
+    ),
+    // The eighth bracket; a jump out of brackets; a second OB 1; a rule of statements that comes
+    // before one of blocks.
+    (
+        b"ORGANIZATION_BLOCK OB 1\nBEGIN\nA(;\nA(;\nA(;\nA(;\nA(;\nA(;\nA(;\nA(;\nA I 0.0;\n);\n);\n);\n);\n);\n);\n);\n);\n= Q 4.0;\nEND_ORGANIZATION_BLOCK\n",
+        b"",
+        2,
+        b"source refused: line 10 rule 31\n",
+    ),
+    (
+        b"ORGANIZATION_BLOCK OB 1\nBEGIN\nA(;\nJU x;\n);\nx: NOP 0;\nEND_ORGANIZATION_BLOCK\n",
+        b"",
+        2,
+        b"source refused: line 4 rule 33\n",
+    ),
+    (
+        b"ORGANIZATION_BLOCK OB 1\nBEGIN\nEND_ORGANIZATION_BLOCK\nORGANIZATION_BLOCK OB 1\nBEGIN\nEND_ORGANIZATION_BLOCK\n",
+        b"",
+        2,
+        b"source refused: line 4 rule 22\n",
+    ),
+    (
+        b"ORGANIZATION_BLOCK OB 1\nBEGIN\nL M 0.0;\nEND_ORGANIZATION_BLOCK\nORGANIZATION_BLOCK OB 1\nBEGIN\nEND_ORGANIZATION_BLOCK\n",
+        b"",
+        2,
+        b"source refused: line 3 rule 24\n",
+    ),
+    // The lesser rule of one line, be it of blocks or of statements.
+    (
+        b"ORGANIZATION_BLOCK OB 1\nBEGIN\nOPN DB 9; L M 0.0;\nEND_ORGANIZATION_BLOCK\n",
+        b"",
+        2,
+        b"source refused: line 3 rule 23\n",
+    ),
+    (
+        b"ORGANIZATION_BLOCK OB 1\nBEGIN\nOPN DB 9; A \"nix\";\nEND_ORGANIZATION_BLOCK\n",
+        b"",
+        2,
+        b"source refused: line 3 rule 20\n",
+    ),
+    // A place beyond the memory is met only when it runs.
+    (
+        b"ORGANIZATION_BLOCK OB 40\nBEGIN\nA M 255.7;\nA M 256.0;\nEND_ORGANIZATION_BLOCK\n",
+        b"",
+        0,
+        b"OK\n",
+    ),
+];
+
 #[test]
 fn checks(rt: HostRuntime) -> Result<(), Fail> {
-    // source, status, text
-    let table: [(&[u8], u8, &[u8]); 18] = [
-        (RUNG, 0, b"OK\n"),
-        (b"", 0, b"OK\n"),
-        (b"// nothing\n", 0, b"OK\n"),
-        // 2H46M31S is 9,991,000 ms, one second too much.
-        (
-            b"ORGANIZATION_BLOCK OB 1\nBEGIN\nL S5T#2H46M31S;\nEND_ORGANIZATION_BLOCK",
-            2,
-            b"source refused: line 3 rule 4\n",
-        ),
-        (
-            b"L 1;\n\nA I 0.0 $;\n",
-            2,
-            b"source refused: line 3 rule 1\n",
-        ),
-        (b"A \"Motor\n", 2, b"source refused: line 1 rule 2\n"),
-        (b"\nL T#5;\n", 2, b"source refused: line 2 rule 3\n"),
-        // There is no bit 8.
-        (
-            b"ORGANIZATION_BLOCK OB 1\nBEGIN\nL 1;\nL M 0.8;\nEND_ORGANIZATION_BLOCK\n",
-            2,
-            b"source refused: line 4 rule 10\n",
-        ),
-        (b"\n\nSET;\n", 2, b"source refused: line 3 rule 11\n"),
-        (
-            b"ORGANIZATION_BLOCK OB 1\nBEGIN\nabcde: SET;\nEND_ORGANIZATION_BLOCK\n",
-            2,
-            b"source refused: line 3 rule 12\n",
-        ),
-        // The line of the last token, and not of the comment.
-        (
-            b"ORGANIZATION_BLOCK OB 1\nBEGIN\n// and no end\n",
-            2,
-            b"source refused: line 2 rule 13\n",
-        ),
-        // The eighth bracket; a jump out of brackets; a second OB 1; a rule of statements that comes
-        // before one of blocks.
-        (
-            b"ORGANIZATION_BLOCK OB 1\nBEGIN\nA(;\nA(;\nA(;\nA(;\nA(;\nA(;\nA(;\nA(;\nA I 0.0;\n);\n);\n);\n);\n);\n);\n);\n);\n= Q 4.0;\nEND_ORGANIZATION_BLOCK\n",
-            2,
-            b"source refused: line 10 rule 31\n",
-        ),
-        (
-            b"ORGANIZATION_BLOCK OB 1\nBEGIN\nA(;\nJU x;\n);\nx: NOP 0;\nEND_ORGANIZATION_BLOCK\n",
-            2,
-            b"source refused: line 4 rule 33\n",
-        ),
-        (
-            b"ORGANIZATION_BLOCK OB 1\nBEGIN\nEND_ORGANIZATION_BLOCK\nORGANIZATION_BLOCK OB 1\nBEGIN\nEND_ORGANIZATION_BLOCK\n",
-            2,
-            b"source refused: line 4 rule 22\n",
-        ),
-        (
-            b"ORGANIZATION_BLOCK OB 1\nBEGIN\nL M 0.0;\nEND_ORGANIZATION_BLOCK\nORGANIZATION_BLOCK OB 1\nBEGIN\nEND_ORGANIZATION_BLOCK\n",
-            2,
-            b"source refused: line 3 rule 24\n",
-        ),
-        // The lesser rule of one line, be it of blocks or of statements.
-        (
-            b"ORGANIZATION_BLOCK OB 1\nBEGIN\nOPN DB 9; L M 0.0;\nEND_ORGANIZATION_BLOCK\n",
-            2,
-            b"source refused: line 3 rule 23\n",
-        ),
-        (
-            b"ORGANIZATION_BLOCK OB 1\nBEGIN\nOPN DB 9; A \"nix\";\nEND_ORGANIZATION_BLOCK\n",
-            2,
-            b"source refused: line 3 rule 20\n",
-        ),
-        // A place beyond the memory is met only when it runs.
-        (
-            b"ORGANIZATION_BLOCK OB 40\nBEGIN\nA M 255.7;\nA M 256.0;\nEND_ORGANIZATION_BLOCK\n",
-            0,
-            b"OK\n",
-        ),
-    ];
-    for (source, status, text) in table {
-        let what = from_utf8(source);
-        let files = two_files(rt.alloc(), source, b"tick 1\n")?;
-        let out = MemSink::new(rt.alloc(), 1);
-        answers(&rt, rt.alloc(), what, &CHECK, files, out, (status, text))?;
-    }
-    Ok(())
+    are_told(&rt, rt.alloc(), &CHECK, &CHECKS)
 }
 
 // The file of a name is missing, or one of the first reads fails: the first comes to the source,

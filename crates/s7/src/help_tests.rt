@@ -1,6 +1,16 @@
 use crate::help::{Question, question_in, write_answer};
 use plc_io::MemSink;
+use std::alloc::Global;
 use std::test::Fail;
+
+/// The question that these words ask.
+fn asked(alloc: Global, words: &[&str]) -> Result<Option<Question>, Fail> {
+    let mut list = Vec::new(alloc);
+    for word in words {
+        list.push(String::from_str(alloc, *word)?)?;
+    }
+    Ok(question_in(&list))
+}
 
 // A question is the only word.
 #[test]
@@ -18,11 +28,7 @@ fn questions(rt: HostRuntime) -> Result<(), Fail> {
         (&["go", "--version"], None),
     ];
     for (words, question) in table {
-        let mut list = Vec::new(rt.alloc());
-        for word in words {
-            list.push(String::from_str(rt.alloc(), *word)?)?;
-        }
-        assert_eq!(rt; question_in(&list), question);
+        assert_eq!(rt; asked(rt.alloc(), words)?, question);
     }
     Ok(())
 }
