@@ -62,10 +62,6 @@ fn line_of(line: &str) -> (What, u32) {
     }
 }
 
-fn hexadecimal(alloc: Global, out: &mut String, byte: u8) -> Written {
-    out.push_str(format!(in alloc; "{byte:02X}")?.as_str())
-}
-
 fn kind_name(kind: BlockKind) -> &'static str {
     match kind {
         BlockKind::Ob => "OB",
@@ -74,36 +70,35 @@ fn kind_name(kind: BlockKind) -> &'static str {
     }
 }
 
-fn write_spot(alloc: Global, out: &mut String, at: Option<Spot>) -> Written {
+fn write_spot(out: &mut String, at: Option<Spot>) -> Written {
     match at {
         None => out.push_str(" AT NONE"),
         Some(at) => {
             let kind = kind_name(at.block.kind);
-            let text = format!(in alloc; " AT {kind} {} LINE {}", at.block.number, at.line)?;
-            out.push_str(text.as_str())
+            let number = at.block.number;
+            let line = at.line;
+            write!(out, " AT {kind} {number} LINE {line}")
         }
     }
 }
 
-fn write_mode(alloc: Global, out: &mut String, mode: Mode) -> Written {
+fn write_mode(out: &mut String, mode: Mode) -> Written {
     match mode {
         Mode::Run => out.push_str("RUN"),
         Mode::Startup => out.push_str("STARTUP"),
-        Mode::Stop { cause, .. } => out.push_str(format!(in alloc; "STOP {cause}")?.as_str()),
+        Mode::Stop { cause, .. } => write!(out, "STOP {cause}"),
     }
 }
 
-fn write_observed(alloc: Global, out: &mut String, n: u64, seen: &Observed) -> Written {
+fn write_observed(out: &mut String, n: u64, seen: &Observed) -> Written {
     for (byte, value) in seen.outputs.as_slice() {
-        out.push_str(format!(in alloc; "@{n} PQ {byte} = ")?.as_str())?;
-        hexadecimal(alloc, out, *value)?;
-        out.push_str(" | ")?;
+        write!(out, "@{n} PQ {byte} = {value:02X} | ")?;
     }
     if let Some(mode) = seen.mode {
-        out.push_str(format!(in alloc; "@{n} MODE ")?.as_str())?;
-        write_mode(alloc, out, mode)?;
+        write!(out, "@{n} MODE ")?;
+        write_mode(out, mode)?;
         if let Mode::Stop { at, .. } = mode {
-            write_spot(alloc, out, at)?;
+            write_spot(out, at)?;
         }
         out.push_str(" | ")?;
     }
@@ -112,7 +107,6 @@ fn write_observed(alloc: Global, out: &mut String, n: u64, seen: &Observed) -> W
 
 /// Writes a data block, which is the same by its number as by its place.
 fn write_data_block(
-    alloc: Global,
     rt: &impl Abort,
     out: &mut String,
     controller: &Controller,
@@ -120,28 +114,28 @@ fn write_data_block(
     bytes: &[u8],
 ) -> Written {
     same(rt, number, controller.db_bytes(number), Some(bytes));
-    out.push_str(format!(in alloc; " | DB {number} ")?.as_str())?;
+    write!(out, " | DB {number} ")?;
     for byte in bytes {
-        hexadecimal(alloc, out, *byte)?;
+        write!(out, "{byte:02X}")?;
     }
     Ok(())
 }
 
-fn write_end(alloc: Global, rt: &impl Abort, out: &mut String, controller: &Controller) -> Written {
-    out.push_str(format!(in alloc; "END {} ", controller.history_len())?.as_str())?;
-    write_mode(alloc, out, controller.mode())?;
+fn write_end(rt: &impl Abort, out: &mut String, controller: &Controller) -> Written {
+    let length = controller.history_len();
+    write!(out, "END {length} ")?;
+    write_mode(out, controller.mode())?;
     for place in 0..256 {
         let Some((number, bytes)) = controller.data_block(place) else {
             break;
         };
-        write_data_block(alloc, rt, out, controller, number, bytes)?;
+        write_data_block(rt, out, controller, number, bytes)?;
     }
     Ok(())
 }
 
 /// Applies an entry, and writes what it showed.
 pub(crate) fn apply_entry(
-    alloc: Global,
     rt: &impl Abort,
     controller: &mut Controller,
     out: &mut String,
@@ -151,7 +145,7 @@ pub(crate) fn apply_entry(
     assert!(rt; controller.history_len() < MOST_ENTRIES);
     controller.reserve(1)?;
     assert!(rt; controller.apply(entry) == Reply::Done);
-    write_observed(alloc, out, controller.history_len(), controller.observed())?;
+    write_observed(out, controller.history_len(), controller.observed())?;
     Ok(())
 }
 
@@ -164,15 +158,14 @@ pub(crate) fn entries_text(
 ) -> Result<String, Fail> {
     let mut out = String::new(alloc);
     for entry in entries {
-        apply_entry(alloc, rt, controller, &mut out, *entry)?;
+        apply_entry(rt, controller, &mut out, *entry)?;
     }
-    write_end(alloc, rt, &mut out, controller)?;
+    write_end(rt, &mut out, controller)?;
     Ok(out)
 }
 
 /// Applies the entries of a line.
 fn apply(
-    alloc: Global,
     rt: &impl Abort,
     controller: &mut Controller,
     out: &mut String,
@@ -180,7 +173,7 @@ fn apply(
 ) -> Result<(), Fail> {
     let (what, count) = line_of(line);
     for _ in 0..count {
-        apply_entry(alloc, rt, controller, out, Entry { who: 1, what })?;
+        apply_entry(rt, controller, out, Entry { who: 1, what })?;
     }
     Ok(())
 }
@@ -211,9 +204,9 @@ pub(crate) fn run_text(
     let mut controller = controller_of(alloc, program)?;
     let mut out = String::new(alloc);
     for line in history.split('|') {
-        apply(alloc, rt, &mut controller, &mut out, line)?;
+        apply(rt, &mut controller, &mut out, line)?;
     }
-    write_end(alloc, rt, &mut out, &controller)?;
+    write_end(rt, &mut out, &controller)?;
     Ok(out)
 }
 

@@ -71,120 +71,140 @@ struct Run {
 }
 
 impl Run {
-    fn enter(&mut self, entry: &str) -> Written {
-        self.history.push_str(" | ")?;
-        self.history.push_str(entry)?;
+    /// The next line of the history begins.
+    fn begin_entry(&mut self) -> Written {
         self.entries = self.entries.wrapping_add(1);
-        Ok(())
+        self.history.push_str(" | ")
     }
 
-    fn arrive(&mut self, alloc: Global, ob: u16) -> Written {
-        self.enter(format!(in alloc; "arrive {ob}")?.as_str())
+    fn arrive(&mut self, ob: u16) -> Written {
+        self.begin_entry()?;
+        let out = &mut self.history;
+        write!(out, "arrive {ob}")
     }
 
-    fn tick(&mut self, alloc: Global, ms: u32) -> Written {
+    fn tick(&mut self, ms: u32) -> Written {
         self.ms = self.ms.wrapping_add(ms);
-        self.enter(format!(in alloc; "tick {ms}")?.as_str())
+        self.begin_entry()?;
+        let out = &mut self.history;
+        write!(out, "tick {ms}")
     }
 
-    /// A statement of the block that runs; with none it is a cycle point.
+    fn enter_step(&mut self) -> Written {
+        self.begin_entry()?;
+        self.history.push_str("step 1")
+    }
+
+    /// The statement of the block that runs ends, and is a step; with none it is a cycle point.
+    fn end_statement(&mut self) -> Written {
+        self.code.push_str("; ")?;
+        self.enter_step()
+    }
+
     fn step(&mut self, statement: &str) -> Written {
         self.code.push_str(statement)?;
-        self.code.push_str("; ")?;
-        self.enter("step 1")
+        self.end_statement()
     }
 
-    fn start_delay(&mut self, alloc: Global, ob: u16) -> Written {
-        self.step(delay_of(alloc, ob)?.as_str())
+    fn start_delay(&mut self, ob: u16) -> Written {
+        write_delay(&mut self.code, ob)?;
+        self.end_statement()
     }
 
-    fn enable(&mut self, alloc: Global, ob: u16) -> Written {
-        self.step(enabling(alloc, ob)?.as_str())
+    fn enable(&mut self, ob: u16) -> Written {
+        write_enabling(&mut self.code, ob)?;
+        self.end_statement()
     }
 
-    fn disable(&mut self, alloc: Global, ob: u16) -> Written {
-        let text = format!(in alloc; "PASS 0 #2, PASS 1 #{ob:X}, PASS 2 MW4, CALL SFC39")?;
-        self.step(text.as_str())
+    fn disable(&mut self, ob: u16) -> Written {
+        let out = &mut self.code;
+        write!(out, "PASS 0 #2, PASS 1 #{ob:X}, PASS 2 MW4, CALL SFC39")?;
+        self.end_statement()
     }
 
     /// Milliseconds pass, with a step before each part of them.
-    fn pass(&mut self, alloc: Global, ms: u32, statement: &str) -> Written {
+    fn pass(&mut self, ms: u32, statement: &str) -> Written {
         for _ in 0..ms / MOST_MS {
             self.step(statement)?;
-            self.tick(alloc, MOST_MS)?;
+            self.tick(MOST_MS)?;
         }
         if ms % MOST_MS > 0 {
             self.step(statement)?;
-            self.tick(alloc, ms % MOST_MS)?;
+            self.tick(ms % MOST_MS)?;
         }
         Ok(())
     }
 
-    fn shows(&mut self, alloc: Global, byte: u16, value: u16) -> Written {
-        let text = format!(in alloc; "@{} PQ {byte} = {value:02X} | ", self.entries)?;
-        self.text.push_str(text.as_str())
+    fn shows(&mut self, byte: u16, value: u16) -> Written {
+        let n = self.entries;
+        let out = &mut self.text;
+        write!(out, "@{n} PQ {byte} = {value:02X} | ")
     }
 
     /// The block begins, and is disabled so that its own period doesn't count.
-    fn begin(&mut self, alloc: Global, ob: u16, by: By) -> Written {
+    fn begin(&mut self, ob: u16, by: By) -> Written {
         match by {
             By::CyclePoint => self.step("")?,
-            By::Arrival => self.arrive(alloc, ob)?,
-            By::Delay => self.tick(alloc, 1)?,
-            By::Period(ms) => self.pass(alloc, ms, "")?,
-            By::CycleTime => self.tick(alloc, 151)?,
-            By::Missing => self.arrive(alloc, MISSING)?,
+            By::Arrival => self.arrive(ob)?,
+            By::Delay => self.tick(1)?,
+            By::Period(ms) => self.pass(ms, "")?,
+            By::CycleTime => self.tick(151)?,
+            By::Missing => self.arrive(MISSING)?,
         }
-        self.disable(alloc, ob)
+        self.disable(ob)
     }
 
     /// Another one is requested, a cyclic one at the next end of its period. SFC 43 lengthens the cycle
     /// time.
-    fn request(&mut self, alloc: Global, ob: u16, by: By) -> Written {
+    fn request(&mut self, ob: u16, by: By) -> Written {
         match by {
             By::CyclePoint => Ok(()),
-            By::Arrival => self.arrive(alloc, ob),
+            By::Arrival => self.arrive(ob),
             By::Delay => {
-                self.start_delay(alloc, ob)?;
-                self.tick(alloc, 1)
+                self.start_delay(ob)?;
+                self.tick(1)
             }
             By::Period(ms) => {
-                self.enable(alloc, ob)?;
+                self.enable(ob)?;
                 let passed = self.ms.checked_rem(ms).unwrap_or(0);
-                self.pass(alloc, ms.wrapping_sub(passed), "CALL SFC43")
+                self.pass(ms.wrapping_sub(passed), "CALL SFC43")
             }
             By::CycleTime => {
                 self.step("CALL SFC43")?;
-                self.tick(alloc, 151)
+                self.tick(151)
             }
-            By::Missing => self.arrive(alloc, MISSING),
+            By::Missing => self.arrive(MISSING),
         }
     }
 
     /// What interrupts has two statements and its return.
-    fn interrupted(&mut self, alloc: Global, ob: u16) -> Written {
-        self.enter("step 1")?;
-        self.enter("step 1")?;
-        self.shows(alloc, 257, ob)?;
-        self.enter("step 1")
+    fn interrupted(&mut self, ob: u16) -> Written {
+        self.enter_step()?;
+        self.enter_step()?;
+        self.shows(257, ob)?;
+        self.enter_step()
     }
 
     /// The block tells that it still runs.
-    fn end(&mut self, alloc: Global) -> Written {
+    fn end(&mut self) -> Written {
         self.step("L #1")?;
         self.step("T PB256")?;
-        self.shows(alloc, 256, 1)?;
-        let text = format!(in alloc; "END {} RUN", self.entries)?;
-        self.text.push_str(text.as_str())
+        self.shows(256, 1)?;
+        let n = self.entries;
+        let out = &mut self.text;
+        write!(out, "END {n} RUN")
     }
 }
 
-fn enabling(alloc: Global, ob: u16) -> Result<String, AllocError> {
-    format!(in alloc; "PASS 0 #2, PASS 1 #{ob:X}, PASS 2 MW4, CALL SFC40")
+fn write_enabling(out: &mut String, ob: u16) -> Written {
+    write!(out, "PASS 0 #2, PASS 1 #{ob:X}, PASS 2 MW4, CALL SFC40")
 }
 
-fn delay_of(alloc: Global, ob: u16) -> Result<String, AllocError> {
-    format!(in alloc; "PASS 0 #{ob:X}, PASS 1 #1, PASS 2 #0, PASS 3 MW4, CALL SFC32")
+fn write_delay(out: &mut String, ob: u16) -> Written {
+    write!(
+        out,
+        "PASS 0 #{ob:X}, PASS 1 #1, PASS 2 #0, PASS 3 MW4, CALL SFC32"
+    )
 }
 
 /// The four steps of OB 100 are done.
@@ -201,40 +221,37 @@ fn started(alloc: Global) -> Result<Run, AllocError> {
 /// A block runs, and all others but OB 1 are requested.
 fn run_of(alloc: Global, ob: u16, class: u8, by: By) -> Result<Run, AllocError> {
     let mut run = started(alloc)?;
-    run.begin(alloc, ob, by)?;
+    run.begin(ob, by)?;
     for (other, other_class, other_by) in &BLOCKS {
         if *other == ob {
             continue;
         }
-        run.request(alloc, *other, *other_by)?;
+        run.request(*other, *other_by)?;
         if class < *other_class {
-            run.interrupted(alloc, *other)?;
+            run.interrupted(*other)?;
         }
         if let By::Period(_) = other_by {
-            run.disable(alloc, *other)?;
+            run.disable(*other)?;
         }
     }
-    run.end(alloc)?;
+    run.end()?;
     Ok(run)
 }
 
 /// OB 1 is loaded where it runs. OB 100 disables all cyclic interrupts but the block that runs, and
 /// starts its delay.
-fn program_of(alloc: Global, ob: u16, code: &str) -> Result<String, AllocError> {
-    let mut out = String::new(alloc);
+fn write_program(out: &mut String, ob: u16, code: &str) -> Written {
     for (other, ..) in &BLOCKS {
         if *other == ob {
-            out.push_str(format!(in alloc; "OB {ob} 20 0 {{ {code} | ")?.as_str())?;
+            write!(out, "OB {ob} 20 0 {{ {code} | ")?;
         } else if *other != 1 {
-            let text = format!(in alloc; "OB {other} 20 0 {{ L #{other:X}; T PB257 | ")?;
-            out.push_str(text.as_str())?;
+            write!(out, "OB {other} 20 0 {{ L #{other:X}; T PB257 | ")?;
         }
     }
     out.push_str("OB 100 20 0 { PASS 0 #1, PASS 1 #1E, PASS 2 MW4, CALL SFC39; ")?;
-    out.push_str(enabling(alloc, ob)?.as_str())?;
+    write_enabling(out, ob)?;
     out.push_str("; ")?;
-    out.push_str(delay_of(alloc, ob)?.as_str())?;
-    Ok(out)
+    write_delay(out, ob)
 }
 
 #[test]
@@ -242,7 +259,8 @@ fn each_class_with_each_other(rt: HostRuntime) -> Result<(), Fail> {
     let alloc = rt.alloc();
     for (ob, class, by) in &BLOCKS {
         let run = run_of(alloc, *ob, *class, *by)?;
-        let program = program_of(alloc, *ob, run.code.as_str())?;
+        let mut program = String::new(alloc);
+        write_program(&mut program, *ob, run.code.as_str())?;
         let shown = run_text(alloc, &rt, program.as_str(), run.history.as_str())?;
         same(&rt, *ob, shown.as_str(), run.text.as_str());
     }

@@ -113,12 +113,12 @@ fn a_request_that_waits_ends_the_row(rt: HostRuntime) -> Result<(), Fail> {
     let steps = &entries[..leading_steps(entries.as_slice())];
     let mut controller = controller_of(alloc, WAITS)?;
     let mut out = String::new(alloc);
-    apply_entry(alloc, &rt, &mut controller, &mut out, entry_of(What::Step))?;
+    apply_entry(&rt, &mut controller, &mut out, entry_of(What::Step))?;
     let arrival = |ob: u16| entry_of(What::Arrive { ob, value: 0 });
-    apply_entry(alloc, &rt, &mut controller, &mut out, arrival(40))?;
+    apply_entry(&rt, &mut controller, &mut out, arrival(40))?;
     controller.reserve(steps.len() as u64)?;
     same(&rt, "nothing waits", controller.step_quietly(steps), 5);
-    apply_entry(alloc, &rt, &mut controller, &mut out, arrival(10))?;
+    apply_entry(&rt, &mut controller, &mut out, arrival(10))?;
     controller.reserve(steps.len() as u64)?;
     same(&rt, "OB 10 waits", controller.step_quietly(steps), 0);
     Ok(())
