@@ -24,19 +24,17 @@ const PLACE: Operand = Operand::Direct {
 
 /// Five statements: NOP of 6 bytes, T of 4 and 7, two jumps of 7 each, and BE. So the second one
 /// begins at 6, and BE at 31.
-static OPS: [(Word, bool, Operand); 6] = [
-    (Word::Nop, true, Operand::Literal { value: 0 }),
-    (Word::UseDb, false, Operand::UseDb { number: 10 }),
-    (Word::Transfer, true, PLACE),
-    (Word::Jump, true, jump_to(1)),
-    (Word::Jump, true, jump_to(4)),
-    (Word::End(EndWord::Be), true, Operand::Nothing),
-];
-
 fn ops(alloc: Global) -> Result<Vec<Op>, Fail> {
     let mut ops = Vec::new(alloc);
-    for (word, last, operand) in &OPS {
-        ops.push(Op::taken(*word, *last, *operand).ok_or("no op")?)?;
+    for (word, last, operand) in [
+        (Word::Nop, true, Operand::Literal { value: 0 }),
+        (Word::UseDb, false, Operand::UseDb { number: 10 }),
+        (Word::Transfer, true, PLACE),
+        (Word::Jump, true, jump_to(1)),
+        (Word::Jump, true, jump_to(4)),
+        (Word::End(EndWord::Be), true, Operand::Nothing),
+    ] {
+        ops.push(Op::taken(word, last, operand).ok_or("no op")?)?;
     }
     Ok(ops)
 }
