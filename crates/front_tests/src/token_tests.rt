@@ -172,7 +172,7 @@ fn cuts_sources(rt: HostRuntime) -> Result<(), Fail> {
 }
 
 // The line and the rule of the first violation, by hand after docs/REFUSALS.md.
-static REFUSALS: [(&[u8], u32, u16); 44] = [
+static REFUSALS: [(&[u8], u32, u16); 45] = [
     // rule 1: a byte begins no token
     (b"A\n$", 2, 1),
     (b"\"\"", 1, 1),
@@ -204,6 +204,7 @@ static REFUSALS: [(&[u8], u32, u16); 44] = [
     (b"L#1_0", 1, 3),
     (b"C#-1", 1, 3),
     (b"T#5", 1, 3),
+    (b"T#S", 1, 3),
     (b"T#+5S", 1, 3),
     (b"T#1S2M", 1, 3),
     (b"T#1S_1S", 1, 3),
