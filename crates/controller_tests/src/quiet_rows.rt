@@ -51,8 +51,8 @@ static ROWS: [Row; 5] = [
     ),
 ];
 
-/// OB 40 interrupts OB 1 and writes an output, and then OB 10 waits for its end.
-const WAITS: &str = "x: JU x | OB 10 20 0 { NOP #0 | OB 40 20 0 { L #7; T PB256; y: JU y";
+/// OB 40 interrupts OB 1, and then OB 10 waits for its end.
+const WAITS: &str = "x: JU x | OB 10 20 0 { NOP #0 | OB 40 20 0 { y: JU y";
 
 fn entry_of(what: What) -> Entry {
     Entry { who: 1, what }
@@ -116,16 +116,10 @@ fn a_request_that_waits_ends_the_row(rt: HostRuntime) -> Result<(), Fail> {
     apply_entry(&rt, &mut controller, &mut out, entry_of(What::Step))?;
     let arrival = |ob: u16| entry_of(What::Arrive { ob, value: 0 });
     apply_entry(&rt, &mut controller, &mut out, arrival(40))?;
-    apply_entry(&rt, &mut controller, &mut out, entry_of(What::Step))?;
-    apply_entry(&rt, &mut controller, &mut out, entry_of(What::Step))?;
-    same(&rt, "OB 40 shows", out.as_str(), "@4 PQ 256 = 07 | ");
     controller.reserve(steps.len() as u64)?;
     same(&rt, "nothing waits", controller.step_quietly(steps), 5);
-    let shown = controller.observed().outputs.as_slice().is_empty();
-    same(&rt, "nothing is shown", shown, true);
     apply_entry(&rt, &mut controller, &mut out, arrival(10))?;
     controller.reserve(steps.len() as u64)?;
     same(&rt, "OB 10 waits", controller.step_quietly(steps), 0);
-    same(&rt, "entry 1", controller.entry(1), Some(arrival(40)));
     Ok(())
 }
