@@ -15,6 +15,8 @@ mod edge_tests;
 #[cfg(test)]
 mod gate_tests;
 #[cfg(test)]
+mod help_tests;
+#[cfg(test)]
 mod outside_tests;
 #[cfg(test)]
 mod run_tests;

@@ -2,13 +2,8 @@
 //! output.
 #![tactic(auto)]
 
-mod help;
-#[cfg(test)]
-mod help_tests;
-
-use help::{question_in, write_answer};
 use plc_io::{OpenGate, RealFiles, RealSink};
-use s7_cli::s7_main;
+use s7_cli::{question_in, s7_main, write_answer};
 use std::alloc::{AllocError, Global};
 use std::env;
 use std::io::ErrorKind;

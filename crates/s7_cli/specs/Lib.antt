@@ -9,3 +9,4 @@ pub mod StatusTable
 pub mod Inner
 pub mod Faults
 pub mod Texts
+pub mod Questions

@@ -24,7 +24,7 @@ use Rattle.stl_parser.specs.declared.clauses.Clause.{Clause}
 use Rattle.stl_parser.specs.declared.clauses.Clause.TheVariants as clause
 use Rattle.stl_parser.specs.declared.places.ClausePlace.{ClausePlace}
 use Rattle.stl_parser.specs.declared.places.ClausePlace.TheVariants as place
-use Rattle.stl_parser.specs.BlockReading.{is_inside, behind_inside, declared_by, set_by, stated_by, is_begin, opens_shape, opens_content, opens_part, opened_place, ReadsShape}
+use Rattle.stl_parser.specs.BlockReading.{is_inside, behind_inside, declared_by, set_by, stated_by, is_begin, opens_shape, opens_content, opens_part, opened_place, ReadsContent, ReadsShape}
 use Rattle.stl_parser.specs.Clauses.{level_at, block_rank}
 use Rattle.stl_parser.specs.Frame.{follow, follow_outside, follow_head, follow_section, follow_between, follow_shape, follow_shaped, follow_body, follow_settings}
 use Rattle.stl_parser.specs.Source.{Step, step_of, is_outside, Reads, ReadsKept}
@@ -441,13 +441,16 @@ sections_more source k tokens parts last rest c behind q few so_far found =
       few = omega (arith, few, kept_fewer source (place.Head k) tokens (flat_map spelled_part parts ++ filter is_kept (c ∷ [])) q behind reads);
     }
 
--- the body is opened
-pub begins_body : (source : List ℕ) (k : BlockKind) (tokens : List Token) (xs : List Clause) (c : Clause) (rest : List Token) →
-    ReadsKept source (place.Head k) tokens (xs ++ filter is_kept (c ∷ [])) (opened_place k c) rest → is_begin c ≡ true →
-    ReadsKept source (place.Head k) tokens xs (place.Body k) rest
-begins_body source k tokens xs clause.Begins rest reads begins =
-    subst (λ ks. ReadsKept source (place.Head k) tokens ks (place.Body k) rest) (append-nil xs) reads
-begins_body source k tokens xs _ rest reads begins = cc
+-- a body is read behind the clause that opens it
+pub body_read : (source : List ℕ) (k : BlockKind) (tokens : List Token) (shape : List Clause) (sets : List Setting) (runs : List Clause)
+    (rest : List Token) → ReadsKept source (place.Body k) tokens runs place.Outside rest → shape ≡ [] → sets ≡ [] →
+    ReadsContent source k clause.Begins tokens (shape ++ (map clause.Sets sets ++ runs)) rest
+body_read source k tokens shape sets runs rest inside none no_sets = record { kept = runs; reads = inside; whole = rw (none, no_sets) refl }
+
+-- the clause that opens a body
+pub begins : (c : Clause) → is_begin c ≡ true → c ≡ clause.Begins
+begins clause.Begins same = refl
+begins _ same = cc
 
 -- or the shape
 pub no_begin_opens : (c : Clause) → is_begin c ≡ false → opens_content c ≡ true → opens_shape c ≡ true
@@ -459,37 +462,28 @@ opens_kept clause.Structure opens = refl
 opens_kept (clause.Based name) opens = refl
 opens_kept _ opens = cc
 
--- the shape is read
-pub shape_read : (source : List ℕ) (k : BlockKind) (tokens : List Token) (xs : List Clause) (c : Clause) (rest : List Token)
-    (spelled : List Clause) (behind : List Token) →
-    ReadsKept source (place.Head k) tokens (xs ++ filter is_kept (c ∷ [])) (opened_place k c) rest →
-    opens_shape c ≡ true → ReadsShape source k c rest spelled behind →
-    ReadsKept source (place.Head k) tokens (xs ++ spelled) (place.Shaped k) behind
-shape_read source k tokens xs c rest spelled behind reads opens shape =
-    let both = kept_then source (place.Head k) tokens (xs ++ filter is_kept (c ∷ [])) (opened_place k c) rest shape.kept (place.Shaped k) behind
-    reads shape.reads in
-    let same : (xs ++ filter is_kept (c ∷ [])) ++ shape.kept ≡ xs ++ spelled =
-    append_assoc xs (filter is_kept (c ∷ [])) shape.kept
-    ∙ ap (λ ks. xs ++ (ks ++ shape.kept)) (opens_kept c opens) ∙ ap (λ ks. xs ++ ks) (sym shape.whole) in
-    subst (λ ks. ReadsKept source (place.Head k) tokens ks (place.Shaped k) behind) same both
+-- a shape is read with the settings behind it
+pub shape_read : (source : List ℕ) (k : BlockKind) (c : Clause) (tokens : List Token) (shape : List Clause) (between : List Token)
+    (sets : List Clause) (line : ℕ) (runs : List Statement) (rest : List Token) → opens_shape c ≡ true →
+    ReadsShape source k c tokens shape between → ReadsKept source (place.Shaped k) between (sets ++ clause.Ends line k ∷ []) place.Outside rest →
+    runs ≡ [] → ReadsContent source k c tokens (shape ++ (sets ++ (map clause.Runs runs ++ clause.Ends line k ∷ []))) rest
+shape_read source k c tokens shape between sets line runs rest opens read inside none =
+    let behind = sets ++ clause.Ends line k ∷ [] in
+    let whole : shape ++ behind ≡ filter is_kept (c ∷ []) ++ (read.kept ++ behind) =
+    ap (λ ks. ks ++ behind) read.whole ∙ ap (λ ks. ks ++ (read.kept ++ behind)) (sym (opens_kept c opens)) in
+    let reads = kept_then source (opened_place k c) tokens read.kept (place.Shaped k) between behind place.Outside rest read.reads inside in
+    rw none (record { kept = read.kept ++ behind; reads = reads; whole = whole })
 
--- the parts of a block with a body, and of one with a shape
-pub code_block : (source : List ℕ) (k : BlockKind) (tokens : List Token) (xs : List Clause) (rest : List Token) (components : List Declaration)
-    (sets : List Setting) (runs : List Clause) (behind : List Token) → ReadsKept source (place.Head k) tokens xs (place.Body k) rest →
-    ReadsKept source (place.Body k) rest runs place.Outside behind → components ≡ [] → sets ≡ [] →
-    ReadsKept source (place.Head k) tokens (xs ++ (spelled_shape None None components ++ (map clause.Sets sets ++ runs))) place.Outside behind
-code_block source k tokens xs rest components sets runs behind head inside none no_sets =
-    rw (none, no_sets) (kept_then source (place.Head k) tokens xs (place.Body k) rest runs place.Outside behind head inside)
-
-pub data_block : (source : List ℕ) (k : BlockKind) (tokens : List Token) (xs shape : List Clause) (rest : List Token)
-    (sets : List Clause) (line : ℕ) (runs : List Statement) (behind : List Token) →
-    ReadsKept source (place.Head k) tokens (xs ++ shape) (place.Shaped k) rest →
-    ReadsKept source (place.Shaped k) rest (sets ++ clause.Ends line k ∷ []) place.Outside behind → runs ≡ [] →
-    ReadsKept source (place.Head k) tokens (xs ++ (shape ++ (sets ++ (map clause.Runs runs ++ clause.Ends line k ∷ [])))) place.Outside behind
-data_block source k tokens xs shape rest sets line runs behind head inside none =
-    rw none (subst (λ ks. ReadsKept source (place.Head k) tokens ks place.Outside behind)
-    (append_assoc xs shape (sets ++ clause.Ends line k ∷ []))
-    (kept_then source (place.Head k) tokens (xs ++ shape) (place.Shaped k) rest (sets ++ clause.Ends line k ∷ []) place.Outside behind head inside))
+-- the content of a block is read behind its sections
+pub block_read : (source : List ℕ) (k : BlockKind) (tokens : List Token) (xs : List Clause) (c : Clause) (between : List Token)
+    (spelled : List Clause) (rest : List Token) →
+    ReadsKept source (place.Head k) tokens (xs ++ filter is_kept (c ∷ [])) (opened_place k c) between →
+    ReadsContent source k c between spelled rest → ReadsKept source (place.Head k) tokens (xs ++ spelled) place.Outside rest
+block_read source k tokens xs c between spelled rest head content =
+    let opened = filter is_kept (c ∷ []) in
+    subst (λ ks. ReadsKept source (place.Head k) tokens ks place.Outside rest)
+    (append_assoc xs opened content.kept ∙ ap (λ ks. xs ++ ks) (sym content.whole))
+    (kept_then source (place.Head k) tokens (xs ++ opened) (opened_place k c) between content.kept place.Outside rest head content.reads)
 
 -- only a head stands between blocks
 pub only_heads : (source : List ℕ) (rest : List Token) (c : Clause) (behind : List Token) (q : ClausePlace) →

@@ -32,7 +32,7 @@ use Rattle.stl_ast.specs.WellFormed.{IsSourceKind, IsHeadName, MayReturn, AreDec
 use Rattle.stl_parser.proofs.OptionLemmas.{some_holds, and_left, and_right}
 use Rattle.stl_parser.proofs.ClauseLemmas.{IsBaseName, IsRight, Fits, IsReadAt, clause_holds}
 use Rattle.stl_parser.specs.Spelling.{is_kept, is_udt, is_udt_kind, nowhere, spelled_part, spelled_shape, spelled_block}
-use Rattle.stl_parser.specs.Source.{Step, step_of, judged, placed, Reads, ClausesHaveTree}
+use Rattle.stl_parser.specs.Source.{Step, step_of, judged, place_of, placed, Reads, ClausesHaveTree}
 use Rattle.std.proofs.lemmas.List.{append_assoc}
 use Rattle.stl_parser.proofs.TreeLemmas.{block_is_spelled}
 
@@ -452,7 +452,7 @@ one_more (place.Body k) c cs right at h = from_body k c cs right h
 one_more place.Settings c cs right at h = from_settings c cs right h
 
 was_placed : (p : ClausePlace) (c : Clause) (rest : List Token) (long : Bool) (f : Option ClausePlace) (d : Clause) (behind : List Token) (q : ClausePlace) →
-    placed c rest long f ≡ Ok (d, behind, q) → follow p c ≡ f →
+    placed c rest (place_of long f) ≡ Ok (d, behind, q) → follow p c ≡ f →
     (◌≡◌ {A = Read} (Some (c, rest, long)) (Some (d, behind, false))) × (follow p d ≡ Some q)
 was_placed p c rest long None d behind q same followed = cc
 was_placed p c rest true (Some next) d behind q same followed = cc

@@ -1,5 +1,5 @@
 -- What is read of a block, place by place.
-use Rattle.std.specs.Prelude.{◌≡◌, ℕ, Bool, true, false, List, [], ◌∷◌}
+use Rattle.std.specs.Prelude.{◌≡◌, ℕ, Bool, true, false, List, [], ◌∷◌, ◌++◌, map, filter}
 use Rattle.plc_base.specs.declared.blocks.BlockKind.{BlockKind}
 use Rattle.stl_ast.specs.declared.blocks.Setting.{Setting}
 use Rattle.stl_ast.specs.declared.declarations.Declaration.{Declaration}
@@ -9,7 +9,11 @@ use Rattle.stl_parser.specs.declared.clauses.Clause.{Clause}
 use Rattle.stl_parser.specs.declared.clauses.Clause.TheVariants as clause
 use Rattle.stl_parser.specs.declared.places.ClausePlace.{ClausePlace}
 use Rattle.stl_parser.specs.declared.places.ClausePlace.TheVariants as place
+use Rattle.stl_parser.specs.declared.blocks.Content.{Content}
+use Rattle.stl_parser.specs.declared.blocks.Opened.{Opened}
+use Rattle.stl_parser.specs.declared.blocks.Opened.TheVariants as opened
 use Rattle.stl_parser.specs.Source.{ReadsKept}
+use Rattle.stl_parser.specs.Spelling.{is_kept}
 
 -- a place inside a section, or inside the structure of a block
 abbrev pub is_inside : ClausePlace → Bool
@@ -74,3 +78,22 @@ pub record ReadsShape (source : List ℕ) (k : BlockKind) (opening : Clause) (to
   pub kept : List Clause
   pub reads : ReadsKept source (opened_place k opening) tokens kept (place.Shaped k) rest
   pub whole : spelled ≡ opening ∷ kept
+
+-- a body, or a shape: the clause that opens it, where a tree keeps that, and the components
+abbrev pub spelled_opened : Opened → List Clause
+spelled_opened opened.Body = []
+spelled_opened (opened.Structure components) = clause.Structure ∷ map clause.Declares components
+spelled_opened (opened.Based name) = clause.Based name ∷ []
+
+-- what stands behind the sections of a block of this kind: its shape, its settings, its statements and its END clause
+abbrev pub spelled_content : BlockKind → Content → List Clause
+spelled_content k c =
+    spelled_opened c.opened
+    ++ (map clause.Sets c.settings ++ (map clause.Runs c.body ++ clause.Ends c.end_line k ∷ []))
+
+-- it is spelled by the clause that opens it, where a tree keeps that, and the clauses that are read behind that
+pub record ReadsContent (source : List ℕ) (k : BlockKind) (opening : Clause) (tokens : List Token)
+    (spelled : List Clause) (rest : List Token) : Type 0 where
+  pub kept : List Clause
+  pub reads : ReadsKept source (opened_place k opening) tokens kept place.Outside rest
+  pub whole : spelled ≡ filter is_kept (opening ∷ []) ++ kept

@@ -17,17 +17,22 @@ use Rattle.stl_parser.specs.Frame.{follow}
 abbrev pub Step : Type 0
 Step = Clause × List Token × ClausePlace
 
--- a clause in the grammar: it breaks rule 11 where its kind may not stand here, else rule 12 where a
--- label is too long
-abbrev pub placed : Clause → List Token → Bool → Option ClausePlace → Result Step ℕ
-placed c rest long None = Err 11
-placed c rest true (Some next) = Err 12
-placed c rest false (Some next) = Ok (c, rest, next)
+-- where the clauses behind one of the grammar stand, or the rule that it breaks: rule 11 where its kind
+-- may not stand here, else rule 12 where a label is too long
+abbrev pub place_of : Bool → Option ClausePlace → Result ClausePlace ℕ
+place_of long None = Err 11
+place_of true (Some next) = Err 12
+place_of false (Some next) = Ok next
+
+-- a clause of the grammar, with that place or rule
+abbrev pub placed : Clause → List Token → Result ClausePlace ℕ → Result Step ℕ
+placed c rest (Ok next) = Ok (c, rest, next)
+placed c rest (Err rule) = Err rule
 
 -- a clause that isn't in the grammar breaks rule 10, whatever else it breaks
 abbrev pub judged : ClausePlace → Read → Result Step ℕ
 judged p None = Err 10
-judged p (Some r) = placed r.0 r.1 r.2 (follow p r.0)
+judged p (Some r) = placed r.0 r.1 (place_of r.2 (follow p r.0))
 
 -- the clause at the front of the tokens, or the rule that it breaks
 unfoldable pub step_of : List ℕ → ClausePlace → List Token → Result Step ℕ

@@ -5,6 +5,7 @@ ghost use Rattle.stl_parser.specs.declared.clauses.Clause.TheVariants as spelled
 ghost use Rattle.stl_parser.specs.declared.places.ClausePlace.TheVariants as place;
 ghost use Rattle.stl_parser.specs.Clauses.{level_at};
 ghost use Rattle.stl_parser.specs.BlockReading.{
+  ReadsContent,
   ReadsShape,
   behind_inside,
   declared_by,
@@ -15,6 +16,8 @@ ghost use Rattle.stl_parser.specs.BlockReading.{
   opens_part,
   opens_shape,
   set_by,
+  spelled_content,
+  spelled_opened,
   stated_by,
 };
 ghost use Rattle.stl_parser.specs.Source.{ReadsKept, IsBrokenBehind};
@@ -314,6 +317,18 @@ fn based(alloc: Global, name: BlockName) -> Shape
     }
 }
 
+/// What a clause behind the sections of a block opens.
+#[derive(Drop)]
+enum Opened {
+    Body,
+    Structure {
+        components: Declarations,
+    },
+    Based {
+        name: BlockName,
+    },
+}
+
 /// The shape that is a structure with these components.
 fn structured(alloc: Global, components: Declarations) -> Shape
     ensures { spelled_shape result.shape result.instance_of result.components
@@ -327,29 +342,52 @@ fn structured(alloc: Global, components: Declarations) -> Shape
     }
 }
 
+/// The shape of a block that has a body.
+fn no_shape(alloc: Global) -> Shape
+    ensures { spelled_shape result.shape result.instance_of result.components ≡ [] }
+{
+    Shape {
+        shape: None,
+        instance_of: None,
+        components: no_components(alloc),
+    }
+}
+
+/// The shape of what was opened.
+fn shape_of(alloc: Global, opened: Opened) -> Shape
+    ensures { spelled_shape result.shape result.instance_of result.components
+        ≡ spelled_opened opened }
+{
+    match opened {
+        Opened::Body => no_shape(alloc),
+        Opened::Structure { components } => structured(alloc, components),
+        Opened::Based { name } => based(alloc, name),
+    }
+}
+
 /// The shape that a clause opens, and what follows it.
 fn opened_shape<'a>(
     alloc: Global,
     source: &[u8],
     last: u32,
     kind: BlockKind,
-    clause: Clause,
+    opening: Clause,
     tokens: &'a [Token],
-) -> Result<(Shape, &'a [Token]), SourceFault>
-    requires opens { opens_shape clause ≡ true }
+) -> Result<(Opened, &'a [Token]), SourceFault>
+    requires opens { opens_shape opening ≡ true }
     requires few { length tokens.now ≤ source_limit }
-    ensures read { IfOk result (λ r. ReadsShape source.now kind clause tokens.now
-        (spelled_shape r.0.shape r.0.instance_of r.0.components) r.1.now) }
+    ensures read { IfOk result (λ r. ReadsShape source.now kind opening tokens.now
+        (spelled_opened r.0) r.1.now) }
     ensures broken { IfErr result
-        (IsBrokenBehind source.now (opened_place kind clause) tokens.now last) }
+        (IsBrokenBehind source.now (opened_place kind opening) tokens.now last) }
 {
-    match clause {
+    match opening {
         Clause::Structure => {
             let first = ClausePlace::Shape { kind, level: 0 };
             let (components, behind) = declarations(alloc, source, last, first, tokens)?;
-            Ok((structured(alloc, components), behind))
+            Ok((Opened::Structure { components }, behind))
         }
-        Clause::Based { name } => Ok((based(alloc, name), tokens)),
+        Clause::Based { name } => Ok((Opened::Based { name }, tokens)),
         _ => unreachable!(),
     }
 }
@@ -361,6 +399,87 @@ fn is_begin(clause: &Clause) -> bool
     matches!(clause, Clause::Begins)
 }
 
+/// What stands behind the sections of a block.
+#[derive(Drop)]
+struct Content {
+    opened: Opened,
+    settings: Sequence<Setting>,
+    body: Sequence<Statement>,
+    end_line: u32,
+}
+
+/// The content that is a body, behind the clause that opens it, and what follows it.
+fn code_content<'a>(
+    alloc: Global,
+    source: &[u8],
+    last: u32,
+    kind: BlockKind,
+    tokens: &'a [Token],
+) -> Result<(Content, &'a [Token]), SourceFault>
+    ensures read { IfOk result (λ r. ReadsContent source.now kind spelled.Begins tokens.now
+        (spelled_content kind r.0) r.1.now) }
+    ensures broken { IfErr result (IsBrokenBehind source.now (place.Body kind) tokens.now last) }
+{
+    let (body, end_line, rest) = body(alloc, source, last, kind, tokens)?;
+    let content = Content {
+        opened: Opened::Body,
+        settings: Sequence::from_vec(Vec::new(alloc)),
+        body,
+        end_line,
+    };
+    Ok((content, rest))
+}
+
+/// The content that a shape opens, with the settings behind it, and what follows it.
+fn data_content<'a>(
+    alloc: Global,
+    source: &[u8],
+    last: u32,
+    kind: BlockKind,
+    opening: Clause,
+    tokens: &'a [Token],
+) -> Result<(Content, &'a [Token]), SourceFault>
+    requires opens { opens_shape opening ≡ true }
+    requires few { length tokens.now ≤ source_limit }
+    ensures read { IfOk result (λ r. ReadsContent source.now kind opening tokens.now
+        (spelled_content kind r.0) r.1.now) }
+    ensures broken { IfErr result
+        (IsBrokenBehind source.now (opened_place kind opening) tokens.now last) }
+{
+    let (opened, rest) = opened_shape(alloc, source, last, kind, opening, tokens)?;
+    let (settings, end_line, rest) = settings(alloc, source, last, kind, rest)?;
+    let content = Content {
+        opened,
+        settings,
+        body: Sequence::from_vec(Vec::new(alloc)),
+        end_line,
+    };
+    Ok((content, rest))
+}
+
+/// What a clause opens behind the sections of a block, and what follows it.
+fn opened_content<'a>(
+    alloc: Global,
+    source: &[u8],
+    last: u32,
+    kind: BlockKind,
+    opening: Clause,
+    tokens: &'a [Token],
+) -> Result<(Content, &'a [Token]), SourceFault>
+    requires opens { opens_content opening ≡ true }
+    requires few { length tokens.now ≤ source_limit }
+    ensures read { IfOk result (λ r. ReadsContent source.now kind opening tokens.now
+        (spelled_content kind r.0) r.1.now) }
+    ensures broken { IfErr result
+        (IsBrokenBehind source.now (opened_place kind opening) tokens.now last) }
+{
+    if is_begin(&opening) {
+        code_content(alloc, source, last, kind, tokens)
+    } else {
+        data_content(alloc, source, last, kind, opening, tokens)
+    }
+}
+
 /// The head of a block: what its first clause says.
 #[derive(Drop)]
 struct Head {
@@ -368,6 +487,29 @@ struct Head {
     kind: BlockKind,
     name: BlockName,
     result: Option<Simple>,
+}
+
+/// The block with this head, these sections and this content.
+fn assembled(alloc: Global, head: Head, parts: Sequence<Part>, content: Content) -> Block
+    ensures head { spelled_block result
+        ≡ spelled.Head head.line head.kind head.name head.result ∷ spelled_behind_head result }
+    ensures behind { spelled_behind_head result
+        ≡ flat_map spelled_part parts ++ spelled_content head.kind content }
+{
+    let shape = shape_of(alloc, content.opened);
+    Block {
+        line: head.line,
+        end_line: content.end_line,
+        kind: head.kind,
+        name: head.name,
+        result: head.result,
+        parts,
+        shape: shape.shape,
+        components: shape.components,
+        instance_of: shape.instance_of,
+        settings: content.settings,
+        body: content.body,
+    }
 }
 
 /// The block with this head, and what follows it.
@@ -386,51 +528,10 @@ fn block<'a>(
     ensures broken { IfErr result
         (IsBrokenBehind source.now (place.Head head.kind) tokens.now last) }
 {
-    let Head {
-        line,
-        kind,
-        name,
-        result,
-    } = head;
-    let (parts, clause, rest) = sections(alloc, source, last, kind, tokens)?;
-    if is_begin(&clause) {
-        let (body, end_line, rest) = body(alloc, source, last, kind, rest)?;
-        let block = Block {
-            line,
-            end_line,
-            kind,
-            name,
-            result,
-            parts,
-            shape: None,
-            components: no_components(alloc),
-            instance_of: None,
-            settings: Sequence::from_vec(Vec::new(alloc)),
-            body,
-        };
-        return Ok((block, rest));
-    }
-    let (shape, rest) = opened_shape(alloc, source, last, kind, clause, rest)?;
-    let (settings, end_line, rest) = settings(alloc, source, last, kind, rest)?;
-    let Shape {
-        shape,
-        instance_of,
-        components,
-    } = shape;
-    let block = Block {
-        line,
-        end_line,
-        kind,
-        name,
-        result,
-        parts,
-        shape,
-        components,
-        instance_of,
-        settings,
-        body: Sequence::from_vec(Vec::new(alloc)),
-    };
-    Ok((block, rest))
+    let kind = head.kind;
+    let (parts, opening, rest) = sections(alloc, source, last, kind, tokens)?;
+    let (content, rest) = opened_content(alloc, source, last, kind, opening, rest)?;
+    Ok((assembled(alloc, head, parts, content), rest))
 }
 
 /// The blocks of a source.

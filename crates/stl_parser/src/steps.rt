@@ -1,7 +1,8 @@
 ghost use Rattle.std.specs.Prelude.{◌≡◌, ◌<◌, [], length, false, IfOk, IfErr, Ok};
 ghost use Rattle.plc_base.specs.declared.refusals.SourceFault.TheVariants as fault;
 ghost use Rattle.stl_parser.specs.Clauses.{level_at};
-ghost use Rattle.stl_parser.specs.Source.{step_of, is_outside, IsBrokenAt};
+ghost use Rattle.stl_parser.specs.Frame.{follow};
+ghost use Rattle.stl_parser.specs.Source.{step_of, place_of, is_outside, IsBrokenAt};
 
 use crate::clauses::{Clause, clause_at};
 use crate::frames::follow;
@@ -31,6 +32,18 @@ fn refused(line: u32, rule: u16) -> SourceFault
     }
 }
 
+/// Where the clauses behind one of the grammar stand, or the rule that it breaks.
+fn place_behind(at: ClausePlace, clause: &Clause, is_long: bool) -> Result<ClausePlace, u16>
+    requires level { level_at at < 4294967295 }
+    ensures value { result ≡ place_of is_long (follow at clause.now) }
+{
+    match follow(at, clause) {
+        None => Err(MISPLACED),
+        Some(_) if is_long => Err(LONG_LABEL),
+        Some(next) => Ok(next),
+    }
+}
+
 /// The clause at the front of the tokens, what follows it, and where that stands.
 ///
 /// # Errors
@@ -54,15 +67,11 @@ pub(crate) fn next_clause<'a>(
     let [first, ..] = tokens else {
         return Err(refused(last, OPEN_BLOCK));
     };
-    let Some((clause, rest, long)) = clause_at(alloc, source, at, tokens)? else {
+    let Some((clause, rest, is_long)) = clause_at(alloc, source, at, tokens)? else {
         return Err(refused(first.line, NO_CLAUSE));
     };
-    let Some(next) = follow(at, &clause) else {
-        return Err(refused(first.line, MISPLACED));
-    };
-    if long {
-        Err(refused(first.line, LONG_LABEL))
-    } else {
-        Ok((clause, rest, next))
+    match place_behind(at, &clause, is_long) {
+        Ok(next) => Ok((clause, rest, next)),
+        Err(rule) => Err(refused(first.line, rule)),
     }
 }

@@ -3,9 +3,9 @@ use Rattle.std.specs.Prelude.{◌≡◌, ◌≢◌, ◌⊎◌, ◌||◌, ℕ, Li
 use Rattle.plc_io.specs.Counts.{Rose}
 use Rattle.plc_io.specs.Moments.{SinkAt}
 use Rattle.plc_io.specs.Taken.{Took, TookPrefix}
-use Rattle.s7.specs.declared.help.Question.{Question}
-use Rattle.s7.specs.declared.help.Question.TheVariants.{Help, Version}
-use Rattle.s7.specs.declared.help.TheConstants.{HELP, VERSION}
+use Rattle.s7_cli.specs.declared.help.Question.{Question}
+use Rattle.s7_cli.specs.declared.help.Question.TheVariants.{Help, Version}
+use Rattle.s7_cli.specs.declared.help.TheConstants.{HELP, VERSION}
 
 -- the text that answers it
 abbrev pub text_of : Question → List ℕ
@@ -13,14 +13,14 @@ text_of Help = HELP.now
 text_of Version = VERSION.now
 
 -- the question that a word asks: `--help` or `-h`, `--version` or `-V`
-abbrev pub asked_by : List ℕ → Option Question
-asked_by word =
+abbrev pub question_by : List ℕ → Option Question
+question_by word =
     if bytes_eq word (codes "--help") || bytes_eq word (codes "-h") then Some Help
     else if bytes_eq word (codes "--version") || bytes_eq word (codes "-V") then Some Version else None
 
 -- it's asked where that is the only word
 abbrev pub question_of : List (List ℕ) → Option Question
-question_of (word ∷ []) = asked_by word
+question_of (word ∷ []) = question_by word
 question_of words = None
 
 -- its text was written: whole at status 0; a front of it at 6, where the sink's count of faults rose, and at 7

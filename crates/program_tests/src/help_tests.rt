@@ -1,5 +1,5 @@
-use crate::help::{Question, question_in, write_answer};
 use plc_io::MemSink;
+use s7_cli::{Question, question_in, write_answer};
 use std::alloc::Global;
 use std::test::Fail;
 

@@ -1,9 +1,9 @@
 //! What the program tells of itself: its commands and its version.
 ghost use Rattle.std.specs.Prelude.{◌≡◌, map, string_bytes};
-ghost use Rattle.s7.specs.Questions.{AnswerWritten, asked_by, question_of, text_of};
+ghost use Rattle.s7_cli.specs.Questions.{AnswerWritten, question_by, question_of, text_of};
 
+use crate::failures::{Failure, Status};
 use plc_io::{IoFault, Sink, push_all};
-use s7_cli::{Failure, Status};
 
 /// What the words may ask of the program itself.
 #[derive(Clone, Copy, Debug, PartialEq, Eq)]
@@ -120,8 +120,8 @@ Example:
 const VERSION: &str = "s7 0.1.0\n";
 
 /// The question that a word asks: `--help` or `-h`, `--version` or `-V`.
-fn asked_by(word: &str) -> Option<Question>
-    ensures { result ≡ asked_by word.now }
+fn question_by(word: &str) -> Option<Question>
+    ensures { result ≡ question_by word.now }
 {
     if word == "--help" || word == "-h" {
         Some(Question::Help)
@@ -137,7 +137,7 @@ pub fn question_in(words: &[String]) -> Option<Question>
     ensures { result ≡ question_of (map string_bytes words.now) }
 {
     match words {
-        [word] => asked_by(word.as_str()),
+        [word] => question_by(word.as_str()),
         _ => None,
     }
 }
