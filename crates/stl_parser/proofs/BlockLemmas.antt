@@ -24,11 +24,11 @@ use Rattle.stl_parser.specs.declared.clauses.Clause.{Clause}
 use Rattle.stl_parser.specs.declared.clauses.Clause.TheVariants as clause
 use Rattle.stl_parser.specs.declared.places.ClausePlace.{ClausePlace}
 use Rattle.stl_parser.specs.declared.places.ClausePlace.TheVariants as place
-use Rattle.stl_parser.specs.BlockReading.{is_inside, behind_inside, declared_by, set_by, stated_by, is_begin, opens_shape, opens_content, opens_part, opened_place, ReadsContent, ReadsShape}
+use Rattle.stl_parser.specs.BlockReading.{is_inside, behind_inside, declared_by, set_by, stated_by, opens_shape, opens_part, opened_place, ReadsContent, ReadsShape}
 use Rattle.stl_parser.specs.Clauses.{level_at, block_rank}
 use Rattle.stl_parser.specs.Frame.{follow, follow_outside, follow_head, follow_section, follow_between, follow_shape, follow_shaped, follow_body, follow_settings}
 use Rattle.stl_parser.specs.Source.{Step, step_of, is_outside, Reads, ReadsKept}
-use Rattle.stl_parser.specs.Spelling.{is_kept, spelled_part, spelled_shape, spelled_behind_head, spelled_block}
+use Rattle.stl_parser.specs.Spelling.{is_kept, spelled_part, spelled_behind_head, spelled_block}
 use Rattle.stl_parser.proofs.FrameLemmas.{right_clause, level_of, same_kind}
 use Rattle.stl_parser.proofs.LawLemmas.{end_is_stuck}
 use Rattle.stl_parser.proofs.LevelLemmas.{IsAt}
@@ -446,16 +446,6 @@ pub body_read : (source : List ℕ) (k : BlockKind) (tokens : List Token) (shape
     (rest : List Token) → ReadsKept source (place.Body k) tokens runs place.Outside rest → shape ≡ [] → sets ≡ [] →
     ReadsContent source k clause.Begins tokens (shape ++ (map clause.Sets sets ++ runs)) rest
 body_read source k tokens shape sets runs rest inside none no_sets = record { kept = runs; reads = inside; whole = rw (none, no_sets) refl }
-
--- the clause that opens a body
-pub begins : (c : Clause) → is_begin c ≡ true → c ≡ clause.Begins
-begins clause.Begins same = refl
-begins _ same = cc
-
--- or the shape
-pub no_begin_opens : (c : Clause) → is_begin c ≡ false → opens_content c ≡ true → opens_shape c ≡ true
-no_begin_opens clause.Begins begins opens = cc
-no_begin_opens _ begins opens = opens
 
 opens_kept : (c : Clause) → opens_shape c ≡ true → filter is_kept (c ∷ []) ≡ c ∷ []
 opens_kept clause.Structure opens = refl

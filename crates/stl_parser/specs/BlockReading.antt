@@ -42,11 +42,6 @@ abbrev pub stated_by : Clause → List Statement
 stated_by (clause.Runs s) = s ∷ []
 stated_by _ = []
 
--- a clause opens the body of a block
-abbrev pub is_begin : Clause → Bool
-is_begin clause.Begins = true
-is_begin _ = false
-
 -- a clause opens the structure of a block, or names what the block is based on
 abbrev pub opens_shape : Clause → Bool
 opens_shape clause.Structure = true
@@ -85,13 +80,15 @@ spelled_opened opened.Body = []
 spelled_opened (opened.Structure components) = clause.Structure ∷ map clause.Declares components
 spelled_opened (opened.Based name) = clause.Based name ∷ []
 
--- what stands behind the sections of a block of this kind: its shape, its settings, its statements and its END clause
+-- what stands behind the sections of a block of this kind: its shape, its settings, its statements
+-- and its END clause
 abbrev pub spelled_content : BlockKind → Content → List Clause
 spelled_content k c =
     spelled_opened c.opened
     ++ (map clause.Sets c.settings ++ (map clause.Runs c.body ++ clause.Ends c.end_line k ∷ []))
 
--- it is spelled by the clause that opens it, where a tree keeps that, and the clauses that are read behind that
+-- it is spelled by the clause that opens it, where a tree keeps that, and the clauses that are read
+-- behind that
 pub record ReadsContent (source : List ℕ) (k : BlockKind) (opening : Clause) (tokens : List Token)
     (spelled : List Clause) (rest : List Token) : Type 0 where
   pub kept : List Clause

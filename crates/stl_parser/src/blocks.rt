@@ -9,7 +9,6 @@ ghost use Rattle.stl_parser.specs.BlockReading.{
   ReadsShape,
   behind_inside,
   declared_by,
-  is_begin,
   is_inside,
   opened_place,
   opens_content,
@@ -321,12 +320,8 @@ fn based(alloc: Global, name: BlockName) -> Shape
 #[derive(Drop)]
 enum Opened {
     Body,
-    Structure {
-        components: Declarations,
-    },
-    Based {
-        name: BlockName,
-    },
+    Structure { components: Declarations },
+    Based { name: BlockName },
 }
 
 /// The shape that is a structure with these components.
@@ -390,13 +385,6 @@ fn opened_shape<'a>(
         Clause::Based { name } => Ok((Opened::Based { name }, tokens)),
         _ => unreachable!(),
     }
-}
-
-/// Whether a clause opens the body of a block.
-fn is_begin(clause: &Clause) -> bool
-    ensures { result ≡ is_begin clause.now }
-{
-    matches!(clause, Clause::Begins)
 }
 
 /// What stands behind the sections of a block.
@@ -473,10 +461,9 @@ fn opened_content<'a>(
     ensures broken { IfErr result
         (IsBrokenBehind source.now (opened_place kind opening) tokens.now last) }
 {
-    if is_begin(&opening) {
-        code_content(alloc, source, last, kind, tokens)
-    } else {
-        data_content(alloc, source, last, kind, opening, tokens)
+    match opening {
+        Clause::Begins => code_content(alloc, source, last, kind, tokens),
+        other => data_content(alloc, source, last, kind, other, tokens),
     }
 }
 

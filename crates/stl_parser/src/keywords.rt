@@ -4,7 +4,7 @@ ghost use Rattle.stl_parser.specs.Terminals.{key_text, is_mark, is_key, has_kind
 use stl_lexer::{Mark, Token, TokenKind, mark_text};
 
 /// A word of the language that stands inside a clause.
-#[derive(Clone, Copy, Debug, PartialEq, Eq)]
+#[derive(Clone, Copy)]
 pub enum Key {
     True,
     False,

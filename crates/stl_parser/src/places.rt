@@ -13,7 +13,7 @@ use stl_ast::PartKind;
 
 /// Where a clause stands: what is open. `level` counts the structures that are open in a section,
 /// or inside the structure of a data block or of a `TYPE` block.
-#[derive(Clone, Copy, Debug, PartialEq, Eq)]
+#[derive(Clone, Copy)]
 pub enum ClausePlace {
     /// Between blocks.
     Outside,

@@ -2,7 +2,7 @@ use plc_base::{BlockKind, Flag, Width};
 use stl_ast::{Letters, Mnemonic, PartKind, Simple};
 
 /// What the letters of an address name.
-#[derive(Clone, Copy, Debug, PartialEq, Eq)]
+#[derive(Clone, Copy)]
 pub enum Address {
     Area { letters: Letters, width: Width },
     Timer,
@@ -11,7 +11,7 @@ pub enum Address {
 }
 
 /// A keyword that begins a clause wherever it stands at the start of one.
-#[derive(Clone, Copy, Debug, PartialEq, Eq)]
+#[derive(Clone, Copy)]
 pub enum Keyword {
     Opens { kind: BlockKind },
     Ends { kind: BlockKind },
@@ -25,7 +25,7 @@ pub enum Keyword {
 
 /// A word that describes a block in its head: `VERSION : n.n`, one with a word behind its colon, or
 /// one that stands alone.
-#[derive(Clone, Copy, Debug, PartialEq, Eq)]
+#[derive(Clone, Copy)]
 pub enum HeadWord {
     Version,
     Named,
@@ -34,7 +34,7 @@ pub enum HeadWord {
 
 /// What may stand behind an instruction word: an operand or nothing; a label, behind a jump; a data
 /// block, behind OPN; one block, behind UC and CC; a block with its actual parameters, behind CALL.
-#[derive(Clone, Copy, Debug, PartialEq, Eq)]
+#[derive(Clone, Copy)]
 pub enum Form {
     Operand,
     Jump,
