@@ -179,7 +179,7 @@ fn apply(
 }
 
 /// The most entries of a run.
-const MOST_ENTRIES: u64 = 100_000;
+pub(crate) const MOST_ENTRIES: u64 = 100_000;
 
 /// A program that is spelled as text.
 pub(crate) fn loaded(alloc: Global, program: &str) -> Result<Loaded, Fail> {
@@ -195,6 +195,21 @@ pub(crate) fn controller_of(alloc: Global, program: &str) -> Result<Controller, 
     Ok(Controller::new(alloc, loaded(alloc, program)?)?)
 }
 
+/// Applies a history, and writes what it showed with its end.
+fn write_run(
+    rt: &impl Abort,
+    controller: &mut Controller,
+    out: &mut String,
+    history: &str,
+) -> Result<(), Fail> {
+    for line in history.split('|') {
+        apply(rt, controller, out, line)?;
+    }
+    write_end(rt, out, controller)?;
+    Ok(())
+}
+
+/// The text of a run.
 pub(crate) fn run_text(
     alloc: Global,
     rt: &impl Abort,
@@ -203,10 +218,7 @@ pub(crate) fn run_text(
 ) -> Result<String, Fail> {
     let mut controller = controller_of(alloc, program)?;
     let mut out = String::new(alloc);
-    for line in history.split('|') {
-        apply(rt, &mut controller, &mut out, line)?;
-    }
-    write_end(rt, &mut out, &controller)?;
+    write_run(rt, &mut controller, &mut out, history)?;
     Ok(out)
 }
 

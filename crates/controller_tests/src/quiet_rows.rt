@@ -1,7 +1,7 @@
 //! Steps that show nothing are passed in a row, and all comes out as one by one.
-use crate::bench::{apply_entry, controller_of, entries_text};
+use crate::bench::{MOST_ENTRIES, apply_entry, controller_of, entries_text};
 use crate::compare::same;
-use controller::leading_steps;
+use controller::{Controller, leading_steps};
 use plc_base::Mode;
 use std::alloc::{AllocError, Global};
 use std::process::Abort;
@@ -70,21 +70,35 @@ fn entries_of(alloc: Global, first: u8, then: u8) -> Result<Vec<Entry>, AllocErr
     Ok(entries)
 }
 
+/// Takes the steps at the front in a row, of which so many are made; what is left of the entries.
+fn pass_steps<'a>(
+    rt: &impl Abort,
+    controller: &mut Controller,
+    when: &str,
+    entries: &'a [Entry],
+    made: usize,
+) -> Result<&'a [Entry], Fail> {
+    let steps = &entries[..leading_steps(entries)];
+    assert!(rt; controller.history_len() < MOST_ENTRIES);
+    controller.reserve(steps.len() as u64)?;
+    let passed = controller.step_quietly(steps);
+    same(rt, when, passed, made);
+    Ok(&entries[passed..])
+}
+
 /// The text of all entries, the first steps in a row as far as they show nothing.
 fn quiet_text(
     alloc: Global,
     rt: &impl Abort,
     program: &str,
     entries: &[Entry],
-    in_a_row: usize,
+    made: usize,
 ) -> Result<String, Fail> {
     let mut controller = controller_of(alloc, program)?;
-    controller.reserve(entries.len() as u64)?;
-    let made = controller.step_quietly(&entries[..leading_steps(entries)]);
-    same(rt, program, made, in_a_row);
+    let left = pass_steps(rt, &mut controller, program, entries, made)?;
     same(rt, program, controller.history_len(), made as u64);
-    assert!(rt; controller.mode() == Mode::Startup, "{program}");
-    entries_text(alloc, rt, &mut controller, &entries[made..])
+    same(rt, program, controller.mode() == Mode::Startup, true);
+    entries_text(alloc, rt, &mut controller, left)
 }
 
 /// The text of all entries, one by one.
@@ -106,20 +120,25 @@ fn steps_are_passed(rt: HostRuntime) -> Result<(), Fail> {
     Ok(())
 }
 
+/// Runs that program until OB 10 waits.
+fn wait_for_a_place(
+    rt: &impl Abort,
+    controller: &mut Controller,
+    out: &mut String,
+) -> Result<(), Fail> {
+    let steps = [entry_of(What::Step); 5];
+    let arrival = |ob: u16| entry_of(What::Arrive { ob, value: 0 });
+    apply_entry(rt, controller, out, entry_of(What::Step))?;
+    apply_entry(rt, controller, out, arrival(40))?;
+    pass_steps(rt, controller, "nothing waits", &steps, 5)?;
+    apply_entry(rt, controller, out, arrival(10))?;
+    pass_steps(rt, controller, "OB 10 waits", &steps, 0)?;
+    Ok(())
+}
+
 #[test]
 fn a_request_that_waits_ends_the_row(rt: HostRuntime) -> Result<(), Fail> {
-    let alloc = rt.alloc();
-    let entries = entries_of(alloc, 5, 0)?;
-    let steps = &entries[..leading_steps(entries.as_slice())];
-    let mut controller = controller_of(alloc, WAITS)?;
-    let mut out = String::new(alloc);
-    apply_entry(&rt, &mut controller, &mut out, entry_of(What::Step))?;
-    let arrival = |ob: u16| entry_of(What::Arrive { ob, value: 0 });
-    apply_entry(&rt, &mut controller, &mut out, arrival(40))?;
-    controller.reserve(steps.len() as u64)?;
-    same(&rt, "nothing waits", controller.step_quietly(steps), 5);
-    apply_entry(&rt, &mut controller, &mut out, arrival(10))?;
-    controller.reserve(steps.len() as u64)?;
-    same(&rt, "OB 10 waits", controller.step_quietly(steps), 0);
-    Ok(())
+    let mut controller = controller_of(rt.alloc(), WAITS)?;
+    let mut out = String::new(rt.alloc());
+    wait_for_a_place(&rt, &mut controller, &mut out)
 }

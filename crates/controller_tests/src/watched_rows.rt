@@ -3,6 +3,7 @@ use crate::bench::loaded;
 use crate::compare::same;
 use cpu::{Observer, Parts, data_numbers};
 use plc_base::Mode;
+use std::process::Abort;
 use std::test::Fail;
 
 #[test]
@@ -31,18 +32,15 @@ fn first_bytes_of_data_blocks(rt: HostRuntime) -> Result<(), Fail> {
     Ok(())
 }
 
-/// A start with OB 100 is in STARTUP, one without it in RUN.
-#[test]
-fn a_mode_is_seen_where_it_changes(rt: HostRuntime) -> Result<(), Fail> {
-    let run = Parts::start(rt.alloc(), &loaded(rt.alloc(), "NOP #0")?)?;
-    let startup = Parts::start(rt.alloc(), &loaded(rt.alloc(), "OB 100 20 0 { NOP #0")?)?;
-    let mut observer = Observer::new(&run);
+/// What is seen of a state in RUN and of one in STARTUP, by one observer.
+fn modes_are_seen(rt: &impl Abort, run: &Parts, startup: &Parts) {
+    let mut observer = Observer::new(run);
     assert!(rt; observer.seen().mode.is_none());
     for (state, mode) in [
-        (&run, None),
-        (&startup, Some(Mode::Startup)),
-        (&startup, None),
-        (&run, Some(Mode::Run)),
+        (run, None),
+        (startup, Some(Mode::Startup)),
+        (startup, None),
+        (run, Some(Mode::Run)),
     ] {
         observer.look(state);
         assert!(rt; observer.seen().mode == mode);
@@ -50,5 +48,13 @@ fn a_mode_is_seen_where_it_changes(rt: HostRuntime) -> Result<(), Fail> {
     }
     observer.pass();
     assert!(rt; observer.seen().mode.is_none());
+}
+
+/// A start with OB 100 is in STARTUP, one without it in RUN.
+#[test]
+fn a_mode_is_seen_where_it_changes(rt: HostRuntime) -> Result<(), Fail> {
+    let run = Parts::start(rt.alloc(), &loaded(rt.alloc(), "NOP #0")?)?;
+    let startup = Parts::start(rt.alloc(), &loaded(rt.alloc(), "OB 100 20 0 { NOP #0")?)?;
+    modes_are_seen(&rt, &run, &startup);
     Ok(())
 }

@@ -1,6 +1,9 @@
+ghost use Rattle.std.specs.Prelude.{◌^◌, ◌<◌};
+ghost use Rattle.plc_base.specs.Widths.{bit_count};
+
 use crate::compare::same;
 use plc_base::{Area, Place, Width};
-use plc_mem::{Memory, Missing, operands};
+use plc_mem::{Memory, Missing, PeripheralArea, operands};
 use std::alloc::Global;
 use std::process::Abort;
 
@@ -28,6 +31,28 @@ fn memory(rt: &impl Abort, alloc: Global) -> Memory {
     let bytes = bytes.expect(rt, "memory");
     let blocks = [(7, bytes), (3, Vec::new(alloc))];
     Memory::new(alloc, &blocks).expect(rt, "memory")
+}
+
+/// Writes a number, which has a place.
+fn write(rt: &impl Abort, memory: &mut Memory, what: &str, place: Place, width: Width, number: u32)
+    requires { number < 2 ^ bit_count width }
+{
+    same(rt, what, memory.write(place, width, number), Ok(()));
+}
+
+/// Each of these places holds its number.
+fn all_read(rt: &impl Abort, memory: &Memory, rows: &[(Place, Width, u32)]) {
+    for (place, width, number) in rows {
+        let read = memory.read(*place, *width);
+        same(rt, (*place, *width), read, Ok(*number));
+    }
+}
+
+/// Each of these peripheral output bytes has its value, or there is none.
+fn all_output(rt: &impl Abort, memory: &Memory, when: &str, rows: &[(u16, Option<u8>)]) {
+    for (byte, value) in rows {
+        same(rt, (when, *byte), memory.output(*byte), *value);
+    }
 }
 
 // Each area at its last byte: the widths that fit there and those that run past it. What is written
@@ -101,76 +126,149 @@ fn last_bytes(rt: HostRuntime) {
 #[test]
 fn big_endian(rt: HostRuntime) {
     let mut memory = memory(&rt, rt.alloc());
-    let written = memory.write(at(Area::M, 10, 0), Width::Dword, 0x1234_5678);
-    same(&rt, "T MD 10", written, Ok(()));
-    for (place, width, number) in [
+    let double_word = at(Area::M, 10, 0);
+    write(
+        &rt,
+        &mut memory,
+        "T MD 10",
+        double_word,
+        Width::Dword,
+        0x1234_5678,
+    );
+    let rows = [
         (at(Area::M, 10, 0), Width::Byte, 0x12),
         (at(Area::M, 12, 0), Width::Word, 0x5678),
         (at(Area::M, 11, 0), Width::Word, 0x3456),
         (at(Area::M, 13, 4), Width::Bit, 1),
         (at(Area::M, 13, 0), Width::Bit, 0),
         (in_block(7, 1, 0), Width::Word, 0x0B0C),
-    ] {
-        same(&rt, (place, width), memory.read(place, width), Ok(number));
-    }
-    let written = memory.write(at(Area::M, 13, 0), Width::Bit, 1);
-    same(&rt, "S M 13.0", written, Ok(()));
-    let written = memory.write(at(Area::M, 13, 6), Width::Bit, 0);
-    same(&rt, "R M 13.6", written, Ok(()));
-    let read = memory.read(at(Area::M, 13, 0), Width::Byte);
-    same(&rt, "MB 13", read, Ok(0x39));
-    let bytes = [0x0A, 0x0B, 0x0C, 0x0D];
-    same(&rt, "DB 7", memory.data_block(7), Some(&bytes[..]));
-    same(&rt, "DB 3", memory.data_block(3), Some(&[][..]));
-    same(&rt, "DB 0", memory.data_block(0), None);
+    ];
+    all_read(&rt, &memory, &rows);
+    write(
+        &rt,
+        &mut memory,
+        "S M 13.0",
+        at(Area::M, 13, 0),
+        Width::Bit,
+        1,
+    );
+    write(
+        &rt,
+        &mut memory,
+        "R M 13.6",
+        at(Area::M, 13, 6),
+        Width::Bit,
+        0,
+    );
+    all_read(&rt, &memory, &[(at(Area::M, 13, 0), Width::Byte, 0x39)]);
 }
 
-// Peripheral outputs take what T PQW writes, the process image with them, and a refresh moves QB 0
-// out and PIB 0 in.
+#[test]
+fn data_blocks(rt: HostRuntime) {
+    let memory = memory(&rt, rt.alloc());
+    let rows: [(u16, Option<&[u8]>); 3] = [
+        (7, Some(&[0x0A, 0x0B, 0x0C, 0x0D])),
+        (3, Some(&[])),
+        (0, None),
+    ];
+    for (number, bytes) in rows {
+        same(&rt, number, memory.data_block(number), bytes);
+    }
+}
+
+// Peripheral outputs take what T PQW writes, the process image with them, and peripheral inputs are
+// read as area P.
 #[test]
 fn peripherals(rt: HostRuntime) {
     let mut memory = memory(&rt, rt.alloc());
-    let written = memory.write(at(Area::P, 4, 0), Width::Word, 0xABCD);
-    same(&rt, "T PQW 4", written, Ok(()));
-    same(&rt, "PQB 4", memory.output(4), Some(0xAB));
-    same(&rt, "PQB 5", memory.output(5), Some(0xCD));
-    same(&rt, "PIB 0", memory.set_input(0, 0x55), Ok(()));
-    same(&rt, "PIB 767", memory.set_input(767, 0x66), Ok(()));
-    same(&rt, "PIB 128", memory.set_input(128, 0x77), Err(Missing));
-    for (place, width, number) in [
+    write(
+        &rt,
+        &mut memory,
+        "T PQW 4",
+        at(Area::P, 4, 0),
+        Width::Word,
+        0xABCD,
+    );
+    all_output(&rt, &memory, "T PQW 4", &[(4, Some(0xAB)), (5, Some(0xCD))]);
+    for (byte, value, set) in [
+        (0, 0x55, Ok(())),
+        (767, 0x66, Ok(())),
+        (128, 0x77, Err(Missing)),
+    ] {
+        same(&rt, ("PIB", byte), memory.set_input(byte, value), set);
+    }
+    let rows = [
         (at(Area::Q, 4, 0), Width::Word, 0xABCD),
         (at(Area::P, 4, 0), Width::Word, 0),
         (at(Area::P, 0, 0), Width::Byte, 0x55),
         (at(Area::P, 767, 0), Width::Byte, 0x66),
         (at(Area::I, 0, 0), Width::Byte, 0),
-    ] {
-        same(&rt, (place, width), memory.read(place, width), Ok(number));
-    }
-    let written = memory.write(at(Area::Q, 0, 0), Width::Byte, 0x99);
-    same(&rt, "T QB 0", written, Ok(()));
-    same(&rt, "PQB 0 before the refresh", memory.output(0), Some(0));
-    let mut before = memory.outputs().copied();
+    ];
+    all_read(&rt, &memory, &rows);
+}
+
+// A refresh moves QB 0 out and PIB 0 in.
+#[test]
+fn refresh(rt: HostRuntime) {
+    let mut memory = memory(&rt, rt.alloc());
+    same(&rt, "PIB 0", memory.set_input(0, 0x55), Ok(()));
+    write(
+        &rt,
+        &mut memory,
+        "T QB 0",
+        at(Area::Q, 0, 0),
+        Width::Byte,
+        0x99,
+    );
+    all_output(&rt, &memory, "before the refresh", &[(0, Some(0))]);
     memory.refresh();
-    let read = memory.read(at(Area::I, 0, 0), Width::Byte);
-    same(&rt, "IB 0 after the refresh", read, Ok(0x55));
-    same(&rt, "PQB 0 after the refresh", memory.output(0), Some(0x99));
-    same(&rt, "PQB 128", memory.output(128), None);
-    let written = memory.write(at(Area::P, 700, 3), Width::Bit, 1);
-    same(&rt, "PQ 700.3", written, Ok(()));
-    let outputs = memory.outputs();
-    same(&rt, "PQB 700", outputs.byte(700), Some(0x08));
-    for (from, changed) in [(0, Some(0)), (1, Some(700)), (701, None)] {
-        let next = outputs.next_change(&before, from);
-        same(&rt, ("next change from", from), next, changed);
+    all_read(&rt, &memory, &[(at(Area::I, 0, 0), Width::Byte, 0x55)]);
+    all_output(&rt, &memory, "after", &[(0, Some(0x99)), (128, None)]);
+}
+
+/// From each of these bytes on, the first that differs.
+fn next_changes(
+    rt: &impl Abort,
+    now: &PeripheralArea,
+    before: &PeripheralArea,
+    rows: &[(u16, Option<u16>)],
+) {
+    for (from, changed) in rows {
+        let next = now.next_change(before, *from);
+        same(rt, ("next change from", *from), next, *changed);
     }
-    before.copy_from(outputs);
-    let next = outputs.next_change(&before, 0);
-    same(&rt, "no change against a copy", next, None);
+}
+
+// What changed since the outputs were copied, and what clearing them leaves.
+#[test]
+fn changed_outputs(rt: HostRuntime) {
+    let mut memory = memory(&rt, rt.alloc());
+    let mut before = memory.outputs().copied();
+    write(
+        &rt,
+        &mut memory,
+        "T QB 0",
+        at(Area::Q, 0, 0),
+        Width::Byte,
+        0x99,
+    );
+    memory.refresh();
+    write(
+        &rt,
+        &mut memory,
+        "PQ 700.3",
+        at(Area::P, 700, 3),
+        Width::Bit,
+        1,
+    );
+    same(&rt, "PQB 700", memory.outputs().byte(700), Some(0x08));
+    let rows = [(0, Some(0)), (1, Some(700)), (701, None)];
+    next_changes(&rt, memory.outputs(), &before, &rows);
+    before.copy_from(memory.outputs());
+    next_changes(&rt, memory.outputs(), &before, &[(0, None)]);
     memory.clear_outputs();
-    same(&rt, "PQB 0 cleared", memory.output(0), Some(0));
-    same(&rt, "PQB 700 cleared", memory.output(700), Some(0));
-    let read = memory.read(at(Area::Q, 0, 0), Width::Byte);
-    same(&rt, "QB 0 after the outputs are cleared", read, Ok(0x99));
+    all_output(&rt, &memory, "cleared", &[(0, Some(0)), (700, Some(0))]);
+    all_read(&rt, &memory, &[(at(Area::Q, 0, 0), Width::Byte, 0x99)]);
 }
 
 // Local bytes are no memory; their operands are read and written in the same way.
