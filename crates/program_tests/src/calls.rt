@@ -171,16 +171,21 @@ fn runs_and_refusals(rt: HostRuntime) -> Result<(), Fail> {
 
 // The commands by themselves, with the names of their files in place of words.
 #[test]
-fn the_two_commands(rt: HostRuntime) -> Result<(), Fail> {
-    let alloc = rt.alloc();
-    let mut files = two_files(alloc, RUNG, ONE_RUN)?;
-    let mut out = MemSink::new(alloc, 64);
-    let checked = cmd_check(alloc, "source", None, &mut files, &mut out);
-    let told = (checked.code, out.taken.as_slice());
+fn check_by_itself(rt: HostRuntime) -> Result<(), Fail> {
+    let mut files = two_files(rt.alloc(), RUNG, b"")?;
+    let mut out = MemSink::new(rt.alloc(), 64);
+    let status = cmd_check(rt.alloc(), "source", None, &mut files, &mut out);
+    let told = (status.code, out.taken.as_slice());
     same(&rt, "check", told, (0, b"OK\n".as_slice()));
-    let mut out = MemSink::new(alloc, 64);
-    let run = cmd_go(alloc, "source", "history", None, &mut files, &mut out);
-    let told = (run.code, out.taken.as_slice());
+    Ok(())
+}
+
+#[test]
+fn go_by_itself(rt: HostRuntime) -> Result<(), Fail> {
+    let mut files = two_files(rt.alloc(), RUNG, ONE_RUN)?;
+    let mut out = MemSink::new(rt.alloc(), 64);
+    let status = cmd_go(rt.alloc(), "source", "history", None, &mut files, &mut out);
+    let told = (status.code, out.taken.as_slice());
     let text = b"@7 PQ 4 = 01\nEND 7 RUN\n".as_slice();
     same(&rt, "go", told, (0, text));
     Ok(())
@@ -325,6 +330,27 @@ fn failed_push(rt: HostRuntime) -> Result<(), Fail> {
     Ok(())
 }
 
+/// A file of so many bytes, all of them this one.
+pub(crate) fn put_long(
+    files: &mut MemFiles,
+    alloc: Global,
+    name: &str,
+    byte: u8,
+    length: usize,
+) -> Result<(), Fail> {
+    let bytes = vec![in alloc; byte; length]?;
+    files.put(name, &bytes)?;
+    Ok(())
+}
+
+/// The files of a call: a source of blanks and a history of empty lines, of so many bytes.
+fn long_two_files(alloc: Global, source: usize, history: usize) -> Result<MemFiles, Fail> {
+    let mut files = MemFiles::new(alloc);
+    put_long(&mut files, alloc, "source", b' ', source)?;
+    put_long(&mut files, alloc, "history", b'\n', history)?;
+    Ok(files)
+}
+
 // The longest files, and one byte more; then the history needn't be there.
 #[test]
 fn long_files(rt: HostRuntime) -> Result<(), Fail> {
@@ -345,9 +371,7 @@ fn long_files(rt: HostRuntime) -> Result<(), Fail> {
     ];
     for (words, source_len, history_len, status, text) in table {
         let what = (words, source_len, history_len);
-        let source = vec![in rt.alloc(); b' '; source_len]?;
-        let history = vec![in rt.alloc(); b'\n'; history_len]?;
-        let files = two_files(rt.alloc(), &source, &history)?;
+        let files = long_two_files(rt.alloc(), source_len, history_len)?;
         let out = MemSink::new(rt.alloc(), 64);
         answers(&rt, rt.alloc(), what, words, files, out, (status, text))?;
     }

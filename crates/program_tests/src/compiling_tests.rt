@@ -6,6 +6,8 @@ use event_text::read_history;
 use plc_base::Refusal;
 use plc_io::MemSink;
 use run_text::{Line, replay_text};
+use std::alloc::Global;
+use std::process::Abort;
 use std::test::Fail;
 
 /// The most bytes of a source, and of a symbols file.
@@ -17,29 +19,22 @@ const BY_SYMBOLS: &[u8] =
 
 const SYMBOLS: &[u8] = b"On,I 0.0,BOOL,\nLamp,Q 4.0,BOOL,\n";
 
-// In 0.0 comes on. A cycle of two statements is four steps, and the fifth shows what it wrote.
-#[test]
-fn a_source_by_symbols_is_compiled(rt: HostRuntime) -> Result<(), Fail> {
-    assert!(rt; BY_SYMBOLS.len() <= LIMIT && SYMBOLS.len() <= LIMIT);
-    let program = compiled(rt.alloc(), BY_SYMBOLS, Some(SYMBOLS))?;
-    let entries = read_history(rt.alloc(), b"in 0 01\nstep 5\n")?;
-    let mut out = MemSink::new(rt.alloc(), 64);
-    replay_text(rt.alloc(), program, &entries, &mut out)?;
-    let text = b"@6 PQ 4 = 01\nEND 6 RUN\n".as_slice();
-    same(&rt, "the run", out.taken.as_slice(), text);
-    Ok(())
-}
-
-// The interlock of docs/FORMATS.md, without symbols. The sink takes one byte of each piece.
-#[test]
-fn a_program_is_run(rt: HostRuntime) -> Result<(), Fail> {
-    assert!(rt; RUNG.len() <= LIMIT);
-    let program = compiled(rt.alloc(), RUNG, None)?;
-    let entries = read_history(rt.alloc(), ONE_RUN)?;
-    let mut out = MemSink::new(rt.alloc(), 1);
-    replay_text(rt.alloc(), program, &entries, &mut out)?;
-    let text = b"@7 PQ 4 = 01\nEND 7 RUN\n".as_slice();
-    same(&rt, "the run", out.taken.as_slice(), text);
+/// Runs a source with its symbols along a history.
+fn runs(
+    rt: &impl Abort,
+    out: &mut MemSink,
+    alloc: Global,
+    source: &[u8],
+    symbols: Option<&[u8]>,
+    history: &[u8],
+) -> Result<(), Fail> {
+    assert!(rt; source.len() <= LIMIT);
+    if let Some(bytes) = symbols {
+        assert!(rt; bytes.len() <= LIMIT);
+    }
+    let program = compiled(alloc, source, symbols)?;
+    let entries = read_history(alloc, history)?;
+    replay_text(alloc, program, &entries, out)?;
     Ok(())
 }
 
@@ -79,6 +74,34 @@ fn accepted_or_refused(rt: HostRuntime) -> Result<(), Fail> {
         let program = compiled(rt.alloc(), source, Some(symbols));
         same(&rt, "compiled", program.err(), fault);
     }
+    Ok(())
+}
+
+// In 0.0 comes on. A cycle of two statements is four steps, and the fifth shows what it wrote.
+#[test]
+fn a_source_by_symbols_is_compiled(rt: HostRuntime) -> Result<(), Fail> {
+    let mut out = MemSink::new(rt.alloc(), 64);
+    let history = b"in 0 01\nstep 5\n";
+    runs(
+        &rt,
+        &mut out,
+        rt.alloc(),
+        BY_SYMBOLS,
+        Some(SYMBOLS),
+        history,
+    )?;
+    let text = b"@6 PQ 4 = 01\nEND 6 RUN\n".as_slice();
+    same(&rt, "the run", out.taken.as_slice(), text);
+    Ok(())
+}
+
+// The interlock of docs/FORMATS.md, without symbols. The sink takes one byte of each piece.
+#[test]
+fn a_program_is_run(rt: HostRuntime) -> Result<(), Fail> {
+    let mut out = MemSink::new(rt.alloc(), 1);
+    runs(&rt, &mut out, rt.alloc(), RUNG, None, ONE_RUN)?;
+    let text = b"@7 PQ 4 = 01\nEND 7 RUN\n".as_slice();
+    same(&rt, "the run", out.taken.as_slice(), text);
     Ok(())
 }
 

@@ -128,12 +128,17 @@ fn sure_files(rt: HostRuntime) -> Result<(), Fail> {
 }
 
 #[test]
-fn lists_from_vectors(rt: HostRuntime) -> Result<(), Fail> {
+fn files_from_a_vector(rt: HostRuntime) -> Result<(), Fail> {
     let mut files = NamedFiles::new(rt.alloc());
     files.put("a", b"x")?;
     let files = NamedFiles::from_vec(files.into_vec());
     same(&rt, "the file", files.get("a"), Some(&b"x"[..]));
     same(&rt, "the count of files", files.as_slice().len(), 1);
+    Ok(())
+}
+
+#[test]
+fn bytes_from_a_vector(rt: HostRuntime) -> Result<(), Fail> {
     let mut bytes = Bytes::from_vec(Vec::from_slice(rt.alloc(), b"ab")?);
     bytes.append(b"c")?;
     let bytes = bytes.into_vec();
@@ -151,27 +156,34 @@ fn a_file_with_its_name(rt: HostRuntime) -> Result<(), Fail> {
     Ok(())
 }
 
+// One byte a push: eleven bytes, eleven pushes.
 #[test]
-fn sinks_in_memory(rt: HostRuntime) -> Result<(), Fail> {
-    // One byte a push: eleven bytes, eleven pushes.
-    let mut one = MemSink::new(rt.alloc(), 1);
+fn a_sink_that_takes_ones(rt: HostRuntime) -> Result<(), Fail> {
+    let mut out = MemSink::new(rt.alloc(), 1);
     let text = b"END 10 RUN\n".as_slice();
-    same(&rt, "by ones", push_all(&mut one, text), Ok(()));
-    same(&rt, "taken by ones", one.taken.as_slice(), text);
-    same(&rt, "the count of pushes", one.pushes.made, 11);
+    same(&rt, "the push", push_all(&mut out, text), Ok(()));
+    same(&rt, "taken", out.taken.as_slice(), text);
+    same(&rt, "the count of pushes", out.pushes.made, 11);
+    Ok(())
+}
 
-    // Three bytes a push, of which the third is to fail.
-    let mut three = MemSink::new(rt.alloc(), 3);
-    three.fail_pushes(only(3));
+// Three bytes a push, of which the third is to fail.
+#[test]
+fn a_sink_that_fails(rt: HostRuntime) -> Result<(), Fail> {
+    let mut out = MemSink::new(rt.alloc(), 3);
+    out.fail_pushes(only(3));
+    let fault = push_all(&mut out, b"0123456789");
+    same(&rt, "the push", fault, Err(IoFault::Failed));
+    same(&rt, "taken", out.taken.as_slice(), b"012345".as_slice());
+    Ok(())
+}
+
+#[test]
+fn a_sure_sink(rt: HostRuntime) -> Result<(), Fail> {
+    let mut out = SureSink::new(rt.alloc());
     let text = b"0123456789".as_slice();
-    let fault = push_all(&mut three, text);
-    same(&rt, "by threes", fault, Err(IoFault::Failed));
-    let taken = three.taken.as_slice();
-    same(&rt, "taken by threes", taken, b"012345".as_slice());
-
-    let mut sure = SureSink::new(rt.alloc());
-    same(&rt, "at once", sure.push(text), Ok(10));
-    same(&rt, "taken at once", sure.taken.as_slice(), text);
+    same(&rt, "the push", out.push(text), Ok(10));
+    same(&rt, "taken", out.taken.as_slice(), text);
     Ok(())
 }
 

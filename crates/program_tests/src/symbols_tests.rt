@@ -1,5 +1,5 @@
 //! Calls with a file of symbols: what symbols mean, and in which order files are read and checked.
-use crate::calls::{ONE_RUN, RUNG, answers, only, two_files};
+use crate::calls::{ONE_RUN, RUNG, answers, only, put_long, two_files};
 use plc_io::{MemFiles, MemSink};
 use std::alloc::Global;
 use std::process::Abort;
@@ -138,6 +138,16 @@ fn checks_with_symbols(rt: HostRuntime) -> Result<(), Fail> {
     are_told(&rt, rt.alloc(), &CHECK, &JUDGED)
 }
 
+/// The files of a call: a source of blanks, symbols of empty lines, of so many bytes, and an empty
+/// history.
+fn long_three_files(alloc: Global, source: usize, symbols: usize) -> Result<MemFiles, Fail> {
+    let mut files = MemFiles::new(alloc);
+    put_long(&mut files, alloc, "source", b' ', source)?;
+    put_long(&mut files, alloc, "symbols", b'\n', symbols)?;
+    files.put("history", b"")?;
+    Ok(files)
+}
+
 // The source is read first, then the symbols, then the history; a file that is too long or can't be
 // read ends the reading.
 #[test]
@@ -172,10 +182,7 @@ fn symbols_that_are_not_read(rt: HostRuntime) -> Result<(), Fail> {
     ];
     for (words, source_len, symbols_len, status, text) in table {
         let what = (words, source_len, symbols_len);
-        let source = vec![in rt.alloc(); b' '; source_len]?;
-        let symbols = vec![in rt.alloc(); b'\n'; symbols_len]?;
-        let mut files = two_files(rt.alloc(), &source, b"")?;
-        files.put("symbols", &symbols)?;
+        let files = long_three_files(rt.alloc(), source_len, symbols_len)?;
         let out = MemSink::new(rt.alloc(), 64);
         answers(&rt, rt.alloc(), what, words, files, out, (status, text))?;
     }
