@@ -1,10 +1,11 @@
 //! Trees as text: one line for each block, section, declaration, setting, statement and actual
 //! parameter, each with its line in the source, so that a table holds trees beside their sources.
 
+use plc_base::Width;
 use std::alloc::{AllocError, Global};
 use stl_ast::{
     Actual, Block, BlockName, Bounds, Characters, Declaration, ElementType, Init, Letters, Literal,
-    Name, Operand, Part, PathHead, PathStep, Setting, Simple, Statement, Tree, TypeTree,
+    Name, Numbered, Operand, Part, PathHead, PathStep, Setting, Simple, Statement, Tree, TypeTree,
 };
 
 type Written = Result<(), AllocError>;
@@ -12,6 +13,12 @@ type Written = Result<(), AllocError>;
 /// The name, or `?` where it is no text.
 fn name_text(name: &Name) -> &str {
     str::from_utf8(name.as_bytes()).unwrap_or("?")
+}
+
+/// These words and the name.
+fn words_and_name(out: &mut String, words: &str, name: &Name) -> Written {
+    out.push_str(words)?;
+    out.push_str(name_text(name))
 }
 
 /// `Db 10`, or a quoted name.
@@ -23,8 +30,8 @@ fn block_name(out: &mut String, name: &BlockName) -> Written {
             write!(out, "{kind:?} {number}")
         }
         BlockName::Quoted { name } => {
-            let text = name_text(name);
-            write!(out, "\"{text}\"")
+            words_and_name(out, "\"", name)?;
+            out.push_str("\"")
         }
     }
 }
@@ -64,10 +71,7 @@ fn literal(out: &mut String, literal: &Literal) -> Written {
 /// `.name` or `[index]`.
 fn step(out: &mut String, step: &PathStep) -> Written {
     match step {
-        PathStep::Named { name } => {
-            let text = name_text(name);
-            write!(out, ".{text}")
-        }
+        PathStep::Named { name } => words_and_name(out, ".", name),
         PathStep::Index { at } => write!(out, "[{at}]"),
     }
 }
@@ -81,18 +85,12 @@ fn steps(out: &mut String, steps: &[PathStep]) -> Written {
 
 fn path_head(out: &mut String, head: &PathHead) -> Written {
     match head {
-        PathHead::Local { name } => {
-            let text = name_text(name);
-            write!(out, "Local {text}")
-        }
+        PathHead::Local { name } => words_and_name(out, "Local ", name),
         PathHead::InBlock { name } => {
             out.push_str("In ")?;
             block_name(out, name)
         }
-        PathHead::Symbol { name } => {
-            let text = name_text(name);
-            write!(out, "Symbol {text}")
-        }
+        PathHead::Symbol { name } => words_and_name(out, "Symbol ", name),
     }
 }
 
@@ -115,6 +113,47 @@ fn named(out: &mut String, words: &str, block: &Option<BlockName>) -> Written {
     }
 }
 
+fn direct(out: &mut String, area: Letters, width: Width, byte: u16, bit: u8) -> Written {
+    write!(out, "Direct {area:?} {width:?} {byte}.{bit}")
+}
+
+fn by_memory(out: &mut String, area: Letters, width: Width, from: Letters, byte: u16) -> Written {
+    write!(out, "ByMemory {area:?} {width:?} {from:?} {byte}")
+}
+
+fn number_by(out: &mut String, what: Numbered, from: Letters, byte: u16) -> Written {
+    write!(out, "NumberBy {what:?} {from:?} {byte}")
+}
+
+fn by_register(
+    out: &mut String,
+    letters: Option<Letters>,
+    width: Width,
+    register: u8,
+    bits: u32,
+) -> Written {
+    out.push_str("ByRegister")?;
+    area(out, letters)?;
+    write!(out, " {width:?} {register} {bits}")
+}
+
+fn pointer(out: &mut String, letters: Option<Letters>, byte: u16, bit: u8) -> Written {
+    out.push_str("Pointer")?;
+    area(out, letters)?;
+    write!(out, " {byte}.{bit}")
+}
+
+fn open_block(out: &mut String, di: bool, name: &BlockName) -> Written {
+    out.push_str(if di { "OpenBlock DI " } else { "OpenBlock DB " })?;
+    block_name(out, name)
+}
+
+fn called(out: &mut String, name: &BlockName, instance: &Option<BlockName>) -> Written {
+    out.push_str("Called ")?;
+    block_name(out, name)?;
+    named(out, " with ", instance)
+}
+
 /// An operand, as `Direct M Word 2.0`.
 fn operand(out: &mut String, operand: &Operand) -> Written {
     match operand {
@@ -126,7 +165,7 @@ fn operand(out: &mut String, operand: &Operand) -> Written {
             byte,
             bit,
         } => {
-            write!(out, "Direct {area:?} {width:?} {byte}.{bit}")?;
+            direct(out, *area, *width, *byte, *bit)?;
             named(out, " in ", block)
         }
         Operand::Timer { number } => write!(out, "Timer {number}"),
@@ -140,52 +179,21 @@ fn operand(out: &mut String, operand: &Operand) -> Written {
             width,
             from,
             byte,
-        } => write!(out, "ByMemory {area:?} {width:?} {from:?} {byte}"),
-        Operand::NumberBy { what, from, byte } => {
-            write!(out, "NumberBy {what:?} {from:?} {byte}")
-        }
+        } => by_memory(out, *area, *width, *from, *byte),
+        Operand::NumberBy { what, from, byte } => number_by(out, *what, *from, *byte),
         Operand::ByRegister {
-            area: letters,
+            area,
             width,
             register,
             bits,
-        } => {
-            out.push_str("ByRegister")?;
-            area(out, *letters)?;
-            write!(out, " {width:?} {register} {bits}")
-        }
-        Operand::Pointer {
-            area: letters,
-            byte,
-            bit,
-        } => {
-            out.push_str("Pointer")?;
-            area(out, *letters)?;
-            write!(out, " {byte}.{bit}")
-        }
+        } => by_register(out, *area, *width, *register, *bits),
+        Operand::Pointer { area, byte, bit } => pointer(out, *area, *byte, *bit),
         Operand::Constant { value } => literal(out, value),
-        Operand::Label { name } => {
-            let text = name_text(name);
-            write!(out, "Label {text}")
-        }
+        Operand::Label { name } => words_and_name(out, "Label ", name),
         Operand::OfStatus { flag } => write!(out, "OfStatus {flag:?}"),
-        Operand::Other { name } => {
-            let text = name_text(name);
-            write!(out, "Other {text}")
-        }
-        Operand::OpenBlock { di, name } => {
-            out.push_str(if *di {
-                "OpenBlock DI "
-            } else {
-                "OpenBlock DB "
-            })?;
-            block_name(out, name)
-        }
-        Operand::Called { name, instance } => {
-            out.push_str("Called ")?;
-            block_name(out, name)?;
-            named(out, " with ", instance)
-        }
+        Operand::Other { name } => words_and_name(out, "Other ", name),
+        Operand::OpenBlock { di, name } => open_block(out, *di, name),
+        Operand::Called { name, instance } => called(out, name, instance),
     }
 }
 
