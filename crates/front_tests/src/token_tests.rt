@@ -1,6 +1,7 @@
 use crate::compare::same;
 use plc_base::{Refusal, SourceFault};
 use std::alloc::Global;
+use std::process::Abort;
 use std::test::Fail;
 use stl_lexer::TokenKind::{
     Attribute, Based, Characters, Local, Mark, Number, NumberLiteral, Quoted, SignWord,
@@ -11,9 +12,12 @@ use stl_lexer::{
     law_of_tokens, lex, mark_text, milliseconds_within,
 };
 
+/// The kind of a token, its text and its line.
+type Told = (TokenKind, &'static [u8], u32);
+
 struct Cut {
     source: &'static [u8],
-    tokens: &'static [(TokenKind, &'static [u8], u32)],
+    tokens: &'static [Told],
 }
 
 // Cut by hand after the table of tokens in docs/LANGUAGE.md.
@@ -156,15 +160,20 @@ fn told<'a>(
     Some((token.kind, tokens.text(at), token.text(source), token.line))
 }
 
+/// The source was cut into these tokens.
+fn all_told(rt: &impl Abort, cut: &Tokens, source: &[u8], tokens: &[Told]) {
+    same(rt, source, cut.list.len(), tokens.len());
+    for (i, (kind, text, line)) in tokens.iter().enumerate() {
+        let want = Some((*kind, *text, *text, *line));
+        same(rt, (i, source), told(cut, i, source), want);
+    }
+}
+
 #[test]
 fn cuts_sources(rt: HostRuntime) -> Result<(), Fail> {
     for Cut { source, tokens } in &CUTS {
         let cut = tokens_of(rt.alloc(), source)?;
-        same(&rt, *source, cut.list.len(), tokens.len());
-        for (i, (kind, text, line)) in tokens.iter().enumerate() {
-            let want = Some((*kind, *text, *text, *line));
-            same(&rt, (i, *source), told(&cut, i, source), want);
-        }
+        all_told(&rt, &cut, source, tokens);
     }
     law_of_tokens();
     law_of_time_literals();

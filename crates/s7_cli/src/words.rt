@@ -1,7 +1,7 @@
-ghost use Rattle.std.specs.Prelude.{◌≡◌, ◌≢◌, map, string_bytes, option_map, IfOk, None};
-ghost use Rattle.clap.specs.Words.{FailsBy, app_of, fault_of, found_of, kind_of, matches_of, rows_of};
+ghost use Rattle.std.specs.Prelude.{◌≡◌, ◌≢◌, false, map, string_bytes, option_map, IfOk, None};
+ghost use Rattle.clap.specs.Words.{FailsBy, app_of, fault_of, found_of, kind_of, matches_of, rows_of, rule_of};
 ghost use Rattle.clap.specs.declared.error.kind.ErrorKind.TheVariants.{OutOfMemory};
-ghost use Rattle.s7_cli.specs.Words.{the_line, asked_for, asked_by, command_of, command_value, ReadsPlainWords, ReadsWordsBehindDashes};
+ghost use Rattle.s7_cli.specs.Words.{the_line, command_rule, files_rule, symbols_rule, steps_rule, asked_for, asked_by, command_of, command_value, ReadsPlainWords, ReadsWordsBehindDashes};
 
 use clap::error::ErrorKind;
 use clap::{Arg, ArgAction, ArgMatches, Command, Error};
@@ -23,28 +23,56 @@ pub enum Asked<'a> {
     },
 }
 
+/// The word that names the command.
+fn command_word<'a>(alloc: Global) -> Arg<'a>
+    ensures rule { rule_of result ≡ command_rule }
+    ensures local { result.global ≡ false }
+{
+    Arg::new(alloc, "COMMAND")
+        .required(true)
+        .action(ArgAction::Set)
+}
+
+/// The words that name files, as many as there are.
+fn file_words<'a>(alloc: Global) -> Arg<'a>
+    ensures rule { rule_of result ≡ files_rule }
+    ensures local { result.global ≡ false }
+{
+    Arg::new(alloc, "FILES")
+        .num_args(0..)
+        .action(ArgAction::Append)
+}
+
+/// The option `--symbols`.
+fn symbols_option<'a>(alloc: Global) -> Arg<'a>
+    ensures rule { rule_of result ≡ symbols_rule }
+    ensures local { result.global ≡ false }
+{
+    Arg::new(alloc, "symbols")
+        .long("symbols")
+        .action(ArgAction::Set)
+}
+
+/// The option `--steps`.
+fn steps_option<'a>(alloc: Global) -> Arg<'a>
+    ensures rule { rule_of result ≡ steps_rule }
+    ensures local { result.global ≡ false }
+{
+    Arg::new(alloc, "steps")
+        .long("steps")
+        .action(ArgAction::Set)
+}
+
 /// The command line, for words without the program's name.
 fn command_line<'a>(alloc: Global) -> Result<Command<'a>, AllocError>
     ensures { IfOk result (λ line. app_of line ≡ the_line) }
 {
-    let command = Arg::new(alloc, "COMMAND")
-        .required(true)
-        .action(ArgAction::Set);
-    let files = Arg::new(alloc, "FILES")
-        .num_args(0..)
-        .action(ArgAction::Append);
-    let symbols = Arg::new(alloc, "symbols")
-        .long("symbols")
-        .action(ArgAction::Set);
-    let steps = Arg::new(alloc, "steps")
-        .long("steps")
-        .action(ArgAction::Set);
     Command::new(alloc, "s7")
         .no_binary_name(true)
-        .arg(command)?
-        .arg(files)?
-        .arg(symbols)?
-        .arg(steps)
+        .arg(command_word(alloc))?
+        .arg(file_words(alloc))?
+        .arg(symbols_option(alloc))?
+        .arg(steps_option(alloc))
 }
 
 /// What is found in the words.
