@@ -1,16 +1,9 @@
+//! What the program tells of itself.
+use crate::calls::{list_of, only};
+use crate::compare::same;
 use plc_io::MemSink;
 use s7_cli::{Question, question_in, write_answer};
-use std::alloc::Global;
 use std::test::Fail;
-
-/// The question that these words ask.
-fn asked(alloc: Global, words: &[&str]) -> Result<Option<Question>, Fail> {
-    let mut list = Vec::new(alloc);
-    for word in words {
-        list.push(String::from_str(alloc, *word)?)?;
-    }
-    Ok(question_in(&list))
-}
 
 // A question is the only word.
 #[test]
@@ -28,16 +21,35 @@ fn questions(rt: HostRuntime) -> Result<(), Fail> {
         (&["go", "--version"], None),
     ];
     for (words, question) in table {
-        assert_eq!(rt; asked(rt.alloc(), words)?, question);
+        let list = list_of(rt.alloc(), words)?;
+        same(&rt, words, question_in(&list), question);
     }
     Ok(())
 }
 
 // The sink takes three bytes of each piece.
 #[test]
-fn answers(rt: HostRuntime) -> Result<(), Fail> {
+fn the_version(rt: HostRuntime) {
     let mut out = MemSink::new(rt.alloc(), 3);
-    assert_eq!(rt; write_answer(&mut out, Question::Version).code, 0);
-    assert_eq!(rt; out.taken.as_slice(), b"s7 0.1.0\n".as_slice());
-    Ok(())
+    let status = write_answer(&mut out, Question::Version).code;
+    let told = (status, out.taken.as_slice());
+    same(&rt, "the version", told, (0, b"s7 0.1.0\n".as_slice()));
+}
+
+// The second push fails.
+#[test]
+fn an_answer_that_fails(rt: HostRuntime) {
+    let mut out = MemSink::new(rt.alloc(), 3);
+    out.fail_pushes(only(2));
+    let status = write_answer(&mut out, Question::Version).code;
+    let told = (status, out.taken.as_slice());
+    same(&rt, "what is cut off", told, (6, b"s7 ".as_slice()));
+}
+
+#[test]
+fn the_help(rt: HostRuntime) {
+    let mut out = MemSink::new(rt.alloc(), 1000);
+    let status = write_answer(&mut out, Question::Help).code;
+    let begins = out.taken.as_slice().starts_with(b"s7: a proved controller");
+    same(&rt, "the help", (status, begins), (0, true));
 }
