@@ -286,46 +286,56 @@ fn checks(rt: HostRuntime) -> Result<(), Fail> {
     are_told(&rt, rt.alloc(), &CHECK, &CHECKS)
 }
 
-// The file of a name is missing, or one of the first reads fails: the first comes to the source,
-// the second to its end, the third to the history.
+/// What is told of a file that can't be read.
+const READ_FAULT: (u8, &[u8]) = (5, b"read fault\n");
+
+// One of the first reads fails: the first comes to the source, the second to its end, the third to
+// the history.
+static FAILING: [(&[&str], u64); 5] = [(&GO, 1), (&GO, 2), (&GO, 3), (&CHECK, 1), (&CHECK, 2)];
+
 #[test]
 fn failed_reads(rt: HostRuntime) -> Result<(), Fail> {
-    let wanted = (5, b"read fault\n".as_slice());
-    let failing: [(&[&str], u64); 5] = [(&GO, 1), (&GO, 2), (&GO, 3), (&CHECK, 1), (&CHECK, 2)];
-    for (words, read) in failing {
+    for (words, read) in &FAILING {
         let mut files = two_files(rt.alloc(), RUNG, ONE_RUN)?;
-        files.fail_reads(only(read));
+        files.fail_reads(only(*read));
         let out = MemSink::new(rt.alloc(), 64);
-        answers(&rt, rt.alloc(), (words, read), words, files, out, wanted)?;
-    }
-    let missing: [&[&str]; 3] = [
-        &["go", "none", "history"],
-        &["go", "source", "none"],
-        &["check", "none"],
-    ];
-    for words in missing {
-        let files = two_files(rt.alloc(), RUNG, ONE_RUN)?;
-        let out = MemSink::new(rt.alloc(), 64);
-        let what = ("missing", words);
-        answers(&rt, rt.alloc(), what, words, files, out, wanted)?;
+        let what = (*words, *read);
+        answers(&rt, rt.alloc(), what, words, files, out, READ_FAULT)?;
     }
     Ok(())
 }
 
-// The sink takes some bytes, and fails then.
+static MISSING: [&[&str]; 3] = [
+    &["go", "none", "history"],
+    &["go", "source", "none"],
+    &["check", "none"],
+];
+
+#[test]
+fn missing_files(rt: HostRuntime) -> Result<(), Fail> {
+    for words in &MISSING {
+        let files = two_files(rt.alloc(), RUNG, ONE_RUN)?;
+        let out = MemSink::new(rt.alloc(), 64);
+        answers(&rt, rt.alloc(), *words, words, files, out, READ_FAULT)?;
+    }
+    Ok(())
+}
+
+// Words, source, bytes that the sink takes before it fails, and text.
+static CUT_OFF: [(&[&str], &[u8], usize, &[u8]); 3] = [
+    (&GO, RUNG, 9, b"@7 PQ 4 ="),
+    (&CHECK, RUNG, 2, b"OK"),
+    (&CHECK, b"SET;", 6, b"source"),
+];
+
 #[test]
 fn failed_push(rt: HostRuntime) -> Result<(), Fail> {
-    // words, source, bytes that are taken, text
-    let table: [(&[&str], &[u8], usize, &[u8]); 3] = [
-        (&GO, RUNG, 9, b"@7 PQ 4 ="),
-        (&CHECK, RUNG, 2, b"OK"),
-        (&CHECK, b"SET;", 6, b"source"),
-    ];
-    for (words, source, len, text) in table {
+    for (words, source, len, text) in &CUT_OFF {
         let files = two_files(rt.alloc(), source, ONE_RUN)?;
-        let mut out = MemSink::new(rt.alloc(), len);
+        let mut out = MemSink::new(rt.alloc(), *len);
         out.fail_pushes(only(2));
-        answers(&rt, rt.alloc(), (words, len), words, files, out, (6, text))?;
+        let what = (*words, *len);
+        answers(&rt, rt.alloc(), what, words, files, out, (6, text))?;
     }
     Ok(())
 }
@@ -351,29 +361,30 @@ fn long_two_files(alloc: Global, source: usize, history: usize) -> Result<MemFil
     Ok(files)
 }
 
-// The longest files, and one byte more; then the history needn't be there.
+// The longest files, and one byte more; then the history needn't be there. Words, bytes of the source
+// and of the history, status, text.
+static LONG: [(&[&str], usize, usize, u8, &[u8]); 6] = [
+    (&GO, 1_048_576, 0, 0, b"END 0 RUN\n"),
+    (&GO, 1_048_577, 0, 8, b"too long: source\n"),
+    (&GO, 0, 4_194_305, 8, b"too long: history\n"),
+    (
+        &["go", "source", "none"],
+        1_048_577,
+        0,
+        8,
+        b"too long: source\n",
+    ),
+    (&CHECK, 1_048_576, 0, 0, b"OK\n"),
+    (&CHECK, 1_048_577, 0, 8, b"too long: source\n"),
+];
+
 #[test]
 fn long_files(rt: HostRuntime) -> Result<(), Fail> {
-    // words, bytes of the source, of the history, status, text
-    let table: [(&[&str], usize, usize, u8, &[u8]); 6] = [
-        (&GO, 1_048_576, 0, 0, b"END 0 RUN\n"),
-        (&GO, 1_048_577, 0, 8, b"too long: source\n"),
-        (&GO, 0, 4_194_305, 8, b"too long: history\n"),
-        (
-            &["go", "source", "none"],
-            1_048_577,
-            0,
-            8,
-            b"too long: source\n",
-        ),
-        (&CHECK, 1_048_576, 0, 0, b"OK\n"),
-        (&CHECK, 1_048_577, 0, 8, b"too long: source\n"),
-    ];
-    for (words, source_len, history_len, status, text) in table {
-        let what = (words, source_len, history_len);
-        let files = long_two_files(rt.alloc(), source_len, history_len)?;
+    for (words, source_len, history_len, status, text) in &LONG {
+        let what = (*words, *source_len, *history_len);
+        let files = long_two_files(rt.alloc(), *source_len, *history_len)?;
         let out = MemSink::new(rt.alloc(), 64);
-        answers(&rt, rt.alloc(), what, words, files, out, (status, text))?;
+        answers(&rt, rt.alloc(), what, words, files, out, (*status, text))?;
     }
     Ok(())
 }

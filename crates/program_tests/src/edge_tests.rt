@@ -8,73 +8,74 @@ use std::test::Fail;
 use var_access::{Entry, What};
 
 // How many entries each text spells, counted by hand: one for each step, input and arrival.
+static RIGHT: [(&str, usize); 12] = [
+    ("", 0),
+    ("\n\r\n// step\n//\n", 0),
+    ("step\nstep 3", 4),
+    ("step 1000000\n", 1000000),
+    (" \tstep  007\t\r\nstep\r\n", 8),
+    ("in 0 01\nstep 6\n", 7),
+    ("in 127 aF\nin 256 00\nin 767 ff\n", 3),
+    ("arrive 40\narrive\t040\n", 2),
+    ("in 0 01\n\nstep 2\n// then\narrive 40\nstep 6\n", 10),
+    ("arrive 10\narrive 17 00000000\narrive 47 fFfFfFfF\n", 3),
+    ("tick 1\ntick 60000\n", 2),
+    ("arrive 41\n", 1),
+];
+
 #[test]
 fn right_histories(rt: HostRuntime) -> Result<(), Fail> {
-    let right: [(&str, usize); 12] = [
-        ("", 0),
-        ("\n\r\n// step\n//\n", 0),
-        ("step\nstep 3", 4),
-        ("step 1000000\n", 1000000),
-        (" \tstep  007\t\r\nstep\r\n", 8),
-        ("in 0 01\nstep 6\n", 7),
-        ("in 127 aF\nin 256 00\nin 767 ff\n", 3),
-        ("arrive 40\narrive\t040\n", 2),
-        ("in 0 01\n\nstep 2\n// then\narrive 40\nstep 6\n", 10),
-        ("arrive 10\narrive 17 00000000\narrive 47 fFfFfFfF\n", 3),
-        ("tick 1\ntick 60000\n", 2),
-        ("arrive 41\n", 1),
-    ];
-    for (text, count) in right {
+    for (text, count) in &RIGHT {
         let entries = read_history(rt.alloc(), text.as_bytes())?;
-        same(&rt, text, entries.len(), count);
+        same(&rt, *text, entries.len(), *count);
     }
     Ok(())
 }
 
+static WRONG: [&str; 34] = [
+    " \n",
+    " // step\n",
+    "step\r",
+    "STEP\n",
+    "step 0\n",
+    "step 1000001\n",
+    "step 99999999999999999999999\n",
+    "step -1\n",
+    "step +1\n",
+    "step 1 1\n",
+    "step1\n",
+    "step 1000000\nstep\n",
+    "in 128 00\n",
+    "in 255 00\n",
+    "in 768 00\n",
+    "in 65536 00\n",
+    "in 0 0\n",
+    "in 0 001\n",
+    "in 0 0g\n",
+    "in 0\n",
+    "in 0 00 00\n",
+    "arrive\n",
+    "arrive 1\n",
+    "arrive 9\n",
+    "arrive 18\n",
+    "arrive 39\n",
+    "arrive 48\n",
+    "arrive 40 0000000\n",
+    "arrive 40 000000000\n",
+    "arrive 40 0000000g\n",
+    "arrive 40 00000000 0\n",
+    "tick\n",
+    "tick 0\n",
+    "tick 60001\n",
+];
+
 #[test]
-fn wrong_histories(rt: HostRuntime) -> Result<(), Fail> {
-    let wrong: [&str; 34] = [
-        " \n",
-        " // step\n",
-        "step\r",
-        "STEP\n",
-        "step 0\n",
-        "step 1000001\n",
-        "step 99999999999999999999999\n",
-        "step -1\n",
-        "step +1\n",
-        "step 1 1\n",
-        "step1\n",
-        "step 1000000\nstep\n",
-        "in 128 00\n",
-        "in 255 00\n",
-        "in 768 00\n",
-        "in 65536 00\n",
-        "in 0 0\n",
-        "in 0 001\n",
-        "in 0 0g\n",
-        "in 0\n",
-        "in 0 00 00\n",
-        "arrive\n",
-        "arrive 1\n",
-        "arrive 9\n",
-        "arrive 18\n",
-        "arrive 39\n",
-        "arrive 48\n",
-        "arrive 40 0000000\n",
-        "arrive 40 000000000\n",
-        "arrive 40 0000000g\n",
-        "arrive 40 00000000 0\n",
-        "tick\n",
-        "tick 0\n",
-        "tick 60001\n",
-    ];
+fn wrong_histories(rt: HostRuntime) {
     let refusal = Refusal { line: 0, rule: 99 };
-    for text in wrong {
+    for text in &WRONG {
         let fault = read_history(rt.alloc(), text.as_bytes()).err();
-        same(&rt, text, fault, Some(HistoryFault::Refused { refusal }));
+        same(&rt, *text, fault, Some(HistoryFault::Refused { refusal }));
     }
-    Ok(())
 }
 
 #[test]

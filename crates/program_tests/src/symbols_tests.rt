@@ -149,42 +149,42 @@ fn long_three_files(alloc: Global, source: usize, symbols: usize) -> Result<MemF
 }
 
 // The source is read first, then the symbols, then the history; a file that is too long or can't be
-// read ends the reading.
+// read ends the reading. Words, bytes of the source and of the symbols, status, text.
+static NOT_READ: [(&[&str], usize, usize, u8, &[u8]); 7] = [
+    (&GO, 0, 1_048_576, 0, b"END 0 RUN\n"),
+    (&GO, 0, 1_048_577, 8, b"too long: symbols\n"),
+    (&CHECK, 0, 1_048_577, 8, b"too long: symbols\n"),
+    (&GO, 1_048_577, 1_048_577, 8, b"too long: source\n"),
+    (
+        &["go", "source", "none", "--symbols", "symbols"],
+        0,
+        1_048_577,
+        8,
+        b"too long: symbols\n",
+    ),
+    (
+        &["go", "source", "history", "--symbols", "none"],
+        0,
+        0,
+        5,
+        b"read fault\n",
+    ),
+    (
+        &["go", "source", "none", "--symbols", "symbols"],
+        0,
+        0,
+        5,
+        b"read fault\n",
+    ),
+];
+
 #[test]
 fn symbols_that_are_not_read(rt: HostRuntime) -> Result<(), Fail> {
-    // words, bytes of the source, of the symbols, status, text
-    let table: [(&[&str], usize, usize, u8, &[u8]); 7] = [
-        (&GO, 0, 1_048_576, 0, b"END 0 RUN\n"),
-        (&GO, 0, 1_048_577, 8, b"too long: symbols\n"),
-        (&CHECK, 0, 1_048_577, 8, b"too long: symbols\n"),
-        (&GO, 1_048_577, 1_048_577, 8, b"too long: source\n"),
-        (
-            &["go", "source", "none", "--symbols", "symbols"],
-            0,
-            1_048_577,
-            8,
-            b"too long: symbols\n",
-        ),
-        (
-            &["go", "source", "history", "--symbols", "none"],
-            0,
-            0,
-            5,
-            b"read fault\n",
-        ),
-        (
-            &["go", "source", "none", "--symbols", "symbols"],
-            0,
-            0,
-            5,
-            b"read fault\n",
-        ),
-    ];
-    for (words, source_len, symbols_len, status, text) in table {
-        let what = (words, source_len, symbols_len);
-        let files = long_three_files(rt.alloc(), source_len, symbols_len)?;
+    for (words, source_len, symbols_len, status, text) in &NOT_READ {
+        let what = (*words, *source_len, *symbols_len);
+        let files = long_three_files(rt.alloc(), *source_len, *symbols_len)?;
         let out = MemSink::new(rt.alloc(), 64);
-        answers(&rt, rt.alloc(), what, words, files, out, (status, text))?;
+        answers(&rt, rt.alloc(), what, words, files, out, (*status, text))?;
     }
     Ok(())
 }
