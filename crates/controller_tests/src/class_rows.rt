@@ -207,15 +207,31 @@ fn write_delay(out: &mut String, ob: u16) -> Written {
     )
 }
 
-/// The four steps of OB 100 are done.
-fn started(alloc: Global) -> Result<Run, AllocError> {
-    Ok(Run {
+/// A run of no entry.
+fn new_run(alloc: Global) -> Run {
+    Run {
         code: String::new(alloc),
-        history: String::from_str(alloc, "step 4")?,
-        entries: 4,
-        text: String::from_str(alloc, "@4 MODE RUN | ")?,
+        history: String::new(alloc),
+        entries: 0,
+        text: String::new(alloc),
         ms: 0,
-    })
+    }
+}
+
+impl Run {
+    /// The four steps of OB 100 are done.
+    fn start(&mut self) -> Written {
+        self.entries = 4;
+        self.history.push_str("step 4")?;
+        self.text.push_str("@4 MODE RUN | ")
+    }
+}
+
+/// A run behind the four steps of OB 100.
+fn started(alloc: Global) -> Result<Run, AllocError> {
+    let mut run = new_run(alloc);
+    run.start()?;
+    Ok(run)
 }
 
 /// A block runs, and all others but OB 1 are requested.

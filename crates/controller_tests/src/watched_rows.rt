@@ -32,22 +32,23 @@ fn first_bytes_of_data_blocks(rt: HostRuntime) -> Result<(), Fail> {
     Ok(())
 }
 
+/// Looks at a state, where such a mode is seen and no output.
+fn sees(rt: &impl Abort, observer: &mut Observer, state: &Parts, mode: Option<Mode>) {
+    observer.look(state);
+    let seen = observer.seen();
+    same(rt, "the mode", seen.mode, mode);
+    same(rt, "no output", seen.outputs.as_slice().is_empty(), true);
+}
+
 /// What is seen of a state in RUN and of one in STARTUP, by one observer.
-fn modes_are_seen(rt: &impl Abort, run: &Parts, startup: &Parts) {
-    let mut observer = Observer::new(run);
-    assert!(rt; observer.seen().mode.is_none());
-    for (state, mode) in [
-        (run, None),
-        (startup, Some(Mode::Startup)),
-        (startup, None),
-        (run, Some(Mode::Run)),
-    ] {
-        observer.look(state);
-        assert!(rt; observer.seen().mode == mode);
-        assert!(rt; observer.seen().outputs.as_slice().is_empty());
-    }
+fn modes_are_seen(rt: &impl Abort, observer: &mut Observer, run: &Parts, startup: &Parts) {
+    same(rt, "at first", observer.seen().mode, None);
+    sees(rt, observer, run, None);
+    sees(rt, observer, startup, Some(Mode::Startup));
+    sees(rt, observer, startup, None);
+    sees(rt, observer, run, Some(Mode::Run));
     observer.pass();
-    assert!(rt; observer.seen().mode.is_none());
+    same(rt, "without a look", observer.seen().mode, None);
 }
 
 /// A start with OB 100 is in STARTUP, one without it in RUN.
@@ -55,6 +56,7 @@ fn modes_are_seen(rt: &impl Abort, run: &Parts, startup: &Parts) {
 fn a_mode_is_seen_where_it_changes(rt: HostRuntime) -> Result<(), Fail> {
     let run = Parts::start(rt.alloc(), &loaded(rt.alloc(), "NOP #0")?)?;
     let startup = Parts::start(rt.alloc(), &loaded(rt.alloc(), "OB 100 20 0 { NOP #0")?)?;
-    modes_are_seen(&rt, &run, &startup);
+    let mut observer = Observer::new(&run);
+    modes_are_seen(&rt, &mut observer, &run, &startup);
     Ok(())
 }

@@ -55,69 +55,79 @@ fn all_output(rt: &impl Abort, memory: &Memory, when: &str, rows: &[(u16, Option
     }
 }
 
-// Each area at its last byte: the widths that fit there and those that run past it. What is written
-// is read again, but in area P. The peripheral areas have no byte 128 to 255.
+/// Area, number, byte, bit and width of an operand, and whether it lies in the memory.
+type Edge = (Area, u16, u16, u8, Width, bool);
+
+// Each area at its last byte: the widths that fit there and those that run past it.
+static EDGES: [Edge; 24] = [
+    (Area::I, 0, 127, 7, Width::Bit, true),
+    (Area::I, 0, 127, 8, Width::Bit, false),
+    (Area::I, 0, 127, 0, Width::Byte, true),
+    (Area::I, 0, 126, 0, Width::Word, true),
+    (Area::I, 0, 127, 0, Width::Word, false),
+    (Area::I, 0, 124, 0, Width::Dword, true),
+    (Area::I, 0, 125, 0, Width::Dword, false),
+    (Area::Q, 0, 127, 0, Width::Byte, true),
+    (Area::Q, 0, 128, 0, Width::Byte, false),
+    (Area::Q, 0, 124, 0, Width::Dword, true),
+    (Area::Q, 0, 126, 0, Width::Dword, false),
+    (Area::M, 0, 255, 0, Width::Bit, true),
+    (Area::M, 0, 254, 0, Width::Word, true),
+    (Area::M, 0, 255, 0, Width::Word, false),
+    (Area::M, 0, 252, 9, Width::Dword, true),
+    (Area::M, 0, 256, 0, Width::Byte, false),
+    (Area::Db, 7, 3, 7, Width::Bit, true),
+    (Area::Db, 7, 0, 0, Width::Dword, true),
+    (Area::Db, 7, 1, 0, Width::Dword, false),
+    (Area::Db, 3, 0, 0, Width::Bit, false),
+    (Area::Db, 1, 0, 0, Width::Byte, false),
+    (Area::L, 0, 0, 0, Width::Byte, false),
+    (Area::Di, 0, 0, 0, Width::Byte, false),
+    (Area::M, 1, 0, 0, Width::Byte, false),
+];
+
+// What is written is read again.
 #[test]
 fn last_bytes(rt: HostRuntime) {
     let mut memory = memory(&rt, rt.alloc());
-    let rows = [
-        (at(Area::I, 127, 7), Width::Bit, true),
-        (at(Area::I, 127, 8), Width::Bit, false),
-        (at(Area::I, 127, 0), Width::Byte, true),
-        (at(Area::I, 126, 0), Width::Word, true),
-        (at(Area::I, 127, 0), Width::Word, false),
-        (at(Area::I, 124, 0), Width::Dword, true),
-        (at(Area::I, 125, 0), Width::Dword, false),
-        (at(Area::Q, 127, 0), Width::Byte, true),
-        (at(Area::Q, 128, 0), Width::Byte, false),
-        (at(Area::Q, 124, 0), Width::Dword, true),
-        (at(Area::Q, 126, 0), Width::Dword, false),
-        (at(Area::M, 255, 0), Width::Bit, true),
-        (at(Area::M, 254, 0), Width::Word, true),
-        (at(Area::M, 255, 0), Width::Word, false),
-        (at(Area::M, 252, 9), Width::Dword, true),
-        (at(Area::M, 256, 0), Width::Byte, false),
-        (in_block(7, 3, 7), Width::Bit, true),
-        (in_block(7, 0, 0), Width::Dword, true),
-        (in_block(7, 1, 0), Width::Dword, false),
-        (in_block(3, 0, 0), Width::Bit, false),
-        (in_block(1, 0, 0), Width::Byte, false),
-        (at(Area::L, 0, 0), Width::Byte, false),
-        (at(Area::Di, 0, 0), Width::Byte, false),
-        (
-            Place {
-                number: 1,
-                ..at(Area::M, 0, 0)
-            },
-            Width::Byte,
-            false,
-        ),
-    ];
-    for (place, width, exists) in rows {
-        let want = if exists { Ok(1) } else { Err(Missing) };
-        let written = memory.write(place, width, 1).is_ok();
-        let got = (written, memory.read(place, width));
-        same(&rt, (place, width), got, (exists, want));
+    for (area, number, byte, bit, width, exists) in &EDGES {
+        let place = Place {
+            area: *area,
+            number: *number,
+            byte: *byte,
+            bit: *bit,
+        };
+        let want = if *exists { Ok(1) } else { Err(Missing) };
+        let written = memory.write(place, *width, 1).is_ok();
+        let got = (written, memory.read(place, *width));
+        same(&rt, (place, *width), got, (*exists, want));
     }
-    let peripheral = [
-        (127, Width::Byte, true),
-        (127, Width::Word, false),
-        (124, Width::Dword, true),
-        (128, Width::Bit, false),
-        (255, Width::Byte, false),
-        (255, Width::Word, false),
-        (253, Width::Dword, false),
-        (256, Width::Dword, true),
-        (764, Width::Dword, true),
-        (765, Width::Dword, false),
-        (767, Width::Bit, true),
-        (768, Width::Byte, false),
-    ];
-    for (byte, width, exists) in peripheral {
-        let place = at(Area::P, byte, 0);
-        let written = memory.write(place, width, 1).is_ok();
-        let got = (written, memory.read(place, width).is_ok());
-        same(&rt, (place, width), got, (exists, exists));
+}
+
+// The peripheral areas have no byte 128 to 255. What is written there isn't what is read.
+static PERIPHERAL_EDGES: [(u16, Width, bool); 12] = [
+    (127, Width::Byte, true),
+    (127, Width::Word, false),
+    (124, Width::Dword, true),
+    (128, Width::Bit, false),
+    (255, Width::Byte, false),
+    (255, Width::Word, false),
+    (253, Width::Dword, false),
+    (256, Width::Dword, true),
+    (764, Width::Dword, true),
+    (765, Width::Dword, false),
+    (767, Width::Bit, true),
+    (768, Width::Byte, false),
+];
+
+#[test]
+fn last_peripheral_bytes(rt: HostRuntime) {
+    let mut memory = memory(&rt, rt.alloc());
+    for (byte, width, exists) in &PERIPHERAL_EDGES {
+        let place = at(Area::P, *byte, 0);
+        let written = memory.write(place, *width, 1).is_ok();
+        let got = (written, memory.read(place, *width).is_ok());
+        same(&rt, (place, *width), got, (*exists, *exists));
     }
 }
 

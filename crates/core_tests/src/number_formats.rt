@@ -7,49 +7,62 @@ use plc_base::{
 use std::alloc::AllocError;
 
 // Digit by digit as the manual writes them: 16#F012 is minus, 0, 1, 2.
+static BCD_WORDS: [(u16, Result<i16, BadBcd>); 10] = [
+    (0x0000, Ok(0)),
+    (0x0999, Ok(999)),
+    (0xF012, Ok(-12)),
+    (0xF999, Ok(-999)),
+    (0xF000, Ok(0)),
+    (0x1000, Err(BadBcd)),
+    (0xE012, Err(BadBcd)),
+    (0x000A, Err(BadBcd)),
+    (0x00F0, Err(BadBcd)),
+    (0xFA00, Err(BadBcd)),
+];
+
+static BCD_DOUBLE_WORDS: [(u32, Result<i32, BadBcd>); 5] = [
+    (0x0123_4567, Ok(1_234_567)),
+    (0xF999_9999, Ok(-9_999_999)),
+    (0xF000_0010, Ok(-10)),
+    (0x1000_0000, Err(BadBcd)),
+    (0x0A00_0000, Err(BadBcd)),
+];
+
+static INTS: [(i16, Option<u16>); 7] = [
+    (0, Some(0)),
+    (12, Some(0x0012)),
+    (-12, Some(0xF012)),
+    (999, Some(0x0999)),
+    (-999, Some(0xF999)),
+    (1_000, None),
+    (-32_768, None),
+];
+
+static DINTS: [(i32, Option<u32>); 4] = [
+    (1_234_567, Some(0x0123_4567)),
+    (-9_999_999, Some(0xF999_9999)),
+    (10_000_000, None),
+    (-10_000_000, None),
+];
+
 #[test]
 fn bcd(rt: HostRuntime) {
-    for (word, number) in [
-        (0x0000, Ok(0)),
-        (0x0999, Ok(999)),
-        (0xF012, Ok(-12)),
-        (0xF999, Ok(-999)),
-        (0xF000, Ok(0)),
-        (0x1000, Err(BadBcd)),
-        (0xE012, Err(BadBcd)),
-        (0x000A, Err(BadBcd)),
-        (0x00F0, Err(BadBcd)),
-        (0xFA00, Err(BadBcd)),
-    ] {
-        same(&rt, ("BCD word", word), bcd_to_int(word), number);
+    for (word, number) in &BCD_WORDS {
+        same(&rt, ("BCD word", *word), bcd_to_int(*word), *number);
     }
-    for (word, number) in [
-        (0x0123_4567, Ok(1_234_567)),
-        (0xF999_9999, Ok(-9_999_999)),
-        (0xF000_0010, Ok(-10)),
-        (0x1000_0000, Err(BadBcd)),
-        (0x0A00_0000, Err(BadBcd)),
-    ] {
-        same(&rt, ("BCD double word", word), bcd7_to_dint(word), number);
+    for (word, number) in &BCD_DOUBLE_WORDS {
+        same(
+            &rt,
+            ("BCD double word", *word),
+            bcd7_to_dint(*word),
+            *number,
+        );
     }
-    for (number, word) in [
-        (0, Some(0)),
-        (12, Some(0x0012)),
-        (-12, Some(0xF012)),
-        (999, Some(0x0999)),
-        (-999, Some(0xF999)),
-        (1_000, None),
-        (-32_768, None),
-    ] {
-        same(&rt, ("INT", number), int_to_bcd(number), word);
+    for (number, word) in &INTS {
+        same(&rt, ("INT", *number), int_to_bcd(*number), *word);
     }
-    for (number, word) in [
-        (1_234_567, Some(0x0123_4567)),
-        (-9_999_999, Some(0xF999_9999)),
-        (10_000_000, None),
-        (-10_000_000, None),
-    ] {
-        same(&rt, ("DINT", number), dint_to_bcd7(number), word);
+    for (number, word) in &DINTS {
+        same(&rt, ("DINT", *number), dint_to_bcd7(*number), *word);
     }
     same(&rt, "digits 16#F999", bcd_to_unsigned(0xF999, 3), Some(999));
     same(&rt, "digits 16#0A99", bcd_to_unsigned(0x0A99, 3), None);
@@ -57,33 +70,37 @@ fn bcd(rt: HostRuntime) {
 }
 
 // S5T#2S is 200 units of 10 ms; 9,995 ms is more than 999 of these, so 99 units of 100 ms.
+static MS: [(u32, Result<u16, TooLong>); 11] = [
+    (0, Ok(0x0000)),
+    (19, Ok(0x0001)),
+    (2_000, Ok(0x0200)),
+    (9_990, Ok(0x0999)),
+    (9_995, Ok(0x1099)),
+    (99_900, Ok(0x1999)),
+    (99_901, Ok(0x2099)),
+    (999_000, Ok(0x2999)),
+    (999_001, Ok(0x3099)),
+    (9_990_000, Ok(0x3999)),
+    (9_990_001, Err(TooLong)),
+];
+
+static S5TIMES: [(u16, Result<u32, BadBcd>); 7] = [
+    (0x0200, Ok(2_000)),
+    (0x1099, Ok(9_900)),
+    (0x2001, Ok(1_000)),
+    (0x3999, Ok(9_990_000)),
+    (0xF999, Ok(9_990_000)),
+    (0xC001, Ok(10)),
+    (0x00A0, Err(BadBcd)),
+];
+
 #[test]
 fn s5times(rt: HostRuntime) {
-    for (ms, word) in [
-        (0, Ok(0x0000)),
-        (19, Ok(0x0001)),
-        (2_000, Ok(0x0200)),
-        (9_990, Ok(0x0999)),
-        (9_995, Ok(0x1099)),
-        (99_900, Ok(0x1999)),
-        (99_901, Ok(0x2099)),
-        (999_000, Ok(0x2999)),
-        (999_001, Ok(0x3099)),
-        (9_990_000, Ok(0x3999)),
-        (9_990_001, Err(TooLong)),
-    ] {
-        same(&rt, ("ms", ms), s5time_of_ms(ms), word);
+    for (ms, word) in &MS {
+        same(&rt, ("ms", *ms), s5time_of_ms(*ms), *word);
     }
-    for (word, ms) in [
-        (0x0200, Ok(2_000)),
-        (0x1099, Ok(9_900)),
-        (0x2001, Ok(1_000)),
-        (0x3999, Ok(9_990_000)),
-        (0xF999, Ok(9_990_000)),
-        (0xC001, Ok(10)),
-        (0x00A0, Err(BadBcd)),
-    ] {
-        same(&rt, ("S5TIME", word), ms_of_s5time(word), ms);
+    for (word, ms) in &S5TIMES {
+        same(&rt, ("S5TIME", *word), ms_of_s5time(*word), *ms);
     }
     let base = TimeBase::of_s5time(0x6123);
     same(&rt, "base of 16#6123", base, TimeBase::OneSecond);
@@ -132,51 +149,58 @@ fn want_of_memory(rt: HostRuntime) {
 }
 
 // The first byte that an area hasn't, and those beside the gap of the peripheral bytes.
+static BYTES: [(Area, u16, bool); 15] = [
+    (Area::I, 127, true),
+    (Area::I, 128, false),
+    (Area::Q, 127, true),
+    (Area::Q, 128, false),
+    (Area::M, 255, true),
+    (Area::M, 256, false),
+    (Area::P, 127, true),
+    (Area::P, 128, false),
+    (Area::P, 255, false),
+    (Area::P, 256, true),
+    (Area::P, 767, true),
+    (Area::P, 768, false),
+    (Area::Db, 0, false),
+    (Area::Di, 0, false),
+    (Area::L, 0, false),
+];
+
+static WIDTHS: [(Width, usize, u32); 4] = [
+    (Width::Bit, 1, 1),
+    (Width::Byte, 1, 8),
+    (Width::Word, 2, 16),
+    (Width::Dword, 4, 32),
+];
+
 #[test]
 fn bytes_of_areas(rt: HostRuntime) {
-    for (area, byte, exists) in [
-        (Area::I, 127, true),
-        (Area::I, 128, false),
-        (Area::Q, 127, true),
-        (Area::Q, 128, false),
-        (Area::M, 255, true),
-        (Area::M, 256, false),
-        (Area::P, 127, true),
-        (Area::P, 128, false),
-        (Area::P, 255, false),
-        (Area::P, 256, true),
-        (Area::P, 767, true),
-        (Area::P, 768, false),
-        (Area::Db, 0, false),
-        (Area::Di, 0, false),
-        (Area::L, 0, false),
-    ] {
-        same(&rt, (area, byte), area.has_byte(byte), exists);
+    for (area, byte, exists) in &BYTES {
+        same(&rt, (*area, *byte), area.has_byte(*byte), *exists);
     }
-    for (width, bytes, bits) in [
-        (Width::Bit, 1, 1),
-        (Width::Byte, 1, 8),
-        (Width::Word, 2, 16),
-        (Width::Dword, 4, 32),
-    ] {
+    for (width, bytes, bits) in &WIDTHS {
         let got = (width.byte_count(), width.bit_count());
-        same(&rt, width, got, (bytes, bits));
+        same(&rt, *width, got, (*bytes, *bits));
     }
 }
 
+static DECIMALS: [(&str, Option<u32>); 8] = [
+    ("0", Some(0)),
+    ("007", Some(7)),
+    ("65535", Some(65_535)),
+    ("65536", None),
+    ("99999999999999999999999999", None),
+    ("", None),
+    ("-1", None),
+    ("1 ", None),
+];
+
 #[test]
 fn decimals(rt: HostRuntime) {
-    for (word, number) in [
-        ("0", Some(0)),
-        ("007", Some(7)),
-        ("65535", Some(65_535)),
-        ("65536", None),
-        ("99999999999999999999999999", None),
-        ("", None),
-        ("-1", None),
-        ("1 ", None),
-    ] {
-        same(&rt, word, decimal_up_to(word.as_bytes(), 65_535), number);
+    for (word, number) in &DECIMALS {
+        let found = decimal_up_to(word.as_bytes(), 65_535);
+        same(&rt, *word, found, *number);
     }
     same(&rt, "1234 capped", capped_decimal(b"1234", 5_000), 1_234);
     same(&rt, "5001 capped", capped_decimal(b"5001", 5_000), 5_000);

@@ -1,4 +1,5 @@
 use crate::compare::same;
+use std::process::Abort;
 use timers_counters::TimerFault::{BadBcd, NoNumber};
 use timers_counters::TimerKind::{Sd, Se, Sf, Sp, Ss};
 use timers_counters::{Counters, TimerFault, TimerKind, Timers};
@@ -31,109 +32,119 @@ impl Event {
 // 16#0005 is S5T#50MS, 5 units of 10 ms; 16#1002 is S5T#200MS, 2 units of 100 ms. Each row has the
 // event, and then the output and the units left, rounded up. Each list has a timer of its own, and
 // its last one ends: a list begins where the timers before it stand still.
+static STORIES: [&[(Event, bool, u16)]; 9] = [
+    // pulse: RLO 0 ends it, with the time left kept
+    &[
+        (Start(Sp, true, 0x0005), true, 5),
+        (Pass(10), true, 4),
+        (Start(Sp, false, 0x0005), false, 4),
+        (Pass(1_000), false, 4),
+        (Start(Sp, true, 0x1002), true, 2),
+        (Start(Sp, true, 0x0005), true, 2),
+        (Pass(199), true, 1),
+        (Pass(1), false, 0),
+    ],
+    // extended pulse: RLO 0 does nothing, the next rising RLO starts it again
+    &[
+        (Start(Se, true, 0x0005), true, 5),
+        (Start(Se, false, 0x0005), true, 5),
+        (Pass(49), true, 1),
+        (Start(Se, true, 0x0005), true, 5),
+        (Pass(4_000_000_000), false, 0),
+    ],
+    // on-delay
+    &[
+        (Start(Sd, true, 0x0005), false, 5),
+        (Pass(49), false, 1),
+        (Pass(1), true, 0),
+        (Start(Sd, true, 0x0005), true, 0),
+        (Start(Sd, false, 0x0005), false, 0),
+        (Start(Sd, true, 0x0005), false, 5),
+        (Pass(20), false, 3),
+        (Start(Sd, false, 0x0005), false, 3),
+        (Pass(100), false, 3),
+    ],
+    // retentive on-delay: only R clears the output
+    &[
+        (Start(Ss, true, 0x0005), false, 5),
+        (Start(Ss, false, 0x0005), false, 5),
+        (Pass(50), true, 0),
+        (Start(Ss, true, 0x0005), true, 5),
+        (Pass(60), true, 0),
+        (Start(Ss, false, 0x0005), true, 0),
+        (Reset(false), true, 0),
+        (Reset(true), false, 0),
+    ],
+    // off-delay: the falling RLO starts it
+    &[
+        (Start(Sf, false, 0x0005), false, 0),
+        (Start(Sf, true, 0x0005), true, 0),
+        (Pass(100), true, 0),
+        (Start(Sf, false, 0x0005), true, 5),
+        (Pass(49), true, 1),
+        (Start(Sf, true, 0x0005), true, 1),
+        (Pass(100), true, 1),
+        (Start(Sf, false, 0x0005), true, 5),
+        (Pass(50), false, 0),
+    ],
+    // a time of 0 ends at once
+    &[
+        (Start(Sd, true, 0x0000), true, 0),
+        (Start(Sd, false, 0x0000), false, 0),
+        (Start(Sp, true, 0x3000), false, 0),
+    ],
+    // FR on its rising RLO lets the start instruction start again
+    &[
+        (Start(Se, true, 0x0005), true, 5),
+        (Pass(20), true, 3),
+        (Free(true), true, 3),
+        (Start(Se, true, 0x0005), true, 5),
+        (Pass(20), true, 3),
+        (Free(true), true, 3),
+        (Start(Se, true, 0x0005), true, 3),
+        (Free(false), true, 3),
+        (Free(true), true, 3),
+        (Start(Se, true, 0x0005), true, 5),
+        (Pass(50), false, 0),
+    ],
+    // R keeps the start edge
+    &[
+        (Start(Se, true, 0x0005), true, 5),
+        (Reset(true), false, 0),
+        (Start(Se, true, 0x0005), false, 0),
+    ],
+    // a digit above 9 counts only where it is read
+    &[
+        (Start(Se, false, 0x00A0), false, 0),
+        (Start(Se, true, 0x0005), true, 5),
+        (Start(Se, true, 0x00A0), true, 5),
+        (Pass(50), false, 0),
+    ],
+];
+
+/// What happens to a timer, one after the other.
+fn told(rt: &impl Abort, timers: &mut Timers, number: u16, story: &[(Event, bool, u16)]) {
+    for (event, output, value) in story {
+        let answer = event.happen(timers, number);
+        let got = (answer, timers.output(number), timers.value(number));
+        let want = (Ok(()), Ok(*output), Ok(*value));
+        same(rt, (number, *event), got, want);
+    }
+}
+
 #[test]
-fn timers(rt: HostRuntime) {
-    let stories: [&[(Event, bool, u16)]; 9] = [
-        // pulse: RLO 0 ends it, with the time left kept
-        &[
-            (Start(Sp, true, 0x0005), true, 5),
-            (Pass(10), true, 4),
-            (Start(Sp, false, 0x0005), false, 4),
-            (Pass(1_000), false, 4),
-            (Start(Sp, true, 0x1002), true, 2),
-            (Start(Sp, true, 0x0005), true, 2),
-            (Pass(199), true, 1),
-            (Pass(1), false, 0),
-        ],
-        // extended pulse: RLO 0 does nothing, the next rising RLO starts it again
-        &[
-            (Start(Se, true, 0x0005), true, 5),
-            (Start(Se, false, 0x0005), true, 5),
-            (Pass(49), true, 1),
-            (Start(Se, true, 0x0005), true, 5),
-            (Pass(4_000_000_000), false, 0),
-        ],
-        // on-delay
-        &[
-            (Start(Sd, true, 0x0005), false, 5),
-            (Pass(49), false, 1),
-            (Pass(1), true, 0),
-            (Start(Sd, true, 0x0005), true, 0),
-            (Start(Sd, false, 0x0005), false, 0),
-            (Start(Sd, true, 0x0005), false, 5),
-            (Pass(20), false, 3),
-            (Start(Sd, false, 0x0005), false, 3),
-            (Pass(100), false, 3),
-        ],
-        // retentive on-delay: only R clears the output
-        &[
-            (Start(Ss, true, 0x0005), false, 5),
-            (Start(Ss, false, 0x0005), false, 5),
-            (Pass(50), true, 0),
-            (Start(Ss, true, 0x0005), true, 5),
-            (Pass(60), true, 0),
-            (Start(Ss, false, 0x0005), true, 0),
-            (Reset(false), true, 0),
-            (Reset(true), false, 0),
-        ],
-        // off-delay: the falling RLO starts it
-        &[
-            (Start(Sf, false, 0x0005), false, 0),
-            (Start(Sf, true, 0x0005), true, 0),
-            (Pass(100), true, 0),
-            (Start(Sf, false, 0x0005), true, 5),
-            (Pass(49), true, 1),
-            (Start(Sf, true, 0x0005), true, 1),
-            (Pass(100), true, 1),
-            (Start(Sf, false, 0x0005), true, 5),
-            (Pass(50), false, 0),
-        ],
-        // a time of 0 ends at once
-        &[
-            (Start(Sd, true, 0x0000), true, 0),
-            (Start(Sd, false, 0x0000), false, 0),
-            (Start(Sp, true, 0x3000), false, 0),
-        ],
-        // FR on its rising RLO lets the start instruction start again
-        &[
-            (Start(Se, true, 0x0005), true, 5),
-            (Pass(20), true, 3),
-            (Free(true), true, 3),
-            (Start(Se, true, 0x0005), true, 5),
-            (Pass(20), true, 3),
-            (Free(true), true, 3),
-            (Start(Se, true, 0x0005), true, 3),
-            (Free(false), true, 3),
-            (Free(true), true, 3),
-            (Start(Se, true, 0x0005), true, 5),
-            (Pass(50), false, 0),
-        ],
-        // R keeps the start edge
-        &[
-            (Start(Se, true, 0x0005), true, 5),
-            (Reset(true), false, 0),
-            (Start(Se, true, 0x0005), false, 0),
-        ],
-        // a digit above 9 counts only where it is read
-        &[
-            (Start(Se, false, 0x00A0), false, 0),
-            (Start(Se, true, 0x0005), true, 5),
-            (Start(Se, true, 0x00A0), true, 5),
-            (Pass(50), false, 0),
-        ],
-    ];
+fn stories_of_timers(rt: HostRuntime) {
     let mut timers = Timers::new();
     let mut number = 0;
-    for story in stories {
-        for (event, output, value) in story {
-            let answer = event.happen(&mut timers, number);
-            let got = (answer, timers.output(number), timers.value(number));
-            let want = (Ok(()), Ok(*output), Ok(*value));
-            same(&rt, (number, *event), got, want);
-        }
+    for story in &STORIES {
+        told(&rt, &mut timers, number, story);
         number = if number < 126 { number + 1 } else { 0 };
     }
+}
 
+#[test]
+fn the_last_timer(rt: HostRuntime) {
+    let mut timers = Timers::new();
     let started = timers.start(127, Sp, true, 0x000A);
     same(&rt, "SP T 127 by a digit 10", started, Err(BadBcd));
     same(&rt, "T 127 not started", timers.output(127), Ok(false));
@@ -141,7 +152,11 @@ fn timers(rt: HostRuntime) {
     same(&rt, "LC T 127", timers.bcd(127), Ok(0x1123));
     timers.pass_ms(101);
     same(&rt, "LC T 127 after 101 ms", timers.bcd(127), Ok(0x1122));
+}
 
+#[test]
+fn no_timer(rt: HostRuntime) {
+    let mut timers = Timers::new();
     let started = timers.start(128, Sp, true, 0x000A);
     same(&rt, "SP T 128", started, Err(NoNumber));
     same(&rt, "R T 128", timers.reset(128, true), Err(NoNumber));
@@ -176,43 +191,49 @@ impl Count {
 }
 
 // Each row has the instruction, its answer, and then the value.
+static COUNTS: [(Count, Result<(), TimerFault>, u16); 23] = [
+    (Down(true), Ok(()), 0),
+    (Up(true), Ok(()), 1),
+    (Up(true), Ok(()), 1),
+    (Up(false), Ok(()), 1),
+    (Up(true), Ok(()), 2),
+    (Down(true), Ok(()), 2),
+    (Down(false), Ok(()), 2),
+    (Down(true), Ok(()), 1),
+    (Set(true, 0xF998), Ok(()), 998),
+    (Set(true, 0x0005), Ok(()), 998),
+    (Up(false), Ok(()), 998),
+    (Up(true), Ok(()), 999),
+    (Up(false), Ok(()), 999),
+    (Up(true), Ok(()), 999),
+    // FR on its rising RLO clears the edges of CU, CD and S
+    (Release(true), Ok(()), 999),
+    (Set(true, 0x0345), Ok(()), 345),
+    (Release(true), Ok(()), 345),
+    (Set(true, 0x0111), Ok(()), 345),
+    // a digit above 9 counts only where it is read
+    (Set(false, 0x00A0), Ok(()), 345),
+    (Set(true, 0x00A0), Err(BadBcd), 345),
+    (Set(true, 0x0012), Ok(()), 12),
+    (Clear(false), Ok(()), 12),
+    (Clear(true), Ok(()), 0),
+];
+
 #[test]
 fn counters(rt: HostRuntime) {
     let mut counters = Counters::new();
-    for (count, answer, value) in [
-        (Down(true), Ok(()), 0),
-        (Up(true), Ok(()), 1),
-        (Up(true), Ok(()), 1),
-        (Up(false), Ok(()), 1),
-        (Up(true), Ok(()), 2),
-        (Down(true), Ok(()), 2),
-        (Down(false), Ok(()), 2),
-        (Down(true), Ok(()), 1),
-        (Set(true, 0xF998), Ok(()), 998),
-        (Set(true, 0x0005), Ok(()), 998),
-        (Up(false), Ok(()), 998),
-        (Up(true), Ok(()), 999),
-        (Up(false), Ok(()), 999),
-        (Up(true), Ok(()), 999),
-        // FR on its rising RLO clears the edges of CU, CD and S
-        (Release(true), Ok(()), 999),
-        (Set(true, 0x0345), Ok(()), 345),
-        (Release(true), Ok(()), 345),
-        (Set(true, 0x0111), Ok(()), 345),
-        // a digit above 9 counts only where it is read
-        (Set(false, 0x00A0), Ok(()), 345),
-        (Set(true, 0x00A0), Err(BadBcd), 345),
-        (Set(true, 0x0012), Ok(()), 12),
-        (Clear(false), Ok(()), 12),
-        (Clear(true), Ok(()), 0),
-    ] {
+    for (count, answer, value) in &COUNTS {
         let done = count.happen(&mut counters, 63);
         let got = (done, counters.value(63), counters.output(63));
-        same(&rt, count, got, (answer, Ok(value), Ok(value > 0)));
+        same(&rt, *count, got, (*answer, Ok(*value), Ok(*value > 0)));
     }
     same(&rt, "S C 0", counters.set(0, true, 0x0345), Ok(()));
     same(&rt, "LC C 0", counters.bcd(0), Ok(0x0345));
+}
 
+#[test]
+fn no_counter(rt: HostRuntime) {
+    let mut counters = Counters::new();
     same(&rt, "CU C 64", counters.up(64, true), Err(NoNumber));
     same(&rt, "CD C 64", counters.down(64, true), Err(NoNumber));
     same(&rt, "S C 64", counters.set(64, true, 0x00A0), Err(NoNumber));
