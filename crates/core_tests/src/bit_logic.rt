@@ -161,6 +161,7 @@ fn numbers(rt: HostRuntime) {
     }
     same(&rt, "CC 0 of 16#70", Status::transferred(0x0070).cc0, true);
     same(&rt, "CC 1 of 16#80", Status::transferred(0x0080).cc1, true);
+    same(&rt, "BR of 16#100", Status::transferred(0x0100).br, true);
     // Of all nine bits L STW shows bits 1 and 4 to 8.
     let all = Status::transferred(0xFFFF_FFFF);
     same(&rt, "all bits", all.number(), 0x1FF);

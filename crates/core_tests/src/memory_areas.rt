@@ -278,6 +278,7 @@ fn changed_outputs(rt: HostRuntime) {
     next_changes(&rt, memory.outputs(), &before, &[(0, None)]);
     memory.clear_outputs();
     all_output(&rt, &memory, "cleared", &[(0, Some(0)), (700, Some(0))]);
+    next_changes(&rt, memory.outputs(), &before, &rows);
     all_read(&rt, &memory, &[(at(Area::Q, 0, 0), Width::Byte, 0x99)]);
 }
 
