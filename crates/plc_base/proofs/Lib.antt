@@ -1,3 +1,6 @@
 mod DecimalLemmas
 pub mod BcdLemmas
 pub mod RoundTrips
+pub mod GatheredLemmas
+pub mod LeastLemmas
+pub mod LineLemmas

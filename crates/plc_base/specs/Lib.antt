@@ -2,6 +2,9 @@ pub mod AreaBytes
 pub mod Bcd
 pub mod Changes
 pub mod Decimal
+pub mod Folding
+pub mod Gathered
+pub mod Least
 pub mod Pointer
 pub mod S5Time
 pub mod Widths

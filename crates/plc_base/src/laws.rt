@@ -1,8 +1,10 @@
-//! Round trips of the conversions: each function does nothing, and its contract is the law.
+//! Laws of the definitions that contracts cite: each function does nothing, and its contract is the law.
 
-ghost use Rattle.std.specs.Prelude.{◌≡◌, ◌≤◌, ◌*◌, ◌/◌, Some, nat_abs, option_and_then};
+ghost use Rattle.std.specs.Prelude.{◌≡◌, ◌≤◌, ◌*◌, ◌/◌, List, [], None, Some, nat_abs, option_and_then};
 ghost use Rattle.plc_base.specs.Bcd.{signed_of_bcd, bcd_of_signed};
+ghost use Rattle.plc_base.specs.Least.{least, IsLeast};
 ghost use Rattle.plc_base.specs.Pointer.{place_of, pointer_of};
+ghost use Rattle.plc_base.specs.declared.refusals.Refusal.{Refusal};
 ghost use Rattle.plc_base.specs.S5Time.{ms_of, s5time_of, smallest_base, unit_of};
 
 use crate::places::Place;
@@ -33,4 +35,11 @@ pub fn place_and_back(place: &Place)
 pub fn ms_and_back(ms: u32, base: TimeBase)
     requires { smallest_base ms ≡ Some base }
     ensures { option_and_then ms_of (s5time_of ms) ≡ Some (ms / unit_of base * unit_of base) }
+{}
+
+/// The least refusal of a list is one of the list, and none of the list comes before it; only the
+/// empty list has none.
+pub fn law_of_least()
+    ensures none { (rs : List Refusal) → least rs ≡ None → rs ≡ [] }
+    ensures some { (rs : List Refusal) (r : Refusal) → least rs ≡ Some r → IsLeast rs r }
 {}
