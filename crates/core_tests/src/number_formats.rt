@@ -1,8 +1,9 @@
 use crate::compare::same;
 use plc_base::{
-    Area, BadArea, BadBcd, Place, SourceFault, TimeBase, TooLong, Width, bcd_to_int,
+    Area, BadArea, BadBcd, Place, Profile, SourceFault, TimeBase, TooLong, Width, bcd_to_int,
     bcd_to_unsigned, bcd7_to_dint, capped_decimal, decimal_up_to, dint_to_bcd7, int_to_bcd,
-    ms_of_s5time, place_of_pointer, pointer_of_place, s5time_of_ms, unsigned_to_bcd,
+    is_peripheral_byte, ms_of_s5time, place_of_pointer, pointer_of_place, s5time_of_ms,
+    unsigned_to_bcd,
 };
 use std::alloc::AllocError;
 
@@ -148,23 +149,21 @@ fn want_of_memory(rt: HostRuntime) {
     same(&rt, "fault of an allocation", fault, SourceFault::NoMemory);
 }
 
-// The first byte that an area hasn't, and those beside the gap of the peripheral bytes.
-static BYTES: [(Area, u16, bool); 15] = [
-    (Area::I, 127, true),
-    (Area::I, 128, false),
-    (Area::Q, 127, true),
-    (Area::Q, 128, false),
-    (Area::M, 255, true),
-    (Area::M, 256, false),
-    (Area::P, 127, true),
-    (Area::P, 128, false),
-    (Area::P, 255, false),
-    (Area::P, 256, true),
-    (Area::P, 767, true),
-    (Area::P, 768, false),
-    (Area::Db, 0, false),
-    (Area::Di, 0, false),
-    (Area::L, 0, false),
+// The peripheral bytes beside their gap, the last one, and the first that there isn't.
+static PERIPHERAL_BYTES: [(u16, bool); 7] = [
+    (0, true),
+    (127, true),
+    (128, false),
+    (255, false),
+    (256, true),
+    (767, true),
+    (768, false),
+];
+
+// The bytes of bit memory, the timers, the counters, and the most frames.
+static PROFILES: [(Profile, [usize; 4]); 2] = [
+    (Profile::Small, [256, 128, 64, 16]),
+    (Profile::Large, [2_048, 256, 256, 24]),
 ];
 
 static WIDTHS: [(Width, usize, u32); 4] = [
@@ -175,9 +174,18 @@ static WIDTHS: [(Width, usize, u32); 4] = [
 ];
 
 #[test]
-fn bytes_of_areas(rt: HostRuntime) {
-    for (area, byte, exists) in &BYTES {
-        same(&rt, (*area, *byte), area.has_byte(*byte), *exists);
+fn sizes(rt: HostRuntime) {
+    for (byte, exists) in &PERIPHERAL_BYTES {
+        same(&rt, *byte, is_peripheral_byte(*byte), *exists);
+    }
+    for (profile, sizes) in &PROFILES {
+        let got = [
+            profile.bit_memory_size(),
+            profile.timer_count(),
+            profile.counter_count(),
+            profile.most_frames(),
+        ];
+        same(&rt, *profile, got, *sizes);
     }
     for (width, bytes, bits) in &WIDTHS {
         let got = (width.byte_count(), width.bit_count());

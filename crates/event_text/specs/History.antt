@@ -74,17 +74,13 @@ entries_of_step [] = Some (one_step ∷ [])
 entries_of_step (number ∷ []) = option_and_then steps_of (decimal_up_to most_steps number)
 entries_of_step words = None
 
--- the peripheral input bytes that exist
-abbrev pub is_peripheral : ℕ → Bool
-is_peripheral byte = is_peripheral_byte byte
-
 -- one entry of the feeder
 abbrev pub fed : What → List Entry
 fed what = record { who = feeder; what = what } ∷ []
 
 -- one entry of `in`, where there is such a byte: 0 to 127, or 256 to 767
 abbrev pub input_of : ℕ → ℕ → Option (List Entry)
-input_of byte value = if is_peripheral byte then Some (fed (Input byte value)) else None
+input_of byte value = if is_peripheral_byte byte then Some (fed (Input byte value)) else None
 
 -- `in b hh`: a peripheral input byte takes a value
 unfoldable pub entries_of_in : List (List ℕ) → Option (List Entry)

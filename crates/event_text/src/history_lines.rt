@@ -10,7 +10,6 @@ ghost use Rattle.event_text.specs.History.{
   is_blank,
   words_of,
   hex_byte,
-  is_peripheral,
   entries_of_step,
   entries_of_in,
   entries_of_arrive,
@@ -20,7 +19,7 @@ ghost use Rattle.event_text.specs.History.{
   entries_of_line,
 };
 
-use plc_base::{Area, decimal_up_to};
+use plc_base::{decimal_up_to, is_peripheral_byte};
 
 /// The most steps of a line, and of a history.
 pub const MOST_STEPS: u32 = 1_000_000;
@@ -132,13 +131,6 @@ fn read_hex_double(word: &[u8]) -> Option<u32>
     Some(value)
 }
 
-/// Whether a peripheral input byte of this number exists.
-fn is_peripheral(byte: u16) -> bool
-    ensures { result ≡ is_peripheral byte }
-{
-    Area::P.has_byte(byte)
-}
-
 /// The entries of the words behind `step`: one step, or as many as the number says.
 #[tactic(auto, unfolding(crate::specs::History::entries_of_step))]
 fn read_step(words: &[u8]) -> Option<LineEntries>
@@ -169,7 +161,7 @@ fn read_input(words: &[u8]) -> Option<LineEntries>
     }
     let byte = decimal_up_to(byte, MOST_NUMBER)? as u16;
     let value = read_hex_byte(value)?;
-    if !is_peripheral(byte) {
+    if !is_peripheral_byte(byte) {
         return None;
     }
     Some(LineEntries::InputByte { byte, value })

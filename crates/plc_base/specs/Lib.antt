@@ -6,5 +6,6 @@ pub mod Folding
 pub mod Gathered
 pub mod Least
 pub mod Pointer
+pub mod Profiles
 pub mod S5Time
 pub mod Widths

@@ -6,10 +6,10 @@ ghost use Rattle.plc_base.specs.Bcd.{unsigned_of_bcd, signed_of_bcd, bcd_of_sign
 pub struct BadBcd;
 
 /// The greatest number of three decimal digits.
-pub const MOST_OF_3_DIGITS: u16 = 999;
+const MOST_OF_3_DIGITS: u16 = 999;
 
 /// The greatest number of seven decimal digits.
-pub const MOST_OF_7_DIGITS: u32 = 9_999_999;
+const MOST_OF_7_DIGITS: u32 = 9_999_999;
 
 /// The number of the lowest `count` digits of `word`, with no sign, as a counter value or the
 /// digits of an S5TIME. `None` exactly where a digit is above 9.

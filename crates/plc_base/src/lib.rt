@@ -12,12 +12,12 @@ mod lines;
 mod modes;
 mod places;
 mod pointers;
+mod profiles;
 mod refusals;
 mod s5times;
 
 pub use bcd::{
-    BadBcd, MOST_OF_3_DIGITS, MOST_OF_7_DIGITS, bcd_to_int, bcd_to_unsigned, bcd7_to_dint,
-    dint_to_bcd7, int_to_bcd, unsigned_to_bcd,
+    BadBcd, bcd_to_int, bcd_to_unsigned, bcd7_to_dint, dint_to_bcd7, int_to_bcd, unsigned_to_bcd,
 };
 pub use blocks::{BlockId, BlockKind};
 pub use decimals::{capped_decimal, decimal_up_to};
@@ -26,7 +26,8 @@ pub use flags::Flag;
 pub use least::{broken_if, least_of, lesser, try_least_of};
 pub use lines::first_line;
 pub use modes::{Mode, Spot};
-pub use places::{Area, Place, Width};
+pub use places::{Area, Place, Width, is_peripheral_byte};
 pub use pointers::{BadArea, place_of_pointer, pointer_of_place};
+pub use profiles::Profile;
 pub use refusals::{Refusal, SourceFault};
-pub use s5times::{LONGEST_MS, MOST_UNITS, TimeBase, TooLong, ms_of_s5time, s5time_of_ms};
+pub use s5times::{MOST_UNITS, TimeBase, TooLong, ms_of_s5time, s5time_of_ms};

@@ -1,5 +1,5 @@
 ghost use Rattle.std.specs.Prelude.{◌≡◌};
-ghost use Rattle.plc_base.specs.AreaBytes.{has_byte};
+ghost use Rattle.plc_base.specs.AreaBytes.{is_peripheral_byte};
 ghost use Rattle.plc_base.specs.Widths.{byte_count, bit_count};
 
 /// The width of an operand: one bit, or one, two or four bytes.
@@ -49,27 +49,22 @@ pub enum Area {
     L,
 }
 
-impl Area {
-    /// Whether the area has a byte of this number: 0 to 127 in I and Q, 0 to 255 in M, 0 to 127 and
-    /// 256 to 767 in P. False for data blocks and local data, whose sizes each block says itself.
-    pub fn has_byte(self, byte: u16) -> bool
-        ensures { result ≡ has_byte self byte }
-    {
-        match self {
-            Area::P => byte < 128 || (byte >= 256 && byte < 768),
-            Area::I | Area::Q => byte < 128,
-            Area::M => byte < 256,
-            Area::Db | Area::Di | Area::L => false,
-        }
-    }
+/// Whether there is a peripheral byte of this number: 0 to 127, and 256 to 767.
+pub fn is_peripheral_byte(byte: u16) -> bool
+    ensures { result ≡ is_peripheral_byte byte }
+{
+    byte < 128 || (byte >= 256 && byte < 768)
 }
 
 /// A place in memory. `number` is that of a data block, else 0; `bit` is 0 to 7 where a bit is
 /// meant.
 #[derive(Clone, Copy, Debug, PartialEq, Eq)]
 pub struct Place {
-    pub area: Area,
     pub number: u16,
     pub byte: u16,
+    pub area: Area,
     pub bit: u8,
 }
+
+// Operands hold many of them: no byte of one is padding.
+const _: () = prove!(size_of::<Place>() == 6);

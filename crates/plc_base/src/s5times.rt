@@ -12,7 +12,7 @@ pub enum TimeBase {
     TenSeconds,
 }
 
-/// The time is above `LONGEST_MS`.
+/// The time is above 2H_46M_30S, the longest S5TIME.
 #[derive(Clone, Copy, Debug, PartialEq, Eq)]
 pub struct TooLong;
 
@@ -20,7 +20,7 @@ pub struct TooLong;
 pub const MOST_UNITS: u32 = 999;
 
 /// The longest S5TIME in milliseconds, 2H_46M_30S.
-pub const LONGEST_MS: u32 = 9_990_000;
+const LONGEST_MS: u32 = 9_990_000;
 
 impl TimeBase {
     /// The milliseconds of one unit.

@@ -1,7 +1,7 @@
 ghost use Rattle.std.specs.Prelude.{◌↔◌, IsTrue};
 ghost use Rattle.var_access.specs.Entry.{IsValid};
 
-use plc_base::Area;
+use plc_base::is_peripheral_byte;
 
 /// What one entry of a history does.
 #[derive(Clone, Copy, Debug, PartialEq, Eq)]
@@ -39,7 +39,7 @@ impl Entry {
         self.who >= 1
             && match self.what {
                 What::Step => true,
-                What::Input { byte, .. } => Area::P.has_byte(byte),
+                What::Input { byte, .. } => is_peripheral_byte(byte),
                 What::Arrive { ob, .. } => (10..18).contains(&ob) || (40..48).contains(&ob),
                 What::Tick { ms } => (1..=60_000).contains(&ms),
             }

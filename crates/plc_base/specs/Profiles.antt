@@ -1,0 +1,24 @@
+-- The sizes of the two profiles.
+use Rattle.std.specs.Prelude.{ℕ}
+use Rattle.plc_base.specs.declared.profiles.Profile.{Profile}
+use Rattle.plc_base.specs.declared.profiles.Profile.TheVariants.{Small, Large}
+
+-- the bytes of bit memory
+abbrev pub bit_memory_size : Profile → ℕ
+bit_memory_size Small = 256
+bit_memory_size Large = 2048
+
+-- the timers
+abbrev pub timer_count : Profile → ℕ
+timer_count Small = 128
+timer_count Large = 256
+
+-- the counters
+abbrev pub counter_count : Profile → ℕ
+counter_count Small = 64
+counter_count Large = 256
+
+-- the frames that an activation has at most
+abbrev pub most_frames : Profile → ℕ
+most_frames Small = 16
+most_frames Large = 24
