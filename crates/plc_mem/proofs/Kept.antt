@@ -14,18 +14,27 @@ use Rattle.plc_mem.specs.declared.faults.Missing.{Missing}
 use Rattle.plc_mem.specs.Number.{weights_of, plus_weight, number_at, number_of, region_read, operand_bit}
 use Rattle.plc_mem.specs.BitPlace.{Region}
 use Rattle.plc_mem.specs.Bits.{bit_at}
-use Rattle.plc_mem.specs.Places.{AreBlocks, AreBytes, IsRun, IsPeripheral, HasParts, IsMemory}
+use Rattle.plc_base.specs.Profiles.{bit_memory_size}
+use Rattle.plc_base.specs.declared.Profile.{Profile}
+use Rattle.plc_mem.specs.Places.{IsBitMemory, AreBlocks, AreBytes, IsRun, IsPeripheral, HasParts, IsMemory}
 use Rattle.plc_mem.specs.Fresh.{clear_peripheral, cleared}
 use Rattle.plc_mem.specs.Run.{number_over, operand_bit_of}
 use Rattle.plc_mem.specs.Writing.{put, put_peripheral, put_in_block}
 use Rattle.plc_mem.proofs.OneMemory.{put_run, put_peripheral_run, put_blocks_bytes, found_block}
-use Rattle.plc_mem.proofs.Lawful.{zero_count}
+use Rattle.plc_mem.proofs.Lawful.{zero_count, zero_memory}
 use Rattle.plc_mem.proofs.Runs.{none_some, same_some, chained}
 
 pub run_kept : (count : ℕ) (old new : List ℕ) (at bit : ℕ) (width : Width) (value : ℕ) (r : Result (Unit {0}) Missing)
     → IsRun count old → value < 2 ^ bit_count width → ChangesOrStays (put old at bit width value) old new r → IsRun count new
 run_kept count old new at bit width value (Ok _) run fits done = put_run count old new at bit width value run fits done
 run_kept count old new at bit width value (Err _) run fits stays = subst (IsRun count) (sym stays.1) run
+
+pub bits_kept : (old new : List ℕ) (at bit : ℕ) (width : Width) (value : ℕ) (r : Result (Unit {0}) Missing)
+    → IsBitMemory old → value < 2 ^ bit_count width → ChangesOrStays (put old at bit width value) old new r → IsBitMemory new
+bits_kept old new at bit width value r is fits done =
+    let run : IsRun (bit_memory_size is.profile) new =
+    run_kept (bit_memory_size is.profile) old new at bit width value r (record { count_is = is.count_is; bytes_are = is.bytes_are }) fits done in
+    record { profile = is.profile; count_is = run.count_is; bytes_are = run.bytes_are }
 
 pub peripheral_kept : (old new : PeripheralBytes) (at bit : ℕ) (width : Width) (value : ℕ) (r : Result (Unit {0}) Missing)
     → IsPeripheral old → value < 2 ^ bit_count width → ChangesOrStays (put_peripheral old at bit width value) old new r → IsPeripheral new
@@ -45,11 +54,11 @@ pub clear_is : IsPeripheral clear_peripheral
 clear_is = record { low = zero_count 128; high = zero_count 512 }
 
 -- memory as it begins
-pub cleared_is : (blocks : map.FinMap nat_cmp (List ℕ)) → AreBlocks blocks → IsMemory (cleared blocks)
-cleared_is blocks all = record {
+pub cleared_is : (profile : Profile) (blocks : map.FinMap nat_cmp (List ℕ)) → AreBlocks blocks → IsMemory (cleared profile blocks)
+cleared_is profile blocks all = record {
   inputs = zero_count 128;
   outputs = zero_count 128;
-  bit_memory = zero_count 256;
+  bit_memory = zero_memory profile;
   peripheral_inputs = clear_is;
   peripheral_outputs = clear_is;
   data_blocks = all;

@@ -22,7 +22,9 @@ use Rattle.plc_mem.specs.BitPlace.{Region, bit_place, Inputs, Outputs, BitMemory
 use Rattle.plc_mem.specs.Bits.{bit_at, bit_in, bit_of, byte_at, peripheral_byte, block_byte}
 use Rattle.plc_base.specs.Widths.{bit_count}
 use Rattle.plc_mem.specs.Number.{weights_of, plus_weight, number_of, number_at, region_of, region_read, region_written, operand_bit, EachBitExists}
-use Rattle.plc_mem.specs.Places.{IsRun, SamePlaces, IsMemory, IsPeripheral, AreBytes, HasImage, HasParts}
+use Rattle.plc_base.specs.Profiles.{bit_memory_size}
+use Rattle.plc_base.specs.declared.Profile.{Profile}
+use Rattle.plc_mem.specs.Places.{IsBitMemory, IsRun, SamePlaces, IsMemory, IsPeripheral, AreBytes, HasImage, HasParts}
 use Rattle.plc_mem.specs.Writing.{written, written_in, put, put_peripheral, put_in_block, is_within}
 use Rattle.plc_mem.specs.Written.{IsWritten, bit_after, value_of_bit}
 use Rattle.plc_mem.specs.Run.{number_over, operand_bit_of}
@@ -506,6 +508,12 @@ input_answers p q at value (Err _) parts is =
 pub zero_count : (count : ℕ) → IsRun count (replicate count 0)
 zero_count count = record { count_is = length-replicate count 0; bytes_are = zero_bytes count }
 
+pub zero_memory : (profile : Profile) → IsBitMemory (replicate (bit_memory_size profile) 0)
+zero_memory profile =
+    let run : IsRun (bit_memory_size profile) (replicate (bit_memory_size profile) 0) =
+    zero_count (bit_memory_size profile) in
+    record { profile = profile; count_is = run.count_is; bytes_are = run.bytes_are }
+
 block_found : (blocks : List (ℕ × List ℕ)) (k : ℕ) (bytes : List ℕ) → AllByRecursion (λ (block : ℕ × List ℕ). AreBytes block.1) blocks → find nat_cmp k blocks ≡ Some bytes → AreBytes bytes
 block_found [] k bytes all found = absurd (none_some bytes found)
 block_found (e ∷ es) k bytes all found =
@@ -513,10 +521,10 @@ block_found (e ∷ es) k bytes all found =
 
 pub memory_starts : MemoryStarts
 unfolding fresh
-memory_starts blocks all = record {
+memory_starts profile blocks all = record {
   inputs = zero_count 128;
   outputs = zero_count 128;
-  bit_memory = zero_count 256;
+  bit_memory = zero_memory profile;
   peripheral_inputs = record { low = zero_count 128; high = zero_count 512 };
   peripheral_outputs = record { low = zero_count 128; high = zero_count 512 };
   data_blocks = λ k bytes found. block_found blocks k bytes all (sym (get-from_entries nat_cmp_total blocks k) ∙ found);

@@ -11,7 +11,9 @@ use Rattle.plc_mem.specs.BitPlace.{Region, Inputs, Outputs, BitMemory, Periphera
 use Rattle.plc_mem.specs.Bits.{bit_at}
 use Rattle.plc_base.specs.Widths.{bit_count}
 use Rattle.plc_mem.specs.Number.{region_written}
-use Rattle.plc_mem.specs.Places.{AreBytes, IsRun, IsPeripheral, IsMemory, HasImage}
+use Rattle.plc_base.specs.Profiles.{bit_memory_size}
+use Rattle.plc_base.specs.declared.Profile.{Profile}
+use Rattle.plc_mem.specs.Places.{IsBitMemory, AreBytes, IsRun, IsPeripheral, IsMemory, HasImage}
 use Rattle.plc_mem.specs.Writing.{is_within, stored, with_bit, put, put_peripheral, put_in_block, written_in, written}
 use Rattle.std.specs.Option.{option_map}
 use Rattle.plc_mem.specs.Written.{IsWritten, bit_after}
@@ -114,6 +116,13 @@ put_blocks_bytes blocks new k at bit width value all fits done number bytes foun
     (all number)
     (sym (get-insert nat_cmp_total blocks k was.1 number) ∙ ap (λ (m : map.FinMap nat_cmp (List ℕ)). map.get m number) was.4 ∙ found)
 
+-- a write to bit memory leaves it one of the same profile
+put_bits : (bytes new : List ℕ) (at bit : ℕ) (width : Width) (value : ℕ) → IsBitMemory bytes → value < 2 ^ bit_count width → put bytes at bit width value ≡ Some new → IsBitMemory new
+put_bits bytes new at bit width value is fits done =
+    let run : IsRun (bit_memory_size is.profile) new =
+    put_run (bit_memory_size is.profile) bytes new at bit width value (record { count_is = is.count_is; bytes_are = is.bytes_are }) fits done in
+    record { profile = is.profile; count_is = run.count_is; bytes_are = run.bytes_are }
+
 -- a write gives a memory
 pub written_in_memory :
     (m n : Areas) (region : Region) (at bit : ℕ) (width : Width) (value : ℕ) → IsMemory m → value < 2 ^ bit_count width → written_in m region at bit width value ≡ Some n → IsMemory n
@@ -125,7 +134,7 @@ written_in_memory m n Outputs at bit width value is fits done =
     subst IsMemory was.2 (record { inputs = is.inputs; outputs = put_run 128 m.outputs was.0 at bit width value is.outputs fits was.1; bit_memory = is.bit_memory; peripheral_inputs = is.peripheral_inputs; peripheral_outputs = is.peripheral_outputs; data_blocks = is.data_blocks })
 written_in_memory m n BitMemory at bit width value is fits done =
     let was = mapped (λ (s : List ℕ). let r : Areas = record m { bit_memory = s } in r) (put m.bit_memory at bit width value) n done in
-    subst IsMemory was.2 (record { inputs = is.inputs; outputs = is.outputs; bit_memory = put_run 256 m.bit_memory was.0 at bit width value is.bit_memory fits was.1; peripheral_inputs = is.peripheral_inputs; peripheral_outputs = is.peripheral_outputs; data_blocks = is.data_blocks })
+    subst IsMemory was.2 (record { inputs = is.inputs; outputs = is.outputs; bit_memory = put_bits m.bit_memory was.0 at bit width value is.bit_memory fits was.1; peripheral_inputs = is.peripheral_inputs; peripheral_outputs = is.peripheral_outputs; data_blocks = is.data_blocks })
 written_in_memory m n PeripheralInputs at bit width value is fits done =
     let was = mapped (λ (p : PeripheralBytes). let r : Areas = record m { peripheral_inputs = p } in r) (put_peripheral m.peripheral_inputs at bit width value) n done in
     subst IsMemory was.2 (record { inputs = is.inputs; outputs = is.outputs; bit_memory = is.bit_memory; peripheral_inputs = put_peripheral_run m.peripheral_inputs was.0 at bit width value is.peripheral_inputs fits was.1; peripheral_outputs = is.peripheral_outputs; data_blocks = is.data_blocks })

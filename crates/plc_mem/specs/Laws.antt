@@ -3,6 +3,7 @@ use Rattle.std.specs.Prelude.{◌≡◌, List, ◌≢◌, ℕ, ◌^◌, ◌<◌,
 use Rattle.std.specs.List.{AllByRecursion}
 use Rattle.plc_base.specs.declared.Width.{Width}
 use Rattle.plc_base.specs.declared.Place.{Place}
+use Rattle.plc_base.specs.declared.Profile.{Profile}
 use Rattle.plc_base.specs.declared.Area.TheVariants.{P}
 use Rattle.plc_mem.specs.Areas.{Areas}
 use Rattle.plc_mem.specs.BitPlace.{BitPlace}
@@ -81,6 +82,6 @@ SetsInputBits m =
 -- Memory begins as one, where the data blocks are made of bytes.
 abbrev pub MemoryStarts : Type 0
 MemoryStarts =
-    (blocks : List (ℕ × List ℕ))
+    (profile : Profile) (blocks : List (ℕ × List ℕ))
     → AllByRecursion (λ (block : ℕ × List ℕ). AreBytes block.1) blocks
-    → IsMemory (fresh blocks)
+    → IsMemory (fresh profile blocks)

@@ -2,7 +2,9 @@
 use Rattle.std.specs.Prelude.{◌≡◌, ℕ, ◌<◌, ◌≤◌, List, length, Some, is_some, slice_index}
 use Rattle.std.specs.FinMap as map
 use Rattle.std.specs.Ordering.{nat_cmp}
-use Rattle.plc_base.specs.AreaBytes.{image_size, bit_memory_size, upper_size}
+use Rattle.plc_base.specs.AreaBytes.{image_size, upper_size}
+use Rattle.plc_base.specs.Profiles.{bit_memory_size}
+use Rattle.plc_base.specs.declared.Profile.{Profile}
 use Rattle.plc_mem.specs.Areas.{Areas, PeripheralBytes}
 use Rattle.plc_mem.specs.BitPlace.{BitPlace}
 use Rattle.plc_mem.specs.Bits.{bit_at}
@@ -30,6 +32,12 @@ pub record IsRun (count : ℕ) (bytes : List ℕ) : Type 0 where
   pub count_is : length bytes ≡ count
   pub bytes_are : AreBytes bytes
 
+-- The bytes of bit memory: as many as in one of the profiles.
+pub record IsBitMemory (bytes : List ℕ) : Type 0 where
+  pub profile : Profile
+  pub count_is : length bytes ≡ bit_memory_size profile
+  pub bytes_are : AreBytes bytes
+
 -- The two parts of a peripheral area have their sizes and are made of bytes.
 pub record IsPeripheral (p : PeripheralBytes) : Type 0 where
   pub low : IsRun image_size p.low
@@ -49,7 +57,7 @@ pub record HasParts (p : PeripheralBytes) : Type 0 where
 pub record IsMemory (m : Areas) : Type 0 where
   pub inputs : IsRun image_size m.inputs
   pub outputs : IsRun image_size m.outputs
-  pub bit_memory : IsRun bit_memory_size m.bit_memory
+  pub bit_memory : IsBitMemory m.bit_memory
   pub peripheral_inputs : IsPeripheral m.peripheral_inputs
   pub peripheral_outputs : IsPeripheral m.peripheral_outputs
   pub data_blocks : AreBlocks m.data_blocks

@@ -1,5 +1,6 @@
 // The memory areas of the controller but local data.
-ghost use Rattle.std.specs.Prelude.{◌≡◌, ◌^◌, ◌<◌, nat_eq, Some, None, IfOk, OnOk, IsOk, IsSome, IsTrue, MatchResult, ◌↔◌};
+ghost use Rattle.plc_base.specs.Profiles.{bit_memory_size};
+ghost use Rattle.std.specs.Prelude.{replicate, ◌≡◌, ◌^◌, ◌<◌, nat_eq, Some, None, IfOk, OnOk, IsOk, IsSome, IsTrue, MatchResult, ◌↔◌};
 ghost use Rattle.std.specs.Option.{option_copied};
 ghost use Rattle.std.specs.FinMap as map;
 ghost use Rattle.std.specs.List.{IsDistinct};
@@ -11,7 +12,7 @@ ghost use Rattle.plc_base.specs.Widths.{bit_count};
 ghost use Rattle.plc_mem.specs.Number.{number_at, region_read, region_written, EachBitExists};
 ghost use Rattle.plc_mem.specs.Peripherals.{with_input, output_of, outputs_cleared};
 ghost use Rattle.plc_mem.specs.Refresh.{refreshed};
-ghost use Rattle.plc_mem.specs.Writing.{written, written_in};
+ghost use Rattle.plc_mem.specs.Writing.{put, written, written_in};
 ghost use Rattle.plc_mem.specs.Written.{IsWritten};
 ghost use Rattle.plc_mem.specs.Places.{AreBlocks, HasImage, IsMemory};
 ghost use Rattle.plc_mem.specs.BitPlace.{Inputs, Outputs, BitMemory, PeripheralOutputs, DataBlock};
@@ -20,12 +21,9 @@ use crate::data_blocks::DataBlocks;
 use crate::faults::Missing;
 use crate::operands;
 use crate::peripherals::{LOW_BYTES, PeripheralArea};
-use plc_base::{Area, NoMemory, Place, Width};
+use plc_base::{Area, NoMemory, Place, Profile, Width};
 use std::alloc::Global;
 use std::marker::Model;
-
-/// How many bytes bit memory has.
-const BIT_MEMORY_BYTES: usize = 256;
 
 /// The memory areas but local data: the process images of the inputs and of the outputs (I, Q), bit
 /// memory (M), peripheral inputs and outputs (PI, PQ) and the data blocks (DB).
@@ -33,7 +31,7 @@ const BIT_MEMORY_BYTES: usize = 256;
 pub struct Memory {
     inputs: [u8; LOW_BYTES],
     outputs: [u8; LOW_BYTES],
-    bit_memory: [u8; BIT_MEMORY_BYTES],
+    bit_memory: Vec<u8>,
     peripheral_inputs: PeripheralArea,
     peripheral_outputs: PeripheralArea,
     data_blocks: DataBlocks,
@@ -50,7 +48,7 @@ impl Model for Memory {
     ghost view = { λ a. record {
       inputs = a.inputs;
       outputs = a.outputs;
-      bit_memory = a.bit_memory;
+      bit_memory = a.bit_memory.items;
       peripheral_inputs = a.peripheral_inputs;
       peripheral_outputs = a.peripheral_outputs;
       data_blocks = a.data_blocks;
@@ -59,22 +57,52 @@ impl Model for Memory {
     ghost invariant = { λ a. IsMemory (record {
       inputs = a.inputs;
       outputs = a.outputs;
-      bit_memory = a.bit_memory;
+      bit_memory = a.bit_memory.items;
       peripheral_inputs = a.peripheral_inputs;
       peripheral_outputs = a.peripheral_outputs;
       data_blocks = a.data_blocks;
     }) };
 }
 
+// So many bytes, each 0.
+fn clear_bytes(alloc: Global, count: usize) -> Result<Vec<u8>, NoMemory>
+    ensures { IfOk result (λ v. v.items ≡ replicate count 0) }
+{
+    let bytes = vec![in alloc; 0; count]?;
+    Ok(bytes)
+}
+
+// Writes an operand of bytes.
+#[inline(always)]
+fn put_in(
+    bytes: &mut Vec<u8>,
+    at: usize,
+    bit: u8,
+    width: Width,
+    value: u32,
+) -> Result<(), Missing>
+    requires near { at < 2 ^ 16 }
+    requires fits { value < 2 ^ bit_count width }
+    ensures { ChangesOrStays (put bytes.old.items at bit width value)
+        bytes.old.items bytes.new.items result }
+{
+    operands::put(bytes.as_mut_slice(), at, bit, width, value)
+}
+
 impl Memory {
     /// Memory with copies of these data blocks, each given by its number, in which all else is 0.
     #[tactic(auto, unfolding(crate::specs::Fresh::fresh))]
-    pub fn new(alloc: Global, blocks: &[(u16, Vec<u8>)]) -> Result<Self, NoMemory>
+    pub fn new(
+        alloc: Global,
+        blocks: &[(u16, Vec<u8>)],
+        profile: Profile,
+    ) -> Result<Self, NoMemory>
         requires { IsDistinct nat_eq (numbers_of blocks.now) }
-        ensures { IfOk result (λ m. m ≡ fresh (bytes_of blocks.now)) }
+        ensures { IfOk result (λ m. m ≡ fresh profile (bytes_of blocks.now)) }
     {
         let data_blocks = DataBlocks::new(alloc, blocks)?;
-        Ok(Memory::cleared(data_blocks))
+        let bit_memory = clear_bytes(alloc, profile.bit_memory_size())?;
+        Ok(Memory::cleared(profile, bit_memory, data_blocks))
     }
 
     /// Nothing is done. The contract says that each memory has its areas, each of its size and made
@@ -164,14 +192,16 @@ impl Memory {
     }
 
     // Memory with these data blocks, in which all else is 0.
-    fn cleared(data_blocks: DataBlocks) -> Self
-        requires { AreBlocks data_blocks }
-        ensures { result ≡ cleared data_blocks }
+    fn cleared(profile: Profile, bit_memory: Vec<u8>, data_blocks: DataBlocks) -> Self
+        requires bits { bit_memory.items ≡ replicate (bit_memory_size profile) 0 }
+        requires blocks { AreBlocks data_blocks }
+        ensures { result ≡ cleared profile data_blocks }
     {
+        let _ = profile;
         Memory {
             inputs: [0; LOW_BYTES],
             outputs: [0; LOW_BYTES],
-            bit_memory: [0; BIT_MEMORY_BYTES],
+            bit_memory,
             peripheral_inputs: PeripheralArea::clear(),
             peripheral_outputs: PeripheralArea::clear(),
             data_blocks,
@@ -189,7 +219,7 @@ impl Memory {
             (Area::P, 0) => self.peripheral_inputs.number(at, place.bit, width),
             (Area::I, 0) => operands::number(&self.inputs, at, place.bit, width),
             (Area::Q, 0) => operands::number(&self.outputs, at, place.bit, width),
-            (Area::M, 0) => operands::number(&self.bit_memory, at, place.bit, width),
+            (Area::M, 0) => operands::number(self.bit_memory.as_slice(), at, place.bit, width),
             (Area::Db, number) => self.data_blocks.number(number, at, place.bit, width),
             _ => None,
         }
@@ -251,7 +281,7 @@ impl Memory {
         ensures { ChangesOrStays (written_in self.old BitMemory at bit width value)
             self.old self.new result }
     {
-        operands::put(&mut self.bit_memory, at, bit, width, value)
+        put_in(&mut self.bit_memory, at, bit, width, value)
     }
 
     // Writes an operand of a data block.
