@@ -1,11 +1,15 @@
 pub mod AreaBytes
 pub mod Bcd
+pub mod Bits
 pub mod Changes
 pub mod Decimal
+pub mod ErrorCodes
 pub mod Folding
 pub mod Gathered
+pub mod Kinds
 pub mod Least
 pub mod Pointer
 pub mod Profiles
 pub mod S5Time
+pub mod StopCauses
 pub mod Widths

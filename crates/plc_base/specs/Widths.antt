@@ -16,3 +16,10 @@ bit_count Bit = 1
 bit_count Byte = 8
 bit_count Word = 16
 bit_count Dword = 32
+
+-- the number of a width, as they rise
+abbrev pub width_number : Width → ℕ
+width_number Bit = 1
+width_number Byte = 2
+width_number Word = 3
+width_number Dword = 4

@@ -2,10 +2,13 @@
 #![tactic(auto)]
 
 mod bcd;
+mod bits;
 mod blocks;
 mod decimals;
+pub mod error_codes;
 mod faults;
 mod flags;
+mod instructions;
 pub mod laws;
 mod least;
 mod lines;
@@ -15,14 +18,17 @@ mod pointers;
 mod profiles;
 mod refusals;
 mod s5times;
+pub mod stop_causes;
 
 pub use bcd::{
     BadBcd, bcd_to_int, bcd_to_unsigned, bcd7_to_dint, dint_to_bcd7, int_to_bcd, unsigned_to_bcd,
 };
+pub use bits::has_bit;
 pub use blocks::{BlockId, BlockKind};
-pub use decimals::{capped_decimal, decimal_up_to};
+pub use decimals::{are_digits, capped_decimal, decimal_up_to};
 pub use faults::NoMemory;
 pub use flags::Flag;
+pub use instructions::{Check, Compare, TimerKind};
 pub use least::{broken_if, least_of, lesser, try_least_of};
 pub use lines::first_line;
 pub use modes::{Mode, Spot};

@@ -1,6 +1,7 @@
-ghost use Rattle.std.specs.Prelude.{◌≡◌};
+ghost use Rattle.std.specs.Prelude.{◌≡◌, ◌≤◌};
 ghost use Rattle.plc_base.specs.AreaBytes.{is_peripheral_byte};
-ghost use Rattle.plc_base.specs.Widths.{byte_count, bit_count};
+ghost use Rattle.plc_base.specs.Pointer.{area_number};
+ghost use Rattle.plc_base.specs.Widths.{byte_count, bit_count, width_number};
 
 /// The width of an operand: one bit, or one, two or four bytes.
 #[derive(Clone, Copy, Debug, PartialEq, Eq)]
@@ -34,6 +35,18 @@ impl Width {
             Width::Dword => 32,
         }
     }
+
+    /// The number of the width: 1 bit, 2 byte, 3 word, 4 double word.
+    pub fn number(self) -> u8
+        ensures { result ≡ width_number self }
+    {
+        match self {
+            Width::Bit => 1,
+            Width::Byte => 2,
+            Width::Word => 3,
+            Width::Dword => 4,
+        }
+    }
 }
 
 /// A memory area: peripheral (`PI`, `PQ`), process image of the inputs and of the outputs, bit
@@ -47,6 +60,24 @@ pub enum Area {
     Db,
     Di,
     L,
+}
+
+impl Area {
+    /// The number of the area in a pointer: 0 P, 1 I, 2 Q, 3 M, 4 DB, 5 DI, 6 L.
+    pub fn number(self) -> u8
+        ensures value { result ≡ area_number self }
+        ensures below { result ≤ 6 }
+    {
+        match self {
+            Area::P => 0,
+            Area::I => 1,
+            Area::Q => 2,
+            Area::M => 3,
+            Area::Db => 4,
+            Area::Di => 5,
+            Area::L => 6,
+        }
+    }
 }
 
 /// Whether there is a peripheral byte of this number: 0 to 127, and 256 to 767.

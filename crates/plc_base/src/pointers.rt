@@ -1,5 +1,5 @@
 ghost use Rattle.std.specs.Prelude.{◌≡◌, ◌≤◌, MatchResult};
-ghost use Rattle.plc_base.specs.Pointer.{area_of, area_number, place_of, pointer_of};
+ghost use Rattle.plc_base.specs.Pointer.{area_of, place_of, pointer_of};
 
 use crate::places::{Area, Place};
 
@@ -20,21 +20,6 @@ fn area_of_number(number: u32) -> Option<Area>
         5 => Some(Area::Di),
         6 => Some(Area::L),
         _ => None,
-    }
-}
-
-/// The number of an area in a pointer.
-fn number_of_area(area: Area) -> u32
-    ensures { result ≡ area_number area }
-{
-    match area {
-        Area::P => 0,
-        Area::I => 1,
-        Area::Q => 2,
-        Area::M => 3,
-        Area::Db => 4,
-        Area::Di => 5,
-        Area::L => 6,
     }
 }
 
@@ -69,7 +54,7 @@ pub fn pointer_of_place(place: &Place) -> u32
     ensures { result ≡ pointer_of place.now }
 {
     0x8000_0000
-        + (number_of_area(place.area) << 24)
+        + (u32::from(place.area.number()) << 24)
         + (u32::from(place.byte) << 3)
         + u32::from(place.bit)
 }
