@@ -12,4 +12,5 @@ pub mod Pointer
 pub mod Profiles
 pub mod S5Time
 pub mod StopCauses
+pub mod Texts
 pub mod Widths

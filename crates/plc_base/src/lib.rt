@@ -11,7 +11,6 @@ mod flags;
 mod instructions;
 pub mod laws;
 mod least;
-mod lines;
 mod modes;
 mod places;
 mod pointers;
@@ -19,6 +18,7 @@ mod profiles;
 mod refusals;
 mod s5times;
 pub mod stop_causes;
+mod texts;
 
 pub use bcd::{
     BadBcd, bcd_to_int, bcd_to_unsigned, bcd7_to_dint, dint_to_bcd7, int_to_bcd, unsigned_to_bcd,
@@ -30,10 +30,10 @@ pub use faults::NoMemory;
 pub use flags::Flag;
 pub use instructions::{Check, Compare, TimerKind};
 pub use least::{broken_if, least_of, lesser, try_least_of};
-pub use lines::first_line;
 pub use modes::{Mode, Spot};
 pub use places::{Area, Place, Width, is_peripheral_byte};
 pub use pointers::{BadArea, place_of_pointer, pointer_of_place};
 pub use profiles::Profile;
 pub use refusals::{Refusal, SourceFault};
 pub use s5times::{MOST_UNITS, TimeBase, TooLong, ms_of_s5time, s5time_of_ms};
+pub use texts::{first_line, is_blank};

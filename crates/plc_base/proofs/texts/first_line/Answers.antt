@@ -1,7 +1,7 @@
 use Rattle.std.proofs.Common.{arith, rules, ◌<◌, length}
 use Rattle.std.proofs.lemmas.Grind.{common_steps}
 use Rattle.plc_base.proofs.LineLemmas.{lines-first, lines-last}
-use Rattle.plc_base.proofs.lines.first_line.Goals as goal
+use Rattle.plc_base.proofs.texts.first_line.Goals as goal
 
 pub returns-then-is_empty-clause-first : goal.returns-then-is_empty-clause-first
 returns-then-is_empty-clause-first c =
