@@ -4,6 +4,9 @@ use Rattle.std.specs.Option.{option_map}
 use Rattle.std.specs.Borrow.{Bor}
 use Rattle.plc_base.specs.declared.BlockId.{BlockId}
 use Rattle.status_word.specs.Registers.{regs_at_rest}
+use Rattle.frames.specs.Relay.{relay_off}
+use Rattle.plc_base.specs.Profiles.{most_frames}
+use Rattle.plc_base.specs.declared.Profile.{Profile}
 use Rattle.frames.specs.Locals.{opened, closed, no_locals, byte_at, byte_set}
 use Rattle.frames.specs.declared.activation.Activation.{Activation}
 use Rattle.frames.specs.declared.activation.FrameFault.{FrameFault}
@@ -35,13 +38,15 @@ frame_begun block local_len = record {
   di = None;
   instance = None;
   brackets = [];
+  relay = relay_off;
   local_len = local_len;
   bindings = [];
 }
 
 -- an activation as its organization block begins: registers and status word 0, nothing delayed, one frame, its local bytes 0
-abbrev pub begun : (class ob : ℕ) → Frame → Activation
-begun class ob f = record {
+abbrev pub begun : Profile → (class ob : ℕ) → Frame → Activation
+begun profile class ob f = record {
+  profile = profile;
   class = class;
   ob = ob;
   delay = 0;
@@ -67,10 +72,10 @@ entered f a = record a {
   left = false;
 }
 
--- why a block can't be entered: sixteen frames stand, or its local bytes have no room in 1,024
+-- why a block can't be entered: as many frames stand as the profile has, or its local bytes have no room in 1,024
 abbrev pub refused : (local_len : ℕ) → Activation → Option FrameFault
 refused local_len a =
-    if length (frames_of a) == 16 then Some Depth
+    if nat_le (most_frames a.profile) (length (frames_of a)) then Some Depth
     else if nat_le (length a.running.locals.bytes + local_len) 1024 then None
     else Some LocalFull
 

@@ -31,13 +31,13 @@ ghost use Rattle.frames.specs.Activations.{
 use crate::frame::Frame;
 use crate::locals::Locals;
 use crate::running::Running;
-use plc_base::{BlockId, Width};
+use plc_base::{BlockId, Profile, Width};
 use plc_mem::Missing;
 use status_word::Regs;
 use std::marker::Model;
 
 /// How many frames lie below the innermost one at most.
-const BELOW: usize = 15;
+const BELOW: usize = 23;
 
 /// Why a block can't be entered.
 #[derive(Clone, Copy, Debug, PartialEq, Eq)]
@@ -65,7 +65,7 @@ impl Model for Below {
 
     ghost view = { λ b. reverse (take b.count b.frames) };
 
-    ghost invariant = { λ b. (b.count ≤ 15) × (length b.frames ≡ 15) };
+    ghost invariant = { λ b. (b.count ≤ 23) × (length b.frames ≡ 23) };
 }
 
 impl Below {
@@ -82,14 +82,14 @@ impl Below {
     #[tactic(auto, using(crate::proofs::Stack::count_of))]
     fn len(&self) -> usize
         ensures value { result ≡ length self.now }
-        ensures bound { result ≤ 15 }
+        ensures bound { result ≤ 23 }
     {
         self.count
     }
 
     #[tactic(auto, using(crate::proofs::Stack::count_of, crate::proofs::Stack::pushed))]
     fn push(&mut self, frame: &Frame)
-        requires { length self.old < 15 }
+        requires { length self.old < 23 }
         ensures { self.new ≡ frame.now ∷ self.old }
     {
         let place = self.count;
@@ -130,6 +130,7 @@ impl Below {
 /// are delayed in it, what its statements work on, and the frames below the innermost one.
 #[derive(Drop)]
 pub struct Activation {
+    pub profile: Profile,
     pub class: u8,
     pub ob: u16,
     /// How often interrupts are delayed (SFC 41), 0 to 32,767.
@@ -143,13 +144,14 @@ pub struct Activation {
 impl Activation {
     /// An activation as its organization block begins: all registers and the status word 0, nothing
     /// delayed, one frame, whose local bytes are 0. `f` has at most 1,024 local bytes.
-    pub fn new(class: u8, ob: u16, f: Frame) -> Activation
+    pub fn new(class: u8, ob: u16, f: Frame, profile: Profile) -> Activation
         requires { f.local_len ≤ 1024 }
-        ensures { result ≡ begun class ob f }
+        ensures { result ≡ begun profile class ob f }
     {
         let mut locals = Locals::new();
         locals.open(f.local_len);
         Activation {
+            profile,
             class,
             ob,
             delay: 0,
@@ -165,10 +167,11 @@ impl Activation {
 
     /// Begins an organization block in the place of an activation, as `new` with the frame of a block at its
     /// first statement: the activation stays where it is. There are at most 1,024 local bytes.
-    pub fn restart(&mut self, class: u8, ob: u16, block: BlockId, local_len: u16)
+    pub fn restart(&mut self, class: u8, ob: u16, block: BlockId, local_len: u16, profile: Profile)
         requires { local_len ≤ 1024 }
-        ensures { self.new ≡ begun class ob (frame_begun block local_len) }
+        ensures { self.new ≡ begun profile class ob (frame_begun block local_len) }
     {
+        self.profile = profile;
         self.class = class;
         self.ob = ob;
         self.delay = 0;
@@ -183,7 +186,7 @@ impl Activation {
     /// How many frames stand.
     pub fn depth(&self) -> usize
         ensures value { result ≡ length (frames_of self.now) }
-        ensures bound { result ≤ 16 }
+        ensures bound { result ≤ 24 }
     {
         if self.left { 0 } else { self.below.len() + 1 }
     }
@@ -191,9 +194,9 @@ impl Activation {
     /// Why a block with so many local bytes can't be entered.
     pub fn refuses(&self, local_len: u16) -> Option<FrameFault>
         ensures value { result ≡ refused local_len self.now }
-        ensures room { IfNone result (length (frames_of self.now) < 16) }
+        ensures room { IfNone result (length (frames_of self.now) < 24) }
     {
-        if self.depth() == BELOW + 1 {
+        if self.depth() >= self.profile.most_frames() {
             Some(FrameFault::Depth)
         } else if self.running.locals.has_room(local_len) {
             None
@@ -206,7 +209,7 @@ impl Activation {
     /// there twice, and its block's caller makes the upper one that of another block. There is room.
     pub fn enter_again(&mut self, local_len: u16)
         requires depth { length self.old.running.locals.starts ≡ length (frames_of self.old) }
-        requires few { length (frames_of self.old) < 16 }
+        requires few { length (frames_of self.old) < 24 }
         requires room { refused local_len self.old ≡ None }
         ensures { self.new ≡ entered (record self.old.running.frame { local_len = local_len })
             self.old }
@@ -225,8 +228,8 @@ impl Activation {
     ///
     /// # Errors
     ///
-    /// `Depth` exactly where sixteen frames stand, else `LocalFull` exactly where the local bytes would
-    /// exceed 1,024. Nothing has changed then.
+    /// `Depth` exactly where as many frames stand as the profile has, else `LocalFull` exactly where the
+    /// local bytes would exceed 1,024. Nothing has changed then.
     pub fn enter(&mut self, f: Frame) -> Result<(), FrameFault>
         requires { length self.old.running.locals.starts ≡ length (frames_of self.old) }
         ensures { Enters self.old self.new f result }

@@ -2,6 +2,7 @@ ghost use Rattle.std.specs.Prelude.{◌≡◌};
 ghost use Rattle.frames.specs.Activations.{frame_begun};
 
 use crate::bindings::Bindings;
+use crate::relay::Relay;
 use plc_base::{BlockId, BlockKind};
 use status_word::Brackets;
 
@@ -18,6 +19,8 @@ pub struct Frame {
     pub instance: Option<u16>,
     /// The open brackets (manual: nesting stack).
     pub brackets: Brackets,
+    /// The master control relay.
+    pub relay: Relay,
     /// How many local bytes it has.
     pub local_len: u16,
     /// What its parameters stand for.
@@ -37,6 +40,7 @@ impl Default for Frame {
             di: None,
             instance: None,
             brackets: Brackets::new(),
+            relay: Relay::off(),
             local_len: 0,
             bindings: Bindings::new(),
         }
@@ -54,6 +58,7 @@ impl Frame {
         self.di = None;
         self.instance = None;
         self.brackets = Brackets::new();
+        self.relay = Relay::off();
         self.local_len = local_len;
         self.bindings.clear();
     }
@@ -68,6 +73,7 @@ impl Frame {
         self.di = other.di;
         self.instance = other.instance;
         self.brackets = other.brackets.copied();
+        self.relay = other.relay.copied();
         self.local_len = other.local_len;
         self.bindings.copy_from(&other.bindings);
     }

@@ -12,7 +12,7 @@ use std::marker::Model;
 /// How many local bytes all frames of an activation have at most.
 const LOCAL_BYTES: usize = 1024;
 /// How many frames an activation has at most.
-const FRAMES: usize = 16;
+const FRAMES: usize = 24;
 
 const ZEROS: [u8; LOCAL_BYTES] = [0; LOCAL_BYTES];
 
@@ -73,7 +73,7 @@ impl Locals {
     /// How many frames there are.
     pub fn depth(&self) -> usize
         ensures value { result ≡ length self.now.starts }
-        ensures bound { result ≤ 16 }
+        ensures bound { result ≤ 24 }
     {
         self.starts.len()
     }
@@ -166,7 +166,7 @@ impl Locals {
 
     /// Gives a further frame its local bytes, all 0.
     pub fn open(&mut self, len: u16)
-        requires depth { length self.old.starts < 16 }
+        requires depth { length self.old.starts < 24 }
         requires room { length self.old.bytes + len ≤ 1024 }
         ensures { self.new ≡ opened len self.old }
     {

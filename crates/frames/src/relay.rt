@@ -1,0 +1,124 @@
+ghost use Rattle.std.specs.Prelude.{◌≡◌, ◌==◌, [], ◌∷◌, length, true, false, IsFalse, IsTrue, ◌↔◌};
+ghost use Rattle.std.specs.Bool.{OnTrue, OnFalse};
+ghost use Rattle.frames.specs.Relay.{is_closed, relay_off, zone_ended, zone_opened, zone_value};
+
+use arrayvec::ArrayVec;
+use std::marker::Model;
+
+/// How many zones may be open at once.
+const ZONES: usize = 8;
+
+/// The values of the open zones of a relay. A contract sees the list of them, the innermost one first.
+#[derive(Drop)]
+pub struct Zones {
+    values: ArrayVec<bool, ZONES>,
+}
+
+impl Model for Zones {
+    ghost use Rattle.std.specs.Prelude.{Bool, List, reverse};
+
+    ghost Value = { List Bool };
+
+    ghost view = { λ z. reverse z.values.items };
+}
+
+impl Zones {
+    /// No open zone.
+    pub fn new() -> Zones
+        ensures { result ≡ [] }
+    {
+        Zones {
+            values: ArrayVec::new(),
+        }
+    }
+
+    /// How many zones are open.
+    pub fn len(&self) -> usize
+        ensures { result ≡ length self.now }
+    {
+        self.values.len()
+    }
+
+    /// The same zones again, with no memory taken.
+    pub fn copied(&self) -> Zones
+        ensures { result ≡ self.now }
+    {
+        let mut values = ArrayVec::new();
+        for value in self.values.as_slice() {
+            values.push(*value);
+        }
+        Zones { values }
+    }
+
+    // The value of the last zone; 1 where none is open.
+    #[tactic(auto, using(crate::proofs::ZoneLemmas::last_value, crate::proofs::ZoneLemmas::no_value))]
+    fn value(&self) -> bool
+        ensures { result ≡ zone_value self.now }
+    {
+        let values = self.values.as_slice();
+        if values.is_empty() {
+            return true;
+        }
+        values[values.len() - 1]
+    }
+}
+
+/// The master control relay of a frame: whether it is active, and its open zones.
+#[derive(Drop)]
+pub struct Relay {
+    pub active: bool,
+    pub zones: Zones,
+}
+
+impl Relay {
+    /// Inactive, with no zone.
+    pub fn off() -> Relay
+        ensures { result ≡ relay_off }
+    {
+        Relay {
+            active: false,
+            zones: Zones::new(),
+        }
+    }
+
+    /// The same again.
+    pub fn copied(&self) -> Relay
+        ensures { result ≡ self.now }
+    {
+        Relay {
+            active: self.active,
+            zones: self.zones.copied(),
+        }
+    }
+
+    /// `MCR(`: a zone opens, whose value is RLO and the value of the zone around it. False, with nothing
+    /// changed, where eight are open.
+    pub fn open(&mut self, rlo: bool) -> bool
+        ensures full { IsFalse result ↔ (length self.old.zones ≡ 8) }
+        ensures open { OnTrue result (self.new ≡ zone_opened rlo self.old) }
+        ensures unchanged { OnFalse result (self.new ≡ self.old) }
+    {
+        if self.zones.values.is_full() {
+            return false;
+        }
+        let value = rlo && self.zones.value();
+        self.zones.values.push(value);
+        true
+    }
+
+    /// `)MCR`: the last zone ends. False, with nothing changed, where none is open.
+    pub fn end(&mut self) -> bool
+        ensures none { IsFalse result ↔ (self.old.zones ≡ []) }
+        ensures ended { self.new ≡ zone_ended self.old }
+    {
+        self.zones.values.pop().is_some()
+    }
+
+    /// Whether it is active, and the last open zone has the value 0.
+    #[inline(always)]
+    pub fn is_closed(&self) -> bool
+        ensures { result ≡ is_closed self.now }
+    {
+        self.active && !self.zones.value()
+    }
+}
