@@ -12,4 +12,4 @@ pub use counter_table::{COUNTERS, Counters};
 pub use counting::MOST_COUNT;
 pub use faults::TimerFault;
 pub use kinds::TimerKind;
-pub use timer_table::{TIMERS, Timers};
+pub use timer_table::Timers;

@@ -1,4 +1,5 @@
-ghost use Rattle.std.specs.Prelude.{◌≡◌, ◌≤◌, ◌<◌, ◌↔◌, Some, None, Err, MatchResult, map, slice_get, replicate, length};
+ghost use Rattle.plc_base.specs.Profiles.{timer_count};
+ghost use Rattle.std.specs.Prelude.{◌++◌, ◌+◌, slice_set, ◌≡◌, ◌≤◌, ◌<◌, ◌↔◌, Some, None, Err, MatchResult, map, slice_get, replicate, length};
 ghost use Rattle.std.specs.Fn.{iterate};
 ghost use Rattle.timers_counters.specs.Numbered.{Leaves, change, change_always, reading};
 ghost use Rattle.timers_counters.specs.Timer.{timer_at_rest, started, reset_timer, freed_timer, one_ms, units_left, time_left, Timer as TimerValue};
@@ -7,15 +8,38 @@ ghost use Rattle.timers_counters.specs.declared.faults.TimerFault.TheVariants.{N
 use crate::faults::TimerFault;
 use crate::kinds::TimerKind;
 use crate::timing::Timer;
+use arrayvec::ArrayVec;
+use plc_base::Profile;
 use std::marker::Model;
 
-/// How many timers there are: T 0 to T 127.
-pub const TIMERS: usize = 128;
+/// How many timers there are at most.
+const MOST_TIMERS: usize = 256;
 
-/// The timers T 0 to T 127. A contract sees the list of them.
+/// The timers. A contract sees the list of them, which has as many as the profile has.
 #[derive(Drop)]
 pub struct Timers {
-    timers: [Timer; TIMERS],
+    timers: ArrayVec<Timer, MOST_TIMERS>,
+}
+
+// Adds so many timers at rest.
+fn add_timers(timers: &mut ArrayVec<Timer, MOST_TIMERS>, count: usize)
+    requires { length timers.old.items + count ≤ 256 }
+    ensures { timers.new.items ≡ timers.old.items ++ replicate count timer_at_rest }
+{
+    for _ in 0..count {
+        timers.push(Timer::new());
+    }
+}
+
+fn timer_in(timers: &[Timer], number: u16) -> Result<Timer, TimerFault>
+    ensures { MatchResult result
+        (λ timer. slice_get timers.now number ≡ Some timer)
+        (λ fault. (slice_get timers.now number ≡ None) × (fault ≡ NoNumber)) }
+{
+    match timers.get(usize::from(number)) {
+        Some(timer) => Ok(*timer),
+        None => Err(TimerFault::NoNumber),
+    }
 }
 
 impl Model for Timers {
@@ -24,19 +48,26 @@ impl Model for Timers {
 
     ghost Value = { List TimerValue };
 
-    ghost view = { λ t. t.timers };
+    ghost view = { λ t. t.timers.items };
+}
 
-    ghost invariant = { λ t. length t.timers ≡ 128 };
+// Passes `n` milliseconds for each timer.
+fn pass_all(timers: &mut [Timer], n: u32)
+    ensures { timers.new ≡ iterate (map one_ms) n timers.old }
+{
+    for timer in timers.iter_mut() {
+        timer.pass_ms(n);
+    }
 }
 
 impl Timers {
-    /// All timers at rest.
-    pub fn new() -> Timers
-        ensures { result ≡ replicate 128 timer_at_rest }
+    /// All timers of a profile at rest.
+    pub fn new(profile: Profile) -> Timers
+        ensures { result ≡ replicate (timer_count profile) timer_at_rest }
     {
-        Timers {
-            timers: [Timer::new(); TIMERS],
-        }
+        let mut timers = ArrayVec::new();
+        add_timers(&mut timers, profile.timer_count());
+        Timers { timers }
     }
 
     /// The timer of a number.
@@ -44,12 +75,18 @@ impl Timers {
         ensures found { MatchResult result
             (λ timer. slice_get self.now number ≡ Some timer)
             (λ fault. (slice_get self.now number ≡ None) × (fault ≡ NoNumber)) }
-        ensures in_range { MatchResult result (λ _. number < 128) (λ _. 128 ≤ number) }
+        ensures in_range { MatchResult result (λ _. number < length self.now)
+            (λ _. length self.now ≤ number) }
     {
-        match self.timers.get(usize::from(number)) {
-            Some(timer) => Ok(*timer),
-            None => Err(TimerFault::NoNumber),
-        }
+        timer_in(self.timers.as_slice(), number)
+    }
+
+    // Puts a timer in the place of that of a number, which there is.
+    fn put(&mut self, number: u16, timer: Timer)
+        requires { number < length self.old }
+        ensures { self.new ≡ slice_set self.old number timer }
+    {
+        self.timers.as_mut_slice()[usize::from(number)] = timer;
     }
 
     /// A start instruction, `SP`, `SE`, `SD`, `SS` or `SF`. `value` is an S5TIME, which is read only
@@ -57,7 +94,7 @@ impl Timers {
     ///
     /// # Errors
     ///
-    /// `NoNumber` exactly for a number above 127, else `BadBcd` exactly where the instruction starts
+    /// `NoNumber` exactly for a number that no timer has, else `BadBcd` exactly where the instruction starts
     /// the timer and a digit of `value` is above 9.
     pub fn start(
         &mut self,
@@ -68,11 +105,11 @@ impl Timers {
     ) -> Result<(), TimerFault>
         ensures outcome { Leaves self.old self.new result
             (change (started kind rlo value) self.old number) }
-        ensures no_number { result ≡ Err NoNumber ↔ (128 ≤ number) }
+        ensures no_number { result ≡ Err NoNumber ↔ (length self.old ≤ number) }
     {
         let mut timer = self.timer(number)?;
         timer.start(kind, rlo, value)?;
-        self.timers[usize::from(number)] = timer;
+        self.put(number, timer);
         Ok(())
     }
 
@@ -80,15 +117,15 @@ impl Timers {
     ///
     /// # Errors
     ///
-    /// `NoNumber` exactly for a number above 127.
+    /// `NoNumber` exactly for a number that no timer has.
     pub fn reset(&mut self, number: u16, rlo: bool) -> Result<(), TimerFault>
         ensures outcome { Leaves self.old self.new result
             (change_always (reset_timer rlo) self.old number) }
-        ensures no_number { result ≡ Err NoNumber ↔ (128 ≤ number) }
+        ensures no_number { result ≡ Err NoNumber ↔ (length self.old ≤ number) }
     {
         let mut timer = self.timer(number)?;
         timer.reset(rlo);
-        self.timers[usize::from(number)] = timer;
+        self.put(number, timer);
         Ok(())
     }
 
@@ -97,15 +134,15 @@ impl Timers {
     ///
     /// # Errors
     ///
-    /// `NoNumber` exactly for a number above 127.
+    /// `NoNumber` exactly for a number that no timer has.
     pub fn free(&mut self, number: u16, rlo: bool) -> Result<(), TimerFault>
         ensures outcome { Leaves self.old self.new result
             (change_always (freed_timer rlo) self.old number) }
-        ensures no_number { result ≡ Err NoNumber ↔ (128 ≤ number) }
+        ensures no_number { result ≡ Err NoNumber ↔ (length self.old ≤ number) }
     {
         let mut timer = self.timer(number)?;
         timer.free(rlo);
-        self.timers[usize::from(number)] = timer;
+        self.put(number, timer);
         Ok(())
     }
 
@@ -113,10 +150,10 @@ impl Timers {
     ///
     /// # Errors
     ///
-    /// `NoNumber` exactly for a number above 127.
+    /// `NoNumber` exactly for a number that no timer has.
     pub fn output(&self, number: u16) -> Result<bool, TimerFault>
         ensures value { result ≡ reading (λ (timer : TimerValue). timer.output) self.now number }
-        ensures no_number { result ≡ Err NoNumber ↔ (128 ≤ number) }
+        ensures no_number { result ≡ Err NoNumber ↔ (length self.now ≤ number) }
     {
         Ok(self.timer(number)?.output())
     }
@@ -125,10 +162,10 @@ impl Timers {
     ///
     /// # Errors
     ///
-    /// `NoNumber` exactly for a number above 127.
+    /// `NoNumber` exactly for a number that no timer has.
     pub fn value(&self, number: u16) -> Result<u16, TimerFault>
         ensures value { result ≡ reading (units_left) self.now number }
-        ensures no_number { result ≡ Err NoNumber ↔ (128 ≤ number) }
+        ensures no_number { result ≡ Err NoNumber ↔ (length self.now ≤ number) }
     {
         Ok(self.timer(number)?.value())
     }
@@ -137,10 +174,10 @@ impl Timers {
     ///
     /// # Errors
     ///
-    /// `NoNumber` exactly for a number above 127.
+    /// `NoNumber` exactly for a number that no timer has.
     pub fn bcd(&self, number: u16) -> Result<u16, TimerFault>
         ensures value { result ≡ reading (time_left) self.now number }
-        ensures no_number { result ≡ Err NoNumber ↔ (128 ≤ number) }
+        ensures no_number { result ≡ Err NoNumber ↔ (length self.now ≤ number) }
     {
         Ok(self.timer(number)?.bcd())
     }
@@ -149,8 +186,6 @@ impl Timers {
     pub fn pass_ms(&mut self, n: u32)
         ensures { self.new ≡ iterate (map one_ms) n self.old }
     {
-        for timer in self.timers.iter_mut() {
-            timer.pass_ms(n);
-        }
+        pass_all(self.timers.as_mut_slice(), n);
     }
 }

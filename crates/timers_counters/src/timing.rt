@@ -43,6 +43,13 @@ fn output_at_end(kind: TimerKind) -> bool
     }
 }
 
+impl Default for Timer {
+    /// A timer at rest.
+    fn default() -> Timer {
+        Timer::new()
+    }
+}
+
 impl Timer {
     /// A timer at rest.
     pub fn new() -> Timer
