@@ -4,8 +4,8 @@ use Rattle.std.specs.Prelude.{ℕ, Bool, true, false, ◌&&◌, ◌||◌, ℤ, i
 use Rattle.status_word.specs.declared.statuses.Status.{Status}
 use Rattle.status_word.specs.declared.registers.Regs.{Regs}
 use Rattle.alu.specs.declared.codes.Codes.{Codes}
-use Rattle.alu.specs.declared.comparisons.Compare.{Compare}
-use Rattle.alu.specs.declared.comparisons.Compare.TheVariants.{Eq, Ne, Gt, Lt, Ge, Le}
+use Rattle.plc_base.specs.declared.instructions.Compare.{Compare}
+use Rattle.plc_base.specs.declared.instructions.Compare.TheVariants.{Eq, Ne, Gt, Lt, Ge, Le}
 use Rattle.alu.specs.Signed.{signed}
 use Rattle.alu.specs.Codes.{shown}
 

@@ -2,7 +2,8 @@
 -- Siemens, Statement List (STL): Shift and Rotate Instructions.
 use Rattle.std.specs.Prelude.{ℕ, ◌+◌, ◌-◌, ◌*◌, ◌/◌, ◌%◌, ◌^◌, ◌==◌, if◌then◌else◌}
 use Rattle.status_word.specs.declared.registers.Regs.{Regs}
-use Rattle.status_word.specs.StatusNumber.{bit, has_bit}
+use Rattle.plc_base.specs.Bits.{has_bit}
+use Rattle.status_word.specs.StatusNumber.{bit}
 use Rattle.alu.specs.Shifts.{with_shifted}
 
 -- n places, above 0, as 1 to 32 of them: 32 places are a whole turn

@@ -3,7 +3,7 @@
 use Rattle.std.specs.Prelude.{ℕ, ◌-◌, ◌*◌, ◌/◌, ◌%◌, ◌^◌, min, Bool, false, ◌==◌, nat_lt, if◌then◌else◌, Option, unwrap_or}
 use Rattle.std.specs.Int.{int_shr}
 use Rattle.status_word.specs.declared.registers.Regs.{Regs}
-use Rattle.status_word.specs.StatusNumber.{has_bit}
+use Rattle.plc_base.specs.Bits.{has_bit}
 use Rattle.alu.specs.Signed.{signed, modulo}
 use Rattle.alu.specs.Codes.{shown}
 use Rattle.alu.specs.Accumulators.{with_low}

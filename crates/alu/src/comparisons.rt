@@ -5,31 +5,19 @@ ghost use Rattle.alu.specs.Comparison.{holds_between, order_codes, with_comparis
 
 use crate::codes::Codes;
 use crate::formats::Format;
+use plc_base::Compare;
 use status_word::Regs;
 
-/// What a comparison instruction asks of accumulator 2 and accumulator 1: ==, <>, >, <, >=, <=.
-#[derive(Clone, Copy, Debug, PartialEq, Eq)]
-pub enum Compare {
-    Eq,
-    Ne,
-    Gt,
-    Lt,
-    Ge,
-    Le,
-}
-
-impl Compare {
-    fn holds(self, left: i64, right: i64) -> bool
-        ensures { result ≡ holds_between self left right }
-    {
-        match self {
-            Compare::Eq => left <= right && right <= left,
-            Compare::Ne => left < right || right < left,
-            Compare::Gt => left > right,
-            Compare::Lt => left < right,
-            Compare::Ge => left >= right,
-            Compare::Le => left <= right,
-        }
+fn compares(how: Compare, left: i64, right: i64) -> bool
+    ensures { result ≡ holds_between how left right }
+{
+    match how {
+        Compare::Eq => left <= right && right <= left,
+        Compare::Ne => left < right || right < left,
+        Compare::Gt => left > right,
+        Compare::Lt => left < right,
+        Compare::Ge => left >= right,
+        Compare::Le => left <= right,
     }
 }
 
@@ -37,7 +25,7 @@ impl Compare {
 fn answer(r: &mut Regs, how: Compare, left: i64, right: i64)
     ensures { r.new ≡ with_comparison how left right r.old }
 {
-    let holds = how.holds(left, right);
+    let holds = compares(how, left, right);
     let codes = Codes::new(left > right, left < right, false);
     codes.show(&mut r.status);
     r.status.rlo = holds;

@@ -2,10 +2,10 @@ ghost use Rattle.std.specs.Prelude.{◌≡◌, ◌<◌, ◌≤◌, ◌%◌, ◌^
 ghost use Rattle.alu.specs.Signed.{width_of};
 ghost use Rattle.alu.specs.Shifts.{places_of, with_shifted, shifted_left, shifted_right, shifted_signed};
 ghost use Rattle.alu.specs.Rotations.{rotated_left, rotated_right, rotated_left_through, rotated_right_through, turn_of};
-ghost use Rattle.status_word.specs.StatusNumber.{has_bit};
 
 use crate::codes::Codes;
 use crate::formats::Format;
+use plc_base::has_bit;
 use status_word::Regs;
 
 /// The number of places: the literal, or else ACCU 2-L-L.
@@ -15,13 +15,6 @@ fn places(r: &Regs, count: Option<u8>) -> u32
 {
     let own = (r.a2 % 0x100) as u8;
     u32::from(count.unwrap_or(own))
-}
-
-fn has_bit(bits: u32, place: u32) -> bool
-    requires { place < 32 }
-    ensures { result ≡ has_bit bits place }
-{
-    (bits >> place) % 2 == 1
 }
 
 /// Puts shifted bits into accumulator 1, and the last bit that was shifted out into CC 1.

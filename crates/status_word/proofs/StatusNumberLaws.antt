@@ -1,6 +1,7 @@
 use Rattle.std.proofs.Common.{◌≡◌, ℕ, ◌/◌, ◌%◌, ◌^◌, ◌≤◌, Bool, true, false, nat_eq, ap, arith}
+use Rattle.plc_base.specs.Bits.{has_bit}
 use Rattle.status_word.specs.declared.statuses.Status.{Status}
-use Rattle.status_word.specs.StatusNumber.{bit, has_bit, number_of, status_of}
+use Rattle.status_word.specs.StatusNumber.{bit, number_of, status_of}
 
 bit-has_bit : (n k : ℕ) → bit (has_bit n k) ≡ n / 2 ^ k % 2
 bit-has_bit n k = grind arith

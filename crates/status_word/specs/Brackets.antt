@@ -1,7 +1,7 @@
 -- Nesting: A(, AN(, O(, ON(, X(, XN( and ), over the list of the open brackets, the innermost one first.
 -- Siemens, Statement List (STL): Bit Logic Instructions, "Nesting Open" and "Nesting Closed".
 use Rattle.std.specs.Prelude.{Bool, true, false, List, [], ◌∷◌, ◌≡◌}
-use Rattle.status_word.specs.declared.checks.Check.{Check}
+use Rattle.plc_base.specs.declared.instructions.Check.{Check}
 use Rattle.status_word.specs.declared.nesting.Bracket.{Bracket}
 use Rattle.status_word.specs.declared.registers.Regs.{Regs}
 use Rattle.status_word.specs.Check.{checked}

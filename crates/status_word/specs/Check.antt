@@ -1,8 +1,8 @@
 -- Bit logic instructions A, AN, O, ON, X and XN: the check of one bit.
 -- Siemens, Statement List (STL): Bit Logic Instructions.
 use Rattle.std.specs.Prelude.{Bool, true, false, not, ◌&&◌, ◌||◌, if◌then◌else◌}
-use Rattle.status_word.specs.declared.checks.Check.{Check}
-use Rattle.status_word.specs.declared.checks.Check.TheVariants.{A, An, O, On, X, Xn}
+use Rattle.plc_base.specs.declared.instructions.Check.{Check}
+use Rattle.plc_base.specs.declared.instructions.Check.TheVariants.{A, An, O, On, X, Xn}
 use Rattle.status_word.specs.declared.registers.Regs.{Regs}
 
 -- the value of the check, where `read` is the bit read: AN, ON and XN invert it

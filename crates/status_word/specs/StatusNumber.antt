@@ -1,15 +1,12 @@
 -- The status word as a number, bit by bit: /FC, RLO, STA, OR, OS, OV, CC 0, CC 1, BR from bit 0 on.
 -- Siemens, Statement List (STL): Load and Transfer Instructions, "L STW" and "T STW".
-use Rattle.std.specs.Prelude.{ℕ, ◌+◌, ◌*◌, ◌/◌, ◌%◌, ◌^◌, Bool, false, nat_eq, if◌then◌else◌}
+use Rattle.std.specs.Prelude.{ℕ, ◌+◌, ◌*◌, Bool, false, if◌then◌else◌}
+use Rattle.plc_base.specs.Bits.{has_bit}
 use Rattle.status_word.specs.declared.statuses.Status.{Status}
 
 -- 1 or 0
 abbrev pub bit : Bool → ℕ
 bit b = if b then 1 else 0
-
--- whether bit k of n is 1
-abbrev pub has_bit : ℕ → ℕ → Bool
-has_bit n k = nat_eq (n / 2 ^ k % 2) 1
 
 -- the number of all nine bits: a bit k that is 1 weighs 2 ^ k
 unfoldable pub number_of : Status → ℕ

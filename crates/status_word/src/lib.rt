@@ -3,12 +3,11 @@
 //! S7-400 Programming".
 #![tactic(auto)]
 
-mod checks;
 mod nesting;
 mod registers;
 mod statuses;
 
-pub use checks::Check;
 pub use nesting::{Bracket, Brackets, NESTING_DEPTH};
+pub use plc_base::Check;
 pub use registers::Regs;
 pub use statuses::Status;

@@ -2,10 +2,10 @@ ghost use Rattle.std.specs.Prelude.{◌≡◌, ◌==◌, ◌↔◌, [], ◌∷�
 ghost use Rattle.std.specs.Bool.{OnTrue, OnFalse};
 ghost use Rattle.status_word.specs.Brackets.{entry_of, begun, closed, Closes};
 
-use crate::checks::Check;
 use crate::registers::Regs;
 use crate::statuses::Status;
 use arrayvec::ArrayVec;
+use plc_base::Check;
 use std::marker::Model;
 
 /// How many brackets may be open at once: the entries of the nesting stack.

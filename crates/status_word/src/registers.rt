@@ -1,15 +1,14 @@
 ghost use Rattle.std.specs.Prelude.{◌≡◌};
 ghost use Rattle.status_word.specs.Registers.{regs_at_rest};
-ghost use Rattle.status_word.specs.Check.{checked};
+ghost use Rattle.status_word.specs.Check.{checked, is_and};
 ghost use Rattle.status_word.specs.BareOr.{or_bare};
 ghost use Rattle.status_word.specs.Store.{stored};
 ghost use Rattle.status_word.specs.SetClear.{set, clr, negated, saved};
 ghost use Rattle.status_word.specs.Edge.{edged};
 ghost use Rattle.status_word.specs.Flags.{flag_value};
 
-use crate::checks::Check;
 use crate::statuses::Status;
-use plc_base::Flag;
+use plc_base::{Check, Flag};
 
 /// The registers of an activation: accumulators 1 and 2, address registers 1 and 2, and the
 /// status word.
@@ -20,6 +19,12 @@ pub struct Regs {
     pub ar1: u32,
     pub ar2: u32,
     pub status: Status,
+}
+
+fn is_and(code: Check) -> bool
+    ensures { result ≡ is_and code }
+{
+    matches!(code, Check::A | Check::An)
 }
 
 impl Regs {
@@ -61,7 +66,7 @@ impl Regs {
                 word.rlo ^ !read
             },
         }
-        word.or = code.is_and() && word.or;
+        word.or = is_and(code) && word.or;
         word.sta = read;
         word.fc = true;
     }

@@ -1,9 +1,9 @@
 ghost use Rattle.std.specs.Prelude.{◌≡◌, ◌<◌, ◌%◌, ◌*◌, ◌≤◌};
 ghost use Rattle.status_word.specs.Flags.{flag_value};
 ghost use Rattle.status_word.specs.Registers.{status_at_rest};
-ghost use Rattle.status_word.specs.StatusNumber.{bit as bit_value, has_bit, number_of, status_of, shown};
+ghost use Rattle.status_word.specs.StatusNumber.{bit as bit_value, number_of, status_of, shown};
 
-use plc_base::Flag;
+use plc_base::{Flag, has_bit};
 
 /// The status word of the CPU, from bit 0 on: /FC (first check, 0 where the next check is the
 /// first of a logic string), RLO (result of logic operation), STA (status), OR, OS (stored
@@ -116,11 +116,4 @@ fn weight(bit: bool, weight: u16) -> u16
     ensures bound { result ≤ weight }
 {
     if bit { weight } else { 0 }
-}
-
-fn has_bit(number: u32, place: u32) -> bool
-    requires { place < 32 }
-    ensures { result ≡ has_bit number place }
-{
-    (number >> place) % 2 == 1
 }
