@@ -1,40 +1,76 @@
-ghost use Rattle.std.specs.Prelude.{◌≡◌, ◌≤◌, ◌<◌, ◌↔◌, Some, None, Err, MatchResult, slice_get, replicate};
+ghost use Rattle.plc_base.specs.Profiles.{counter_count};
+ghost use Rattle.std.specs.Prelude.{◌++◌, ◌+◌, ◌≡◌, ◌≤◌, ◌<◌, ◌↔◌, Some, None, Err, MatchResult, slice_get, slice_set, replicate, length};
 ghost use Rattle.timers_counters.specs.Counter.{counter_at_rest, counted_up, counted_down, set_to, reset_counter, freed_counter, is_counting, count_bcd, Counter as CounterValue};
+ghost use Rattle.timers_counters.specs.Restart.{counters_retained};
 ghost use Rattle.timers_counters.specs.Numbered.{Leaves, change, change_always, reading};
 ghost use Rattle.timers_counters.specs.declared.faults.TimerFault.TheVariants.{NoNumber};
 
 use crate::counting::Counter;
 use crate::faults::TimerFault;
+use arrayvec::ArrayVec;
+use plc_base::Profile;
 use std::marker::Model;
 
-/// How many counters there are: C 0 to C 63.
-pub const COUNTERS: usize = 64;
+/// How many counters there are at most.
+const MOST_COUNTERS: usize = 256;
 
-/// The counters C 0 to C 63. A contract sees the list of them.
+/// How many counters a warm restart retains: C 0 to C 7.
+const RETAINED: usize = 8;
+
+/// The counters. A contract sees the list of them, which has as many as the profile has.
 #[derive(Drop)]
 pub struct Counters {
-    counters: [Counter; COUNTERS],
+    counters: ArrayVec<Counter, MOST_COUNTERS>,
+}
+
+// Adds so many counters at rest.
+fn add_counters(counters: &mut ArrayVec<Counter, MOST_COUNTERS>, count: usize)
+    requires { length counters.old.items + count ≤ 256 }
+    ensures { counters.new.items ≡ counters.old.items ++ replicate count counter_at_rest }
+{
+    for _ in 0..count {
+        counters.push(Counter::new());
+    }
+}
+
+fn counter_in(counters: &[Counter], number: u16) -> Result<Counter, TimerFault>
+    ensures { MatchResult result
+        (λ counter. slice_get counters.now number ≡ Some counter)
+        (λ fault. (slice_get counters.now number ≡ None) × (fault ≡ NoNumber)) }
+{
+    match counters.get(usize::from(number)) {
+        Some(counter) => Ok(*counter),
+        None => Err(TimerFault::NoNumber),
+    }
 }
 
 impl Model for Counters {
-    ghost use Rattle.std.specs.Prelude.{◌≡◌, List, length};
+    ghost use Rattle.std.specs.Prelude.{List};
     ghost use Rattle.timers_counters.specs.Counter.{Counter as CounterValue};
 
     ghost Value = { List CounterValue };
 
-    ghost view = { λ t. t.counters };
-
-    ghost invariant = { λ t. length t.counters ≡ 64 };
+    ghost view = { λ t. t.counters.items };
 }
 
 impl Counters {
-    /// All counters at rest.
-    pub fn new() -> Counters
-        ensures { result ≡ replicate 64 counter_at_rest }
+    /// All counters of a profile at rest.
+    pub fn new(profile: Profile) -> Counters
+        ensures { result ≡ replicate (counter_count profile) counter_at_rest }
     {
-        Counters {
-            counters: [Counter::new(); COUNTERS],
-        }
+        let mut counters = ArrayVec::new();
+        add_counters(&mut counters, profile.counter_count());
+        Counters { counters }
+    }
+
+    /// What a warm restart does: C 0 to C 7 stay, and all others are at rest again.
+    pub fn clear_unretained(&mut self)
+        ensures { self.new ≡ counters_retained self.old }
+    {
+        let count = self.counters.len();
+        self.counters.truncate(RETAINED);
+        let kept = self.counters.len();
+        add_counters(&mut self.counters, count - kept);
     }
 
     /// The counter of a number.
@@ -42,27 +78,33 @@ impl Counters {
         ensures found { MatchResult result
             (λ counter. slice_get self.now number ≡ Some counter)
             (λ fault. (slice_get self.now number ≡ None) × (fault ≡ NoNumber)) }
-        ensures in_range { MatchResult result (λ _. number < 64) (λ _. 64 ≤ number) }
+        ensures in_range { MatchResult result (λ _. number < length self.now)
+            (λ _. length self.now ≤ number) }
     {
-        match self.counters.get(usize::from(number)) {
-            Some(counter) => Ok(*counter),
-            None => Err(TimerFault::NoNumber),
-        }
+        counter_in(self.counters.as_slice(), number)
+    }
+
+    // Puts a counter in the place of that of a number, which there is.
+    fn put(&mut self, number: u16, counter: Counter)
+        requires { number < length self.old }
+        ensures { self.new ≡ slice_set self.old number counter }
+    {
+        self.counters.as_mut_slice()[usize::from(number)] = counter;
     }
 
     /// `CU`: counts up by one on a rising RLO, up to 999.
     ///
     /// # Errors
     ///
-    /// `NoNumber` exactly for a number above 63.
+    /// `NoNumber` exactly for a number that no counter has.
     pub fn up(&mut self, number: u16, rlo: bool) -> Result<(), TimerFault>
         ensures outcome { Leaves self.old self.new result
             (change_always (counted_up rlo) self.old number) }
-        ensures no_number { result ≡ Err NoNumber ↔ (64 ≤ number) }
+        ensures no_number { result ≡ Err NoNumber ↔ (length self.old ≤ number) }
     {
         let mut counter = self.counter(number)?;
         counter.up(rlo);
-        self.counters[usize::from(number)] = counter;
+        self.put(number, counter);
         Ok(())
     }
 
@@ -70,15 +112,15 @@ impl Counters {
     ///
     /// # Errors
     ///
-    /// `NoNumber` exactly for a number above 63.
+    /// `NoNumber` exactly for a number that no counter has.
     pub fn down(&mut self, number: u16, rlo: bool) -> Result<(), TimerFault>
         ensures outcome { Leaves self.old self.new result
             (change_always (counted_down rlo) self.old number) }
-        ensures no_number { result ≡ Err NoNumber ↔ (64 ≤ number) }
+        ensures no_number { result ≡ Err NoNumber ↔ (length self.old ≤ number) }
     {
         let mut counter = self.counter(number)?;
         counter.down(rlo);
-        self.counters[usize::from(number)] = counter;
+        self.put(number, counter);
         Ok(())
     }
 
@@ -87,16 +129,16 @@ impl Counters {
     ///
     /// # Errors
     ///
-    /// `NoNumber` exactly for a number above 63, else `BadBcd` exactly where the RLO rises and a digit
-    /// is above 9.
+    /// `NoNumber` exactly for a number that no counter has, else `BadBcd` exactly where the RLO rises
+    /// and a digit is above 9.
     pub fn set(&mut self, number: u16, rlo: bool, value: u16) -> Result<(), TimerFault>
         ensures outcome { Leaves self.old self.new result
             (change (set_to rlo value) self.old number) }
-        ensures no_number { result ≡ Err NoNumber ↔ (64 ≤ number) }
+        ensures no_number { result ≡ Err NoNumber ↔ (length self.old ≤ number) }
     {
         let mut counter = self.counter(number)?;
         counter.set(rlo, value)?;
-        self.counters[usize::from(number)] = counter;
+        self.put(number, counter);
         Ok(())
     }
 
@@ -104,15 +146,15 @@ impl Counters {
     ///
     /// # Errors
     ///
-    /// `NoNumber` exactly for a number above 63.
+    /// `NoNumber` exactly for a number that no counter has.
     pub fn reset(&mut self, number: u16, rlo: bool) -> Result<(), TimerFault>
         ensures outcome { Leaves self.old self.new result
             (change_always (reset_counter rlo) self.old number) }
-        ensures no_number { result ≡ Err NoNumber ↔ (64 ≤ number) }
+        ensures no_number { result ≡ Err NoNumber ↔ (length self.old ≤ number) }
     {
         let mut counter = self.counter(number)?;
         counter.reset(rlo);
-        self.counters[usize::from(number)] = counter;
+        self.put(number, counter);
         Ok(())
     }
 
@@ -120,15 +162,15 @@ impl Counters {
     ///
     /// # Errors
     ///
-    /// `NoNumber` exactly for a number above 63.
+    /// `NoNumber` exactly for a number that no counter has.
     pub fn free(&mut self, number: u16, rlo: bool) -> Result<(), TimerFault>
         ensures outcome { Leaves self.old self.new result
             (change_always (freed_counter rlo) self.old number) }
-        ensures no_number { result ≡ Err NoNumber ↔ (64 ≤ number) }
+        ensures no_number { result ≡ Err NoNumber ↔ (length self.old ≤ number) }
     {
         let mut counter = self.counter(number)?;
         counter.free(rlo);
-        self.counters[usize::from(number)] = counter;
+        self.put(number, counter);
         Ok(())
     }
 
@@ -136,10 +178,10 @@ impl Counters {
     ///
     /// # Errors
     ///
-    /// `NoNumber` exactly for a number above 63.
+    /// `NoNumber` exactly for a number that no counter has.
     pub fn output(&self, number: u16) -> Result<bool, TimerFault>
         ensures value { result ≡ reading (is_counting) self.now number }
-        ensures no_number { result ≡ Err NoNumber ↔ (64 ≤ number) }
+        ensures no_number { result ≡ Err NoNumber ↔ (length self.now ≤ number) }
     {
         Ok(self.counter(number)?.output())
     }
@@ -148,11 +190,11 @@ impl Counters {
     ///
     /// # Errors
     ///
-    /// `NoNumber` exactly for a number above 63.
+    /// `NoNumber` exactly for a number that no counter has.
     pub fn value(&self, number: u16) -> Result<u16, TimerFault>
         ensures value { result ≡ reading (λ (counter : CounterValue). counter.value)
             self.now number }
-        ensures no_number { result ≡ Err NoNumber ↔ (64 ≤ number) }
+        ensures no_number { result ≡ Err NoNumber ↔ (length self.now ≤ number) }
     {
         Ok(self.counter(number)?.value())
     }
@@ -161,10 +203,10 @@ impl Counters {
     ///
     /// # Errors
     ///
-    /// `NoNumber` exactly for a number above 63.
+    /// `NoNumber` exactly for a number that no counter has.
     pub fn bcd(&self, number: u16) -> Result<u16, TimerFault>
         ensures value { result ≡ reading (count_bcd) self.now number }
-        ensures no_number { result ≡ Err NoNumber ↔ (64 ≤ number) }
+        ensures no_number { result ≡ Err NoNumber ↔ (length self.now ≤ number) }
     {
         Ok(self.counter(number)?.bcd())
     }

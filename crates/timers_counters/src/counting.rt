@@ -6,7 +6,7 @@ use plc_base::{BadBcd, bcd_to_unsigned, unsigned_to_bcd};
 use std::marker::Model;
 
 /// The greatest value of a counter.
-pub const MOST_COUNT: u16 = 999;
+const MOST_COUNT: u16 = 999;
 
 /// One counter.
 #[derive(Clone, Copy, Debug)]
@@ -30,6 +30,13 @@ impl Model for Counter {
     ghost invariant = { KeepsCounter };
 
     ghost inverse = { inside_of_counter };
+}
+
+impl Default for Counter {
+    /// A counter at rest.
+    fn default() -> Counter {
+        Counter::new()
+    }
 }
 
 impl Counter {

@@ -8,8 +8,7 @@ mod kinds;
 mod timer_table;
 mod timing;
 
-pub use counter_table::{COUNTERS, Counters};
-pub use counting::MOST_COUNT;
+pub use counter_table::Counters;
 pub use faults::TimerFault;
 pub use kinds::TimerKind;
 pub use timer_table::Timers;

@@ -1,4 +1,4 @@
-use Rattle.std.proofs.Common.{◌≡◌, ◌∙◌, ap, sym, List, map, length, ◌<◌, ◌≤◌, set, arith, rules}
+use Rattle.std.proofs.Common.{◌≡◌, ◌∙◌, ap, sym, length, ◌<◌, ◌≤◌, set, arith}
 use Rattle.std.specs.Fn.{iterate}
 use Rattle.std.proofs.lemmas.List.Edits.{map_over_more}
 use Rattle.timers_counters.specs.Timer.{Timer, one_ms}
