@@ -14,10 +14,10 @@ use Rattle.stl_ast.specs.declared.operands.Operand.{Operand}
 use Rattle.stl_ast.specs.declared.statements.Actual.{Actual}
 use Rattle.stl_ast.specs.declared.statements.Statement.{Statement}
 use Rattle.stl_parser.proofs.SizeLemmas.{well_formed}
-use Rattle.stl_symbols.specs.Gathered.{gathered}
-use Rattle.stl_symbols.specs.Least.{broken_if}
+use Rattle.plc_base.specs.Gathered.{gathered}
+use Rattle.plc_base.specs.Least.{broken_if}
 use Rattle.stl_symbols.specs.Symbol.{Symbol}
-use Rattle.stl_symbols.proofs.LeastLemmas.{least_none}
+use Rattle.plc_base.proofs.LeastLemmas.{least_none}
 use Rattle.block_layout.specs.Around.{in_block}
 use Rattle.block_layout.specs.Blocks.{is_code, is_data_block}
 use Rattle.block_layout.specs.ByPlace.{by_place}

@@ -25,7 +25,7 @@ use Rattle.stl_ast.specs.declared.mnemonics.Mnemonic.TheVariants as code
 use Rattle.stl_ast.specs.declared.operands.Operand.{Operand}
 use Rattle.stl_ast.specs.declared.operands.Operand.TheVariants as operand
 use Rattle.stl_ast.specs.declared.statements.Actual.{Actual}
-use Rattle.stl_symbols.specs.Folding.{folded}
+use Rattle.plc_base.specs.Folding.{folded}
 use Rattle.block_layout.specs.Fits.{bits_of, fits}
 use Rattle.block_layout.specs.Offsets.{width_of}
 use Rattle.stl_types.specs.Actuals.{fits_operand, fits_seen, fits_type, fits_view, formal_named, is_input_section, is_same_type, is_same_width, takes_section, takes_side, type_number}

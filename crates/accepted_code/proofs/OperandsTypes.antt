@@ -8,7 +8,7 @@ use Rattle.stl_ast.specs.declared.blocks.PartKind.TheVariants as part
 use Rattle.stl_ast.specs.declared.declarations.Declaration.{Declaration}
 use Rattle.stl_ast.specs.declared.declarations.ElementType.{ElementType}
 use Rattle.stl_ast.specs.declared.declarations.ElementType.TheVariants as element
-use Rattle.stl_symbols.specs.Folding.{folded}
+use Rattle.plc_base.specs.Folding.{folded}
 use Rattle.block_layout.specs.Around.{Holder, Outside, around, of_structure}
 use Rattle.block_layout.specs.Blocks.{is_data_type}
 use Rattle.block_layout.specs.Cells.{breaks_rule, cell_of, cells_of, is_oversized, is_sound, laid, preset, udt_element, uses_oversized}

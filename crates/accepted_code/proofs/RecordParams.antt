@@ -30,9 +30,9 @@ use Rattle.stl_ast.specs.declared.declarations.ElementType.{ElementType}
 use Rattle.stl_ast.specs.declared.declarations.ElementType.TheVariants as type
 use Rattle.stl_ast.specs.declared.declarations.Simple.{Simple}
 use Rattle.stl_ast.specs.declared.declarations.Simple.TheVariants as simple
-use Rattle.stl_symbols.specs.Folding.{folded}
-use Rattle.stl_symbols.specs.Gathered.{gathered}
-use Rattle.stl_symbols.specs.Least.{broken_if}
+use Rattle.plc_base.specs.Folding.{folded}
+use Rattle.plc_base.specs.Gathered.{gathered}
+use Rattle.plc_base.specs.Least.{broken_if}
 use Rattle.stl_symbols.specs.Names.{place_of}
 use Rattle.stl_symbols.specs.Symbol.{Symbol}
 use Rattle.block_layout.specs.Around.{Outside, around, onto, of_sections, of_structure, returned_names, section_declarations, in_block, in_list}

@@ -27,8 +27,8 @@ use Rattle.stl_ast.specs.declared.operands.Operand.{Operand}
 use Rattle.stl_ast.specs.declared.operands.Operand.TheVariants as operand
 use Rattle.stl_ast.specs.declared.statements.Actual.{Actual}
 use Rattle.stl_ast.specs.declared.statements.Statement.{Statement}
-use Rattle.stl_symbols.specs.Folding.{folded}
-use Rattle.stl_symbols.specs.Gathered.{gathered}
+use Rattle.plc_base.specs.Folding.{folded}
+use Rattle.plc_base.specs.Gathered.{gathered}
 use Rattle.stl_symbols.specs.Names.{place_of}
 use Rattle.block_layout.specs.Around.{Outside, in_block, of_sections, of_structure, onto, ret_val, returned_names, section_declarations}
 use Rattle.block_layout.specs.Blocks.{is_function, is_function_block, is_system_function, named_block}

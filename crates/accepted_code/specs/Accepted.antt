@@ -13,7 +13,7 @@ use Rattle.stl_lexer.specs.Limits.{source_limit}
 use Rattle.stl_lexer.specs.Tokens.{AreTokens}
 use Rattle.stl_lexer.specs.declared.kinds.Token.{Token}
 use Rattle.stl_parser.specs.Source.{IsTree}
-use Rattle.stl_symbols.specs.Least.{least}
+use Rattle.plc_base.specs.Least.{least}
 use Rattle.stl_symbols.specs.Symbol.{Symbol}
 use Rattle.stl_symbols.specs.Symbols.{symbols_limit, symbols_of}
 use Rattle.stl_types.specs.Table.{statement_refusals}

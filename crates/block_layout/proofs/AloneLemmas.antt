@@ -6,8 +6,8 @@ use Rattle.plc_base.specs.declared.refusals.Refusal.{Refusal}
 use Rattle.stl_ast.specs.declared.blocks.Block.{Block}
 use Rattle.stl_ast.specs.declared.blocks.Part.{Part}
 use Rattle.stl_ast.specs.declared.declarations.Declaration.{Declaration}
-use Rattle.stl_symbols.specs.Least.{least, lesser}
-use Rattle.stl_symbols.proofs.LeastLemmas.{least-append}
+use Rattle.plc_base.specs.Least.{least, lesser}
+use Rattle.plc_base.proofs.LeastLemmas.{least-append}
 use Rattle.block_layout.specs.Around.{in_block, in_rest, section_declarations}
 
 rest_alone : (broken : Declaration → List Refusal) (before ds : List Declaration) → in_rest (λ before d. broken d) before ds ≡ flat_map broken ds

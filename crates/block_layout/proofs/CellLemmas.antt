@@ -4,8 +4,8 @@ use Rattle.std.proofs.lemmas.List.{drop_more, append-nil}
 use Rattle.plc_base.specs.declared.refusals.Refusal.{Refusal}
 use Rattle.stl_ast.specs.declared.blocks.PartKind.{PartKind}
 use Rattle.stl_ast.specs.declared.declarations.Declaration.{Declaration}
-use Rattle.stl_symbols.specs.Least.{least, lesser}
-use Rattle.stl_symbols.proofs.LeastLemmas.{least-append, lesser_assoc, lesser_nothing}
+use Rattle.plc_base.specs.Least.{least, lesser}
+use Rattle.plc_base.proofs.LeastLemmas.{least-append, lesser_assoc, lesser_nothing}
 use Rattle.block_layout.specs.declared.cells.Cell.{Cell}
 use Rattle.block_layout.specs.declared.verdicts.Verdict.{Verdict}
 use Rattle.block_layout.specs.Around.{Outside, in_rest, onto}

@@ -8,10 +8,10 @@ use Rattle.std.specs.List.{count_by, flat_map}
 use Rattle.plc_base.specs.declared.refusals.Refusal.{Refusal}
 use Rattle.stl_ast.specs.declared.blocks.Block.{Block}
 use Rattle.stl_ast.specs.declared.blocks.Part.{Part}
-use Rattle.stl_symbols.specs.Gathered.{gathered}
-use Rattle.stl_symbols.specs.Least.{broken_if, least, lesser}
-use Rattle.stl_symbols.proofs.LeastLemmas.{least-append}
-use Rattle.stl_symbols.proofs.GatheredLemmas.{gathered_done, gathered_next}
+use Rattle.plc_base.specs.Gathered.{gathered}
+use Rattle.plc_base.specs.Least.{broken_if, least, lesser}
+use Rattle.plc_base.proofs.LeastLemmas.{least-append}
+use Rattle.plc_base.proofs.GatheredLemmas.{gathered_done, gathered_next}
 use Rattle.block_layout.specs.Blocks.{is_data_block}
 use Rattle.block_layout.specs.Heads.{on_heads}
 use Rattle.block_layout.specs.Rule53.{data_blocks}

@@ -5,8 +5,8 @@ use Rattle.std.proofs.lemmas.List.Folds.{flat_map-map}
 use Rattle.plc_base.specs.declared.refusals.Refusal.{Refusal}
 use Rattle.stl_ast.specs.declared.statements.Actual.{Actual}
 use Rattle.stl_ast.specs.declared.statements.Statement.{Statement}
-use Rattle.stl_symbols.specs.Least.{least, lesser}
-use Rattle.stl_symbols.proofs.LeastLemmas.{least-append}
+use Rattle.plc_base.specs.Least.{least, lesser}
+use Rattle.plc_base.proofs.LeastLemmas.{least-append}
 use Rattle.block_layout.specs.Operands.{Judged, operands_of}
 
 of_actual : Actual → Judged

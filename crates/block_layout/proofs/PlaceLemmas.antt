@@ -2,8 +2,8 @@
 use Rattle.std.proofs.Common.{ℕ, ◌≡◌, ◌<◌, ◌≤◌, ◌+◌, List, Option, false, refl, length, drop, get_or}
 use Rattle.plc_base.specs.declared.refusals.Refusal.{Refusal}
 use Rattle.stl_ast.specs.declared.blocks.Block.{Block}
-use Rattle.stl_symbols.specs.Least.{least, lesser}
-use Rattle.stl_symbols.proofs.GatheredLemmas.{gathered_done, gathered_next}
+use Rattle.plc_base.specs.Least.{least, lesser}
+use Rattle.plc_base.proofs.GatheredLemmas.{gathered_done, gathered_next}
 use Rattle.block_layout.specs.ByPlace.{by_place}
 
 pub place_turn : (broken : ℕ → Block → List Refusal) (blocks : List Block) (i : ℕ) (b : Block) (found one next whole : Option Refusal) →

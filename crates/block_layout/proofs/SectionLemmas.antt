@@ -6,8 +6,8 @@ use Rattle.plc_base.specs.declared.refusals.Refusal.{Refusal}
 use Rattle.stl_ast.specs.declared.blocks.Block.{Block}
 use Rattle.stl_ast.specs.declared.blocks.Part.{Part}
 use Rattle.stl_ast.specs.declared.declarations.Declaration.{Declaration}
-use Rattle.stl_symbols.specs.Least.{least, lesser}
-use Rattle.stl_symbols.proofs.LeastLemmas.{least-append, lesser_assoc, lesser_first, lesser_nothing}
+use Rattle.plc_base.specs.Least.{least, lesser}
+use Rattle.plc_base.proofs.LeastLemmas.{least-append, lesser_assoc, lesser_first, lesser_nothing}
 use Rattle.block_layout.specs.declared.cells.Cell.{Cell}
 use Rattle.block_layout.specs.declared.sections.Declared.{Declared}
 use Rattle.block_layout.specs.declared.verdicts.Frame.{Frame}

@@ -2,7 +2,7 @@
 use Rattle.std.specs.Prelude.{ℕ, Bool, not, List}
 use Rattle.plc_base.specs.declared.refusals.Refusal.{Refusal}
 use Rattle.stl_ast.specs.declared.declarations.Declaration.{Declaration}
-use Rattle.stl_symbols.specs.Least.{broken_if}
+use Rattle.plc_base.specs.Least.{broken_if}
 use Rattle.block_layout.specs.Declarations.{is_unknown_type, has_upside_down, init_fits}
 use Rattle.block_layout.specs.Types.{Types}
 use Rattle.block_layout.specs.declared.alone.Alone.{Alone}

@@ -5,7 +5,7 @@ use Rattle.plc_base.specs.declared.refusals.Refusal.{Refusal}
 use Rattle.stl_ast.specs.declared.blocks.Block.{Block}
 use Rattle.stl_ast.specs.declared.declarations.Declaration.{Declaration}
 use Rattle.stl_ast.specs.declared.declarations.Simple.{Simple}
-use Rattle.stl_symbols.specs.Gathered.{gathered}
+use Rattle.plc_base.specs.Gathered.{gathered}
 
 -- a declaration with those before it
 pub record Holder : Type 0 where

@@ -2,7 +2,7 @@
 use Rattle.std.specs.Prelude.{ℕ, ◌+◌, false, List}
 use Rattle.plc_base.specs.declared.refusals.Refusal.{Refusal}
 use Rattle.stl_ast.specs.declared.blocks.Block.{Block}
-use Rattle.stl_symbols.specs.Gathered.{gathered}
+use Rattle.plc_base.specs.Gathered.{gathered}
 
 -- of the blocks from this place on
 abbrev pub by_place : (broken : ℕ → Block → List Refusal) → (block : ℕ) → List Block → List Refusal

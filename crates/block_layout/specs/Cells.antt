@@ -10,7 +10,7 @@ use Rattle.stl_ast.specs.declared.declarations.ElementType.{ElementType}
 use Rattle.stl_ast.specs.declared.declarations.ElementType.TheVariants as element
 use Rattle.stl_ast.specs.declared.declarations.Init.{Init}
 use Rattle.stl_ast.specs.declared.declarations.Simple.{Simple}
-use Rattle.stl_symbols.specs.Folding.{folded}
+use Rattle.plc_base.specs.Folding.{folded}
 use Rattle.block_layout.specs.declared.cells.Cell.{Cell}
 use Rattle.block_layout.specs.declared.cells.Element.{Element}
 use Rattle.block_layout.specs.declared.cells.Element.TheVariants.{Plain, Structure, DateAndTime, Udt, Unknown}

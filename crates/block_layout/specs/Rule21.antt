@@ -4,8 +4,8 @@ use Rattle.std.specs.Prelude.{ℕ, nat_lt, nat_eq, Bool, is_some, List, [], ◌�
 use Rattle.plc_base.specs.declared.refusals.Refusal.{Refusal}
 use Rattle.stl_ast.specs.declared.blocks.Block.{Block}
 use Rattle.stl_ast.specs.declared.declarations.Declaration.{Declaration}
-use Rattle.stl_symbols.specs.Folding.{folded}
-use Rattle.stl_symbols.specs.Least.{broken_if}
+use Rattle.plc_base.specs.Folding.{folded}
+use Rattle.plc_base.specs.Least.{broken_if}
 use Rattle.stl_symbols.specs.Names.{place_of}
 use Rattle.block_layout.specs.Around.{Outside, in_blocks}
 

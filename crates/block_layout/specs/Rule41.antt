@@ -7,7 +7,7 @@ use Rattle.stl_ast.specs.declared.blocks.Setting.{Setting}
 use Rattle.stl_ast.specs.declared.declarations.Declaration.{Declaration}
 use Rattle.stl_ast.specs.declared.declarations.Simple.{Simple}
 use Rattle.stl_ast.specs.declared.literals.Literal.{Literal}
-use Rattle.stl_symbols.specs.Least.{broken_if}
+use Rattle.plc_base.specs.Least.{broken_if}
 use Rattle.block_layout.specs.Around.{Outside, in_blocks}
 use Rattle.block_layout.specs.Declarations.{init_fits}
 use Rattle.block_layout.specs.Fits.{fits}

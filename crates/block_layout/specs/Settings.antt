@@ -4,7 +4,7 @@ use Rattle.std.specs.List.{flat_map}
 use Rattle.plc_base.specs.declared.refusals.Refusal.{Refusal}
 use Rattle.stl_ast.specs.declared.blocks.Block.{Block}
 use Rattle.stl_ast.specs.declared.blocks.Setting.{Setting}
-use Rattle.stl_symbols.specs.Least.{broken_if}
+use Rattle.plc_base.specs.Least.{broken_if}
 use Rattle.block_layout.specs.ByPlace.{by_place}
 
 -- the settings of one data block that break a rule

@@ -4,7 +4,7 @@ use Rattle.std.specs.Prelude.{◌≡◌, ◌<◌, ◌||◌, ℕ, ◌+◌, max, n
 use Rattle.std.specs.List.{list_all}
 use Rattle.stl_ast.specs.declared.blocks.PartKind.{PartKind}
 use Rattle.stl_ast.specs.declared.declarations.Declaration.{Declaration}
-use Rattle.stl_symbols.specs.Folding.{folded}
+use Rattle.plc_base.specs.Folding.{folded}
 use Rattle.stl_symbols.specs.Names.{place_of}
 use Rattle.block_layout.specs.Around.{Outside, around, onto, in_rest, in_list, in_block, of_sections, section_declarations}
 use Rattle.block_layout.specs.Cells.{cells_of, opened, is_temp, section_cells, returned_cells, components_of, temps_of, breaks_rule, is_sound, laid, preset, uses_oversized}
@@ -14,7 +14,7 @@ use Rattle.block_layout.specs.Rule21.{broken_21, is_twice, names_before}
 use Rattle.block_layout.specs.Rule56.{broken_56, own_depth, depth_around, is_too_deep}
 use Rattle.block_layout.specs.Types.{Types}
 use Rattle.plc_base.specs.declared.refusals.Refusal.{Refusal}
-use Rattle.stl_symbols.specs.Least.{broken_if, least, lesser}
+use Rattle.plc_base.specs.Least.{broken_if, least, lesser}
 use Rattle.block_layout.specs.declared.cells.Cell.{Cell}
 use Rattle.block_layout.specs.declared.sections.Declared.{Declared}
 use Rattle.stl_ast.specs.declared.blocks.Block.{Block}

@@ -1,14 +1,13 @@
 ghost use Rattle.std.specs.Prelude.{◌≡◌};
 ghost use Rattle.std.specs.List.{flat_map};
-ghost use Rattle.stl_symbols.specs.Least.{least};
+ghost use Rattle.plc_base.specs.Least.{least};
 ghost use Rattle.block_layout.specs.Alone.{breaks_by, broken_by, rule_by};
 ghost use Rattle.block_layout.specs.Around.{in_block, in_blocks};
 
 use crate::declarations::{has_upside_down, init_fits, is_unknown_type};
 use crate::types::Types;
-use plc_base::Refusal;
+use plc_base::{Refusal, broken_if, least_of, lesser};
 use stl_ast::{Block, Declaration, Part};
-use stl_symbols::{broken_if, least_of, lesser};
 
 /// What a declaration can break by itself: its data type is unknown, its initial value doesn't fit,
 /// or a bound of an array is upside down.

@@ -11,14 +11,13 @@ ghost use Rattle.block_layout.specs.Rule43.{
   used_by,
   uses_of,
 };
-ghost use Rattle.stl_symbols.specs.Least.{least};
+ghost use Rattle.plc_base.specs.Least.{least};
 ghost use Rattle.block_layout.specs.Cycles.{spread, uses_of_all, with_mark, with_marks};
 
 use crate::types::Types;
-use plc_base::{BlockKind, Refusal};
+use plc_base::{BlockKind, Refusal, broken_if, lesser};
 use std::alloc::{AllocError, Global};
 use stl_ast::{Block, Declaration, ElementType};
-use stl_symbols::{broken_if, lesser};
 
 /// The data type that an element type uses.
 fn used_by(types: &Types, of: &ElementType) -> Option<usize>

@@ -1,6 +1,6 @@
 ghost use Rattle.std.specs.Prelude.{◌≡◌, ◌+◌, ◌-◌, ◌^◌, ◌&&◌, ℕ, map, min, nat_lt, if◌then◌else◌};
 ghost use Rattle.stl_ast.specs.declared.blocks.Block.{Block};
-ghost use Rattle.stl_symbols.specs.Least.{least};
+ghost use Rattle.plc_base.specs.Least.{least};
 ghost use Rattle.block_layout.specs.Blocks.{is_data_block};
 ghost use Rattle.block_layout.specs.Heads.{on_heads};
 ghost use Rattle.block_layout.specs.Lengths.{length_of, local_len};
@@ -11,9 +11,8 @@ ghost use Rattle.block_layout.specs.Types.{Types};
 
 use crate::declarations::number_at;
 use crate::heads::is_data_block;
-use plc_base::Refusal;
+use plc_base::{Refusal, broken_if, lesser};
 use stl_ast::Block;
-use stl_symbols::{broken_if, lesser};
 
 /// The most bytes of local data.
 pub(crate) const MOST_LOCAL: u64 = 1024;

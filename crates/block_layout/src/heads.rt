@@ -3,7 +3,7 @@ ghost use Rattle.std.specs.List.{count_by};
 ghost use Rattle.stl_ast.specs.Blocks.{is_parameter};
 ghost use Rattle.stl_ast.specs.Statements.{is_empty};
 ghost use Rattle.stl_ast.specs.declared.blocks.Block.{Block};
-ghost use Rattle.stl_symbols.specs.Least.{least};
+ghost use Rattle.plc_base.specs.Least.{least};
 ghost use Rattle.block_layout.specs.Blocks.{is_data_block};
 ghost use Rattle.block_layout.specs.Rule22.{is_block_twice, is_earlier, rule_22};
 ghost use Rattle.block_layout.specs.Rule44.{has_wrong_number, rule_44};
@@ -19,9 +19,9 @@ ghost use Rattle.block_layout.specs.Rule55.{has_too_many_statements, rule_55};
 
 use crate::directory::is_block_number;
 use crate::types::{Types, id_of};
-use plc_base::{BlockKind, Refusal};
+use plc_base::{BlockKind, Refusal, broken_if, least_of, lesser};
 use stl_ast::{Block, Mnemonic, Part, PartKind, Simple, Statement};
-use stl_symbols::{Symbols, broken_if, least_of, lesser};
+use stl_symbols::Symbols;
 
 /// The most parameters of a block.
 const MOST_PARAMETERS: u64 = 60;

@@ -1,7 +1,7 @@
 ghost use Rattle.std.specs.Prelude.{◌≡◌, IfOk, List, length, map};
 ghost use Rattle.std.specs.List.{slice_get};
 ghost use Rattle.std.specs.Option.{option_copied};
-ghost use Rattle.stl_symbols.specs.Least.{least};
+ghost use Rattle.plc_base.specs.Least.{least};
 ghost use Rattle.block_layout.specs.Blocks.{known_block};
 ghost use Rattle.block_layout.specs.InitialBytes.{initial_bytes, length_at};
 ghost use Rattle.block_layout.specs.Layouts.{LaysOut, layout_of, layouts_by, layouts_of};

@@ -23,7 +23,6 @@ mod lookups;
 mod making;
 mod measures;
 mod members;
-mod names;
 mod offsets;
 mod outlines;
 mod outside;

@@ -5,7 +5,6 @@ ghost use Rattle.block_layout.specs.Verdicts.{cell_with, cells_by};
 use crate::cells::{Cell, Element, Preset};
 use crate::constants::bits_of;
 use crate::declarations::number_at;
-use crate::names::folded;
 use crate::types::Types;
 use crate::verdicts::Verdict;
 use std::alloc::{AllocError, Global};
@@ -55,7 +54,7 @@ pub(crate) fn cell_with(
 ) -> Result<Cell, AllocError>
     ensures { IfOk result (λ c. c ≡ cell_with types.now section sound opens declaration.now) }
 {
-    let name = folded(alloc, declaration.name.as_bytes())?;
+    let name = declaration.name.as_bytes().to_ascii_uppercase(alloc)?;
     let bounds = declaration.of.arrays.as_slice().to_vec(alloc)?;
     let presets = presets(alloc, declaration.init.as_slice())?;
     Ok(Cell {

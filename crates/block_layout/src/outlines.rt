@@ -1,5 +1,5 @@
 ghost use Rattle.std.specs.Prelude.{◌≡◌, IfOk, map};
-ghost use Rattle.stl_symbols.specs.Least.{least};
+ghost use Rattle.plc_base.specs.Least.{least};
 ghost use Rattle.block_layout.specs.Facts.{outline_of};
 ghost use Rattle.block_layout.specs.Rule21.{rule_21};
 ghost use Rattle.block_layout.specs.Rule56.{rule_56};
@@ -7,10 +7,9 @@ ghost use Rattle.block_layout.specs.Rule56.{rule_56};
 use crate::layouts::Layout;
 use crate::sections::{Declared, declarations_of};
 use crate::types::Types;
-use plc_base::Refusal;
+use plc_base::{Refusal, lesser};
 use std::alloc::{AllocError, Global};
 use stl_ast::Block;
-use stl_symbols::lesser;
 
 /// The declarations of a block, laid out.
 #[derive(Drop)]

@@ -1,7 +1,7 @@
 ghost use Rattle.std.specs.Prelude.{◌≡◌, IfOk};
 ghost use Rattle.std.specs.List.{flat_map};
-ghost use Rattle.stl_symbols.specs.Folding.{folded};
-ghost use Rattle.stl_symbols.specs.Least.{least};
+ghost use Rattle.plc_base.specs.Folding.{folded};
+ghost use Rattle.plc_base.specs.Least.{least};
 ghost use Rattle.block_layout.specs.Operands.{in_body, operands_of};
 ghost use Rattle.block_layout.specs.Paths.{folded_path, leaves_local};
 ghost use Rattle.block_layout.specs.Rule41.{rule_41};
@@ -17,15 +17,13 @@ ghost use Rattle.block_layout.specs.Rule42.{
 use crate::alone::{Alone, least_alone};
 use crate::beyond::{leaves_judged, leaves_local};
 use crate::blocks::BlockLayout;
-use crate::names::folded;
 use crate::paths::Path;
 use crate::routes::structure_of;
 use crate::settings::{SettingFault, least_of_settings};
 use crate::types::Types;
-use plc_base::Refusal;
+use plc_base::{Refusal, broken_if, lesser, try_least_of};
 use std::alloc::{AllocError, Global};
 use stl_ast::{Actual, Block, Name, Operand, PathHead, PathStep, Statement};
-use stl_symbols::{broken_if, lesser, try_least_of};
 
 fn leaves_own(
     alloc: Global,
@@ -37,7 +35,7 @@ fn leaves_own(
     ensures { IfOk result (λ b. b
         ≡ leaves_local layouts.now block (folded name.now) (folded_path steps.now)) }
 {
-    let name = folded(alloc, name.as_bytes())?;
+    let name = name.as_bytes().to_ascii_uppercase(alloc)?;
     let path = Path::new(alloc, steps)?;
     Ok(leaves_local(layouts, block, name.as_slice(), path.steps()))
 }

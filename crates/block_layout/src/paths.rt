@@ -2,9 +2,8 @@ ghost use Rattle.std.specs.Prelude.{◌≡◌, ◌∷◌, ◌++◌, IfOk};
 ghost use Rattle.block_layout.specs.Paths.{folded_path, folded_step};
 ghost use Rattle.stl_ast.specs.declared.blocks.PathStep.{PathStep};
 ghost use Rattle.stl_ast.specs.declared.blocks.PathStep.TheVariants.{Named};
-ghost use Rattle.stl_symbols.specs.Folding.{folded};
+ghost use Rattle.plc_base.specs.Folding.{folded};
 
-use crate::names::folded;
 use std::alloc::{AllocError, Global};
 use std::marker::Model;
 use stl_ast::{Name, PathStep};
@@ -27,7 +26,7 @@ impl Model for Path {
 fn named_step(alloc: Global, name: &Name) -> Result<PathStep, AllocError>
     ensures { IfOk result (λ s. s ≡ Named (folded name.now)) }
 {
-    let upper = folded(alloc, name.as_bytes())?;
+    let upper = name.as_bytes().to_ascii_uppercase(alloc)?;
     Ok(PathStep::Named {
         name: Name::from_vec(upper),
     })

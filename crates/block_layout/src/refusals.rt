@@ -1,7 +1,7 @@
 ghost use Rattle.std.specs.Prelude.{◌≡◌, IfOk, List, map};
 ghost use Rattle.std.specs.List.{flat_map};
 ghost use Rattle.plc_base.specs.declared.refusals.Refusal.{Refusal};
-ghost use Rattle.stl_symbols.specs.Least.{least};
+ghost use Rattle.plc_base.specs.Least.{least};
 ghost use Rattle.block_layout.specs.Facts.{AreFacts};
 ghost use Rattle.block_layout.specs.Rule21.{rule_21};
 ghost use Rattle.block_layout.specs.Rule56.{rule_56};
@@ -18,10 +18,9 @@ use crate::heads::{
 use crate::outside::{least_outside, least_unfit};
 use crate::types::Types;
 use crate::unknown::least_unknown;
-use plc_base::Refusal;
+use plc_base::{Refusal, least_of};
 use std::alloc::{AllocError, Global};
 use stl_ast::Block;
-use stl_symbols::least_of;
 
 /// The least of what some rules find.
 fn least_among(found: &[Option<Refusal>]) -> Option<Refusal>

@@ -23,10 +23,10 @@ use crate::cells::{Cell, Element};
 use crate::making::add_cells;
 use crate::types::Types;
 use crate::verdicts::{Frame, Verdict, judge_all, least_deep, least_twice};
-use plc_base::Refusal;
+use plc_base::{Refusal, lesser};
 use std::alloc::{AllocError, Global};
 use stl_ast::{Block, Name, Part, PartKind, Sequence, Simple};
-use stl_symbols::{Names, lesser};
+use stl_symbols::Names;
 
 /// What the declarations of a block come to: the cells of its components and of its temporary
 /// variables, and the least refusals by names that stand twice and by types nested too deep.

@@ -1,5 +1,5 @@
 ghost use Rattle.std.specs.Prelude.{◌≡◌, IfOk};
-ghost use Rattle.stl_symbols.specs.Least.{broken_if, least};
+ghost use Rattle.plc_base.specs.Least.{broken_if, least};
 ghost use Rattle.block_layout.specs.SettingFaults.{rule_of, setting_breaks};
 ghost use Rattle.block_layout.specs.Paths.{folded_path, walked_setting};
 ghost use Rattle.block_layout.specs.Rule41.{fits_kind, misfits, setting_misfits};
@@ -12,10 +12,9 @@ use crate::constants::fits;
 use crate::paths::Path;
 use crate::routes::{elementary_at, setting_structure, walk_setting};
 use crate::walks::Walk;
-use plc_base::Refusal;
+use plc_base::{Refusal, broken_if, lesser, try_least_of};
 use std::alloc::{AllocError, Global};
 use stl_ast::{Block, Literal, Setting, Simple};
-use stl_symbols::{broken_if, lesser, try_least_of};
 
 /// What a setting can break: its value doesn't fit, or an index is outside its array.
 #[derive(Clone, Copy, Debug, PartialEq, Eq)]

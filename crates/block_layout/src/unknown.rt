@@ -1,6 +1,6 @@
 ghost use Rattle.std.specs.Prelude.{◌≡◌};
 ghost use Rattle.std.specs.List.{flat_map};
-ghost use Rattle.stl_symbols.specs.Least.{least};
+ghost use Rattle.plc_base.specs.Least.{least};
 ghost use Rattle.block_layout.specs.Operands.{in_body, operands_of};
 ghost use Rattle.block_layout.specs.Heads.{on_heads};
 ghost use Rattle.block_layout.specs.Rule23.{
@@ -20,9 +20,8 @@ use crate::alone::{Alone, least_alone};
 use crate::blocks::Shape;
 use crate::lengths::shape_of;
 use crate::types::{Types, id_of, named_block};
-use plc_base::{BlockId, BlockKind, Refusal};
+use plc_base::{BlockId, BlockKind, Refusal, broken_if, least_of, lesser};
 use stl_ast::{Actual, Block, BlockName, Operand, PathHead, Statement};
-use stl_symbols::{broken_if, least_of, lesser};
 
 fn is_unknown_data(types: &Types, name: &BlockName) -> bool
     ensures { result ≡ is_unknown_data types.now name.now }

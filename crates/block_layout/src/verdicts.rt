@@ -13,8 +13,8 @@ ghost use Rattle.std.specs.Prelude.{
 };
 ghost use Rattle.stl_ast.specs.Outline.{IsOutline};
 ghost use Rattle.stl_ast.specs.declared.declarations.Declaration.{Declaration};
-ghost use Rattle.stl_symbols.specs.Folding.{folded};
-ghost use Rattle.stl_symbols.specs.Least.{least};
+ghost use Rattle.plc_base.specs.Folding.{folded};
+ghost use Rattle.plc_base.specs.Least.{least};
 ghost use Rattle.block_layout.specs.Around.{Outside, onto};
 ghost use Rattle.block_layout.specs.declared.verdicts.Frame.{Frame};
 ghost use Rattle.block_layout.specs.Verdicts.{
@@ -30,12 +30,11 @@ ghost use Rattle.block_layout.specs.Verdicts.{
 };
 
 use crate::declarations::{breaks_alone, deep, own_depth, uses_oversized};
-use crate::names::folded;
 use crate::types::Types;
-use plc_base::Refusal;
+use plc_base::{Refusal, broken_if, lesser};
 use std::alloc::{AllocError, Global};
 use stl_ast::Declaration;
-use stl_symbols::{Names, broken_if, lesser};
+use stl_symbols::Names;
 
 /// A list of declarations that is open: the names in it so far, how many structures and arrays are
 /// open around it, at most 9, and whether the declarations around it break no rule.
@@ -101,7 +100,7 @@ fn enter(
         ≡ entered_by types.now open_.old.items
         (get_or open_.old.items declaration.now.level f) declaration.now) }
 {
-    let name = folded(alloc, declaration.name.as_bytes())?;
+    let name = declaration.name.as_bytes().to_ascii_uppercase(alloc)?;
     let level = declaration.level as usize;
     open_.truncate(level + 1);
     let mut frame = open_.remove(level);

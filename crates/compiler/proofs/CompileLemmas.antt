@@ -12,10 +12,10 @@ use Rattle.stl_ast.specs.declared.blocks.Tree.{Tree}
 use Rattle.stl_lexer.specs.declared.kinds.Token.{Token}
 use Rattle.stl_lexer.specs.Tokens.{AreTokens, IsRefused as AreNoTokens}
 use Rattle.stl_parser.specs.Source.{IsRefusedBy as IsRefusedTree}
-use Rattle.stl_symbols.specs.Least.{least, lesser, is_before}
+use Rattle.plc_base.specs.Least.{least, lesser, is_before}
 use Rattle.stl_symbols.specs.Symbol.{Symbol}
 use Rattle.stl_symbols.specs.Symbols.{symbols_of, with_lines, Reads}
-use Rattle.stl_symbols.proofs.LeastLemmas.{least-append}
+use Rattle.plc_base.proofs.LeastLemmas.{least-append}
 use Rattle.block_layout.specs.Layouts.{layouts_of}
 use Rattle.block_layout.specs.Table.{layout_refusals}
 use Rattle.block_layout.specs.declared.blocks.BlockLayout.{BlockLayout}

@@ -6,7 +6,7 @@ use Rattle.plc_base.specs.declared.refusals.Refusal.{Refusal}
 use Rattle.plc_base.specs.declared.refusals.SourceFault.{SourceFault}
 use Rattle.plc_base.specs.declared.refusals.SourceFault.TheVariants as found
 use Rattle.stl_ast.specs.declared.blocks.Tree.{Tree}
-use Rattle.stl_symbols.specs.Least.{least}
+use Rattle.plc_base.specs.Least.{least}
 use Rattle.stl_symbols.specs.Symbol.{Symbol}
 use Rattle.block_layout.specs.Layouts.{layouts_of}
 use Rattle.block_layout.specs.Table.{layout_refusals}

@@ -3,7 +3,7 @@ ghost use Rattle.std.specs.Option.{option_map, IfSome};
 ghost use Rattle.machine.specs.Flat.{code_of};
 ghost use Rattle.stl_ast.specs.Literals.{AreBytes};
 ghost use Rattle.stl_symbols.specs.Symbols.{symbols_limit};
-ghost use Rattle.stl_symbols.specs.Least.{least};
+ghost use Rattle.plc_base.specs.Least.{least};
 ghost use Rattle.stl_lexer.specs.Limits.{source_limit};
 ghost use Rattle.stl_types.specs.Table.{statement_refusals};
 ghost use Rattle.block_layout.specs.Table.{layout_refusals};
@@ -24,13 +24,13 @@ use crate::faults::{CompileFault, in_source, in_symbols};
 use block_layout::{Layouts, lay_out, lay_out_sound};
 use flat_code::Program;
 use image_file::{Loaded, VerifyError, verify};
-use plc_base::{Refusal, SourceFault};
+use plc_base::{Refusal, SourceFault, lesser};
 use std::alloc::{AllocError, Global};
 use stl_ast::Tree;
 use stl_codegen::generate;
 use stl_lexer::lex;
 use stl_parser::parse;
-use stl_symbols::{Symbols, lesser, read_symbols};
+use stl_symbols::{Symbols, read_symbols};
 use stl_types::{Checked, check};
 
 /// A source that breaks no rule on its symbols, tokens, clauses and layout.

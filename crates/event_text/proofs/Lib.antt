@@ -1,5 +1,4 @@
 pub mod WordLemmas
-pub mod LineLemmas
 pub mod NumberLemmas
 pub mod HistoryLemmas
 pub mod ValidLemmas

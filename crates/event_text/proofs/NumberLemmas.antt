@@ -1,25 +1,11 @@
 -- Numbers that are read in decimal and hexadecimal digits.
-use Rattle.std.proofs.Common.{◌≡◌, ◌≤◌, ◌<◌, ◌+◌, ◌*◌, ◌^◌, ℕ, Bool, true, false, ◌&&◌, List, length, take, get_or, Option, Some, None, IfSome, refl, ap, ◌∙◌, add-one, arith}
+use Rattle.std.proofs.Common.{◌≡◌, ◌≤◌, ◌<◌, ◌+◌, ◌*◌, ◌^◌, ℕ, Bool, true, false, ◌&&◌, List, length, take, get_or, ap, ◌∙◌, add-one, arith}
 use Rattle.std.specs.Char.{digit_value, is_ascii_hexdigit}
 use Rattle.std.specs.List.{list_all}
 use Rattle.std.specs.Str.Parse.{digits_value}
 use Rattle.std.proofs.Math.Nat.{pow-le-pow_right, pow-succ'}
 use Rattle.std.proofs.lemmas.Int.Digits.{digits_value_more}
 use Rattle.std.proofs.lemmas.List.Folds.{list_all_more}
-use Rattle.std.proofs.lemmas.Bool.Decides.{nat_tests}
-use Rattle.plc_base.specs.Decimal.{decimal_up_to}
-
-pub decimal_range : (most : ℕ) (text : List ℕ) (n : ℕ) → decimal_up_to most text ≡ Some n → n ≤ most
-unfolding decimal_up_to
-decimal_range most text n found = grind (arith, nat_tests)
-
--- what is found keeps what is known of each that may be found
-found : (o : Option ℕ) (P : ℕ → Type 0) → ((n : ℕ) → o ≡ Some n → P n) → IfSome o P
-found None P each = tt
-found (Some n) P each = each n refl
-
-pub decimal_within : (most : ℕ) (text : List ℕ) → IfSome (decimal_up_to most text) (λ n. n ≤ most)
-decimal_within most text = found (decimal_up_to most text) (λ n. n ≤ most) (decimal_range most text)
 
 -- ---- hexadecimal digits, one more of them
 

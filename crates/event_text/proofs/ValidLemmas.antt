@@ -6,11 +6,11 @@ use Rattle.std.proofs.lemmas.Bool.{leb-true}
 use Rattle.std.proofs.lemmas.List.Elements.{All-nil, All-cons, All-append, All-replicate}
 use Rattle.plc_base.specs.AreaBytes.{is_peripheral_byte}
 use Rattle.plc_base.specs.Decimal.{decimal_up_to}
+use Rattle.plc_base.proofs.DecimalLemmas.{decimal_within}
 use Rattle.var_access.specs.Entry.{is_arrivable, IsInRange, IsValid}
 use Rattle.var_access.specs.declared.entries.Entry.{Entry}
 use Rattle.var_access.specs.declared.entries.What.{What}
 use Rattle.var_access.specs.declared.entries.What.TheVariants.{Input, Arrive, Tick}
-use Rattle.event_text.proofs.NumberLemmas.{decimal_within}
 use Rattle.event_text.specs.History.{hex_byte, fed, one_step, steps_of, entries_of_step, input_of, entries_of_in, arrival_of, value_behind, entries_of_arrive, ticks_of, entries_of_tick, words_of, entries_of_words, is_skipped, entries_of_line, entries_of_lines, with_few_steps, or_refused, history_of}
 
 -- each entry is valid, where there are any

@@ -1,12 +1,14 @@
 -- Words at the front of a line.
-use Rattle.std.proofs.Common.{◌≡◌, ℕ, suc, ◌+◌, ◌<◌, Bool, true, false, cond, not, List, [], ◌∷◌, length, take, drop, get_or, refl, ap, sym, ◌∙◌, inl, inr, arith, filter}
-use Rattle.std.specs.List.{slice_split, onto_first, prefix_len, position_or_len}
+use Rattle.std.proofs.Common.{◌≡◌, ℕ, suc, ◌+◌, ◌<◌, true, false, cond, not, List, [], ◌∷◌, length, take, drop, get_or, refl, ap, sym, ◌∙◌, inl, inr, arith, filter}
+use Rattle.std.specs.List.{slice_split, prefix_len, position_or_len}
 use Rattle.std.proofs.lemmas.List.Splits.{slice_split-cons_yes, slice_split_first}
 use Rattle.std.proofs.lemmas.List.Sums.{passes_at_first, prefix_len-le-length}
 use Rattle.std.proofs.lemmas.Bool.{cases_lt}
 use Rattle.std.proofs.lemmas.Grind.{common_steps}
 use Rattle.std.proofs.Math.Seq.{drop-cons}
-use Rattle.event_text.specs.History.{is_blank, is_word, words_of}
+use Rattle.plc_base.specs.Texts.{is_blank}
+use Rattle.plc_base.proofs.LineLemmas.{slice_split_whole}
+use Rattle.event_text.specs.History.{is_word, words_of}
 
 -- a blank at the front doesn't matter
 pub words_of-blank : (b : ℕ) (line : List ℕ) → is_blank b ≡ true → words_of (b ∷ line) ≡ words_of line
@@ -19,15 +21,6 @@ words_of-drop_blanks [] = refl
 words_of-drop_blanks (b ∷ line) =
     (elim (is_blank b) as (λ v. is_blank b ≡ v → words_of (drop (cond v (1 + prefix_len is_blank line) 0) (b ∷ line)) ≡ words_of (b ∷ line))
     [ true ↦ λ e. grind (arith, common_steps, words_of-drop_blanks line, words_of-blank b line e) | false ↦ λ e. refl ]) refl
-
--- where none passes, there is one part
-pub slice_split_whole : (p : ℕ → Bool) (xs : List ℕ) → position_or_len p xs ≡ length xs → slice_split p xs ≡ xs ∷ []
-slice_split_whole p [] e = refl
-slice_split_whole p (x ∷ xs) e =
-    (elim (p x) as (λ v. p x ≡ v → cond (not v) (1 + position_or_len p xs) 0 ≡ length (x ∷ xs) → cond v ([] ∷ slice_split p xs) (onto_first x (slice_split p xs)) ≡ (x ∷ xs) ∷ []) [
-      | true ↦ λ is e. absurd (omega arith)
-      | false ↦ λ is e. rw (slice_split_whole p xs (omega arith)) refl
-    ]) refl e
 
 -- behind blanks, there is a word
 word_positive : (line : List ℕ) → 0 < length line → prefix_len is_blank line ≡ 0 → 0 < position_or_len is_blank line

@@ -7,15 +7,12 @@ use Rattle.std.specs.Str.Lines.{lines}
 use Rattle.std.specs.Str.Parse.{digits_value}
 use Rattle.plc_base.specs.AreaBytes.{is_peripheral_byte}
 use Rattle.plc_base.specs.Decimal.{decimal_up_to}
+use Rattle.plc_base.specs.Texts.{is_blank}
 use Rattle.plc_base.specs.declared.refusals.Refusal.{Refusal}
 use Rattle.var_access.specs.Entry.{is_arrivable}
 use Rattle.var_access.specs.declared.entries.Entry.{Entry}
 use Rattle.var_access.specs.declared.entries.What.{What}
 use Rattle.var_access.specs.declared.entries.What.TheVariants.{Step, Input, Arrive, Tick}
-
--- blank and tab separate words
-abbrev pub is_blank : ℕ → Bool
-is_blank b = b == 32 || b == 9
 
 -- an empty part, as between two blanks, is no word
 abbrev pub is_word : List ℕ → Bool

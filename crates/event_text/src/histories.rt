@@ -3,8 +3,8 @@ ghost use Rattle.var_access.specs.Entry.{IsValid};
 ghost use Rattle.event_text.specs.History.{fed, most_steps, is_step, steps_in, history_of};
 ghost use Rattle.event_text.specs.HistoryFault.{AddFault, IsHistoryFault};
 
-use crate::history_lines::{LineEntries, MOST_STEPS, first_line, read_line};
-use plc_base::Refusal;
+use crate::history_lines::{LineEntries, MOST_STEPS, read_line};
+use plc_base::{Refusal, first_line};
 use std::alloc::{AllocError, Global};
 use var_access::{Entry, What};
 

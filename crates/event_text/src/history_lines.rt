@@ -2,12 +2,11 @@ ghost use Rattle.std.specs.Prelude.{◌≡◌, ◌*◌, ◌+◌, ◌^◌, ◌<�
 ghost use Rattle.std.specs.Option.{option_map};
 ghost use Rattle.std.specs.Char.{digit_value, is_ascii_hexdigit};
 ghost use Rattle.std.specs.List.{list_all, prefix_len, position_or_len};
-ghost use Rattle.std.specs.Str.Lines.{lines, strip_carriage_return};
 ghost use Rattle.std.specs.Str.Parse.{digits_value};
+ghost use Rattle.plc_base.specs.Texts.{is_blank};
 ghost use Rattle.var_access.specs.Entry.{is_arrivable};
 ghost use Rattle.event_text.specs.LineEntries.{entries_of};
 ghost use Rattle.event_text.specs.History.{
-  is_blank,
   words_of,
   hex_byte,
   entries_of_step,
@@ -19,7 +18,7 @@ ghost use Rattle.event_text.specs.History.{
   entries_of_line,
 };
 
-use plc_base::{decimal_up_to, is_peripheral_byte};
+use plc_base::{decimal_up_to, is_blank, is_peripheral_byte};
 
 /// The most steps of a line, and of a history.
 pub const MOST_STEPS: u32 = 1_000_000;
@@ -43,13 +42,6 @@ pub(crate) enum LineEntries {
     Arrival { ob: u16, value: u32 },
     /// That many milliseconds pass.
     Milliseconds { count: u32 },
-}
-
-/// Whether this byte separates words.
-fn is_blank(byte: u8) -> bool
-    ensures { result ≡ is_blank byte }
-{
-    byte == b' ' || byte == b'\t'
 }
 
 /// How many blanks and tabs stand at the front.
@@ -150,7 +142,7 @@ fn read_step(words: &[u8]) -> Option<LineEntries>
 }
 
 /// The entry of the words behind `in`: a peripheral input byte and its value.
-#[tactic(auto, using(crate::proofs::NumberLemmas::decimal_range), unfolding(crate::specs::History::entries_of_in))]
+#[tactic(auto, using(plc_base::proofs::DecimalLemmas::decimal_range), unfolding(crate::specs::History::entries_of_in))]
 fn read_input(words: &[u8]) -> Option<LineEntries>
     ensures { option_map entries_of result ≡ entries_of_in (words_of words.now) }
 {
@@ -189,7 +181,7 @@ fn read_value(words: &[u8]) -> Option<u32>
 }
 
 /// The entry of the words behind `arrive`: an organization block, and a value.
-#[tactic(auto, using(crate::proofs::NumberLemmas::decimal_range), unfolding(crate::specs::History::entries_of_arrive))]
+#[tactic(auto, using(plc_base::proofs::DecimalLemmas::decimal_range), unfolding(crate::specs::History::entries_of_arrive))]
 fn read_arrival(words: &[u8]) -> Option<LineEntries>
     ensures { option_map entries_of result ≡ entries_of_arrive (words_of words.now) }
 {
@@ -237,37 +229,5 @@ pub(crate) fn read_line(line: &[u8]) -> Option<LineEntries>
         read_tick(words)
     } else {
         None
-    }
-}
-
-/// The bytes of a line before its carriage return, if it ends with one.
-fn without_carriage_return(line: &[u8]) -> &[u8]
-    ensures { result.now ≡ strip_carriage_return line.now }
-{
-    match line {
-        [front @ .., b'\r'] => front,
-        _ => line,
-    }
-}
-
-/// How many bytes stand before the first line feed.
-fn line_len(text: &[u8]) -> usize
-    ensures value { result ≡ position_or_len (λ b. b == 10) text.now }
-    ensures within { result ≤ length text.now }
-{
-    text.iter().take_while(|byte| **byte != b'\n').count()
-}
-
-/// The first line of a text, without its line end, and what follows it.
-pub(crate) fn first_line(text: &[u8]) -> (&[u8], &[u8])
-    requires { 0 < length text.now }
-    ensures first { lines text.now ≡ result.0.now ∷ lines result.1.now }
-    ensures shorter { length result.1.now < length text.now }
-{
-    let (line, rest) = text.split_at(line_len(text));
-    if rest.is_empty() {
-        (line, rest)
-    } else {
-        (without_carriage_return(line), &rest[1..])
     }
 }

@@ -1,7 +1,6 @@
 -- The names of a program's variables, and what a name finds.
-use Rattle.std.specs.Prelude.{◌≡◌, ℕ, Bool, true, ◌&&◌, if◌then◌else◌, List, [], ◌∷◌, map, Option, Some, None}
-use Rattle.std.specs.Char.{to_ascii_uppercase}
-use Rattle.std.specs.Str.{bytes_eq}
+use Rattle.std.specs.Prelude.{◌≡◌, ℕ, Bool, true, ◌&&◌, if◌then◌else◌, List, [], ◌∷◌, Option, Some, None}
+use Rattle.plc_base.specs.Folding.{is_same_name}
 use Rattle.plc_base.specs.declared.places.Place.{Place}
 use Rattle.plc_base.specs.declared.places.Width.{Width}
 use Rattle.flat_code.specs.Faults.{is_before, is_upper}
@@ -17,14 +16,6 @@ names_rise before (entry ∷ entries) =
 -- the lists of names that a program may have: none is empty or stands twice
 abbrev pub IsNames : List NameEntry → Type 0
 IsNames entries = names_rise [] entries ≡ true
-
--- a name with the letters a to z as A to Z
-abbrev pub upper_case : List ℕ → List ℕ
-upper_case name = map to_ascii_uppercase name
-
--- whether two names are the same but for the case of the letters A to Z
-abbrev pub is_same_name : List ℕ → List ℕ → Bool
-is_same_name a b = bytes_eq (upper_case a) (upper_case b)
 
 -- the variable of a name
 unfoldable pub find : List NameEntry → List ℕ → Option (Place × Width)

@@ -1,8 +1,9 @@
 ghost use Rattle.std.specs.Prelude.{◌≡◌};
 ghost use Rattle.std.specs.Cmp.Lexicographic.{slice_cmp};
 ghost use Rattle.std.specs.Ordering.{nat_cmp};
+ghost use Rattle.plc_base.specs.Folding.{folded};
 ghost use Rattle.flat_code.specs.Faults.{ends_blank, is_before, is_upper};
-ghost use Rattle.flat_code.specs.Names.{upper_case, IsNames, find as found_among};
+ghost use Rattle.flat_code.specs.Names.{IsNames, find as found_among};
 
 use plc_base::{Place, Width};
 use std::cmp::Ordering;
@@ -73,7 +74,7 @@ pub fn ends_blank(name: &[u8]) -> bool
 
 /// How a name in upper case compares with a name in any case.
 fn order_of(upper: &[u8], name: &[u8]) -> Ordering
-    ensures { result ≡ slice_cmp nat_cmp upper.now (upper_case name.now) }
+    ensures { result ≡ slice_cmp nat_cmp upper.now (folded name.now) }
 {
     upper
         .iter()

@@ -9,9 +9,9 @@ use Rattle.block_layout.specs.Table.{layout_refusals}
 use Rattle.stl_ast.specs.declared.blocks.Tree.{Tree}
 use Rattle.stl_codegen.specs.Generated.{code_blocks_of, data_blocks_of, names_of}
 use Rattle.stl_lexer.specs.declared.kinds.Token.{Token}
-use Rattle.stl_symbols.specs.Least.{least, lesser}
+use Rattle.plc_base.specs.Least.{least, lesser}
 use Rattle.stl_symbols.specs.Symbol.{Symbol}
-use Rattle.stl_symbols.proofs.LeastLemmas.{least-append}
+use Rattle.plc_base.proofs.LeastLemmas.{least-append}
 use Rattle.stl_types.specs.Table.{statement_refusals}
 use Rattle.sem_kept.specs.Agreement.{AreFiles, IsRunnable, ProgramsRun}
 use Rattle.sem_kept.specs.Meaning.{HasSymbols, HasTokens, HasTree, refusals_of, sound_by, code_in, IsJudged, MeansCode}

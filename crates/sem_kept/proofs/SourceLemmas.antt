@@ -6,7 +6,7 @@ use Rattle.stl_lexer.specs.declared.kinds.Token.{Token}
 use Rattle.stl_lexer.specs.Tokens.{AreTokensUnique, ExcludesViolation as TokensExclude, IsViolationUnique as OneTokenViolation, HasTokensOrViolation, IsTotal as EachHasTokens}
 use Rattle.stl_ast.specs.declared.blocks.Tree.{Tree}
 use Rattle.stl_parser.specs.Source.{IsTreeUnique, TreeExcludesViolation, IsViolationUnique as OneClauseViolation, HasTreeOrViolation, IsTotal as EachHasTree}
-use Rattle.stl_symbols.specs.Least.{least}
+use Rattle.plc_base.specs.Least.{least}
 use Rattle.stl_symbols.specs.Symbol.{Symbol}
 use Rattle.stl_symbols.specs.Symbols.{symbols_of}
 use Rattle.sem_kept.specs.Stages.{InTurn, Told, HasOneOutcome, HasOutcome}

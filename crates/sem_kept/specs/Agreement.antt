@@ -10,7 +10,7 @@ use Rattle.stl_ast.specs.Literals.{AreBytes}
 use Rattle.stl_ast.specs.declared.blocks.Tree.{Tree}
 use Rattle.stl_lexer.specs.Limits.{source_limit}
 use Rattle.stl_lexer.specs.declared.kinds.Token.{Token}
-use Rattle.stl_symbols.specs.Least.{least}
+use Rattle.plc_base.specs.Least.{least}
 use Rattle.stl_symbols.specs.Symbol.{Symbol}
 use Rattle.stl_symbols.specs.Symbols.{symbols_limit}
 use Rattle.accepted_code.specs.Accepted.{program_in}

@@ -6,7 +6,7 @@ use Rattle.stl_ast.specs.declared.blocks.Tree.{Tree}
 use Rattle.stl_lexer.specs.declared.kinds.Token.{Token}
 use Rattle.stl_lexer.specs.Tokens.{AreTokens, IsViolation as BreaksTokenRule}
 use Rattle.stl_parser.specs.Source.{IsTree, IsViolation as BreaksClauseRule}
-use Rattle.stl_symbols.specs.Least.{least}
+use Rattle.plc_base.specs.Least.{least}
 use Rattle.stl_symbols.specs.Symbol.{Symbol}
 use Rattle.stl_symbols.specs.Symbols.{symbols_of}
 use Rattle.block_layout.specs.Layouts.{layouts_of}

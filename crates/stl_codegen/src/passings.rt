@@ -3,7 +3,7 @@ ghost use Rattle.std.specs.Cmp.Lexicographic.{slice_cmp};
 ghost use Rattle.std.specs.Option.{option_copied};
 ghost use Rattle.std.specs.Ordering.{nat_cmp};
 ghost use Rattle.std.specs.Str.{bytes_eq};
-ghost use Rattle.stl_symbols.specs.Folding.{folded};
+ghost use Rattle.plc_base.specs.Folding.{folded};
 ghost use Rattle.stl_types.specs.Seen.{seen};
 ghost use Rattle.stl_codegen.specs.Emitted.{passing};
 ghost use Rattle.stl_codegen.specs.Fitting.{Appended};

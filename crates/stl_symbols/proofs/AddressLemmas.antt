@@ -1,14 +1,7 @@
 -- Numbers of addresses.
-use Rattle.std.proofs.Common.{ℕ, ◌≡◌, ◌≤◌, List, [], ◌∷◌, Some, Bool, true, false, cond, refl, arith, find, map, bytes_eq}
+use Rattle.std.proofs.Common.{ℕ, ◌≡◌, List, [], ◌∷◌, Some, Bool, true, false, cond, refl, find, map, bytes_eq}
 use Rattle.std.specs.Option.{option_map}
-use Rattle.std.proofs.lemmas.Bool.Decides.{nat_tests}
 use Rattle.stl_symbols.specs.Address.{look_up}
-use Rattle.plc_base.specs.Decimal.{decimal_up_to}
-
--- a number that is read is at most the greatest one
-pub decimal_within : (most : ℕ) (word : List ℕ) (n : ℕ) → decimal_up_to most word ≡ Some n → n ≤ most
-unfolding decimal_up_to
-decimal_within most word n is = grind (arith, nat_tests, is)
 
 -- a look-up in a table whose entries are first made plain
 pub look_up-map : {A X : Type 0} (key : A → List ℕ) (value : A → X) (xs : List A) (word : List ℕ) →

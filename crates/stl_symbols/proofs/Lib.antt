@@ -1,8 +1,5 @@
 pub mod AddressLemmas
 pub mod FieldLemmas
-pub mod GatheredLemmas
-pub mod LeastLemmas
-pub mod LineLemmas
 pub mod NameLemmas
 pub mod NumberLemmas
 pub mod ReadingLemmas

@@ -5,7 +5,7 @@ use Rattle.std.specs.Char.{to_ascii_uppercase}
 use Rattle.std.proofs.lemmas.Bool.{cases_Bool, false_from_ne_true}
 use Rattle.std.proofs.lemmas.List.{length-map}
 use Rattle.std.proofs.lemmas.Slice.Eq.{bytes_eq-Decides}
-use Rattle.stl_symbols.specs.Folding.{folded, is_same_name}
+use Rattle.plc_base.specs.Folding.{folded, is_same_name}
 use Rattle.stl_symbols.specs.Names.{place_of}
 use Rattle.stl_symbols.specs.Symbol.{Symbol, symbol_named}
 

@@ -1,6 +1,6 @@
 -- A symbol: a name for a variable, a timer, a counter or a block.
 use Rattle.std.specs.Prelude.{ℕ, List, Option, find}
-use Rattle.stl_symbols.specs.Folding.{is_same_name}
+use Rattle.plc_base.specs.Folding.{is_same_name}
 use Rattle.stl_symbols.specs.declared.targets.Target.{Target}
 
 -- a symbol: its name, and what it names

@@ -241,7 +241,7 @@ fn letters_of(word: &[u8]) -> Option<Letters>
 }
 
 /// The number of an address.
-#[tactic(auto, using(crate::proofs::AddressLemmas::decimal_within))]
+#[tactic(auto, using(plc_base::proofs::DecimalLemmas::decimal_range))]
 fn number_of(text: &[u8]) -> Option<u16>
     ensures { result ≡ number_of text.now }
 {
@@ -273,7 +273,7 @@ fn point_of(text: &[u8]) -> usize
 }
 
 /// The number of a bit behind a point.
-#[tactic(auto, using(crate::proofs::AddressLemmas::decimal_within))]
+#[tactic(auto, using(plc_base::proofs::DecimalLemmas::decimal_range))]
 fn bit_behind(text: &[u8]) -> Option<u8>
     ensures { result ≡ bit_behind text.now }
 {

@@ -1,5 +1,6 @@
 ghost use Rattle.std.specs.Prelude.{◌≡◌, ◌≤◌, ◌-◌, ℕ, List, length, take, not, filter, IfOk};
 ghost use Rattle.std.specs.List.{suffix_len};
+ghost use Rattle.plc_base.specs.Texts.{is_blank};
 ghost use Rattle.plc_base.specs.declared.refusals.SourceFault.TheVariants.{Refused};
 ghost use Rattle.stl_symbols.specs.Line.{columns};
 ghost use Rattle.stl_symbols.specs.Symbols.{
@@ -7,7 +8,6 @@ ghost use Rattle.stl_symbols.specs.Symbols.{
   Reads,
   declaration,
   declaration_of,
-  is_blank,
   is_name,
   symbols_limit,
   symbols_of,
@@ -21,9 +21,8 @@ ghost use Rattle.stl_symbols.specs.Symbols.{
 
 use crate::addresses::{Address, address_of, has_type};
 use crate::columns::{Columns, read_columns};
-use crate::lines::first_line;
 use crate::symbols::{LONGEST_NAME, Symbol, Symbols};
-use plc_base::{Refusal, SourceFault};
+use plc_base::{Refusal, SourceFault, first_line, is_blank};
 use std::alloc::Global;
 
 /// The most bytes of a symbols file.
@@ -38,12 +37,6 @@ const NO_RECORD: u16 = 14;
 const NO_DECLARATION: u16 = 15;
 
 const NAME_TWICE: u16 = 16;
-
-fn is_blank(byte: u8) -> bool
-    ensures { result ≡ is_blank byte }
-{
-    byte == b' ' || byte == b'\t'
-}
 
 /// How many blanks a field ends with.
 fn last_blanks(field: &[u8]) -> usize

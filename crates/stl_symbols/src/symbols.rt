@@ -1,6 +1,6 @@
 ghost use Rattle.std.specs.Prelude.{◌≡◌, ◌≤◌, length, map, slice_get, All};
 ghost use Rattle.std.specs.Option.{option_map};
-ghost use Rattle.stl_symbols.specs.Folding.{folded};
+ghost use Rattle.plc_base.specs.Folding.{folded};
 ghost use Rattle.stl_symbols.specs.Symbol.{symbol_named};
 
 use crate::names::Names;
@@ -66,7 +66,7 @@ pub struct Symbols {
 
 impl Model for Symbols {
     ghost use Rattle.std.specs.Prelude.{◌≡◌, ◌≤◌, ℕ, List, map, length, All};
-    ghost use Rattle.stl_symbols.specs.Folding.{folded};
+    ghost use Rattle.plc_base.specs.Folding.{folded};
     ghost use Rattle.stl_symbols.specs.Symbol.{Symbol as SymbolData};
 
     ghost Value = { List SymbolData };

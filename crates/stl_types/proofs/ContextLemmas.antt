@@ -5,8 +5,8 @@ use Rattle.std.proofs.lemmas.List.{drop_more}
 use Rattle.plc_base.specs.declared.refusals.Refusal.{Refusal}
 use Rattle.stl_ast.specs.declared.blocks.Block.{Block}
 use Rattle.stl_ast.specs.declared.statements.Statement.{Statement}
-use Rattle.stl_symbols.specs.Least.{least, lesser}
-use Rattle.stl_symbols.proofs.LeastLemmas.{least-append, lesser_assoc, lesser_nothing}
+use Rattle.plc_base.specs.Least.{least, lesser}
+use Rattle.plc_base.proofs.LeastLemmas.{least-append, lesser_assoc, lesser_nothing}
 use Rattle.stl_types.specs.Bodies.{in_contexts}
 use Rattle.stl_types.specs.Context.{Context}
 

@@ -4,8 +4,8 @@ use Rattle.std.proofs.Math.ListN.{drop_of_length-le}
 use Rattle.std.proofs.lemmas.List.{append_assoc, append-nil, drop_more}
 use Rattle.plc_base.specs.declared.refusals.Refusal.{Refusal}
 use Rattle.stl_ast.specs.declared.statements.Statement.{Statement}
-use Rattle.stl_symbols.specs.Least.{broken_if, least, lesser}
-use Rattle.stl_symbols.proofs.LeastLemmas.{least-append, lesser_assoc, lesser_nothing}
+use Rattle.plc_base.specs.Least.{broken_if, least, lesser}
+use Rattle.plc_base.proofs.LeastLemmas.{least-append, lesser_assoc, lesser_nothing}
 use Rattle.stl_types.specs.Brackets.{behind, behind_all}
 use Rattle.stl_types.specs.Labels.{label_of}
 use Rattle.stl_types.specs.Landings.{list_here, lists_at_labels}

@@ -12,9 +12,9 @@ use Rattle.stl_ast.specs.declared.operands.Operand.TheVariants as operand
 use Rattle.stl_ast.specs.declared.statements.Actual.{Actual}
 use Rattle.stl_ast.specs.declared.statements.Statement.{Statement}
 use Rattle.stl_ast.specs.Statements.{has_actuals}
-use Rattle.stl_symbols.specs.Folding.{folded}
-use Rattle.stl_symbols.specs.Gathered.{gathered}
-use Rattle.stl_symbols.specs.Least.{broken_if}
+use Rattle.plc_base.specs.Folding.{folded}
+use Rattle.plc_base.specs.Gathered.{gathered}
+use Rattle.plc_base.specs.Least.{broken_if}
 use Rattle.stl_symbols.specs.Names.{place_of}
 use Rattle.block_layout.specs.Blocks.{is_function_block, is_system_function, named_block}
 use Rattle.block_layout.specs.declared.blocks.BlockLayout.{BlockLayout}

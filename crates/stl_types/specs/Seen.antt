@@ -9,7 +9,7 @@ use Rattle.stl_ast.specs.declared.operands.Operand.{Operand}
 use Rattle.stl_ast.specs.declared.operands.Operand.TheVariants as operand
 use Rattle.stl_ast.specs.declared.operands.PathHead.{PathHead}
 use Rattle.stl_ast.specs.declared.operands.PathHead.TheVariants as head
-use Rattle.stl_symbols.specs.Folding.{folded, is_same_name}
+use Rattle.plc_base.specs.Folding.{folded, is_same_name}
 use Rattle.stl_symbols.specs.Symbol.{Symbol, symbol_named}
 use Rattle.stl_symbols.specs.declared.targets.Target.{Target}
 use Rattle.stl_symbols.specs.declared.targets.Target.TheVariants as target

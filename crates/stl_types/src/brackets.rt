@@ -1,5 +1,5 @@
 ghost use Rattle.std.specs.Prelude.{◌≡◌, [], IfOk};
-ghost use Rattle.stl_symbols.specs.Least.{broken_if, least};
+ghost use Rattle.plc_base.specs.Least.{broken_if, least};
 ghost use Rattle.stl_types.specs.Brackets.{
   behind,
   behind_all,
@@ -14,10 +14,9 @@ ghost use Rattle.stl_types.specs.Brackets.{
   with_brackets,
 };
 
-use plc_base::Refusal;
+use plc_base::{Refusal, broken_if, least_of, lesser, try_least_of};
 use std::alloc::{AllocError, Global};
 use stl_ast::{Block, Mnemonic, Statement};
-use stl_symbols::{broken_if, least_of, lesser, try_least_of};
 
 /// A bracket that stands open: its function code, 0 to 5 for `A(` `AN(` `O(` `ON(` `X(` `XN(`, and
 /// its line.

@@ -1,6 +1,6 @@
 ghost use Rattle.std.specs.Prelude.{◌≡◌, ◌++◌, IfOk};
 ghost use Rattle.std.specs.List.{flat_map};
-ghost use Rattle.stl_symbols.specs.Least.{least};
+ghost use Rattle.plc_base.specs.Least.{least};
 ghost use Rattle.stl_types.specs.Bodies.{first_context};
 ghost use Rattle.stl_types.specs.Joined.{broken_call, broken_statement, rules_of_calls};
 ghost use Rattle.stl_types.specs.Calls.{by_callee};
@@ -11,10 +11,10 @@ use crate::misfits::{least_date, least_misfit};
 use crate::parameters::Callee;
 use crate::scopes::Scope;
 use block_layout::Layouts;
-use plc_base::Refusal;
+use plc_base::{Refusal, broken_if, lesser, try_least_of};
 use std::alloc::{AllocError, Global};
 use stl_ast::{Statement, Tree};
-use stl_symbols::{Symbols, broken_if, lesser, try_least_of};
+use stl_symbols::Symbols;
 
 /// The least refusal of a call, by the block that is called.
 fn least_in_call(

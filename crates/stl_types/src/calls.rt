@@ -1,8 +1,8 @@
 ghost use Rattle.std.specs.Prelude.{◌≡◌, ◌++◌, [], ◌∷◌, IfOk};
 ghost use Rattle.std.specs.List.{list_all};
 ghost use Rattle.std.specs.Str.{bytes_eq};
-ghost use Rattle.stl_symbols.specs.Folding.{folded};
-ghost use Rattle.stl_symbols.specs.Least.{broken_if, least};
+ghost use Rattle.plc_base.specs.Folding.{folded};
+ghost use Rattle.plc_base.specs.Least.{broken_if, least};
 ghost use Rattle.stl_types.specs.Calls.{
   has_formal,
   is_supplied,
@@ -15,10 +15,10 @@ ghost use Rattle.stl_types.specs.Calls.{
 };
 
 use crate::parameters::{Callee, Formal};
-use plc_base::{BlockKind, Refusal};
+use plc_base::{BlockKind, Refusal, broken_if, lesser, try_least_of};
 use std::alloc::{AllocError, Global};
 use stl_ast::{Actual, Mnemonic, Statement};
-use stl_symbols::{Names, broken_if, lesser, try_least_of};
+use stl_symbols::Names;
 
 pub(crate) fn is_named(upper: &[u8], formal: &Formal) -> bool
     ensures { result ≡ bytes_eq upper.now formal.now.name }

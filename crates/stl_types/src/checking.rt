@@ -1,5 +1,5 @@
 ghost use Rattle.std.specs.Prelude.{◌≡◌, IfOk};
-ghost use Rattle.stl_symbols.specs.Least.{least};
+ghost use Rattle.plc_base.specs.Least.{least};
 ghost use Rattle.stl_types.specs.Joined.{rules_of_jumps};
 ghost use Rattle.stl_types.specs.Table.{Checks, statement_refusals};
 
@@ -11,11 +11,11 @@ use crate::lists::least_wrong_list;
 use crate::resolving::least_wrong_operand;
 use crate::unknown::least_unknown;
 use block_layout::Layouts;
-use plc_base::{Refusal, SourceFault};
+use plc_base::{Refusal, SourceFault, lesser};
 use std::alloc::{AllocError, Global};
 use std::marker::Model;
 use stl_ast::{Block, Tree};
-use stl_symbols::{Symbols, lesser};
+use stl_symbols::Symbols;
 
 /// A source whose statements break no rule.
 #[derive(Drop)]

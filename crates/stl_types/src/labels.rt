@@ -1,5 +1,5 @@
 ghost use Rattle.std.specs.Prelude.{◌≡◌, ◌++◌, [], IfOk};
-ghost use Rattle.stl_symbols.specs.Least.{least};
+ghost use Rattle.plc_base.specs.Least.{least};
 ghost use Rattle.stl_types.specs.Labels.{
   is_twice,
   is_unknown_label,
@@ -11,10 +11,10 @@ ghost use Rattle.stl_types.specs.Labels.{
   unknown_labels,
 };
 
-use plc_base::Refusal;
+use plc_base::{Refusal, broken_if, least_of, lesser, try_least_of};
 use std::alloc::{AllocError, Global};
 use stl_ast::{Block, Name, Operand, Statement};
-use stl_symbols::{Names, broken_if, least_of, lesser, try_least_of};
+use stl_symbols::Names;
 
 /// Adds the label of a statement behind those before it.
 pub(crate) fn add_label(

@@ -1,5 +1,5 @@
 ghost use Rattle.std.specs.Prelude.{◌≡◌, ◌++◌, [], IfOk, map, take};
-ghost use Rattle.stl_symbols.specs.Least.{broken_if, least};
+ghost use Rattle.plc_base.specs.Least.{broken_if, least};
 ghost use Rattle.stl_types.specs.Brackets.{with_brackets};
 ghost use Rattle.stl_types.specs.Labels.{labels_of};
 ghost use Rattle.stl_types.specs.Landings.{
@@ -16,11 +16,11 @@ ghost use Rattle.stl_types.specs.Landings.{
 
 use crate::brackets::{Bracket, pass};
 use crate::labels::add_label;
-use plc_base::Refusal;
+use plc_base::{Refusal, broken_if, lesser, try_least_of};
 use std::alloc::{AllocError, Global};
 use std::marker::Model;
 use stl_ast::{Block, Name, Operand, Statement};
-use stl_symbols::{Names, broken_if, lesser, try_least_of};
+use stl_symbols::Names;
 
 /// Of more open brackets than seven so many are kept: the eighth has broken a rule.
 const MOST_KEPT: usize = 8;

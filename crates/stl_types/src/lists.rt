@@ -1,6 +1,6 @@
 ghost use Rattle.std.specs.Prelude.{◌≡◌, ◌<◌, ◌+◌, [], IfOk, length, drop};
 ghost use Rattle.stl_ast.specs.Statements.{is_empty};
-ghost use Rattle.stl_symbols.specs.Least.{least};
+ghost use Rattle.plc_base.specs.Least.{least};
 ghost use Rattle.stl_types.specs.Lists.{
   has_label,
   has_list,
@@ -15,10 +15,10 @@ ghost use Rattle.stl_types.specs.Lists.{
 };
 
 use crate::labels::add_label;
-use plc_base::Refusal;
+use plc_base::{Refusal, broken_if, lesser, try_least_of};
 use std::alloc::{AllocError, Global};
 use stl_ast::{Block, Mnemonic, Name, Operand, Statement};
-use stl_symbols::{Names, broken_if, lesser, try_least_of};
+use stl_symbols::Names;
 
 /// The most jumps of the list of a JL.
 const MOST_JUMPS: u32 = 255;

@@ -2,7 +2,7 @@ ghost use Rattle.std.specs.Prelude.{◌≡◌, IfOk, find};
 ghost use Rattle.std.specs.List.{flat_map};
 ghost use Rattle.std.specs.Option.{option_copied};
 ghost use Rattle.std.specs.Str.{bytes_eq};
-ghost use Rattle.stl_symbols.specs.Least.{broken_if, least};
+ghost use Rattle.plc_base.specs.Least.{broken_if, least};
 ghost use Rattle.stl_types.specs.Actuals.{fits_operand, fits_seen, formal_named};
 ghost use Rattle.stl_types.specs.Calls.{misfits, sees_date};
 ghost use Rattle.stl_types.specs.Kinds.{is_date};
@@ -14,10 +14,9 @@ use crate::parameters::Formal;
 use crate::scopes::Scope;
 use crate::views::{Seen, View};
 use block_layout::fits;
-use plc_base::Refusal;
+use plc_base::{Refusal, broken_if, try_least_of};
 use std::alloc::{AllocError, Global};
 use stl_ast::{Actual, Operand};
-use stl_symbols::{broken_if, try_least_of};
 
 /// The parameter of this name, in upper case.
 fn formal_named<'f>(formals: &'f [Formal], upper: &[u8]) -> Option<&'f Formal>

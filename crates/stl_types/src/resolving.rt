@@ -1,5 +1,5 @@
 ghost use Rattle.std.specs.Prelude.{◌≡◌, IfOk};
-ghost use Rattle.stl_symbols.specs.Least.{least};
+ghost use Rattle.plc_base.specs.Least.{least};
 ghost use Rattle.stl_types.specs.Bodies.{first_context, in_contexts};
 ghost use Rattle.stl_types.specs.Context.{Context};
 ghost use Rattle.stl_types.specs.Operands.{
@@ -19,10 +19,10 @@ use crate::operands::rule_of;
 use crate::scopes::Scope;
 use crate::views::{Seen, View};
 use block_layout::Layouts;
-use plc_base::Refusal;
+use plc_base::{Refusal, lesser, try_least_of};
 use std::alloc::{AllocError, Global};
 use stl_ast::{Block, Operand, Statement, Tree};
-use stl_symbols::{Symbols, lesser, try_least_of};
+use stl_symbols::Symbols;
 
 /// The rule that an instruction breaks by what its operand comes to.
 fn rule_seen(form: Form, seen: Seen) -> Option<u16>
@@ -61,7 +61,7 @@ fn seen_view(seen: Seen) -> Option<View>
     }
 }
 
-#[tactic(auto, unfolding(stl_symbols::specs::Least::lesser))]
+#[tactic(auto, unfolding(plc_base::specs::Least::lesser))]
 fn at_line(line: u32, rule: Option<u16>) -> Option<Refusal>
     ensures { result ≡ least (at_line line rule) }
 {

@@ -1,6 +1,6 @@
 ghost use Rattle.std.specs.Prelude.{◌≡◌, IfOk};
 ghost use Rattle.std.specs.List.{flat_map};
-ghost use Rattle.stl_symbols.specs.Least.{broken_if, least};
+ghost use Rattle.plc_base.specs.Least.{broken_if, least};
 ghost use Rattle.block_layout.specs.Operands.{in_body, operands_of};
 ghost use Rattle.block_layout.specs.Settings.{in_settings, on_settings};
 ghost use Rattle.stl_types.specs.Bodies.{first_context, in_contexts};
@@ -15,10 +15,10 @@ ghost use Rattle.stl_types.specs.Unknown.{
 use crate::scopes::Scope;
 use crate::views::Seen;
 use block_layout::{Layouts, Path, Walk};
-use plc_base::Refusal;
+use plc_base::{Refusal, broken_if, lesser, try_least_of};
 use std::alloc::{AllocError, Global};
 use stl_ast::{Actual, Block, Operand, Setting, Statement, Tree};
-use stl_symbols::{Symbols, broken_if, lesser, try_least_of};
+use stl_symbols::Symbols;
 
 fn is_unknown(seen: Seen) -> bool
     ensures { result ≡ is_unknown seen }

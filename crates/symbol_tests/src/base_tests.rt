@@ -1,8 +1,8 @@
 use crate::compare::same;
-use plc_base::Refusal;
+use plc_base::{Refusal, broken_if, least_of, lesser, try_least_of};
 use std::alloc::AllocError;
 use std::test::Fail;
-use stl_symbols::{Names, Numbers, broken_if, least_of, lesser, try_least_of};
+use stl_symbols::{Names, Numbers};
 
 const fn refusal(line: u32, rule: u16) -> Refusal {
     Refusal { line, rule }

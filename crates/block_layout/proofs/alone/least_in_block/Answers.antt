@@ -3,7 +3,7 @@ use Rattle.std.specs.List.{flat_map}
 use Rattle.plc_base.specs.declared.refusals.Refusal.{Refusal}
 use Rattle.stl_ast.specs.declared.blocks.Part.{Part}
 use Rattle.stl_ast.specs.declared.declarations.Declaration.{Declaration}
-use Rattle.stl_symbols.specs.Least.{least, lesser}
+use Rattle.plc_base.specs.Least.{least, lesser}
 use Rattle.block_layout.specs.Alone.{broken_by}
 use Rattle.block_layout.proofs.AloneLemmas.{least_of_block}
 use Rattle.block_layout.proofs.alone.least_in_block.Goals as goal

@@ -1,7 +1,7 @@
 use Rattle.std.proofs.Common.{◌≡◌, Bool, List, [], ◌∷◌, false, get_or, refl, sym, ◌∙◌, ap, arith}
 use Rattle.stl_ast.specs.declared.blocks.Block.{Block}
-use Rattle.stl_symbols.specs.Least.{broken_if, least}
-use Rattle.stl_symbols.proofs.LeastLemmas.{lesser_first}
+use Rattle.plc_base.specs.Least.{broken_if, least}
+use Rattle.plc_base.proofs.LeastLemmas.{lesser_first}
 use Rattle.block_layout.specs.Rule43.{contains_itself, rule_43}
 use Rattle.block_layout.proofs.HeadLemmas.{heads_end, heads_turn}
 use Rattle.block_layout.proofs.LayoutLemmas.{itself_at}

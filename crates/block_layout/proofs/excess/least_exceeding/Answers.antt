@@ -1,6 +1,6 @@
 use Rattle.std.proofs.Common.{◌≡◌, ◌+◌, ◌&&◌, ℕ, Bool, [], ◌∷◌, nat_lt, refl, ◌∙◌, ap, if◌then◌else◌}
-use Rattle.stl_symbols.specs.Least.{broken_if, least}
-use Rattle.stl_symbols.proofs.LeastLemmas.{lesser_first}
+use Rattle.plc_base.specs.Least.{broken_if, least}
+use Rattle.plc_base.proofs.LeastLemmas.{lesser_first}
 use Rattle.block_layout.specs.Blocks.{is_data_block}
 use Rattle.block_layout.specs.Lengths.{length_of}
 use Rattle.block_layout.specs.Rule54.{data_length, exceeds_total, rule_54, total}

@@ -1,7 +1,7 @@
 use Rattle.std.proofs.Common.{◌≡◌, ℕ, List, nat_lt, sym, ◌∙◌, ap}
 use Rattle.plc_base.specs.declared.refusals.Refusal.{Refusal}
-use Rattle.stl_symbols.specs.Least.{broken_if, least}
-use Rattle.stl_symbols.proofs.LeastLemmas.{least_done, least_next, lesser_first}
+use Rattle.plc_base.specs.Least.{broken_if, least}
+use Rattle.plc_base.proofs.LeastLemmas.{least_done, least_next, lesser_first}
 use Rattle.block_layout.proofs.HeadLemmas.{by_itself, mapped_at}
 use Rattle.block_layout.proofs.excess.least_longer.Goals as goal
 

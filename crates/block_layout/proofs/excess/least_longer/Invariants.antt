@@ -1,7 +1,7 @@
 use Rattle.std.proofs.Common.{◌≡◌, ℕ, drop, map, nat_lt}
 use Rattle.std.specs.List.{flat_map}
 use Rattle.stl_ast.specs.declared.blocks.Block.{Block}
-use Rattle.stl_symbols.specs.Least.{broken_if, least, lesser}
+use Rattle.plc_base.specs.Least.{broken_if, least, lesser}
 use Rattle.block_layout.proofs.excess.least_longer.Given as goal
 
 abbrev pub invariant-loop-place : goal.invariant-loop-place

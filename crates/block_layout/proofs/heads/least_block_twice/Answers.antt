@@ -1,6 +1,6 @@
 use Rattle.std.proofs.Common.{Bool, [], ◌∷◌, refl, ◌∙◌, ap, arith}
-use Rattle.stl_symbols.specs.Least.{broken_if, least}
-use Rattle.stl_symbols.proofs.LeastLemmas.{lesser_first}
+use Rattle.plc_base.specs.Least.{broken_if, least}
+use Rattle.plc_base.proofs.LeastLemmas.{lesser_first}
 use Rattle.block_layout.specs.Rule22.{is_block_twice, rule_22}
 use Rattle.block_layout.proofs.HeadLemmas.{heads_end, heads_turn}
 use Rattle.block_layout.proofs.heads.least_block_twice.Goals as goal

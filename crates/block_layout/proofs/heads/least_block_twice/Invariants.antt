@@ -1,7 +1,7 @@
 use Rattle.std.proofs.Common.{◌≡◌, List, ◌∷◌, drop, length, false}
 use Rattle.stl_ast.specs.declared.blocks.Block.{Block}
-use Rattle.stl_symbols.specs.Gathered.{gathered}
-use Rattle.stl_symbols.specs.Least.{broken_if, least, lesser}
+use Rattle.plc_base.specs.Gathered.{gathered}
+use Rattle.plc_base.specs.Least.{broken_if, least, lesser}
 use Rattle.block_layout.specs.Heads.{on_heads}
 use Rattle.block_layout.specs.Rule22.{is_block_twice}
 use Rattle.block_layout.proofs.heads.least_block_twice.Given as goal

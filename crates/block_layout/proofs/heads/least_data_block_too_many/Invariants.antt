@@ -1,7 +1,7 @@
 use Rattle.std.proofs.Common.{◌≡◌, ◌≤◌, List, ◌∷◌, drop, false}
 use Rattle.stl_ast.specs.declared.blocks.Block.{Block}
-use Rattle.stl_symbols.specs.Gathered.{gathered}
-use Rattle.stl_symbols.specs.Least.{broken_if, least, lesser}
+use Rattle.plc_base.specs.Gathered.{gathered}
+use Rattle.plc_base.specs.Least.{broken_if, least, lesser}
 use Rattle.block_layout.specs.Heads.{on_heads}
 use Rattle.block_layout.specs.Rule53.{data_blocks, is_one_too_many}
 use Rattle.block_layout.proofs.heads.least_data_block_too_many.Given as goal

@@ -1,6 +1,6 @@
 use Rattle.std.proofs.Common.{rules, List, sym, ◌∙◌, ap}
 use Rattle.plc_base.specs.declared.refusals.Refusal.{Refusal}
-use Rattle.stl_symbols.specs.Least.{broken_if, least}
+use Rattle.plc_base.specs.Least.{broken_if, least}
 use Rattle.block_layout.specs.Rule52.{has_too_many_parameters, rule_52}
 use Rattle.block_layout.proofs.HeadLemmas.{by_itself}
 use Rattle.block_layout.proofs.heads.least_too_many_parameters.Goals as goal

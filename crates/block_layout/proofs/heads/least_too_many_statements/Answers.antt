@@ -1,6 +1,6 @@
 use Rattle.std.proofs.Common.{rules, List, sym, ◌∙◌, ap}
 use Rattle.plc_base.specs.declared.refusals.Refusal.{Refusal}
-use Rattle.stl_symbols.specs.Least.{broken_if, least}
+use Rattle.plc_base.specs.Least.{broken_if, least}
 use Rattle.block_layout.specs.Rule55.{has_too_many_statements, rule_55}
 use Rattle.block_layout.proofs.HeadLemmas.{by_itself}
 use Rattle.block_layout.proofs.heads.least_too_many_statements.Goals as goal

@@ -4,7 +4,7 @@ use Rattle.block_layout.specs.Facts.{outline_of}
 use Rattle.block_layout.specs.declared.outlines.Outline.{Outline}
 use Rattle.block_layout.proofs.CycleLemmas.{map_next}
 use Rattle.block_layout.proofs.LengthLemmas.{outline_is}
-use Rattle.stl_symbols.proofs.LeastLemmas.{least_next, least_done, lesser_first}
+use Rattle.plc_base.proofs.LeastLemmas.{least_next, least_done, lesser_first}
 use Rattle.block_layout.specs.Around.{in_block}
 use Rattle.block_layout.specs.Rule21.{broken_21, rule_21}
 use Rattle.block_layout.specs.Rule56.{broken_56, rule_56}

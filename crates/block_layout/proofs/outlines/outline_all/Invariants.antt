@@ -1,6 +1,6 @@
 use Rattle.std.proofs.Common.{◌≡◌, drop, ◌++◌, map}
 use Rattle.std.specs.List.{flat_map}
-use Rattle.stl_symbols.specs.Least.{least, lesser}
+use Rattle.plc_base.specs.Least.{least, lesser}
 use Rattle.block_layout.specs.Around.{in_block}
 use Rattle.block_layout.specs.Facts.{outline_of}
 use Rattle.block_layout.specs.Rule21.{broken_21}

@@ -1,5 +1,5 @@
 use Rattle.std.proofs.Common.{◌≡◌, drop}
-use Rattle.stl_symbols.specs.Least.{least, lesser}
+use Rattle.plc_base.specs.Least.{least, lesser}
 use Rattle.block_layout.specs.Rule42.{bodies_42}
 use Rattle.block_layout.proofs.outside.least_outside_operand.Given as goal
 

@@ -2,7 +2,7 @@ use Rattle.std.proofs.Common.{rules, ◌≡◌, List, Option, ◌∙◌, ap}
 use Rattle.std.specs.List.{flat_map}
 use Rattle.std.specs.Option.{option_to_list}
 use Rattle.plc_base.specs.declared.refusals.Refusal.{Refusal}
-use Rattle.stl_symbols.specs.Least.{least}
+use Rattle.plc_base.specs.Least.{least}
 use Rattle.block_layout.proofs.TableLemmas.{least_all, least_one}
 use Rattle.block_layout.proofs.refusals.least_among.Goals as goal
 

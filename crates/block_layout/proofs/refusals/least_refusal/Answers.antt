@@ -1,6 +1,6 @@
 use Rattle.std.proofs.Common.{List, ◌∙◌, ap}
 use Rattle.plc_base.specs.declared.refusals.Refusal.{Refusal}
-use Rattle.stl_symbols.specs.Least.{least}
+use Rattle.plc_base.specs.Least.{least}
 use Rattle.block_layout.specs.Rule44.{rule_44}
 use Rattle.block_layout.specs.Types.{Types}
 use Rattle.block_layout.proofs.TableLemmas.{all_rules, fourteen, table_joined}

@@ -1,6 +1,6 @@
 use Rattle.std.proofs.Common.{sym, ◌∙◌, ap, List, Option}
 use Rattle.plc_base.specs.declared.refusals.Refusal.{Refusal}
-use Rattle.stl_symbols.specs.Least.{least, lesser}
+use Rattle.plc_base.specs.Least.{least, lesser}
 use Rattle.block_layout.specs.declared.verdicts.Verdict.{Verdict}
 use Rattle.block_layout.specs.Verdicts.{by_verdicts, twice_by, deep_by}
 use Rattle.block_layout.proofs.CellLemmas.{section_added}

@@ -1,5 +1,5 @@
 use Rattle.std.proofs.Common.{◌≡◌, drop}
-use Rattle.stl_symbols.specs.Least.{least, lesser}
+use Rattle.plc_base.specs.Least.{least, lesser}
 use Rattle.block_layout.specs.SettingFaults.{rule_of, setting_breaks}
 use Rattle.block_layout.specs.Settings.{on_settings}
 use Rattle.block_layout.proofs.settings.least_of_settings.Given as goal

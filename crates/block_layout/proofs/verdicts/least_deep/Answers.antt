@@ -1,5 +1,5 @@
 use Rattle.std.proofs.Common.{refl}
-use Rattle.stl_symbols.proofs.LeastLemmas.{lesser_first}
+use Rattle.plc_base.proofs.LeastLemmas.{lesser_first}
 use Rattle.block_layout.specs.Verdicts.{deep_by}
 use Rattle.block_layout.proofs.CellLemmas.{by_verdicts_next, by_verdicts_done}
 use Rattle.block_layout.proofs.verdicts.least_deep.Goals as goal

@@ -1,5 +1,5 @@
 use Rattle.std.proofs.Common.{◌≡◌, drop}
-use Rattle.stl_symbols.specs.Least.{least, lesser}
+use Rattle.plc_base.specs.Least.{least, lesser}
 use Rattle.block_layout.specs.Verdicts.{by_verdicts, deep_by}
 use Rattle.block_layout.proofs.verdicts.least_deep.Given as goal
 

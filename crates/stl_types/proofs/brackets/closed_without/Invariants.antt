@@ -1,5 +1,5 @@
 use Rattle.std.proofs.Common.{◌≡◌, drop, []}
-use Rattle.stl_symbols.specs.Least.{broken_if, least, lesser}
+use Rattle.plc_base.specs.Least.{broken_if, least, lesser}
 use Rattle.stl_types.specs.Brackets.{closes_none, with_brackets}
 use Rattle.stl_types.proofs.brackets.closed_without.Given as goal
 

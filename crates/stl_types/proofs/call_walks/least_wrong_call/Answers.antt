@@ -2,8 +2,8 @@ use Rattle.std.proofs.Common.{List, ◌∙◌, ap, sym}
 use Rattle.std.specs.List.{flat_map}
 use Rattle.stl_ast.specs.declared.blocks.Block.{Block}
 use Rattle.stl_ast.specs.declared.statements.Statement.{Statement}
-use Rattle.stl_symbols.specs.Least.{least}
-use Rattle.stl_symbols.proofs.LeastLemmas.{lesser_first}
+use Rattle.plc_base.specs.Least.{least}
+use Rattle.plc_base.proofs.LeastLemmas.{lesser_first}
 use Rattle.stl_types.specs.Bodies.{first_context}
 use Rattle.stl_types.specs.Context.{Context}
 use Rattle.stl_types.specs.Joined.{broken_statement, in_statements}

@@ -1,5 +1,5 @@
 use Rattle.std.proofs.Common.{◌≡◌, drop}
-use Rattle.stl_symbols.specs.Least.{least, lesser}
+use Rattle.plc_base.specs.Least.{least, lesser}
 use Rattle.stl_types.specs.Bodies.{first_context}
 use Rattle.stl_types.specs.Joined.{broken_statement, in_statements}
 use Rattle.stl_types.proofs.call_walks.least_wrong_call.Given as goal

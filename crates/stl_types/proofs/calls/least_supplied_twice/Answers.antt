@@ -1,9 +1,9 @@
 use Rattle.std.proofs.Common.{Bool, false, refl, ◌∙◌, ap, ◌++◌, [], ◌∷◌, List, ℕ}
 use Rattle.stl_ast.specs.declared.statements.Actual.{Actual}
-use Rattle.stl_symbols.specs.Folding.{folded}
-use Rattle.stl_symbols.specs.Least.{broken_if, least}
-use Rattle.stl_symbols.proofs.GatheredLemmas.{gathered_done, gathered_next}
-use Rattle.stl_symbols.proofs.LeastLemmas.{lesser_first}
+use Rattle.plc_base.specs.Folding.{folded}
+use Rattle.plc_base.specs.Least.{broken_if, least}
+use Rattle.plc_base.proofs.GatheredLemmas.{gathered_done, gathered_next}
+use Rattle.plc_base.proofs.LeastLemmas.{lesser_first}
 use Rattle.stl_types.specs.Calls.{is_supplied_twice, supplied_twice}
 use Rattle.stl_types.proofs.calls.least_supplied_twice.Goals as goal
 

@@ -1,6 +1,6 @@
 use Rattle.std.proofs.Common.{List, ◌∙◌, ap}
 use Rattle.stl_ast.specs.declared.blocks.Block.{Block}
-use Rattle.stl_symbols.specs.Least.{least}
+use Rattle.plc_base.specs.Least.{least}
 use Rattle.stl_types.specs.Bodies.{first_context}
 use Rattle.stl_types.specs.Joined.{rules_of_jumps}
 use Rattle.stl_types.specs.Table.{statement_refusals}

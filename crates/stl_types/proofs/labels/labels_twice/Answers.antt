@@ -1,8 +1,8 @@
 use Rattle.std.proofs.Common.{Bool, false, refl, ◌∙◌, ap, ◌++◌, List, ℕ}
 use Rattle.stl_ast.specs.declared.statements.Statement.{Statement}
-use Rattle.stl_symbols.specs.Least.{broken_if, least}
-use Rattle.stl_symbols.proofs.GatheredLemmas.{gathered_done, gathered_next}
-use Rattle.stl_symbols.proofs.LeastLemmas.{lesser_first}
+use Rattle.plc_base.specs.Least.{broken_if, least}
+use Rattle.plc_base.proofs.GatheredLemmas.{gathered_done, gathered_next}
+use Rattle.plc_base.proofs.LeastLemmas.{lesser_first}
 use Rattle.stl_types.specs.Labels.{is_twice, label_of, labels_twice}
 use Rattle.stl_types.proofs.labels.labels_twice.Goals as goal
 

@@ -1,5 +1,5 @@
 use Rattle.std.proofs.Common.{◌≡◌, drop, []}
-use Rattle.stl_symbols.specs.Least.{least, lesser}
+use Rattle.plc_base.specs.Least.{least, lesser}
 use Rattle.stl_types.specs.Labels.{labels_twice}
 use Rattle.stl_types.proofs.labels.labels_twice.Given as goal
 

@@ -1,5 +1,5 @@
 use Rattle.std.proofs.Common.{◌≡◌, drop}
-use Rattle.stl_symbols.specs.Least.{broken_if, least, lesser}
+use Rattle.plc_base.specs.Least.{broken_if, least, lesser}
 use Rattle.stl_types.specs.Brackets.{with_brackets}
 use Rattle.stl_types.specs.Landings.{crosses, crossing_jumps}
 use Rattle.stl_types.proofs.landings.crossing_jumps.Given as goal

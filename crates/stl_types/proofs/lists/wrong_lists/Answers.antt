@@ -1,6 +1,6 @@
 use Rattle.std.proofs.Common.{Bool, ◌∙◌, ap, List, ℕ}
-use Rattle.stl_symbols.specs.Least.{broken_if, least}
-use Rattle.stl_symbols.proofs.LeastLemmas.{lesser_first}
+use Rattle.plc_base.specs.Least.{broken_if, least}
+use Rattle.plc_base.proofs.LeastLemmas.{lesser_first}
 use Rattle.stl_types.specs.Lists.{lists_from}
 use Rattle.stl_types.proofs.WalkLemmas.{lists_end, lists_turn}
 use Rattle.stl_types.proofs.lists.wrong_lists.Goals as goal

@@ -1,5 +1,5 @@
 use Rattle.std.proofs.Common.{◌≡◌, drop}
-use Rattle.stl_symbols.specs.Least.{least, lesser}
+use Rattle.plc_base.specs.Least.{least, lesser}
 use Rattle.stl_types.specs.Bodies.{in_contexts}
 use Rattle.stl_types.specs.Operands.{operands_24}
 use Rattle.stl_types.proofs.resolving.wrong_in_blocks.Given as goal

@@ -1,6 +1,6 @@
 use Rattle.std.proofs.Common.{List, ◌∙◌, ap}
 use Rattle.stl_ast.specs.declared.blocks.Block.{Block}
-use Rattle.stl_symbols.specs.Least.{least}
+use Rattle.plc_base.specs.Least.{least}
 use Rattle.block_layout.specs.Operands.{in_body}
 use Rattle.block_layout.specs.Settings.{on_settings}
 use Rattle.block_layout.proofs.HeadLemmas.{two_lists}

@@ -1,8 +1,8 @@
 use Rattle.std.proofs.Common.{◌∙◌, ap, sym, List}
 use Rattle.stl_ast.specs.declared.blocks.Block.{Block}
 use Rattle.stl_ast.specs.declared.blocks.Setting.{Setting}
-use Rattle.stl_symbols.specs.Least.{least}
-use Rattle.stl_symbols.proofs.LeastLemmas.{lesser_first}
+use Rattle.plc_base.specs.Least.{least}
+use Rattle.plc_base.proofs.LeastLemmas.{lesser_first}
 use Rattle.block_layout.specs.Settings.{in_settings}
 use Rattle.block_layout.proofs.PlaceLemmas.{place_turn, place_end}
 use Rattle.stl_types.specs.Unknown.{sets_unknown}

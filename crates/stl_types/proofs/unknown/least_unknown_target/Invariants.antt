@@ -1,5 +1,5 @@
 use Rattle.std.proofs.Common.{◌≡◌, drop}
-use Rattle.stl_symbols.specs.Least.{least, lesser}
+use Rattle.plc_base.specs.Least.{least, lesser}
 use Rattle.block_layout.specs.Settings.{on_settings}
 use Rattle.stl_types.specs.Unknown.{sets_unknown}
 use Rattle.stl_types.proofs.unknown.least_unknown_target.Given as goal

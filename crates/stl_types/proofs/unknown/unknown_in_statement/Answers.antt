@@ -2,7 +2,7 @@ use Rattle.std.proofs.Common.{◌≡◌, List, Option, ◌∙◌, ap}
 use Rattle.std.specs.List.{flat_map}
 use Rattle.plc_base.specs.declared.refusals.Refusal.{Refusal}
 use Rattle.stl_ast.specs.declared.statements.Actual.{Actual}
-use Rattle.stl_symbols.specs.Least.{least, lesser}
+use Rattle.plc_base.specs.Least.{least, lesser}
 use Rattle.block_layout.specs.Operands.{Judged}
 use Rattle.block_layout.proofs.OperandLemmas.{least_of_statement}
 use Rattle.stl_types.specs.Unknown.{operand_20}

@@ -1,5 +1,0 @@
-use Rattle.stl_symbols.proofs.LeastLemmas.{least_none, least_some}
-use Rattle.stl_symbols.proofs.laws.law_of_least.Goals as goal
-
-pub returns : goal.returns
-returns c = record { none = least_none; some = least_some }
