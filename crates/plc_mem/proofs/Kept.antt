@@ -1,6 +1,7 @@
 -- Each call keeps memory one that can be.
-use Rattle.std.proofs.Common.{◌≡◌, ℕ, ◌<◌, ◌^◌, ◌+◌, List, [], refl, sym, ◌∙◌, subst, arith, Bool, true, false, if◌then◌else◌, Option, Some, None, Result, Ok, Err, MatchResult, IfOk, IfSome, zero, suc}
+use Rattle.std.proofs.Common.{◌≡◌, ℕ, ◌<◌, ◌^◌, ◌+◌, ◌-◌, List, [], ◌∷◌, ◌++◌, length, take, replicate, refl, sym, ◌∙◌, subst, arith, Bool, true, false, if◌then◌else◌, Option, Some, None, Result, Ok, Err, MatchResult, IfOk, IfSome, zero, suc}
 use Rattle.std.proofs.Math.Nat.{pow-succ'}
+use Rattle.std.proofs.lemmas.List.{length-append, length-take, length-replicate}
 use Rattle.std.specs.FinMap as map
 use Rattle.std.specs.FinMap.{get-insert, get-from_entries}
 use Rattle.std.specs.Ordering.{nat_cmp, eq_by_cmp}
@@ -18,6 +19,7 @@ use Rattle.plc_base.specs.Profiles.{bit_memory_size}
 use Rattle.plc_base.specs.declared.Profile.{Profile}
 use Rattle.plc_mem.specs.Places.{IsBitMemory, AreBlocks, AreBytes, IsRun, IsPeripheral, HasParts, IsMemory}
 use Rattle.plc_mem.specs.Fresh.{clear_peripheral, cleared}
+use Rattle.plc_mem.specs.Restart.{bits_retained}
 use Rattle.plc_mem.specs.Run.{number_over, operand_bit_of}
 use Rattle.plc_mem.specs.Writing.{put, put_peripheral, put_in_block}
 use Rattle.plc_mem.proofs.OneMemory.{put_run, put_peripheral_run, put_blocks_bytes, found_block}
@@ -72,6 +74,33 @@ no_blocks k bytes found = absurd (none_some bytes (sym (get-from_entries nat_cmp
 pub block_more : (blocks : map.FinMap nat_cmp (List ℕ)) (number : ℕ) (bytes : List ℕ) → AreBlocks blocks → AreBytes bytes → AreBlocks (map.insert blocks number bytes)
 block_more blocks number bytes all small k found is =
     found_block (eq_by_cmp nat_cmp k number) found bytes (map.get blocks k) small (all k) (sym (get-insert nat_cmp_total blocks number bytes k) ∙ is)
+
+-- ---- a warm restart
+
+take_bytes : (n : ℕ) (bytes : List ℕ) → AreBytes bytes → AreBytes (take n bytes)
+take_bytes zero bytes small i = omega arith
+take_bytes (suc n) [] small i = small i
+take_bytes (suc n) (byte ∷ bytes) small zero = small zero
+take_bytes (suc n) (byte ∷ bytes) small (suc i) = take_bytes n bytes (λ j. small (suc j)) i
+
+append_bytes : (xs ys : List ℕ) → AreBytes xs → AreBytes ys → AreBytes (xs ++ ys)
+append_bytes [] ys first second i = second i
+append_bytes (x ∷ xs) ys first second zero = first zero
+append_bytes (x ∷ xs) ys first second (suc i) = append_bytes xs ys (λ j. first (suc j)) second i
+
+retained_length : (bytes : List ℕ) → length (bits_retained bytes) ≡ length bytes
+retained_length bytes =
+    let rest : List ℕ = replicate (length bytes - 16) 0 in
+    omega (arith, length-append (take 16 bytes) rest, length-take 16 bytes, length-replicate {A = ℕ} (length bytes - 16) 0)
+
+pub retained_is : (bytes : List ℕ) → IsBitMemory bytes → IsBitMemory (bits_retained bytes)
+retained_is bytes is = record {
+  profile = is.profile;
+  count_is = retained_length bytes ∙ is.count_is;
+  bytes_are =
+      append_bytes (take 16 bytes) (replicate (length bytes - 16) 0) (take_bytes 16 bytes is.bytes_are)
+      (zero_count (length bytes - 16)).bytes_are;
+}
 
 -- ---- a number fits its width
 

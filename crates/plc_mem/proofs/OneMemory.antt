@@ -12,7 +12,6 @@ use Rattle.plc_mem.specs.Bits.{bit_at}
 use Rattle.plc_base.specs.Widths.{bit_count}
 use Rattle.plc_mem.specs.Number.{region_written}
 use Rattle.plc_base.specs.Profiles.{bit_memory_size}
-use Rattle.plc_base.specs.declared.Profile.{Profile}
 use Rattle.plc_mem.specs.Places.{IsBitMemory, AreBytes, IsRun, IsPeripheral, IsMemory, HasImage}
 use Rattle.plc_mem.specs.Writing.{is_within, stored, with_bit, put, put_peripheral, put_in_block, written_in, written}
 use Rattle.std.specs.Option.{option_map}

@@ -8,6 +8,7 @@ pub mod Blocks
 pub mod Fresh
 pub mod Peripherals
 pub mod Refresh
+pub mod Restart
 pub mod Changes
 pub mod Places
 pub mod Written

@@ -12,6 +12,7 @@ ghost use Rattle.plc_base.specs.Widths.{bit_count};
 ghost use Rattle.plc_mem.specs.Number.{number_at, region_read, region_written, EachBitExists};
 ghost use Rattle.plc_mem.specs.Peripherals.{with_input, output_of, outputs_cleared};
 ghost use Rattle.plc_mem.specs.Refresh.{refreshed};
+ghost use Rattle.plc_mem.specs.Restart.{bits_retained, memory_cleared};
 ghost use Rattle.plc_mem.specs.Writing.{put, written, written_in};
 ghost use Rattle.plc_mem.specs.Written.{IsWritten};
 ghost use Rattle.plc_mem.specs.Places.{AreBlocks, HasImage, IsMemory};
@@ -24,6 +25,9 @@ use crate::peripherals::{LOW_BYTES, PeripheralArea};
 use plc_base::{Area, NoMemory, Place, Profile, Width};
 use std::alloc::Global;
 use std::marker::Model;
+
+/// How many bytes of bit memory a warm restart retains: MB 0 to MB 15.
+const RETAINED: usize = 16;
 
 /// The memory areas but local data: the process images of the inputs and of the outputs (I, Q), bit
 /// memory (M), peripheral inputs and outputs (PI, PQ) and the data blocks (DB).
@@ -72,15 +76,24 @@ fn clear_bytes(alloc: Global, count: usize) -> Result<Vec<u8>, NoMemory>
     Ok(bytes)
 }
 
+// Makes each byte 0 but those that a warm restart retains.
+fn clear_other_bytes(bytes: &mut [u8])
+    ensures { bytes.new ≡ bits_retained bytes.old }
+{
+    let kept = bytes.len().min(RETAINED);
+    bytes[kept..].fill(0);
+}
+
+// The same for a vector of bytes.
+fn clear_other_bits(bytes: &mut Vec<u8>)
+    ensures { bytes.new.items ≡ bits_retained bytes.old.items }
+{
+    clear_other_bytes(bytes.as_mut_slice());
+}
+
 // Writes an operand of bytes.
 #[inline(always)]
-fn put_in(
-    bytes: &mut Vec<u8>,
-    at: usize,
-    bit: u8,
-    width: Width,
-    value: u32,
-) -> Result<(), Missing>
+fn put_in(bytes: &mut Vec<u8>, at: usize, bit: u8, width: Width, value: u32) -> Result<(), Missing>
     requires near { at < 2 ^ 16 }
     requires fits { value < 2 ^ bit_count width }
     ensures { ChangesOrStays (put bytes.old.items at bit width value)
@@ -92,11 +105,7 @@ fn put_in(
 impl Memory {
     /// Memory with copies of these data blocks, each given by its number, in which all else is 0.
     #[tactic(auto, unfolding(crate::specs::Fresh::fresh))]
-    pub fn new(
-        alloc: Global,
-        blocks: &[(u16, Vec<u8>)],
-        profile: Profile,
-    ) -> Result<Self, NoMemory>
+    pub fn new(alloc: Global, blocks: &[(u16, Vec<u8>)], profile: Profile) -> Result<Self, NoMemory>
         requires { IsDistinct nat_eq (numbers_of blocks.now) }
         ensures { IfOk result (λ m. m ≡ fresh profile (bytes_of blocks.now)) }
     {
@@ -189,6 +198,16 @@ impl Memory {
     {
         self.peripheral_outputs.low = self.outputs;
         self.inputs = self.peripheral_inputs.low;
+    }
+
+    /// What a warm restart does: the process images are cleared, and bit memory but for bytes 0 to
+    /// 15; data blocks and the peripheral inputs and outputs stay.
+    pub fn clear_unretained(&mut self)
+        ensures { self.new ≡ memory_cleared self.old }
+    {
+        self.inputs = [0; LOW_BYTES];
+        self.outputs = [0; LOW_BYTES];
+        clear_other_bits(&mut self.bit_memory);
     }
 
     // Memory with these data blocks, in which all else is 0.
