@@ -30,7 +30,7 @@ class Event(NamedTuple):
     time: int
     entry: int
     text: str
-    is_mode: bool = False
+    mode: str = ""
 
 
 class Happenings(NamedTuple):
@@ -74,7 +74,7 @@ def happenings(history, run):
             for shown in shown_by_entry[at]:
                 if shown.kind == "mode":
                     place = f" at {shown.place}" if shown.place else ""
-                    found.append(Event(time, at, shown.text + place, is_mode=True))
+                    found.append(Event(time, at, shown.text + place, shown.text))
                 elif shown.kind == "other":
                     found.append(Event(time, at, shown.text))
     return Happenings(found, time)
@@ -116,13 +116,24 @@ def unnamed(change):
 
 
 def values_by_time(happened, signal):
-    """What stands at the end of each millisecond in which the signal has changed: its time and value, from 0 on."""
+    """The value at the end of each millisecond in which the signal has changed, from 0 on."""
     values = {0: 0}
     for change in changes(happened):
         if change.touches(signal.operand):
             values[change.time] = signal.operand.value(change.new)
+    return without_repeats(values)
+
+
+def modes_by_time(happened):
+    """The mode at the end of each millisecond in which it has changed, without the place; from 0 on, where it isn't told."""
+    modes = {0: "as at the start"}
+    modes.update((it.time, it.mode) for it in happened.list if isinstance(it, Event) and it.mode)
+    return without_repeats(modes)
+
+
+def without_repeats(by_time):
     kept = []
-    for time, value in sorted(values.items()):
+    for time, value in sorted(by_time.items()):
         if not kept or kept[-1][1] != value:
             kept.append((time, value))
     return kept
