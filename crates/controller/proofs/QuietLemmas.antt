@@ -1,99 +1,200 @@
--- Entries one after another that show nothing.
-use Rattle.std.proofs.Common.{◌≡◌, ◌≤◌, ℕ, zero, suc, List, [], ◌∷◌, ◌++◌, length, take, replicate, refl, sym, ap, subst, ◌∙◌, arith}
-use Rattle.std.proofs.lemmas.List.{map-append, take-map, take-replicate}
+-- Quiet statements one after another, as entries.
+use Rattle.std.proofs.Common.{◌≡◌, ℕ, zero, suc, ◌+◌, ◌&&◌, Bool, true, false, List, [], ◌∷◌, Option, Some, None, refl, sym, ap, ◌∙◌, subst, arith}
+use Rattle.std.specs.Prelude.{is_some, replicate}
+use Rattle.plc_base.specs.declared.Mode.{Mode}
+use Rattle.plc_base.specs.declared.Mode.TheVariants.{Run, Startup, Stop}
+use Rattle.plc_mem.specs.Areas.{Areas, PeripheralBytes}
+use Rattle.frames.specs.declared.Activation.{Activation}
 use Rattle.flat_code.specs.Loading.{Verifies}
 use Rattle.flat_code.specs.Programs.{Program}
 use Rattle.machine.specs.Code.{Code}
 use Rattle.machine.specs.Flat.{code_of}
-use Rattle.var_access.specs.declared.Entry.{Entry}
-use Rattle.var_access.specs.declared.What.{What}
-use Rattle.var_access.specs.declared.What.TheVariants.{Step}
-use Rattle.cpu.specs.Fitting.{EntriesKeepFit, IsFit}
-use Rattle.cpu.specs.Quiet.{ShowNothing}
-use Rattle.cpu.specs.Replay.{ContinuesByMore, SeenByMore, happens, last_seen, replay, run_from, seen_from}
-use Rattle.cpu.specs.Shown.{Watched, nothing_shown, watched}
-use Rattle.cpu.specs.State.{State}
-use Rattle.cpu.specs.declared.Observed.{Observed}
-use Rattle.controller.specs.Replayed.{events}
+use Rattle.machine.specs.Lasting.{FitsProgram, IsReady, Lasts}
+use Rattle.machine.specs.Quiet.{GoesQuietly, RunsQuietly, StaysReady}
+use Rattle.machine.specs.Statement.{World, Step, Went, statement}
+use Rattle.ob_sched.specs.Request.{best_of}
+use Rattle.var_access.specs.declared.What.TheVariants as what
+use Rattle.controller.specs.Event.{state_after}
+use Rattle.controller.specs.Fitting.{AllFit, IsFit}
+use Rattle.controller.specs.Quiet.{GoesOnQuietly, GoesOnReady, ShowNothing}
+use Rattle.controller.specs.Replay.{happens, run_from}
+use Rattle.controller.specs.Settling.{settled}
+use Rattle.controller.specs.Shown.{changed_mode, changed_outputs, is_same_mode, nothing_shown, shown}
+use Rattle.controller.specs.State.{State, is_stop}
+use Rattle.controller.specs.Stepping.{stepped}
+use Rattle.controller.proofs.ObservingLemmas.{none_changed}
 
--- ---- entries behind others
+-- ---- what fits stays ready
 
-pub replay-more : ContinuesByMore → (code : Code) (history more : List Entry)
-    → replay code (events (history ++ more)) ≡ run_from code (replay code (events history)) (events more)
-replay-more continues code history more =
-    ap (λ (es : List What). replay code es) (map-append (λ (e : Entry). e.what) history more)
-    ∙ continues code (events history) (events more)
+abbrev pub GoesLaw : Type 0
+GoesLaw = (p : Program) (m : Areas) (a : Activation) → Verifies p → FitsProgram p m a → IsReady p a
 
--- ---- what is seen after them
+abbrev pub LastsLaw : Type 0
+LastsLaw = (p : Program) (a : Activation) (w : World)
+    → Verifies p → FitsProgram p w.memory a → Lasts p w (statement (code_of p) a w)
 
--- nothing, if nothing was seen before
-none-still : (code : Code) (s : State) (whats : List What) → ShowNothing code s whats
-    → seen_from code s nothing_shown whats ≡ nothing_shown
-none-still code s [] quiet = refl
-none-still code s (what ∷ rest) quiet =
-    ap (λ (o : Observed). seen_from code (happens code s what).state o rest) quiet.0
-    ∙ none-still code (happens code s what).state rest quiet.1
+went_fits : (p : Program) (w then : World) (step : Step) (next : Activation) → step ≡ Went next then
+    → Lasts p w step → FitsProgram p then.memory next
+went_fits p w then step next goes lasts =
+    let on : Lasts p w (Went next then) = subst (λ (s : Step). Lasts p w s) goes lasts in
+    on.fits
 
--- nothing, if they are some
-none-now : (code : Code) (s : State) (seen : Observed) (n : ℕ) → ShowNothing code s (replicate n Step) → 1 ≤ n
-    → seen_from code s seen (replicate n Step) ≡ nothing_shown
-none-now code s seen zero quiet some = absurd (omega arith)
-none-now code s seen (suc n) quiet some =
-    ap (λ (o : Observed). seen_from code (happens code s Step).state o (replicate n Step)) quiet.0
-    ∙ none-still code (happens code s Step).state (replicate n Step) quiet.1
+still_fits : LastsLaw → (p : Program) → Verifies p → (count : ℕ) (a b : Activation) (w after : World)
+    → FitsProgram p w.memory a → RunsQuietly (code_of p) count a b w after
+    → FitsProgram p after.memory b
+still_fits lasts p verifies zero a b w after fit runs =
+    subst (λ (v : World). FitsProgram p v.memory b) (sym runs.1)
+    (subst (λ (c : Activation). FitsProgram p w.memory c) (sym runs.0) fit)
+still_fits lasts p verifies (suc count) a b w after fit (next, then, quiet, rest) =
+    still_fits lasts p verifies count next b then after
+    (went_fits p w then (statement (code_of p) a w) next quiet.goes (lasts p a w verifies fit)) rest
 
--- ---- steps
+stays_ready : GoesLaw → LastsLaw → (p : Program) → Verifies p → (a : Activation) (w : World)
+    → FitsProgram p w.memory a → StaysReady p a w
+stays_ready goes lasts p verifies a w fit = λ count b after runs.
+    goes p after.memory b verifies (still_fits lasts p verifies count a b w after fit runs)
 
--- the first of so many steps are steps
-pub fewer-steps : (es : List Entry) (k : ℕ) → k ≤ length es → events es ≡ replicate (length es) Step
-    → events (take k es) ≡ replicate k Step
-fewer-steps es k few steps =
-    sym (take-map (λ (e : Entry). e.what) k es)
-    ∙ ap (λ (whats : List What). take k whats) steps
-    ∙ take-replicate k (length es) Step few
+all_ready : GoesLaw → LastsLaw → (p : Program) → Verifies p → (activations : List Activation) (w : World)
+    → AllFit p w.memory activations → GoesOnReady p activations w
+all_ready goes lasts p verifies [] w fit = tt
+all_ready goes lasts p verifies (a ∷ below) w fit = stays_ready goes lasts p verifies a w fit.0
 
-fits-steps : (p : Program) (s : State) (n : ℕ) → EntriesKeepFit → Verifies p → IsFit p s
-    → IsFit p (run_from (code_of p) s (replicate n Step))
-fits-steps p s zero keeps h fit = fit
-fits-steps p s (suc n) keeps h fit =
-    fits-steps p (happens (code_of p) s Step).state n keeps h (keeps p s Step h tt fit)
+pub fit_goes_on : GoesLaw → LastsLaw → (p : Program) (s : State) → Verifies p → IsFit p s
+    → GoesOnReady p s.activations s.world
+fit_goes_on goes lasts p s verifies fit =
+    all_ready goes lasts p verifies s.activations s.world fit.activations
 
-pub fits-behind : (p : Program) (s t : State) (n : ℕ) → EntriesKeepFit → Verifies p → IsFit p s
-    → t ≡ run_from (code_of p) s (replicate n Step) → IsFit p t
-fits-behind p s t n keeps h fit after = subst (IsFit p) (sym after) (fits-steps p s n keeps h fit)
+-- ---- one quiet statement
 
-pub quiet-behind : (code : Code) (history more : List Entry) (s : State) (n : ℕ) → s ≡ replay code (events history)
-    → events more ≡ replicate n Step → ShowNothing code s (replicate n Step)
-    → ShowNothing code (replay code (events history)) (events more)
-quiet-behind code history more s n before steps quiet =
-    subst (λ (whats : List What). ShowNothing code (replay code (events history)) whats) (sym steps)
-    (subst (λ (u : State). ShowNothing code u (replicate n Step)) before quiet)
+same_mode : (m : Mode) → is_same_mode m m ≡ true
+same_mode Run = refl
+same_mode Startup = refl
+same_mode (Stop cause at) = refl
 
-pub state-behind : ContinuesByMore → (code : Code) (history more : List Entry) (s t : State) (n : ℕ) → s ≡ replay code (events history)
-    → events more ≡ replicate n Step → t ≡ run_from code s (replicate n Step)
-    → t ≡ replay code (events (history ++ more))
-state-behind continues code history more s t n before steps after =
-    after
-    ∙ ap (λ (u : State). run_from code u (replicate n Step)) before
-    ∙ ap (λ (whats : List What). run_from code (replay code (events history)) whats) (sym steps)
-    ∙ sym (replay-more continues code history more)
+mode_kept : (m : Mode) → changed_mode m m ≡ None
+mode_kept m = rw (same_mode m) refl
 
-pub seen-behind : SeenByMore → (code : Code) (history more : List Entry) (s : State) (n : ℕ) → s ≡ replay code (events history)
-    → events more ≡ replicate n Step → ShowNothing code s (replicate n Step) → 1 ≤ n
-    → nothing_shown ≡ last_seen code (events (history ++ more))
-seen-behind continues code history more s n before steps quiet some = sym (
-    ap (λ (es : List What). last_seen code es) (map-append (λ (e : Entry). e.what) history more)
-    ∙ continues code (events history) (events more)
-    ∙ ap (λ (u : State). seen_from code u (last_seen code (events history)) (events more)) (sym before)
-    ∙ ap (λ (whats : List What). seen_from code s (last_seen code (events history)) whats) steps
-    ∙ none-now code s (last_seen code (events history)) n quiet some)
+outputs_kept : (p : PeripheralBytes) → changed_outputs p p ≡ []
+outputs_kept p = none_changed p p (λ n h. refl)
 
--- outputs and mode are as before
-pub observer-behind : (s t : State) (w w' : Watched) (seen : Observed) → w ≡ watched s seen
-    → w' ≡ record w { seen = nothing_shown }
-    → t.world.memory.peripheral_outputs ≡ s.world.memory.peripheral_outputs → t.mode ≡ s.mode
-    → w' ≡ watched t nothing_shown
-observer-behind s t w w' seen before passed outputs mode =
-    passed
-    ∙ ap (λ (v : Watched). record v { seen = nothing_shown }) before
-    ∙ cc
+-- the state with another world and another running activation, so many entries later
+abbrev gone_on : State → World → List Activation → (count : ℕ) → State
+gone_on s w activations count =
+    record s { world = w; activations = activations; entries = s.entries + count }
+
+-- outside STOP, where no request waits
+pub record IsQuiet (s : State) : Type 0 where
+  pub running : is_stop s.mode ≡ false
+  pub none : best_of s.mode s.sched.pending ≡ None
+
+pub none_there : {X : Type 0} (found : Option X) → is_some found ≡ false → found ≡ None
+none_there None h = refl
+none_there (Some x) h = absurd cc
+
+step_after : (code : Code) (s : State) (a next : Activation) (below : List Activation) (then : World)
+    → IsQuiet s → s.activations ≡ a ∷ below → statement code a s.world ≡ Went next then
+    → state_after code what.Step s ≡ gone_on s then (next ∷ below) 1
+unfolding state_after stepped settled
+step_after code s a next below then quiet were goes =
+    rw (quiet.running, were, goes, quiet.running, quiet.none) refl
+
+shown_nothing : (code : Code) (s after : State)
+    → after.world.memory.peripheral_outputs ≡ s.world.memory.peripheral_outputs
+    → after.mode ≡ s.mode → shown code s what.Step after ≡ nothing_shown
+unfolding shown
+shown_nothing code s after outputs mode =
+    rw (outputs, mode, outputs_kept s.world.memory.peripheral_outputs, mode_kept s.mode) refl
+
+-- the entry of a step
+step_state : (code : Code) (s : State) (a next : Activation) (below : List Activation) (then : World)
+    → IsQuiet s → s.activations ≡ a ∷ below → GoesQuietly (statement code a s.world) s.world next then
+    → (happens code s what.Step).state ≡ gone_on s then (next ∷ below) 1
+unfolding happens
+step_state code s a next below then quiet were goes =
+    step_after code s a next below then quiet were goes.goes
+
+step_seen : (code : Code) (s : State) (a next : Activation) (below : List Activation) (then : World)
+    → IsQuiet s → s.activations ≡ a ∷ below → GoesQuietly (statement code a s.world) s.world next then
+    → (happens code s what.Step).seen ≡ nothing_shown
+unfolding happens
+step_seen code s a next below then quiet were goes =
+    ap (shown code s what.Step) (step_after code s a next below then quiet were goes.goes)
+    ∙ shown_nothing code s (gone_on s then (next ∷ below) 1) goes.outputs refl
+
+-- ---- quiet statements one after another
+
+-- what so many steps come to
+pub record StepQuietly (code : Code) (s : State) (w : World) (activations : List Activation)
+    (count : ℕ) : Type 0 where
+  pub nothing : ShowNothing code s (replicate count what.Step)
+  pub state : run_from code s (replicate count what.Step)
+      ≡ record s { world = w; activations = activations; entries = s.entries + count }
+  pub outputs : w.memory.peripheral_outputs ≡ s.world.memory.peripheral_outputs
+
+nothing_done : (code : Code) (s : State) (w : World) (activations : List Activation)
+    → activations ≡ s.activations → w ≡ s.world → StepQuietly code s w activations zero
+nothing_done code s w activations are is =
+    let same : s.entries ≡ s.entries + 0 = omega arith in
+    record {
+      nothing = tt;
+      state =
+          ap (λ (n : ℕ). let t : State = record s { entries = n } in t) same
+          ∙ ap (λ (v : World). gone_on s v s.activations 0) (sym is)
+          ∙ ap (λ (acts : List Activation). gone_on s w acts 0) (sym are);
+      outputs = ap (λ (v : World). v.memory.peripheral_outputs) is;
+    }
+
+one_more_step : (code : Code) (s : State) (a next : Activation) (below activations : List Activation)
+    (then w : World) (count : ℕ) → IsQuiet s → s.activations ≡ a ∷ below
+    → GoesQuietly (statement code a s.world) s.world next then
+    → StepQuietly code (gone_on s then (next ∷ below) 1) w activations count
+    → StepQuietly code s w activations (suc count)
+one_more_step code s a next below activations then w count quiet were goes rest =
+    let on : (happens code s what.Step).state ≡ gone_on s then (next ∷ below) 1 =
+    step_state code s a next below then quiet were goes in
+    let all : s.entries + 1 + count ≡ s.entries + suc count = omega arith in
+    record {
+      nothing = (
+        step_seen code s a next below then quiet were goes,
+        subst (λ (t : State). ShowNothing code t (replicate count what.Step)) (sym on) rest.nothing,
+      );
+      state =
+          ap (λ (t : State). run_from code t (replicate count what.Step)) on ∙ rest.state
+          ∙ ap
+          (λ (n : ℕ). let t : State = record s { world = w; activations = activations; entries = n } in t)
+          all;
+      outputs = rest.outputs ∙ goes.outputs;
+    }
+
+runs_on : (code : Code) (count : ℕ) (s : State) (a b : Activation) (below activations : List Activation)
+    (w : World) → IsQuiet s → s.activations ≡ a ∷ below → activations ≡ b ∷ below
+    → RunsQuietly code count a b s.world w → StepQuietly code s w activations count
+runs_on code zero s a b below activations w quiet were are runs =
+    nothing_done code s w activations
+    (are ∙ ap (λ (c : Activation). c ∷ below) runs.0 ∙ sym were) runs.1
+runs_on code (suc count) s a b below activations w quiet were are (next, then, goes, rest) =
+    one_more_step code s a next below activations then w count quiet were goes
+    (runs_on code count (gone_on s then (next ∷ below) 1) next b below activations w
+    (record { running = quiet.running; none = quiet.none }) refl are rest)
+
+goes_on : (code : Code) (count : ℕ) (s : State) (old new : List Activation) (w : World) → IsQuiet s
+    → s.activations ≡ old → GoesOnQuietly code count old new s.world w
+    → StepQuietly code s w new count
+goes_on code count s [] new w quiet were runs =
+    subst (λ (n : ℕ). StepQuietly code s w new n) (sym runs.0)
+    (nothing_done code s w new (runs.1 ∙ sym were) runs.2)
+goes_on code count s (a ∷ below) new w quiet were (b, are, runs) =
+    runs_on code count s a b below new w quiet were are runs
+
+pub steps_quietly : (code : Code) (count : ℕ) (s : State) (new : List Activation) (w : World)
+    → IsQuiet s → GoesOnQuietly code count s.activations new s.world w
+    → StepQuietly code s w new count
+steps_quietly code count s new w quiet runs =
+    goes_on code count s s.activations new w quiet refl runs
+
+-- ---- where it stops
+
+pub no_quiet_step : (running none quiet : Bool) → quiet ≡ false → (running && none && quiet) ≡ false
+no_quiet_step true true quiet h = h
+no_quiet_step true false quiet h = refl
+no_quiet_step false none quiet h = refl

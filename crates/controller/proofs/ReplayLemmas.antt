@@ -1,71 +1,35 @@
--- One more entry at the end of a history.
-use Rattle.std.proofs.Common.{◌≡◌, List, [], ◌∷◌, ◌++◌, refl, sym, ap, subst, ◌∙◌}
-use Rattle.flat_code.specs.Loading.{Verifies}
-use Rattle.flat_code.specs.Programs.{Program}
+-- Further entries at the end of a history.
+use Rattle.std.proofs.Common.{◌≡◌, List, [], ◌∷◌, ◌++◌, refl}
 use Rattle.machine.specs.Code.{Code}
-use Rattle.machine.specs.Flat.{code_of}
-use Rattle.var_access.specs.declared.Entry.{Entry}
 use Rattle.var_access.specs.declared.What.{What}
-use Rattle.var_access.specs.Entry.{IsInRange}
-use Rattle.cpu.specs.Fitting.{EntriesKeepFit, IsFit, StartIsFit}
-use Rattle.cpu.specs.Replay.{ContinuesReplay, ContinuesSeen, happens, last_seen, replay}
-use Rattle.cpu.specs.Shown.{Watched, changes, nothing_shown, shown, watched, watched_on}
-use Rattle.cpu.specs.Start.{start}
-use Rattle.cpu.specs.State.{State}
-use Rattle.cpu.specs.declared.Observed.{Observed}
-use Rattle.controller.specs.Replayed.{events}
+use Rattle.controller.specs.Replay.{happens, run_from, replay, seen_from, last_seen, ContinuesByMore, ContinuesReplay, ContinuesSeen, SeenByMore}
+use Rattle.controller.specs.Start.{start}
+use Rattle.controller.specs.State.{State}
+use Rattle.controller.specs.Shown.{nothing_shown}
+use Rattle.controller.specs.declared.observing.Observed.{Observed}
 
--- ---- at the start
+run_more : (code : Code) (s : State) (front back : List What)
+    → run_from code s (front ++ back) ≡ run_from code (run_from code s front) back
+run_more code s [] back = refl
+run_more code s (first ∷ rest) back = run_more code (happens code s first).state rest back
 
-pub starts : (code : Code) → start code ≡ replay code []
+pub by_more : ContinuesByMore
 unfolding replay
-starts code = refl
+by_more code history more = run_more code (start code) history more
 
-pub none_seen : (code : Code) → nothing_shown ≡ last_seen code []
-unfolding last_seen
-none_seen code = refl
+pub continues : ContinuesReplay
+continues code history what = by_more code history (what ∷ [])
 
-pub start_fits : (p : Program) (s : State) → StartIsFit → Verifies p → s ≡ start (code_of p) → IsFit p s
-start_fits p s fits h is = subst (IsFit p) (sym is) (fits p h)
+seen_more : (code : Code) (s : State) (seen : Observed) (front back : List What)
+    → seen_from code s seen (front ++ back)
+    ≡ seen_from code (run_from code s front) (seen_from code s seen front) back
+seen_more code s seen [] back = refl
+seen_more code s seen (first ∷ rest) back =
+    seen_more code (happens code s first).state (happens code s first).seen rest back
 
--- ---- an entry more
+pub seen_by_more : SeenByMore
+unfolding replay last_seen
+seen_by_more code history more = seen_more code (start code) nothing_shown history more
 
-events_next : (history : List Entry) (e : Entry) → events (history ++ e ∷ []) ≡ events history ++ e.what ∷ []
-events_next [] e = refl
-events_next (first ∷ rest) e = ap (λ (more : List What). first.what ∷ more) (events_next rest e)
-
-pub state_next : (code : Code) (history : List Entry) (e : Entry) (s t : State) → ContinuesReplay
-    → s ≡ replay code (events history) → t ≡ (happens code s e.what).state
-    → t ≡ replay code (events (history ++ e ∷ []))
-state_next code history e s t continues before after =
-    after
-    ∙ ap (λ (u : State). (happens code u e.what).state) before
-    ∙ sym (continues code (events history) e.what)
-    ∙ ap (λ (es : List What). replay code es) (sym (events_next history e))
-
-pub seen_next : (code : Code) (history : List Entry) (e : Entry) (s : State) → ContinuesSeen
-    → s ≡ replay code (events history)
-    → (happens code s e.what).seen ≡ last_seen code (events (history ++ e ∷ []))
-seen_next code history e s continues before =
-    ap (λ (u : State). (happens code u e.what).seen) before
-    ∙ sym (continues code (events history) e.what)
-    ∙ ap (λ (es : List What). last_seen code es) (sym (events_next history e))
-
--- what it shows is what the outputs and the mode were compared for
-seen_is : (code : Code) (s : State) (what : What)
-    → changes s.world.memory.peripheral_outputs s.mode (happens code s what).state ≡ (happens code s what).seen
-unfolding happens shown
-seen_is code s what = refl
-
-pub observer_next : (code : Code) (s t : State) (what : What) (w w' : Watched) (seen : Observed)
-    → w ≡ watched s seen → w' ≡ watched_on w t → t ≡ (happens code s what).state
-    → w' ≡ watched t (happens code s what).seen
-observer_next code s t what w w' seen before looked after =
-    looked
-    ∙ ap (λ (v : Watched). watched_on v t) before
-    ∙ ap (λ (o : Observed). watched t o)
-    (ap (λ (u : State). changes s.world.memory.peripheral_outputs s.mode u) after ∙ seen_is code s what)
-
-pub fits_next : (p : Program) (s t : State) (what : What) → EntriesKeepFit → Verifies p → IsInRange what → IsFit p s
-    → t ≡ (happens (code_of p) s what).state → IsFit p t
-fits_next p s t what keeps h range fit after = subst (IsFit p) (sym after) (keeps p s what h range fit)
+pub seen_continues : ContinuesSeen
+seen_continues code history what = seen_by_more code history (what ∷ [])

@@ -2,11 +2,11 @@
 use Rattle.std.specs.Prelude.{◌≡◌, ◌+◌, ◌^◌, ◌<◌, ◌≤◌, vec_len, vec_capacity}
 use Rattle.flat_code.specs.Loading.{Verifies}
 use Rattle.machine.specs.Flat.{code_of}
-use Rattle.cpu.specs.Fitting.{IsFit}
-use Rattle.cpu.specs.Replay.{last_seen, replay}
-use Rattle.cpu.specs.Shown.{watched}
-use Rattle.cpu.specs.Starting.{numbers_of}
-use Rattle.cpu.specs.Views.{state_of}
+use Rattle.controller.specs.Fitting.{IsFit}
+use Rattle.controller.specs.Replay.{last_seen, replay}
+use Rattle.controller.specs.Shown.{watched}
+use Rattle.controller.specs.Starting.{numbers_of}
+use Rattle.controller.specs.Views.{state_of}
 use Rattle.controller.specs.Replayed.{events}
 use Rattle.controller.specs.declared.controllers.Controller.TheInside.{Inside}
 

@@ -4,9 +4,9 @@ use Rattle.std.specs.FinMap as finmap
 use Rattle.machine.specs.Flat.{code_of}
 use Rattle.var_access.specs.declared.Entry.{Entry}
 use Rattle.var_access.specs.declared.What.{What}
-use Rattle.cpu.specs.Replay.{Happened, happens, last_seen, replay}
-use Rattle.cpu.specs.State.{State}
-use Rattle.cpu.specs.declared.Observed.{Observed}
+use Rattle.controller.specs.Replay.{Happened, happens, last_seen, replay}
+use Rattle.controller.specs.State.{State}
+use Rattle.controller.specs.declared.Observed.{Observed}
 use Rattle.controller.specs.Recorded.{Recorded}
 
 -- what the entries of a history do, whoever makes them

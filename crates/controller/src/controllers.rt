@@ -3,14 +3,16 @@ ghost use Rattle.std.specs.Option.{option_copied, option_map};
 ghost use Rattle.std.specs.FinMap as finmap;
 ghost use Rattle.image_file.specs.Readers.{bytes_of};
 ghost use Rattle.machine.specs.Flat.{code_of};
-ghost use Rattle.cpu.specs.Quiet.{ShowNothing, steps_quietly};
-ghost use Rattle.cpu.specs.Replay.{run_from};
+ghost use Rattle.controller.specs.Quiet.{ShowNothing, steps_quietly};
+ghost use Rattle.controller.specs.Replay.{run_from};
 ghost use Rattle.controller.specs.Replayed.{data_blocks as blocks_after, events, next_happens, numbered as with_number, replayed, seen};
 ghost use Rattle.var_access.specs.Entry.{IsValid};
 ghost use Rattle.var_access.specs.declared.Entry.{Entry};
 ghost use Rattle.var_access.specs.declared.What.TheVariants.{Step};
 
-use cpu::{Observed, Observer, Parts, data_numbers};
+use crate::cpus::Cpu;
+use crate::observing::{Observed, Observer};
+use crate::starting::data_numbers;
 use image_file::Loaded;
 use plc_base::{Mode, NoMemory};
 use std::alloc::Global;
@@ -23,7 +25,7 @@ use var_access::{Entry, Reply, What};
 #[derive(Drop)]
 pub struct Controller {
     program: Loaded,
-    cpu: Parts,
+    cpu: Cpu,
     history: Vec<Entry>,
     spare: u64,
     observer: Observer,
@@ -119,8 +121,8 @@ impl Controller {
         }) }
     {
         program.law_of_verifying();
-        cpu::laws::what_runs_goes_on();
-        let cpu = Parts::start(alloc, &program)?;
+        crate::laws::what_runs_goes_on();
+        let cpu = Cpu::start(alloc, &program)?;
         let numbers = data_numbers(alloc, &program)?;
         let observer = Observer::new(&cpu);
         Ok(Controller {
@@ -163,9 +165,9 @@ impl Controller {
         ensures shown { seen self.new ≡ (next_happens self.old e).seen }
         ensures state { replayed self.new ≡ (next_happens self.old e).state }
     {
-        cpu::laws::continues_replay();
-        cpu::laws::counts_entries();
-        cpu::laws::what_runs_goes_on();
+        crate::laws::continues_replay();
+        crate::laws::counts_entries();
+        crate::laws::what_runs_goes_on();
         let reply = self.cpu.happen(&self.program, e.what);
         self.observer.look(&self.cpu);
         self.history.push_reserved(e);
@@ -192,9 +194,9 @@ impl Controller {
         ensures stops { result < length steps.now
             → steps_quietly (code_of self.old.program) (replayed self.new) ≡ false }
     {
-        cpu::laws::continues_replay();
-        cpu::laws::counts_entries();
-        cpu::laws::what_runs_goes_on();
+        crate::laws::continues_replay();
+        crate::laws::counts_entries();
+        crate::laws::what_runs_goes_on();
         let made = self.cpu.step_quietly(&self.program, steps.len() as u64) as usize;
         if made == 0 {
             return 0;

@@ -1,7 +1,26 @@
-//! The controller: a program with the history of all entries so far, from which its state follows.
+//! The controller: the CPU over a loaded program, and the history of all entries so far, from which its state follows.
 #![tactic(auto)]
 
+mod activations;
+mod beginning;
 mod controllers;
+mod cpus;
+mod diagnostics;
+mod errors;
+pub mod laws;
+mod observing;
+mod passing;
+mod quiet;
+mod running;
+mod serving;
+mod settling;
+mod spots;
+mod starting;
+mod stepping;
+mod stopping;
 
 pub use controllers::{Controller, leading_steps};
-pub use cpu::{Observed, Outputs};
+pub use cpus::Cpu;
+pub use diagnostics::DiagRecord;
+pub use observing::{Observed, Observer, Outputs};
+pub use starting::data_numbers;

@@ -10,11 +10,11 @@ use Rattle.machine.specs.Flat.{code_of}
 use Rattle.var_access.specs.declared.Entry.{Entry}
 use Rattle.var_access.specs.declared.What.{What}
 use Rattle.var_access.specs.declared.What.TheVariants.{Step}
-use Rattle.cpu.specs.declared.Observed.{Observed}
-use Rattle.cpu.specs.Quiet.{ShowNothing}
-use Rattle.cpu.specs.Replay.{ContinuesByMore, happens, replay, run_from}
-use Rattle.cpu.specs.Shown.{nothing_shown}
-use Rattle.cpu.specs.State.{State}
+use Rattle.controller.specs.declared.Observed.{Observed}
+use Rattle.controller.specs.Quiet.{ShowNothing}
+use Rattle.controller.specs.Replay.{ContinuesByMore, happens, replay, run_from}
+use Rattle.controller.specs.Shown.{nothing_shown}
+use Rattle.controller.specs.State.{State}
 use Rattle.controller.specs.Recorded.{Recorded}
 use Rattle.controller.specs.Replayed.{events, next_happens, replayed, seen}
 use Rattle.run_text.specs.Behind.{closing_of, lines_behind}

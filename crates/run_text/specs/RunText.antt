@@ -8,10 +8,10 @@ use Rattle.plc_base.specs.declared.Mode.{Mode}
 use Rattle.var_access.specs.declared.Entry.{Entry}
 use Rattle.machine.specs.Code.{Code}
 use Rattle.machine.specs.Statement.{World}
-use Rattle.cpu.specs.declared.Observed.{Observed}
-use Rattle.cpu.specs.Replay.{Happened, happens, replay}
-use Rattle.cpu.specs.Start.{start}
-use Rattle.cpu.specs.State.{State}
+use Rattle.controller.specs.declared.Observed.{Observed}
+use Rattle.controller.specs.Replay.{Happened, happens, replay}
+use Rattle.controller.specs.Start.{start}
+use Rattle.controller.specs.State.{State}
 use Rattle.controller.specs.Replayed.{events}
 use Rattle.run_text.specs.LineText.{output_text, mode_text, end_text, row_text}
 

@@ -111,7 +111,7 @@ fn write_entries<K: Sink>(
     ensures text { Wrote (K.shown out.old) (K.shown out.new)
         (lines_behind controller.old entries.now) result }
 {
-    cpu::laws::continues_replay();
+    controller::laws::continues_replay();
     let mut at = 0;
     loop {
         let rest = &entries[at..];

@@ -1,8 +1,9 @@
-pub mod ReadingLemmas
-pub mod SaysLemmas
-pub mod RunLemmas
 pub mod ComesLemmas
+mod CompileLemmas
 pub mod FinishLemmas
-pub mod TableLemmas
 pub mod MatchLemmas
 pub mod PlainLemmas
+pub mod ReadingLemmas
+pub mod RunLemmas
+pub mod SaysLemmas
+pub mod TableLemmas

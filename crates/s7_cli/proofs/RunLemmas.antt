@@ -5,11 +5,11 @@ use Rattle.machine.specs.Code.{Code}
 use Rattle.machine.specs.Statement.{World}
 use Rattle.var_access.specs.declared.Entry.{Entry}
 use Rattle.var_access.specs.declared.What.{What}
-use Rattle.cpu.specs.declared.Observed.{Observed}
-use Rattle.cpu.specs.Replay.{ContinuesReplay, happens, replay}
-use Rattle.cpu.specs.State.{State}
+use Rattle.controller.specs.declared.Observed.{Observed}
+use Rattle.controller.specs.Replay.{ContinuesReplay, happens, replay}
+use Rattle.controller.specs.State.{State}
 use Rattle.controller.specs.Replayed.{events}
-use Rattle.kept_code.specs.Kept.{IsKept}
+use Rattle.sem_kept.specs.Kept.{IsKept}
 use Rattle.run_text.specs.LineText.{end_text}
 use Rattle.run_text.specs.RunText.{blocks_text, lines_from, run_text, shown_text}
 

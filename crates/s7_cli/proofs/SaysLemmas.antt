@@ -11,9 +11,9 @@ use Rattle.event_text.specs.History.{history_of}
 use Rattle.event_text.specs.HistoryFault.{IsHistoryFault}
 use Rattle.event_text.specs.declared.HistoryFault.{HistoryFault}
 use Rattle.event_text.specs.declared.HistoryFault.TheVariants as history
-use Rattle.compiler.specs.Compiling.{RefusesBy}
-use Rattle.compiler.specs.declared.CompileFault.{CompileFault}
-use Rattle.compiler.specs.declared.CompileFault.TheVariants as compiling
+use Rattle.s7_cli.specs.Compiling.{RefusesBy}
+use Rattle.s7_cli.specs.declared.CompileFault.{CompileFault}
+use Rattle.s7_cli.specs.declared.CompileFault.TheVariants as compiling
 use Rattle.run_text.specs.RunText.{run_text}
 use Rattle.s7_cli.specs.declared.failures.File.{File}
 use Rattle.s7_cli.specs.declared.failures.File.TheVariants.{Source, Symbols, History}

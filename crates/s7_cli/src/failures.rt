@@ -2,7 +2,7 @@ ghost use Rattle.std.specs.Prelude.{◌≡◌};
 ghost use Rattle.s7_cli.specs.Answer.{code_of, refused_code};
 ghost use Rattle.s7_cli.specs.Faults.{failure_of_compiling, failure_of_history};
 
-use compiler::CompileFault;
+use crate::faults::CompileFault;
 use event_text::HistoryFault;
 use plc_base::Refusal;
 use std::alloc::AllocError;

@@ -32,7 +32,7 @@ fn go<F: Files, K: Sink>(
     let history = read_file(alloc, files, File::History, hist)?;
     let (program, entries) = judge(alloc, &text, &history)?;
     // programs that no history tells apart have one text
-    cpu::laws::continues_replay();
+    controller::laws::continues_replay();
     written(replay_text(alloc, program, &entries, out))
 }
 

@@ -2,7 +2,7 @@ ghost use Rattle.std.specs.Prelude.{◌≡◌, All, IfOk, Ok};
 ghost use Rattle.var_access.specs.Entry.{IsValid};
 ghost use Rattle.machine.specs.Flat.{code_of};
 ghost use Rattle.sem_kept.specs.Agreement.{RunsAs};
-ghost use Rattle.compiler.specs.Compiling.{HasProgram};
+ghost use Rattle.s7_cli.specs.Compiling.{HasProgram};
 ghost use Rattle.event_text.specs.History.{history_of};
 ghost use Rattle.s7_cli.specs.Inner.{RefusedBy};
 ghost use Rattle.s7_cli.specs.Says.{CheckSays, GoSays};
@@ -10,7 +10,7 @@ ghost use Rattle.s7_cli.specs.Texts.{IsWithin, symbols_of};
 
 use crate::failures::Failure;
 use crate::files::ProgramText;
-use compiler::{compiled, judged};
+use crate::compiling::{compiled, judged};
 use event_text::read_history;
 use image_file::Loaded;
 use std::alloc::Global;

@@ -2,7 +2,9 @@
 #![tactic(auto)]
 
 mod checking;
+mod compiling;
 mod failures;
+mod faults;
 mod files;
 mod finish;
 mod going;
@@ -13,8 +15,9 @@ mod texts;
 mod words;
 
 pub use checking::cmd_check;
-pub use compiler::{CompileFault, compiled};
+pub use compiling::{compiled, judged};
 pub use failures::{Failure, File, Status};
+pub use faults::CompileFault;
 pub use going::cmd_go;
 pub use help::{Question, question_in, write_answer};
 pub use program::s7_main;

@@ -1,4 +1,7 @@
-mod StageLemmas
-mod SourceLemmas
 mod RunLemmas
+mod SourceLemmas
+mod StageLemmas
 mod Suspended
+mod accepted
+mod compiled
+mod kept

@@ -1,8 +1,8 @@
 -- The program of a source that breaks no rule runs as the source means.
 use Rattle.std.proofs.Common.{◌≡◌, refl, sym, ap, ◌∙◌, ℕ, List, [], Option, Some, None, Ok, arith}
-use Rattle.accepted_code.specs.Accepted.{AreSymbols, IsAccepted, program_in, AcceptedVerifies}
-use Rattle.compiled_code.specs.Verified.{VerifiedIsCompilable}
-use Rattle.kept_code.specs.Kept.{ProgramsAreKept}
+use Rattle.sem_kept.specs.Accepted.{AreSymbols, IsAccepted, program_in, AcceptedVerifies}
+use Rattle.sem_kept.specs.Verified.{VerifiedIsCompilable}
+use Rattle.sem_kept.specs.Kept.{ProgramsAreKept}
 use Rattle.plc_base.specs.declared.refusals.Refusal.{Refusal}
 use Rattle.block_layout.specs.Layouts.{layouts_of}
 use Rattle.block_layout.specs.Table.{layout_refusals}

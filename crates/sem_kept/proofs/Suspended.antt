@@ -17,17 +17,17 @@ use Rattle.ob_sched.specs.Request.{best_of}
 use Rattle.ob_sched.specs.declared.requests.Pending.{Pending}
 use Rattle.var_access.specs.declared.What.{What}
 use Rattle.var_access.specs.declared.What.TheVariants as entry
-use Rattle.cpu.specs.Beginning.{ob_in, begun_above}
-use Rattle.cpu.specs.Errors.{is_synchronous, cause_inside, error_in, error_answered, failed}
-use Rattle.cpu.specs.Event.{counted, effect, state_after}
-use Rattle.cpu.specs.Replay.{happens, replay, ContinuesReplay}
-use Rattle.cpu.specs.Requests.{stopped_if, course_taken, arrived}
-use Rattle.cpu.specs.Serving.{Served, Returns, Passes, Stops, served, result_given, after_service}
-use Rattle.cpu.specs.Settling.{may_start, request_taken, request_started, best_started, settled}
-use Rattle.cpu.specs.State.{State, is_stop, diagnosed, each_diagnosed}
-use Rattle.cpu.specs.Stepping.{with_activations, run_starts, ob_ended, after_statement, stepped_on, stepped}
-use Rattle.cpu.specs.Stopping.{spot_of, halted_at, halted}
-use Rattle.cpu.specs.Ticking.{timers_moved, active, time_passed}
+use Rattle.controller.specs.Beginning.{ob_in, begun_above}
+use Rattle.controller.specs.Errors.{is_synchronous, cause_inside, error_in, error_answered, failed}
+use Rattle.controller.specs.Event.{counted, effect, state_after}
+use Rattle.controller.specs.Replay.{happens, replay, ContinuesReplay}
+use Rattle.controller.specs.Requests.{stopped_if, course_taken, arrived}
+use Rattle.controller.specs.Serving.{Served, Returns, Passes, Stops, served, result_given, after_service}
+use Rattle.controller.specs.Settling.{may_start, request_taken, request_started, best_started, settled}
+use Rattle.controller.specs.State.{State, is_stop, diagnosed, each_diagnosed}
+use Rattle.controller.specs.Stepping.{with_activations, run_starts, ob_ended, after_statement, stepped_on, stepped}
+use Rattle.controller.specs.Stopping.{spot_of, halted_at, halted}
+use Rattle.controller.specs.Ticking.{timers_moved, active, time_passed}
 use Rattle.sem_kept.specs.Resumption.{after, standing, IsSuspended, Resumes, SourcesResume, ImagesResume}
 
 -- the activation at this place is there, and is the same

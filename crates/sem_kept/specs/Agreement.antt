@@ -13,8 +13,8 @@ use Rattle.stl_lexer.specs.declared.kinds.Token.{Token}
 use Rattle.plc_base.specs.Least.{least}
 use Rattle.stl_symbols.specs.Symbol.{Symbol}
 use Rattle.stl_symbols.specs.Symbols.{symbols_limit}
-use Rattle.accepted_code.specs.Accepted.{program_in}
-use Rattle.kept_code.specs.Kept.{IsKept}
+use Rattle.sem_kept.specs.Accepted.{program_in}
+use Rattle.sem_kept.specs.Kept.{IsKept}
 use Rattle.sem_kept.specs.Meaning.{HasSymbols, HasTokens, HasTree, refusals_of, MeansCode}
 
 -- the source with these symbols means a code, and no history tells it from the one that runs

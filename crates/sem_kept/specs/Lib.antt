@@ -1,4 +1,14 @@
-pub mod Stages
-pub mod Meaning
+pub mod Accepted
 pub mod Agreement
+pub mod Back
+pub mod Coded
+pub mod Jumps
+pub mod Kept
+pub mod Meaning
+pub mod Operands
+pub mod Records
 pub mod Resumption
+pub mod Sizes
+pub mod Stages
+pub mod Statements
+pub mod Verified

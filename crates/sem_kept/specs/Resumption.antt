@@ -1,8 +1,8 @@
 -- The law of resumption: a suspended activation goes on as it was left.
 use Rattle.std.specs.Prelude.{ℕ, ◌≡◌, ◌<◌, ◌≤◌, ◌+◌, List, [], ◌∷◌, length, take, false, Option, Some, None, nat_eq, if◌then◌else◌}
 use Rattle.var_access.specs.declared.What.{What}
-use Rattle.cpu.specs.Replay.{replay}
-use Rattle.cpu.specs.State.{State, is_stop}
+use Rattle.controller.specs.Replay.{replay}
+use Rattle.controller.specs.State.{State, is_stop}
 use Rattle.frames.specs.declared.Activation.{Activation}
 use Rattle.image_file.specs.Loaded.{LoadedProgram}
 use Rattle.machine.specs.Code.{Code}

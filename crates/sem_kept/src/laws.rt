@@ -1,4 +1,12 @@
-//! Laws of sources: each function does nothing, and its contract is the law.
+//! Laws of sources and of the programs that are compiled of them: each function does nothing, and its contract is the law.
+ghost use Rattle.std.specs.Prelude.{◌≡◌, List};
+ghost use Rattle.flat_code.specs.Programs.{CodeBlock};
+ghost use Rattle.stl_codegen.specs.Compiled.{Stated, code_in, lines_in};
+ghost use Rattle.sem_kept.specs.Back.{AreCompiled, IsReadBack};
+ghost use Rattle.sem_kept.specs.Statements.{ProgramsFollow};
+ghost use Rattle.sem_kept.specs.Verified.{VerifiedIsCompilable};
+ghost use Rattle.sem_kept.specs.Accepted.{AcceptedVerifies};
+ghost use Rattle.sem_kept.specs.Kept.{ProgramsAreKept};
 ghost use Rattle.sem_kept.specs.Agreement.{ProgramsRun};
 ghost use Rattle.sem_kept.specs.Meaning.{
   IsMeaningUnique,
@@ -7,6 +15,43 @@ ghost use Rattle.sem_kept.specs.Meaning.{
   IsTotal,
 };
 ghost use Rattle.sem_kept.specs.Resumption.{SourcesResume, ImagesResume};
+
+/// At the offset of each statement of a block stands the statement that was compiled, with offsets
+/// as its targets, and behind the last one none begins.
+pub fn compiled_is_read_back()
+    ensures { (b : CodeBlock) (statements : List Stated) → AreCompiled 0 statements
+        → b.code ≡ code_in statements → b.lines ≡ lines_in statements → IsReadBack b statements }
+{
+    flat_code::laws::one_number_each();
+}
+
+/// The code of a program that is made of statements follows the code of these statements.
+pub fn programs_follow()
+    ensures { ProgramsFollow }
+{
+    flat_code::laws::one_number_each();
+}
+
+/// Of a source whose program verifies, whatever it is, code can be generated for the statements of
+/// each block.
+pub fn verified_is_compilable()
+    ensures { VerifiedIsCompilable }
+{}
+
+/// The program of a source that breaks no rule has an image, and verifies: its records fit their
+/// fields, and no op of its blocks has a fault.
+pub fn accepted_verifies()
+    ensures { AcceptedVerifies }
+{}
+
+/// The program of statements is after every history in the state in which the statements are, but for
+/// the positions of frames; so every entry answers and shows the same.
+pub fn programs_are_kept()
+    ensures { ProgramsAreKept }
+{
+    programs_follow();
+    controller::laws::positions_move();
+}
 
 /// A source with its symbols is checked in one way: it means at most one code, none where it is
 /// refused, there is at most one refusal, and each source means a code or is refused.
@@ -25,9 +70,9 @@ pub fn law_of_sources()
 pub fn programs_run()
     ensures { ProgramsRun }
 {
-    accepted_code::laws::accepted_verifies();
-    compiled_code::laws::verified_is_compilable();
-    kept_code::laws::programs_are_kept();
+    accepted_verifies();
+    verified_is_compilable();
+    programs_are_kept();
 }
 
 /// Law of resumption over the statements of a source: an activation that is suspended has the same
@@ -36,12 +81,12 @@ pub fn programs_run()
 pub fn resumes_source()
     ensures { SourcesResume }
 {
-    cpu::laws::continues_replay();
+    controller::laws::continues_replay();
 }
 
 /// The same over a loaded program.
 pub fn resumes_image()
     ensures { ImagesResume }
 {
-    cpu::laws::continues_replay();
+    controller::laws::continues_replay();
 }

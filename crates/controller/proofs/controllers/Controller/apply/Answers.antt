@@ -3,13 +3,13 @@ use Rattle.flat_code.specs.Programs.{Program}
 use Rattle.machine.specs.Code.{Code}
 use Rattle.machine.specs.Flat.{code_of}
 use Rattle.var_access.specs.declared.Entry.{Entry}
-use Rattle.cpu.specs.Replay.{happens, last_seen, replay}
-use Rattle.cpu.specs.Shown.{watched}
-use Rattle.cpu.specs.State.{State}
-use Rattle.cpu.specs.Views.{state_of}
-use Rattle.cpu.specs.declared.Observed.{Observed}
+use Rattle.controller.specs.Replay.{happens, last_seen, replay}
+use Rattle.controller.specs.Shown.{watched}
+use Rattle.controller.specs.State.{State}
+use Rattle.controller.specs.Views.{state_of}
+use Rattle.controller.specs.declared.Observed.{Observed}
 use Rattle.controller.specs.Replayed.{events}
-use Rattle.controller.proofs.ReplayLemmas.{fits_next, observer_next, seen_next, state_next}
+use Rattle.controller.proofs.history.ReplayLemmas.{fits_next, observer_next, seen_next, state_next}
 use Rattle.controller.proofs.controllers.Controller.apply.Goals as goal
 
 pub happen-reply-requires-clause-ready : goal.happen-reply-requires-clause-ready

@@ -1,12 +1,12 @@
 use Rattle.std.proofs.Common.{◌≡◌, ap, sym, ◌∙◌, List, ℕ}
 use Rattle.std.specs.Prelude.{slice_get}
 use Rattle.std.specs.FinMap as finmap
-use Rattle.cpu.specs.Starting.{numbers_of}
-use Rattle.cpu.specs.State.{State}
-use Rattle.cpu.specs.Views.{state_of}
+use Rattle.controller.specs.Starting.{numbers_of}
+use Rattle.controller.specs.State.{State}
+use Rattle.controller.specs.Views.{state_of}
 use Rattle.controller.specs.Recorded.{Recorded}
 use Rattle.controller.specs.Replayed.{replayed}
-use Rattle.controller.proofs.BlockLemmas.{block_there, memory_numbers, no_block_there}
+use Rattle.controller.proofs.history.BlockLemmas.{block_there, memory_numbers, no_block_there}
 use Rattle.controller.proofs.controllers.Controller.data_block.Goals as goal
 
 pub returns-in-None : goal.returns-in-None

@@ -2,9 +2,9 @@ use Rattle.std.proofs.Common.{◌≡◌, ap, sym, ◌∙◌, List, ℕ, Option, 
 use Rattle.plc_mem.specs.Areas.{Areas}
 use Rattle.flat_code.specs.Programs.{Program}
 use Rattle.image_file.specs.Readers.{bytes_of}
-use Rattle.cpu.specs.Views.{state_of}
+use Rattle.controller.specs.Views.{state_of}
 use Rattle.controller.specs.Recorded.{Recorded}
-use Rattle.controller.proofs.BlockLemmas.{copied_some, loaded_there}
+use Rattle.controller.proofs.history.BlockLemmas.{copied_some, loaded_there}
 use Rattle.controller.proofs.controllers.Controller.db_bytes.Goals as goal
 
 pub returns-clause-loaded : goal.returns-clause-loaded

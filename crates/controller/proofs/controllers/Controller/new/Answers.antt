@@ -3,14 +3,14 @@ use Rattle.flat_code.specs.Programs.{Program}
 use Rattle.machine.specs.Code.{Code}
 use Rattle.machine.specs.Flat.{code_of}
 use Rattle.var_access.specs.declared.Entry.{Entry}
-use Rattle.cpu.specs.Replay.{last_seen, replay}
-use Rattle.cpu.specs.Shown.{nothing_shown, watched}
-use Rattle.cpu.specs.Start.{start}
-use Rattle.cpu.specs.State.{State}
-use Rattle.cpu.specs.Views.{state_of}
-use Rattle.cpu.specs.declared.Observed.{Observed}
+use Rattle.controller.specs.Replay.{last_seen, replay}
+use Rattle.controller.specs.Shown.{nothing_shown, watched}
+use Rattle.controller.specs.Start.{start}
+use Rattle.controller.specs.State.{State}
+use Rattle.controller.specs.Views.{state_of}
+use Rattle.controller.specs.declared.Observed.{Observed}
 use Rattle.controller.specs.Replayed.{events}
-use Rattle.controller.proofs.ReplayLemmas.{none_seen, start_fits, starts}
+use Rattle.controller.proofs.history.ReplayLemmas.{none_seen, start_fits, starts}
 use Rattle.controller.proofs.controllers.Controller.new.Goals as goal
 
 pub invariant_of-result : goal.invariant_of-result

@@ -4,15 +4,15 @@ use Rattle.machine.specs.Code.{Code}
 use Rattle.machine.specs.Flat.{code_of}
 use Rattle.var_access.specs.declared.Entry.{Entry}
 use Rattle.var_access.specs.declared.What.TheVariants.{Step}
-use Rattle.cpu.specs.Quiet.{ShowNothing, steps_quietly}
-use Rattle.cpu.specs.Replay.{last_seen, replay, run_from}
-use Rattle.cpu.specs.Shown.{watched}
-use Rattle.cpu.specs.State.{State}
-use Rattle.cpu.specs.Views.{state_of}
-use Rattle.cpu.specs.declared.Observed.{Observed}
+use Rattle.controller.specs.Quiet.{ShowNothing, steps_quietly}
+use Rattle.controller.specs.Replay.{last_seen, replay, run_from}
+use Rattle.controller.specs.Shown.{watched}
+use Rattle.controller.specs.State.{State}
+use Rattle.controller.specs.Views.{state_of}
+use Rattle.controller.specs.declared.Observed.{Observed}
 use Rattle.controller.specs.Recorded.{Recorded}
 use Rattle.controller.specs.Replayed.{events, replayed}
-use Rattle.controller.proofs.QuietLemmas.{fewer-steps, fits-behind, observer-behind, quiet-behind, replay-more, seen-behind, state-behind}
+use Rattle.controller.proofs.history.QuietLemmas.{fewer-steps, fits-behind, observer-behind, quiet-behind, replay-more, seen-behind, state-behind}
 use Rattle.controller.proofs.controllers.Controller.step_quietly.Goals as goal
 
 pub invariant_of-self-2 : goal.invariant_of-self-2

@@ -1,6 +1,0 @@
-use Rattle.compiled_code.proofs.Verified.{verified_is_compilable}
-use Rattle.compiled_code.proofs.laws.verified_is_compilable.Goals as goal
-
--- src/laws.rt:25:1
-pub returns : goal.returns
-returns c = verified_is_compilable

@@ -1,6 +1,0 @@
-use Rattle.std.proofs.Common.{arith}
-use Rattle.compiler.proofs.CompileLemmas.{all_bytes}
-use Rattle.compiler.proofs.compiling.law_of_bytes.Goals as goal
-
-pub returns : goal.returns
-returns c = all_bytes c.args.bytes.now (λ i. omega (arith, c.type_inv.bytes i))

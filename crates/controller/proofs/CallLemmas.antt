@@ -1,0 +1,191 @@
+-- Calls of system functions.
+use Rattle.std.proofs.Common.{◌≡◌, ℕ, Bool, true, false, List, [], ◌∷◌, Option, Some, None, refl, sym, ap, ◌∙◌, subst, if◌then◌else◌}
+use Rattle.std.specs.Prelude.{◌==◌, not, nat_le, ◌&&◌, is_some, ◌-◌}
+use Rattle.plc_base.specs.declared.Mode.{Mode}
+use Rattle.plc_base.specs.declared.Spot.{Spot}
+use Rattle.plc_mem.specs.Areas.{Areas}
+use Rattle.frames.specs.declared.Activation.{Activation}
+use Rattle.frames.specs.declared.bindings.Binding.{Binding}
+use Rattle.machine.specs.Code.{Code}
+use Rattle.machine.specs.Statement.{with_memory}
+use Rattle.ob_sched.specs.OrganizationBlock.{is_delay}
+use Rattle.ob_sched.specs.Scheduler.{Scheduler, delay_of, delay_started, delay_cancelled, retriggered}
+use Rattle.sys_funcs.specs.Disabling.{refusal}
+use Rattle.sys_funcs.specs.Functions.{dis_airt, en_airt, set_unless, dis_irt, en_irt, srt_dint, can_dint, time_tck, with_delay}
+use Rattle.sys_funcs.specs.Returned.{Returned, returned, passed}
+use Rattle.controller.specs.Leaves.{call_left, ServesTo, ServesRunning}
+use Rattle.controller.specs.Serving.{Served, Returns, Passes, Stops, result_given, after_service, served, input}
+use Rattle.controller.specs.Stack.{IsStanding}
+use Rattle.controller.specs.State.{State}
+use Rattle.controller.specs.Stopping.{halted_at, spot_at}
+use Rattle.controller.specs.declared.activations.Stand.{Stand}
+use Rattle.controller.proofs.SameLemmas.{Same}
+use Rattle.controller.proofs.StepLemmas.{same_stack}
+
+-- a system function changes neither the class nor the number of the running organization block
+if_returned : (test : Bool) (a : Activation) (x y : Returned) → Same a x.activation
+    → Same a y.activation → Same a (if test then x else y).activation
+if_returned true a x y one other = one
+if_returned false a x y one other = other
+
+dis_airt_same : (s : Scheduler) (a : Activation) → Same a (dis_airt s a).activation
+unfolding dis_airt
+dis_airt_same s a = (refl, refl)
+
+en_airt_same : (s : Scheduler) (a : Activation) → Same a (en_airt s a).activation
+unfolding en_airt
+en_airt_same s a =
+    if_returned (a.delay == 0) a (returned s a 0x8080)
+    (returned s (with_delay (a.delay - 1) a) (a.delay - 1)) (refl, refl) (refl, refl)
+
+set_same : (code : Option ℕ) (disabled : Bool) (mode ob_nr : ℕ) (s : Scheduler) (a : Activation)
+    → Same a (set_unless code disabled mode ob_nr s a).activation
+set_same (Some code) disabled mode ob_nr s a = (refl, refl)
+set_same None disabled mode ob_nr s a = (refl, refl)
+
+dis_irt_same : (s : Scheduler) (a : Activation) (mode ob_nr : ℕ)
+    → Same a (dis_irt s a mode ob_nr).activation
+unfolding dis_irt
+dis_irt_same s a mode ob_nr = set_same (refusal mode ob_nr) true mode ob_nr s a
+
+en_irt_same : (s : Scheduler) (a : Activation) (mode ob_nr : ℕ)
+    → Same a (en_irt s a mode ob_nr).activation
+unfolding en_irt
+en_irt_same s a mode ob_nr = set_same (refusal mode ob_nr) false mode ob_nr s a
+
+srt_dint_same : (s : Scheduler) (a : Activation) (ob_nr dtime sign : ℕ)
+    → Same a (srt_dint s a ob_nr dtime sign).activation
+unfolding srt_dint
+srt_dint_same s a ob_nr dtime sign =
+    if_returned (not (is_delay ob_nr)) a (returned s a 0x8090)
+    (if not (nat_le 1 dtime && nat_le dtime 60000) then returned s a 0x8091
+    else returned (delay_started ob_nr dtime s) a 0) (refl, refl)
+    (if_returned (not (nat_le 1 dtime && nat_le dtime 60000)) a (returned s a 0x8091)
+    (returned (delay_started ob_nr dtime s) a 0) (refl, refl) (refl, refl))
+
+can_dint_same : (s : Scheduler) (a : Activation) (ob_nr : ℕ)
+    → Same a (can_dint s a ob_nr).activation
+unfolding can_dint
+can_dint_same s a ob_nr =
+    if_returned (not (is_delay ob_nr)) a (returned s a 0x8090)
+    (if is_some (delay_of s.countdowns ob_nr) then returned (delay_cancelled ob_nr s) a 0
+    else returned s a 0x80A0) (refl, refl)
+    (if_returned (is_some (delay_of s.countdowns ob_nr)) a (returned (delay_cancelled ob_nr s) a 0)
+    (returned s a 0x80A0) (refl, refl) (refl, refl))
+
+time_tck_same : (s : Scheduler) (a : Activation) → Same a (time_tck s a).activation
+unfolding time_tck
+time_tck_same s a = (refl, refl)
+
+unfoldable pub SameServed : Activation → Served → Type 0
+SameServed a (Returns r) = Same a r.activation
+SameServed a (Passes sched b) = Same a b
+SameServed a (Stops cause) = Unit {0}
+
+if_served : (test : Bool) (a : Activation) (x y : Served) → SameServed a x → SameServed a y
+    → SameServed a (if test then x else y)
+if_served true a x y one other = one
+if_served false a x y one other = other
+
+pub served_same : (number : ℕ) (inputs : List ℕ) (s : Scheduler) (a : Activation)
+    → SameServed a (served number inputs s a)
+unfolding served SameServed
+served_same number inputs s a =
+    if_served (number == 32) a _ _
+    (srt_dint_same s a (input 0 inputs) (input 1 inputs) (input 2 inputs))
+    (if_served (number == 33) a _ _ (can_dint_same s a (input 0 inputs))
+    (if_served (number == 39) a _ _ (dis_irt_same s a (input 0 inputs) (input 1 inputs))
+    (if_served (number == 40) a _ _ (en_irt_same s a (input 0 inputs) (input 1 inputs))
+    (if_served (number == 41) a _ _ (dis_airt_same s a)
+    (if_served (number == 42) a _ _ (en_airt_same s a)
+    (if_served (number == 43) a (Passes (retriggered s) (passed a)) _ (refl, refl)
+    (if_served (number == 46) a (Stops 1) _ tt (time_tck_same s a))))))))
+
+-- nor does its result
+pub given_same : (to : Option Binding) (value : ℕ) (a b : Activation) (m : Areas) → Same a b
+    → Same a (result_given to value b m).activation
+given_same None value a b m same = same
+given_same (Some to) value a b m same = same
+
+serves_to_stands : (mode : Mode) (sv : Served) (to : Option Binding) (a : Activation)
+    (below new : List Activation) (m m' : Areas) (s s' : Scheduler) → SameServed a sv
+    → ServesTo sv to below new m m' s s' None → IsStanding mode (a ∷ below) → IsStanding mode new
+unfolding SameServed
+serves_to_stands mode (Returns r) to a below new m m' s s' same serves standing =
+    subst (λ acts. IsStanding mode acts) (sym serves.0)
+    (same_stack mode a (result_given to r.value r.activation m).activation below
+    (given_same to r.value a r.activation m same) standing)
+serves_to_stands mode (Passes sched b) to a below new m m' s s' same serves standing =
+    subst (λ acts. IsStanding mode acts) (sym serves.0) (same_stack mode a b below same standing)
+serves_to_stands mode (Stops cause) to a below new m m' s s' same serves standing = absurd serves
+
+pub call_stands : (mode : Mode) (number : ℕ) (inputs : List ℕ) (to : Option Binding)
+    (old new : List Activation) (m m' : Areas) (s s' : Scheduler)
+    → ServesRunning number inputs to old new m m' s s' None → IsStanding mode old
+    → IsStanding mode new
+call_stands mode number inputs to [] new m m' s s' serves standing =
+    subst (λ acts. IsStanding mode acts) (sym serves.0) standing
+call_stands mode number inputs to (a ∷ below) new m m' s s' serves standing =
+    serves_to_stands mode (served number inputs s a) to a below new m m' s s'
+    (served_same number inputs s a) serves standing
+
+-- what a call comes to
+goes_to : (at : Option Spot) (sv : Served) (to : Option Binding) (below new : List Activation)
+    (s : State) (m' : Areas) (sched : Scheduler)
+    → ServesTo sv to below new s.world.memory m' s.sched sched None
+    → after_service at sv to below s
+    ≡ record s { world = with_memory m' s.world; activations = new; sched = sched }
+goes_to at (Returns r) to below new s m' sched serves = rw (serves.0, serves.1, serves.2) refl
+goes_to at (Passes next a) to below new s m' sched serves = rw (serves.0, serves.1, serves.2) refl
+goes_to at (Stops cause) to below new s m' sched serves = absurd serves
+
+goes_from : (code : Code) (number : ℕ) (inputs : List ℕ) (to : Option Binding) (stand : Stand)
+    (old new : List Activation) (s : State) (m' : Areas) (sched : Scheduler)
+    → s.activations ≡ old
+    → ServesRunning number inputs to old new s.world.memory m' s.sched sched None
+    → call_left code number inputs to stand old s
+    ≡ record s { world = with_memory m' s.world; activations = new; sched = sched }
+goes_from code number inputs to stand [] new s m' sched were serves =
+    ap (λ (acts : List Activation). record s { activations = acts }) were
+    ∙ rw (serves.0, serves.1, serves.2) refl
+goes_from code number inputs to stand (a ∷ below) new s m' sched were serves =
+    goes_to (spot_at code stand.block stand.at) (served number inputs s.sched a) to below new s m'
+    sched serves
+
+pub call_goes : (code : Code) (number : ℕ) (inputs : List ℕ) (to : Option Binding)
+    (stand : Stand) (new : List Activation) (s : State) (m' : Areas) (sched : Scheduler)
+    → ServesRunning number inputs to s.activations new s.world.memory m' s.sched sched None
+    → call_left code number inputs to stand s.activations s
+    ≡ record s { world = with_memory m' s.world; activations = new; sched = sched }
+call_goes code number inputs to stand new s m' sched serves =
+    goes_from code number inputs to stand s.activations new s m' sched refl serves
+
+halts_to : (at : Option Spot) (sv : Served) (to : Option Binding) (below new : List Activation)
+    (s : State) (m' : Areas) (sched : Scheduler) (cause : ℕ)
+    → ServesTo sv to below new s.world.memory m' s.sched sched (Some cause)
+    → after_service at sv to below s
+    ≡ halted_at at cause (record s { world = with_memory m' s.world; activations = new; sched = sched })
+halts_to at (Returns r) to below new s m' sched cause serves = absurd serves
+halts_to at (Passes next a) to below new s m' sched cause serves = absurd serves
+halts_to at (Stops why) to below new s m' sched cause serves =
+    rw (serves.0, serves.1, serves.2) refl
+
+halts_from : (code : Code) (number : ℕ) (inputs : List ℕ) (to : Option Binding) (stand : Stand)
+    (old new : List Activation) (s : State) (m' : Areas) (sched : Scheduler) (cause : ℕ)
+    → ServesRunning number inputs to old new s.world.memory m' s.sched sched (Some cause)
+    → call_left code number inputs to stand old s
+    ≡ halted_at (spot_at code stand.block stand.at) cause
+    (record s { world = with_memory m' s.world; activations = new; sched = sched })
+halts_from code number inputs to stand [] new s m' sched cause serves = absurd serves
+halts_from code number inputs to stand (a ∷ below) new s m' sched cause serves =
+    halts_to (spot_at code stand.block stand.at) (served number inputs s.sched a) to below new s m'
+    sched cause serves
+
+pub call_halts : (code : Code) (number : ℕ) (inputs : List ℕ) (to : Option Binding)
+    (stand : Stand) (new : List Activation) (s : State) (m' : Areas) (sched : Scheduler) (cause : ℕ)
+    → ServesRunning number inputs to s.activations new s.world.memory m' s.sched sched (Some cause)
+    → call_left code number inputs to stand s.activations s
+    ≡ halted_at (spot_at code stand.block stand.at) cause
+    (record s { world = with_memory m' s.world; activations = new; sched = sched })
+call_halts code number inputs to stand new s m' sched cause serves =
+    halts_from code number inputs to stand s.activations new s m' sched cause serves

@@ -1,0 +1,177 @@
+-- Nothing changes the count of entries but that an entry is counted.
+use Rattle.std.proofs.Common.{◌≡◌, ℕ, ◌+◌, Bool, true, false, List, [], ◌∷◌, length, Option, Some, None, refl, ◌∙◌, arith, if◌then◌else◌}
+use Rattle.plc_base.specs.declared.Spot.{Spot}
+use Rattle.frames.specs.declared.Activation.{Activation}
+use Rattle.frames.specs.declared.bindings.Binding.{Binding}
+use Rattle.machine.specs.Code.{Code}
+use Rattle.machine.specs.Statement.{Step, Went, Ended, SyncError, SysCall, Stop, Stuck, statement}
+use Rattle.ob_sched.specs.Course.{Course, requested}
+use Rattle.ob_sched.specs.Millisecond.{begun, ticked}
+use Rattle.ob_sched.specs.OrganizationBlock.{class_in}
+use Rattle.ob_sched.specs.Request.{best_of}
+use Rattle.ob_sched.specs.StartInformation.{start_info}
+use Rattle.ob_sched.specs.declared.requests.Pending.{Pending}
+use Rattle.ob_sched.specs.declared.start_infos.StartEvent.TheVariants.{Arrival}
+use Rattle.var_access.specs.declared.What.{What}
+use Rattle.var_access.specs.declared.What.TheVariants as what
+use Rattle.controller.specs.Beginning.{ob_in, begun_above}
+use Rattle.controller.specs.CyclePoint.{cycle_point, cycle_info, cycle_passed}
+use Rattle.controller.specs.Errors.{failed, error_answered, error_in, is_synchronous, cause_inside}
+use Rattle.controller.specs.Event.{counted, effect, state_after}
+use Rattle.controller.specs.Replay.{happens, run_from, replay, CountsEntries, CountsHistory}
+use Rattle.controller.specs.Requests.{stopped_if, course_taken, arrived}
+use Rattle.controller.specs.Serving.{Served, Returns, Passes, Stops, after_service, served}
+use Rattle.controller.specs.Settling.{settled, best_started, request_started, request_taken, may_start}
+use Rattle.controller.specs.Start.{start, started_up, startup_ob, before_start}
+use Rattle.controller.specs.State.{State, is_stop, diagnosed, each_diagnosed}
+use Rattle.controller.specs.Stepping.{stepped, stepped_on, after_statement, run_starts, with_activations}
+use Rattle.controller.specs.Stopping.{halted, halted_at, spot_of}
+use Rattle.controller.specs.Ticking.{time_passed, tick_taken, active, timers_moved}
+
+if_counts : (test : Bool) (s t : State) (n : ℕ) → s.entries ≡ n → t.entries ≡ n
+    → (if test then s else t).entries ≡ n
+if_counts true s t n one other = one
+if_counts false s t n one other = other
+
+diagnosed_counts : (records : List (ℕ × ℕ)) (s : State)
+    → (each_diagnosed records s).entries ≡ s.entries
+diagnosed_counts [] s = refl
+diagnosed_counts (one ∷ rest) s = diagnosed_counts rest (diagnosed one.0 one.1 s)
+
+begun_counts : (begun : Option Activation) (s : State)
+    → (begun_above begun s).entries ≡ s.entries
+begun_counts None s = refl
+begun_counts (Some a) s = refl
+
+halted_counts : (code : Code) (cause : ℕ) (s : State) → (halted code cause s).entries ≡ s.entries
+unfolding halted
+halted_counts code cause s = refl
+
+best_counts : (code : Code) (best : Option Pending) (s : State)
+    → (best_started code best s).entries ≡ s.entries
+best_counts code None s = refl
+best_counts code (Some best) s =
+    if_counts (may_start best.class s.activations) (request_started code best s) s s.entries
+    (begun_counts (ob_in code best.class best.ob best.info) (request_taken s)) refl
+
+settled_counts : (code : Code) (s : State) → (settled code s).entries ≡ s.entries
+unfolding settled
+settled_counts code s =
+    if_counts (is_stop s.mode) s (best_started code (best_of s.mode s.sched.pending) s) s.entries
+    refl (best_counts code (best_of s.mode s.sched.pending) s)
+
+cycle_counts : (code : Code) (s : State) → (cycle_point code s).entries ≡ s.entries
+unfolding cycle_point
+cycle_counts code s =
+    begun_counts (ob_in code (class_in s.mode 1) 1 (cycle_info s)) (cycle_passed s)
+
+answered_counts : (fresh : Option Activation) (error : ℕ) (at : Option Spot) (a : Activation)
+    (below : List Activation) (s : State) → (error_answered fresh error at a below s).entries ≡ s.entries
+answered_counts None error at a below s = refl
+answered_counts (Some fresh) error at a below s = refl
+
+failed_counts : (code : Code) (error : ℕ) (at : Option Spot) (a : Activation)
+    (below : List Activation) (s : State) → (failed code error at a below s).entries ≡ s.entries
+unfolding failed
+failed_counts code error at a below s =
+    if_counts (is_synchronous a.ob) (halted_at at cause_inside (diagnosed 4 error s))
+    (error_answered (error_in code error at a) error at a below (diagnosed 4 error s))
+    s.entries refl
+    (answered_counts (error_in code error at a) error at a below (diagnosed 4 error s))
+
+service_counts : (call : Option Spot) (served : Served) (to : Option Binding)
+    (below : List Activation) (s : State) → (after_service call served to below s).entries ≡ s.entries
+service_counts call (Returns r) to below s = refl
+service_counts call (Passes sched a) to below s = refl
+service_counts call (Stops cause) to below s = refl
+
+statement_counts : (code : Code) (step : Step) (ob : ℕ) (at : Option Spot)
+    (below : List Activation) (s : State)
+    → (after_statement code step ob at below s).entries ≡ s.entries
+statement_counts code (Went a w) ob at below s = refl
+statement_counts code (Ended regs w) ob at below s =
+    if_counts _ (run_starts (with_activations w below s)) (with_activations w below s) s.entries
+    refl refl
+statement_counts code (SyncError error a) ob at below s = failed_counts code error at a below s
+statement_counts code (SysCall number given a) ob at below s =
+    service_counts at (served number given.inputs s.sched a) given.result below s
+statement_counts code (Stop cause) ob at below s = refl
+statement_counts code Stuck ob at below s = refl
+
+stepped_on_counts : (code : Code) (activations : List Activation) (s : State)
+    → (stepped_on code activations s).entries ≡ s.entries
+stepped_on_counts code [] s = cycle_counts code s
+stepped_on_counts code (a ∷ below) s =
+    statement_counts code (statement code a s.world) a.ob (spot_of code a.running.frame) below s
+
+stepped_counts : (code : Code) (s : State) → (stepped code s).entries ≡ s.entries
+unfolding stepped
+stepped_counts code s = stepped_on_counts code s.activations s
+
+stopped_counts : (code : Code) (cause : Option ℕ) (s : State)
+    → (stopped_if code cause s).entries ≡ s.entries
+stopped_counts code None s = refl
+stopped_counts code (Some cause) s = halted_counts code cause s
+
+course_counts : (code : Code) (c : Course) (s : State)
+    → (course_taken code c s).entries ≡ s.entries
+course_counts code c s =
+    stopped_counts code c.passed.stop
+    (each_diagnosed c.passed.records.items (record s { sched = c.sched }))
+    ∙ diagnosed_counts c.passed.records.items (record s { sched = c.sched })
+
+arrived_counts : (code : Code) (ob value : ℕ) (s : State)
+    → (arrived code ob value s).entries ≡ s.entries
+unfolding arrived
+arrived_counts code ob value s =
+    if_counts (is_stop s.mode) s
+    (course_taken code
+    (requested s.mode ob (start_info (Arrival ob value) (class_in s.mode ob)) (begun s.sched)) s)
+    s.entries refl
+    (course_counts code
+    (requested s.mode ob (start_info (Arrival ob value) (class_in s.mode ob)) (begun s.sched)) s)
+
+tick_counts : (code : Code) (c : Course) (s : State) → (tick_taken code c s).entries ≡ s.entries
+tick_counts code c s =
+    course_counts code c (record s { world = timers_moved c.passed.ms s.world })
+
+passed_counts : (code : Code) (ms : ℕ) (s : State) → (time_passed code ms s).entries ≡ s.entries
+unfolding time_passed
+passed_counts code ms s =
+    tick_counts code (ticked s.mode (active s.activations) ms s.sched) s
+
+effect_counts : (code : Code) (e : What) (s : State) → (effect code e s).entries ≡ s.entries
+effect_counts code what.Step s =
+    if_counts (is_stop s.mode) s (stepped code s) s.entries refl (stepped_counts code s)
+effect_counts code (what.Input byte value) s = refl
+effect_counts code (what.Arrive ob value) s = arrived_counts code ob value s
+effect_counts code (what.Tick ms) s = passed_counts code ms s
+
+after_counts : (code : Code) (e : What) (s : State)
+    → (state_after code e s).entries ≡ s.entries + 1
+unfolding state_after
+after_counts code e s =
+    settled_counts code (effect code e (counted s)) ∙ effect_counts code e (counted s)
+
+pub counts_entries : CountsEntries
+unfolding happens
+counts_entries code s e = after_counts code e s
+
+run_counts : (code : Code) (s : State) (history : List What)
+    → (run_from code s history).entries ≡ s.entries + length history
+run_counts code s [] = omega arith
+run_counts code s (e ∷ rest) =
+    omega (arith, run_counts code (happens code s e).state rest, counts_entries code s e)
+
+started_counts : (begun : Option Activation) (s : State) → (started_up begun s).entries ≡ s.entries
+started_counts None s = refl
+started_counts (Some a) s = refl
+
+start_counts : (code : Code) → (start code).entries ≡ 0
+unfolding start
+start_counts code = started_counts (startup_ob code) (before_start code)
+
+pub counts_history : CountsHistory
+unfolding replay
+counts_history code history =
+    omega (arith, run_counts code (start code) history, start_counts code)

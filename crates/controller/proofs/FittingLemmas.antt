@@ -1,0 +1,731 @@
+-- Each valid entry keeps a state that fits a program that verifies.
+use Rattle.std.proofs.Common.{◌≡◌, ℕ, ◌+◌, ◌≤◌, Bool, true, false, List, [], ◌∷◌, Option, Some, None, length-append, refl, sym, ◌∙◌, subst, arith, if◌then◌else◌}
+use Rattle.std.specs.Prelude.{◌==◌, not, nat_le, ◌&&◌, ◌-◌, min, is_some, unwrap_or, length, replicate, take}
+use Rattle.std.specs.Option.{option_map}
+use Rattle.std.proofs.lemmas.List.{length-take, length-replicate}
+use Rattle.plc_base.specs.declared.Mode.{Mode}
+use Rattle.plc_base.specs.declared.Mode.TheVariants.{Run, Startup, Stop}
+use Rattle.plc_base.specs.declared.Spot.{Spot}
+use Rattle.plc_mem.specs.Areas.{Areas}
+use Rattle.plc_mem.specs.Fresh.{fresh}
+use Rattle.plc_mem.specs.Peripherals.{with_input, outputs_cleared}
+use Rattle.plc_mem.specs.Refresh.{refreshed}
+use Rattle.frames.specs.Activations.{begun, with_local_byte}
+use Rattle.frames.specs.declared.Activation.{Activation}
+use Rattle.frames.specs.declared.bindings.Binding.{Binding}
+use Rattle.flat_code.specs.Loading.{Verifies}
+use Rattle.flat_code.specs.Programs.{Program}
+use Rattle.machine.specs.Code.{Code, Head}
+use Rattle.machine.specs.Entering.{at_block}
+use Rattle.machine.specs.Fitting.{IsMemoryOf, SameSizes}
+use Rattle.machine.specs.Flat.{code_of}
+use Rattle.machine.specs.Lasting.{FitsProgram, GoesOn, IsReady as IsReadyIn, Lasts, first_frame}
+use Rattle.machine.specs.Statement.{World, Step, Went, Ended, SyncError, SysCall, Stop as Stops, Stuck, statement}
+use Rattle.machine.proofs.Sizes.{same_sizes, sizes_then, same_parts}
+use Rattle.ob_sched.specs.Course.{Course, requested}
+use Rattle.ob_sched.specs.Millisecond.{begun as course_begun, ticked}
+use Rattle.ob_sched.specs.OrganizationBlock.{class_in, is_delay}
+use Rattle.ob_sched.specs.Request.{best_of}
+use Rattle.ob_sched.specs.Scheduler.{Scheduler, started, delay_of, delay_started, delay_cancelled, retriggered}
+use Rattle.ob_sched.specs.StartInformation.{ob_of_error, start_info}
+use Rattle.ob_sched.specs.declared.requests.Pending.{Pending}
+use Rattle.ob_sched.specs.declared.start_infos.StartEvent.TheVariants.{Arrival}
+use Rattle.ob_sched.specs.declared.start_infos.StartInfo.{StartInfo}
+use Rattle.sys_funcs.specs.Disabling.{refusal, all_set}
+use Rattle.sys_funcs.specs.Functions.{dis_airt, en_airt, set_unless, dis_irt, en_irt, srt_dint, can_dint, time_tck, with_delay}
+use Rattle.sys_funcs.specs.Returned.{Returned, returned, passed}
+use Rattle.var_access.specs.declared.What.{What}
+use Rattle.var_access.specs.declared.What.TheVariants as what
+use Rattle.controller.specs.Beginning.{ob_block, ob_frame, told_from, ob_begun, ob_in, begun_above}
+use Rattle.controller.specs.CyclePoint.{cycle_point, cycle_passed, cycle_info}
+use Rattle.var_access.specs.Entry.{IsInRange}
+use Rattle.controller.specs.Errors.{is_synchronous, cause_inside, cause_without, failure, copied_from, error_in, error_answered, failed}
+use Rattle.controller.specs.Event.{counted, effect, state_after}
+use Rattle.controller.specs.Fitting.{AllFit, AreInRange, EntriesKeepFit, FitIsReady, HistoriesAreFit, IsFit, IsSchedule, RestartKeepsFit, StartIsFit}
+use Rattle.controller.specs.MachineLaws.{MachineLaws}
+use Rattle.controller.specs.Ready.{IsReady}
+use Rattle.controller.specs.Replay.{happens, run_from, replay}
+use Rattle.controller.specs.Requests.{stopped_if, course_taken, arrived}
+use Rattle.controller.specs.Serving.{Served, Returns, Passes, Stops as Halts, input, served, result_given, after_service}
+use Rattle.controller.specs.Settling.{may_start, request_taken, request_started, best_started, settled}
+use Rattle.controller.specs.Stack.{IsStack, IsStanding, MayBegin}
+use Rattle.controller.specs.Start.{bits_retained, before_start, cleared, loaded_obs, memory_cleared, restarted, start, started_up, startup_info, startup_ob}
+use Rattle.controller.specs.State.{State, is_stop, diagnosed, each_diagnosed}
+use Rattle.controller.specs.Stepping.{stepped, stepped_on, after_statement, run_starts, ob_ended, with_activations}
+use Rattle.controller.specs.Stopping.{halted, halted_at, spot, spot_of}
+use Rattle.controller.specs.Ticking.{active, tick_taken, time_passed, timers_moved}
+use Rattle.controller.proofs.CallLemmas.{SameServed, served_same, given_same}
+use Rattle.controller.proofs.SameLemmas.{SameStep, statement_same, told_class, told_ob}
+use Rattle.controller.proofs.ScheduleLemmas.{of_either, best_waits, rest_schedule, started_schedule, stopped_schedule, run_schedule, cycle_schedule, restarted_schedule, retriggered_schedule, delay_schedule, cancelled_schedule, all_schedule, requested_known, arrival_waits, ticked_known}
+use Rattle.controller.proofs.StackLemmas.{no_stack}
+use Rattle.controller.proofs.StandingLemmas.{begun_stands, best_class, best_may_begin, cycle_may_begin, error_stands, not_empty, stack_more}
+use Rattle.controller.proofs.StepLemmas.{ended_by, same_stack}
+
+-- ---- where memory keeps its sizes
+
+memory_stays : (p : Program) (m n : Areas) → SameSizes m n → IsMemoryOf (code_of p) m
+    → IsMemoryOf (code_of p) n
+memory_stays p m n same is = sizes_then (fresh (code_of p).blocks) m n is same
+
+all_stay : (l : MachineLaws) (p : Program) (m n : Areas) (activations : List Activation) → SameSizes m n
+    → AllFit p m activations → AllFit p n activations
+all_stay l p m n [] same fit = tt
+all_stay l p m n (a ∷ below) same fit =
+    (l.stays p m n a same fit.0, all_stay l p m n below same fit.1)
+
+-- another memory of the same sizes, with the same activations
+moved_memory : (l : MachineLaws) (p : Program) (s : State) (w : World)
+    → SameSizes s.world.memory w.memory → IsFit p s → IsFit p (record s { world = w })
+moved_memory l p s w same fit = record {
+  memory = memory_stays p s.world.memory w.memory same fit.memory;
+  activations = all_stay l p s.world.memory w.memory s.activations same fit.activations;
+  standing = fit.standing;
+  sched = fit.sched;
+}
+
+other_sched : (p : Program) (s : State) (sched : Scheduler) → IsSchedule sched → IsFit p s
+    → IsFit p (record s { sched = sched })
+other_sched p s sched is fit = record {
+  memory = fit.memory;
+  activations = fit.activations;
+  standing = fit.standing;
+  sched = is;
+}
+
+-- ---- organization blocks that begin
+
+FitsIf : Program → Areas → Option Activation → Type 0
+FitsIf p m None = Unit {0}
+FitsIf p m (Some a) = FitsProgram p m a
+
+told_one : (l : MachineLaws) (p : Program) (m : Areas) (byte value : ℕ) (a : Activation)
+    (told : Option Activation) → with_local_byte 0 byte value a ≡ told → FitsProgram p m a
+    → FitsProgram p m (unwrap_or told a)
+told_one l p m byte value a None is fit = fit
+told_one l p m byte value a (Some b) is fit = l.local_byte p m a b 0 byte value is fit
+
+told_fits : (l : MachineLaws) (p : Program) (m : Areas) (bytes : List ℕ) (byte : ℕ) (a : Activation)
+    → FitsProgram p m a → FitsProgram p m (told_from byte bytes a)
+told_fits l p m [] byte a fit = fit
+told_fits l p m (value ∷ rest) byte a fit =
+    told_fits l p m rest (byte + 1) (unwrap_or (with_local_byte 0 byte value a) a)
+    (told_one l p m byte value a (with_local_byte 0 byte value a) refl fit)
+
+uncut : (n : ℕ) → n ≤ 1024 → min n 1024 ≡ n
+uncut n few = omega arith
+
+begun_fits : (l : MachineLaws) (p : Program) (m : Areas) (class ob : ℕ) (info : StartInfo) (h : Head)
+    → Verifies p → IsMemoryOf (code_of p) m → (code_of p).head (ob_block ob) ≡ Some h
+    → FitsProgram p m (ob_begun class ob info h)
+unfolding ob_begun
+begun_fits l p m class ob info h verifies memory found =
+    told_fits l p m info.bytes 0 (begun class ob (ob_frame ob h))
+    (subst (λ (n : ℕ). FitsProgram p m (begun class ob (first_frame ob n)))
+    (sym (uncut h.local_len (l.room p ob h verifies found)))
+    (l.begins p m class ob h verifies memory found))
+
+ob_fits_by : (l : MachineLaws) (p : Program) (m : Areas) (class ob : ℕ) (info : StartInfo)
+    (found : Option Head) → Verifies p → IsMemoryOf (code_of p) m
+    → (code_of p).head (ob_block ob) ≡ found
+    → FitsIf p m (option_map (ob_begun class ob info) found)
+unfolding FitsIf
+ob_fits_by l p m class ob info None verifies memory is = tt
+ob_fits_by l p m class ob info (Some h) verifies memory is =
+    begun_fits l p m class ob info h verifies memory is
+
+ob_fits : (l : MachineLaws) (p : Program) (m : Areas) (class ob : ℕ) (info : StartInfo) → Verifies p
+    → IsMemoryOf (code_of p) m → FitsIf p m (ob_in (code_of p) class ob info)
+ob_fits l p m class ob info verifies memory =
+    ob_fits_by l p m class ob info ((code_of p).head (ob_block ob)) verifies memory refl
+
+-- its class and its number
+IsOf : (class ob : ℕ) → Option Activation → Type 0
+IsOf class ob None = Unit {0}
+IsOf class ob (Some a) = (a.class ≡ class) × (a.ob ≡ ob)
+
+ob_is_by : (class ob : ℕ) (info : StartInfo) (found : Option Head)
+    → IsOf class ob (option_map (ob_begun class ob info) found)
+unfolding IsOf ob_begun
+ob_is_by class ob info None = tt
+ob_is_by class ob info (Some h) = (
+  told_class info.bytes 0 (begun class ob (ob_frame ob h)),
+  told_ob info.bytes 0 (begun class ob (ob_frame ob h)),
+)
+
+ob_is : (code : Code) (class ob : ℕ) (info : StartInfo) → IsOf class ob (ob_in code class ob info)
+ob_is code class ob info = ob_is_by class ob info (code.head (ob_block ob))
+
+begins_above : (p : Program) (class ob : ℕ) (one : Option Activation) (s : State)
+    → FitsIf p s.world.memory one → IsOf class ob one → MayBegin s.mode class ob s.activations
+    → IsFit p s → IsFit p (begun_above one s)
+unfolding FitsIf IsOf
+begins_above p class ob None s one is may fit = fit
+begins_above p class ob (Some a) s one is may fit = record {
+  memory = fit.memory;
+  activations = (one, fit.activations);
+  standing = begun_stands s.mode class ob a s.activations is.0 is.1 fit.standing may;
+  sched = fit.sched;
+}
+
+-- ---- records and stops
+
+diagnosed_fit : (p : Program) (code info : ℕ) (s : State) → IsFit p s
+    → IsFit p (diagnosed code info s)
+diagnosed_fit p code info s fit = record {
+  memory = fit.memory;
+  activations = fit.activations;
+  standing = fit.standing;
+  sched = fit.sched;
+}
+
+each_fit : (p : Program) (records : List (ℕ × ℕ)) (s : State) → IsFit p s
+    → IsFit p (each_diagnosed records s)
+each_fit p [] s fit = fit
+each_fit p (one ∷ rest) s fit =
+    each_fit p rest (diagnosed one.0 one.1 s) (diagnosed_fit p one.0 one.1 s fit)
+
+halts : (l : MachineLaws) (p : Program) (at : Option Spot) (cause : ℕ) (s : State) → IsFit p s
+    → IsFit p (halted_at at cause s)
+halts l p at cause s fit = record {
+  memory =
+      memory_stays p s.world.memory (outputs_cleared s.world.memory)
+      (l.clears p s.world.memory fit.memory) fit.memory;
+  activations = tt;
+  standing = record { stack = tt; startup = tt };
+  sched = stopped_schedule s.sched fit.sched;
+}
+
+halted_fits : (l : MachineLaws) (p : Program) (cause : ℕ) (s : State) → IsFit p s
+    → IsFit p (halted (code_of p) cause s)
+unfolding halted
+halted_fits l p cause s fit = halts l p (spot (code_of p) s.activations) cause s fit
+
+-- ---- synchronous errors
+
+copied_fits : (l : MachineLaws) (p : Program) (m : Areas) (a : Activation) (one : Option Activation)
+    → FitsIf p m one → FitsIf p m (option_map (copied_from a) one)
+unfolding FitsIf
+copied_fits l p m a None fit = tt
+copied_fits l p m a (Some fresh) fit =
+    l.delay p m (record fresh { running = record fresh.running { regs = at_block a.running.regs } })
+    a.delay (l.registers p m fresh (at_block a.running.regs) fit)
+
+copied_is : (class ob : ℕ) (a : Activation) (one : Option Activation) → IsOf class ob one
+    → IsOf class ob (option_map (copied_from a) one)
+unfolding IsOf
+copied_is class ob a None is = tt
+copied_is class ob a (Some fresh) is = is
+
+-- the activation in which the error came has gone on to `a`
+answers : (l : MachineLaws) (p : Program) (one : Option Activation) (error : ℕ) (at : Option Spot)
+    (a : Activation) (below : List Activation) (s : State) → is_synchronous a.ob ≡ false
+    → FitsIf p s.world.memory one → IsOf a.class (ob_of_error error) one
+    → AllFit p s.world.memory (a ∷ below) → IsStanding s.mode (a ∷ below) → IsFit p s
+    → IsFit p (error_answered one error at a below s)
+unfolding FitsIf IsOf
+answers l p None error at a below s single one is all standing fit =
+    halts l p at (cause_without (ob_of_error error)) s fit
+answers l p (Some fresh) error at a below s single one is all standing fit = record {
+  memory = fit.memory;
+  activations = (one, all);
+  standing = error_stands s.mode error fresh a below is.0 is.1 single standing;
+  sched = fit.sched;
+}
+
+failed_fits : (l : MachineLaws) (p : Program) (error : ℕ) (at : Option Spot) (a : Activation)
+    (below : List Activation) (s : State) → Verifies p → AllFit p s.world.memory (a ∷ below)
+    → IsStanding s.mode (a ∷ below) → IsFit p s → IsFit p (failed (code_of p) error at a below s)
+unfolding failed
+failed_fits l p error at a below s verifies all standing fit = by (is_synchronous a.ob) refl
+  where
+    recorded : IsFit p (diagnosed 4 error s)
+    recorded = diagnosed_fit p 4 error s fit
+
+    by : (test : Bool) → is_synchronous a.ob ≡ test
+        → IsFit p (if test then halted_at at cause_inside (diagnosed 4 error s)
+        else error_answered (error_in (code_of p) error at a) error at a below (diagnosed 4 error s))
+    by true is = halts l p at cause_inside (diagnosed 4 error s) recorded
+    by false is =
+        answers l p (error_in (code_of p) error at a) error at a below (diagnosed 4 error s) is
+        (copied_fits l p s.world.memory a _
+        (ob_fits l p s.world.memory a.class (ob_of_error error)
+        (start_info (failure error at) a.class) verifies fit.memory))
+        (copied_is a.class (ob_of_error error) a _
+        (ob_is (code_of p) a.class (ob_of_error error) (start_info (failure error at) a.class)))
+        all standing recorded
+
+-- ---- system functions
+
+-- what a system function leaves fits
+record Kept (p : Program) (m : Areas) (s : Scheduler) (a : Activation) : Type 0 where
+  pub fits : FitsProgram p m a
+  pub sched : IsSchedule s
+
+KeepsReturned : Program → Areas → Returned → Type 0
+KeepsReturned p m r = Kept p m r.sched r.activation
+
+returns : (l : MachineLaws) (p : Program) (m : Areas) (s : Scheduler) (a : Activation) (value : ℕ)
+    → FitsProgram p m a → IsSchedule s → KeepsReturned p m (returned s a value)
+unfolding KeepsReturned
+returns l p m s a value fit is = record {
+  fits = l.registers p m a _ fit;
+  sched = is;
+}
+
+dis_airt_fits : (l : MachineLaws) (p : Program) (m : Areas) (s : Scheduler) (a : Activation)
+    → FitsProgram p m a → IsSchedule s → KeepsReturned p m (dis_airt s a)
+unfolding dis_airt
+dis_airt_fits l p m s a fit is =
+    returns l p m s (with_delay (min (a.delay + 1) 32767) a) (min (a.delay + 1) 32767)
+    (l.delay p m a (min (a.delay + 1) 32767) fit) is
+
+en_airt_fits : (l : MachineLaws) (p : Program) (m : Areas) (s : Scheduler) (a : Activation)
+    → FitsProgram p m a → IsSchedule s → KeepsReturned p m (en_airt s a)
+unfolding en_airt
+en_airt_fits l p m s a fit is =
+    of_either (KeepsReturned p m) (a.delay == 0) (returned s a 0x8080)
+    (returned s (with_delay (a.delay - 1) a) (a.delay - 1))
+    (returns l p m s a 0x8080 fit is)
+    (returns l p m s (with_delay (a.delay - 1) a) (a.delay - 1) (l.delay p m a (a.delay - 1) fit) is)
+
+set_fits : (l : MachineLaws) (p : Program) (m : Areas) (code : Option ℕ) (disabled : Bool)
+    (mode ob_nr : ℕ) (s : Scheduler) (a : Activation) → FitsProgram p m a → IsSchedule s
+    → KeepsReturned p m (set_unless code disabled mode ob_nr s a)
+set_fits l p m (Some code) disabled mode ob_nr s a fit is = returns l p m s a code fit is
+set_fits l p m None disabled mode ob_nr s a fit is =
+    returns l p m (all_set disabled mode ob_nr s) a 0 fit (all_schedule disabled mode ob_nr s is)
+
+dis_irt_fits : (l : MachineLaws) (p : Program) (m : Areas) (s : Scheduler) (a : Activation)
+    (mode ob_nr : ℕ) → FitsProgram p m a → IsSchedule s
+    → KeepsReturned p m (dis_irt s a mode ob_nr)
+unfolding dis_irt
+dis_irt_fits l p m s a mode ob_nr fit is =
+    set_fits l p m (refusal mode ob_nr) true mode ob_nr s a fit is
+
+en_irt_fits : (l : MachineLaws) (p : Program) (m : Areas) (s : Scheduler) (a : Activation)
+    (mode ob_nr : ℕ) → FitsProgram p m a → IsSchedule s
+    → KeepsReturned p m (en_irt s a mode ob_nr)
+unfolding en_irt
+en_irt_fits l p m s a mode ob_nr fit is =
+    set_fits l p m (refusal mode ob_nr) false mode ob_nr s a fit is
+
+srt_dint_fits : (l : MachineLaws) (p : Program) (m : Areas) (s : Scheduler) (a : Activation)
+    (ob_nr dtime sign : ℕ) → FitsProgram p m a → IsSchedule s
+    → KeepsReturned p m (srt_dint s a ob_nr dtime sign)
+unfolding srt_dint
+srt_dint_fits l p m s a ob_nr dtime sign fit is =
+    of_either (KeepsReturned p m) (not (is_delay ob_nr)) (returned s a 0x8090) _
+    (returns l p m s a 0x8090 fit is)
+    (of_either (KeepsReturned p m) (not (nat_le 1 dtime && nat_le dtime 60000))
+    (returned s a 0x8091) (returned (delay_started ob_nr dtime s) a 0)
+    (returns l p m s a 0x8091 fit is)
+    (returns l p m (delay_started ob_nr dtime s) a 0 fit (delay_schedule ob_nr dtime s is)))
+
+can_dint_fits : (l : MachineLaws) (p : Program) (m : Areas) (s : Scheduler) (a : Activation) (ob_nr : ℕ)
+    → FitsProgram p m a → IsSchedule s → KeepsReturned p m (can_dint s a ob_nr)
+unfolding can_dint
+can_dint_fits l p m s a ob_nr fit is =
+    of_either (KeepsReturned p m) (not (is_delay ob_nr)) (returned s a 0x8090) _
+    (returns l p m s a 0x8090 fit is)
+    (of_either (KeepsReturned p m) (is_some (delay_of s.countdowns ob_nr))
+    (returned (delay_cancelled ob_nr s) a 0) (returned s a 0x80A0)
+    (returns l p m (delay_cancelled ob_nr s) a 0 fit (cancelled_schedule ob_nr s is))
+    (returns l p m s a 0x80A0 fit is))
+
+time_tck_fits : (l : MachineLaws) (p : Program) (m : Areas) (s : Scheduler) (a : Activation)
+    → FitsProgram p m a → IsSchedule s → KeepsReturned p m (time_tck s a)
+unfolding time_tck KeepsReturned
+time_tck_fits l p m s a fit is = record { fits = l.registers p m a _ fit; sched = is }
+
+KeepsServed : Program → Areas → Served → Type 0
+KeepsServed p m (Returns r) = KeepsReturned p m r
+KeepsServed p m (Passes sched a) = Kept p m sched a
+KeepsServed p m (Halts cause) = Unit {0}
+
+served_fits : (l : MachineLaws) (p : Program) (m : Areas) (number : ℕ) (inputs : List ℕ) (s : Scheduler)
+    (a : Activation) → FitsProgram p m a → IsSchedule s
+    → KeepsServed p m (served number inputs s a)
+unfolding served KeepsServed
+served_fits l p m number inputs s a fit is =
+    of_either (KeepsServed p m) (number == 32) _ _
+    (srt_dint_fits l p m s a (input 0 inputs) (input 1 inputs) (input 2 inputs) fit is)
+    (of_either (KeepsServed p m) (number == 33) _ _
+    (can_dint_fits l p m s a (input 0 inputs) fit is)
+    (of_either (KeepsServed p m) (number == 39) _ _
+    (dis_irt_fits l p m s a (input 0 inputs) (input 1 inputs) fit is)
+    (of_either (KeepsServed p m) (number == 40) _ _
+    (en_irt_fits l p m s a (input 0 inputs) (input 1 inputs) fit is)
+    (of_either (KeepsServed p m) (number == 41) _ _ (dis_airt_fits l p m s a fit is)
+    (of_either (KeepsServed p m) (number == 42) _ _ (en_airt_fits l p m s a fit is)
+    (of_either (KeepsServed p m) (number == 43) (Passes (retriggered s) (passed a)) _
+    (record { fits = l.registers p m a _ fit; sched = retriggered_schedule s is })
+    (of_either (KeepsServed p m) (number == 46) (Halts 1) _ tt (time_tck_fits l p m s a fit is))))))))
+
+given_fits : (l : MachineLaws) (p : Program) (m : Areas) (to : Option Binding) (value : ℕ)
+    (a : Activation) → Verifies p → FitsProgram p m a
+    → GoesOn p m (result_given to value a m).memory (result_given to value a m).activation
+given_fits l p m None value a verifies fit = record { sizes = same_sizes m; fits = fit }
+given_fits l p m (Some to) value a verifies fit =
+    l.result p m _ a _ to value verifies fit (refl, refl)
+
+service_fits : (l : MachineLaws) (p : Program) (call : Option Spot) (sv : Served) (to : Option Binding)
+    (a : Activation) (below : List Activation) (s : State) → Verifies p
+    → KeepsServed p s.world.memory sv → SameServed a sv → AllFit p s.world.memory below
+    → IsStanding s.mode (a ∷ below) → IsFit p s → IsFit p (after_service call sv to below s)
+unfolding KeepsServed KeepsReturned SameServed
+service_fits l p call (Returns r) to a below s verifies kept same rest standing fit =
+    let goes = given_fits l p s.world.memory to r.value r.activation verifies kept.fits in
+    record {
+      memory = memory_stays p s.world.memory _ goes.sizes fit.memory;
+      activations = (goes.fits, all_stay l p s.world.memory _ below goes.sizes rest);
+      standing =
+          same_stack s.mode a (result_given to r.value r.activation s.world.memory).activation below
+          (given_same to r.value a r.activation s.world.memory same) standing;
+      sched = kept.sched;
+    }
+service_fits l p call (Passes sched b) to a below s verifies kept same rest standing fit = record {
+  memory = fit.memory;
+  activations = (kept.fits, rest);
+  standing = same_stack s.mode a b below same standing;
+  sched = kept.sched;
+}
+service_fits l p call (Halts cause) to a below s verifies kept same rest standing fit =
+    halts l p call cause s fit
+
+-- ---- a statement
+
+run_starts_fits : (p : Program) (s : State) → IsStanding Run s.activations → IsFit p s
+    → IsFit p (run_starts s)
+run_starts_fits p s standing fit = record {
+  memory = fit.memory;
+  activations = fit.activations;
+  standing = standing;
+  sched = run_schedule s.sched fit.sched;
+}
+
+ended_fits : (l : MachineLaws) (p : Program) (w : World) (a : Activation) (below : List Activation)
+    (s : State) → SameSizes s.world.memory w.memory → AllFit p s.world.memory below
+    → IsStanding s.mode (a ∷ below) → IsFit p s
+    → IsFit p (ob_ended a.ob (with_activations w below s))
+ended_fits l p w a below s same rest standing fit = by (a.ob == 100) refl
+  where
+    memory : IsMemoryOf (code_of p) w.memory
+    memory = memory_stays p s.world.memory w.memory same fit.memory
+
+    all : AllFit p w.memory below
+    all = all_stay l p s.world.memory w.memory below same rest
+
+    by : (test : Bool) → (a.ob == 100) ≡ test
+        → IsFit p (if test then run_starts (with_activations w below s)
+        else with_activations w below s)
+    by true is = record {
+      memory = memory;
+      activations = all;
+      standing = ended_by true s.mode a below is standing;
+      sched = run_schedule s.sched fit.sched;
+    }
+    by false is = record {
+      memory = memory;
+      activations = all;
+      standing = ended_by false s.mode a below is standing;
+      sched = fit.sched;
+    }
+
+statement_fits : (l : MachineLaws) (p : Program) (step : Step) (a : Activation) (at : Option Spot)
+    (below : List Activation) (s : State) → Verifies p → Lasts p s.world step → SameStep a step
+    → AllFit p s.world.memory below → IsStanding s.mode (a ∷ below) → IsFit p s
+    → IsFit p (after_statement (code_of p) step a.ob at below s)
+statement_fits l p (Went b w) a at below s verifies lasts same rest standing fit = record {
+  memory = memory_stays p s.world.memory w.memory lasts.sizes fit.memory;
+  activations = (lasts.fits, all_stay l p s.world.memory w.memory below lasts.sizes rest);
+  standing = same_stack s.mode a b below same standing;
+  sched = fit.sched;
+}
+statement_fits l p (Ended regs w) a at below s verifies lasts same rest standing fit =
+    ended_fits l p w a below s lasts rest standing fit
+statement_fits l p (SyncError error b) a at below s verifies lasts same rest standing fit =
+    failed_fits l p error at b below s verifies (lasts.1, rest)
+    (same_stack s.mode a b below same standing) fit
+statement_fits l p (SysCall number given b) a at below s verifies lasts same rest standing fit =
+    service_fits l p at (served number given.inputs s.sched b) given.result b below s verifies
+    (served_fits l p s.world.memory number given.inputs s.sched b lasts.2 fit.sched)
+    (served_same number given.inputs s.sched b) rest
+    (same_stack s.mode a b below same standing) fit
+statement_fits l p (Stops cause) a at below s verifies lasts same rest standing fit =
+    halts l p at cause s fit
+statement_fits l p Stuck a at below s verifies lasts same rest standing fit = absurd lasts
+
+-- ---- a step
+
+passed_fits : (l : MachineLaws) (p : Program) (s : State) → IsFit p s → IsFit p (cycle_passed s)
+passed_fits l p s fit =
+    let same : SameSizes s.world.memory (refreshed s.world.memory) =
+    l.refreshes p s.world.memory fit.memory in
+    record {
+      memory = memory_stays p s.world.memory (refreshed s.world.memory) same fit.memory;
+      activations =
+          all_stay l p s.world.memory (refreshed s.world.memory) s.activations same fit.activations;
+      standing = fit.standing;
+      sched = cycle_schedule s.sched fit.sched;
+    }
+
+cycle_fits : (l : MachineLaws) (p : Program) (s : State) → Verifies p → s.activations ≡ []
+    → is_stop s.mode ≡ false → IsFit p s → IsFit p (cycle_point (code_of p) s)
+unfolding cycle_point
+cycle_fits l p s verifies idle running fit =
+    let next : IsFit p (cycle_passed s) = passed_fits l p s fit in
+    begins_above p (class_in s.mode 1) 1
+    (ob_in (code_of p) (class_in s.mode 1) 1 (cycle_info s)) (cycle_passed s)
+    (ob_fits l p (refreshed s.world.memory) (class_in s.mode 1) 1 (cycle_info s) verifies next.memory)
+    (ob_is (code_of p) (class_in s.mode 1) 1 (cycle_info s))
+    (cycle_may_begin s.mode s.activations idle running fit.standing) next
+
+stepped_on_fits : (l : MachineLaws) (p : Program) (activations : List Activation) (s : State)
+    → Verifies p → s.activations ≡ activations → is_stop s.mode ≡ false → IsFit p s
+    → IsFit p (stepped_on (code_of p) activations s)
+stepped_on_fits l p [] s verifies is running fit = cycle_fits l p s verifies is running fit
+stepped_on_fits l p (a ∷ below) s verifies is running fit =
+    let all : AllFit p s.world.memory (a ∷ below) =
+    subst (λ (acts : List Activation). AllFit p s.world.memory acts) is fit.activations in
+    statement_fits l p (statement (code_of p) a s.world) a (spot_of (code_of p) a.running.frame)
+    below s verifies (l.lasts p a s.world verifies all.0) (statement_same (code_of p) a s.world) all.1
+    (subst (λ (acts : List Activation). IsStanding s.mode acts) is fit.standing) fit
+
+step_fits : (l : MachineLaws) (p : Program) (s : State) → Verifies p → is_stop s.mode ≡ false
+    → IsFit p s → IsFit p (stepped (code_of p) s)
+unfolding stepped
+step_fits l p s verifies running fit =
+    stepped_on_fits l p s.activations s verifies refl running fit
+
+unless_stop : (p : Program) (s t : State) → IsFit p s
+    → (is_stop s.mode ≡ false → IsFit p t) → IsFit p (if is_stop s.mode then s else t)
+unless_stop p s t fit next = by (is_stop s.mode) refl
+  where
+    by : (test : Bool) → is_stop s.mode ≡ test → IsFit p (if test then s else t)
+    by true is = fit
+    by false is = next is
+
+-- ---- arrivals and passing time
+
+stopped_fits : (l : MachineLaws) (p : Program) (cause : Option ℕ) (s : State) → IsFit p s
+    → IsFit p (stopped_if (code_of p) cause s)
+stopped_fits l p None s fit = fit
+stopped_fits l p (Some cause) s fit = halted_fits l p cause s fit
+
+course_fits : (l : MachineLaws) (p : Program) (c : Course) (s : State) → IsSchedule c.sched → IsFit p s
+    → IsFit p (course_taken (code_of p) c s)
+course_fits l p c s is fit =
+    stopped_fits l p c.passed.stop
+    (each_diagnosed c.passed.records.items (record s { sched = c.sched }))
+    (each_fit p c.passed.records.items (record s { sched = c.sched })
+    (other_sched p s c.sched is fit))
+
+arrived_fits : (l : MachineLaws) (p : Program) (ob value : ℕ) (s : State)
+    → IsInRange (what.Arrive ob value) → IsFit p s → IsFit p (arrived (code_of p) ob value s)
+unfolding arrived
+arrived_fits l p ob value s known fit =
+    unless_stop p s _ fit
+    (λ running. course_fits l p
+    (requested s.mode ob (start_info (Arrival ob value) (class_in s.mode ob)) (course_begun s.sched))
+    s
+    (requested_known s.mode ob (start_info (Arrival ob value) (class_in s.mode ob))
+    (course_begun s.sched) (arrival_waits ob known) fit.sched)
+    fit)
+
+tick_fits : (l : MachineLaws) (p : Program) (c : Course) (s : State) → IsSchedule c.sched → IsFit p s
+    → IsFit p (tick_taken (code_of p) c s)
+tick_fits l p c s is fit =
+    course_fits l p c (record s { world = timers_moved c.passed.ms s.world }) is
+    (moved_memory l p s (timers_moved c.passed.ms s.world) (same_sizes s.world.memory) fit)
+
+time_fits : (l : MachineLaws) (p : Program) (ms : ℕ) (s : State) → IsFit p s
+    → IsFit p (time_passed (code_of p) ms s)
+unfolding time_passed
+time_fits l p ms s fit =
+    tick_fits l p (ticked s.mode (active s.activations) ms s.sched) s
+    (ticked_known s.mode (active s.activations) ms s.sched fit.sched) fit
+
+-- ---- an input
+
+input_fits : (l : MachineLaws) (m : Areas) (byte value : ℕ) (new : Option Areas)
+    → with_input m byte value ≡ new → SameSizes m (unwrap_or new m)
+input_fits l m byte value None is = same_sizes m
+input_fits l m byte value (Some n) is = l.inputs m n byte value is
+
+-- ---- an entry
+
+counted_fits : (p : Program) (s : State) → IsFit p s → IsFit p (counted s)
+counted_fits p s fit = record {
+  memory = fit.memory;
+  activations = fit.activations;
+  standing = fit.standing;
+  sched = fit.sched;
+}
+
+effect_fits : (l : MachineLaws) (p : Program) (e : What) (s : State) → Verifies p → IsInRange e
+    → IsFit p s → IsFit p (effect (code_of p) e s)
+effect_fits l p what.Step s verifies range fit =
+    unless_stop p s (stepped (code_of p) s) fit (λ running. step_fits l p s verifies running fit)
+effect_fits l p (what.Input byte value) s verifies range fit =
+    moved_memory l p s _
+    (input_fits l s.world.memory byte value (with_input s.world.memory byte value) refl) fit
+effect_fits l p (what.Arrive ob value) s verifies range fit = arrived_fits l p ob value s range fit
+effect_fits l p (what.Tick ms) s verifies range fit = time_fits l p ms s fit
+
+-- ---- settling
+
+request_fits : (l : MachineLaws) (p : Program) (best : Pending) (s : State) → Verifies p
+    → MayBegin s.mode best.class best.ob s.activations → IsFit p s
+    → IsFit p (request_started (code_of p) best s)
+request_fits l p best s verifies may fit =
+    begins_above p best.class best.ob (ob_in (code_of p) best.class best.ob best.info)
+    (request_taken s)
+    (ob_fits l p s.world.memory best.class best.ob best.info verifies fit.memory)
+    (ob_is (code_of p) best.class best.ob best.info) may
+    (other_sched p s (started s.sched) (started_schedule s.sched fit.sched) fit)
+
+best_fits : (l : MachineLaws) (p : Program) (best : Option Pending) (s : State) → Verifies p
+    → is_stop s.mode ≡ false → best_of s.mode s.sched.pending ≡ best → IsFit p s
+    → IsFit p (best_started (code_of p) best s)
+best_fits l p None s verifies running is fit = fit
+best_fits l p (Some best) s verifies running is fit =
+    by (may_start best.class s.activations) refl
+  where
+    by : (test : Bool) → may_start best.class s.activations ≡ test
+        → IsFit p (if test then request_started (code_of p) best s else s)
+    by true may =
+        request_fits l p best s verifies
+        (best_may_begin s.mode best.class best.ob s.activations running
+        (best_waits s.mode s.sched.pending best is fit.sched.pending)
+        (best_class s.mode s.sched.pending best is) may fit.standing) fit
+    by false may = fit
+
+settled_fits : (l : MachineLaws) (p : Program) (s : State) → Verifies p → IsFit p s
+    → IsFit p (settled (code_of p) s)
+unfolding settled
+settled_fits l p s verifies fit =
+    unless_stop p s (best_started (code_of p) (best_of s.mode s.sched.pending) s) fit
+    (λ running. best_fits l p (best_of s.mode s.sched.pending) s verifies running refl fit)
+
+after_fits : (l : MachineLaws) (p : Program) (s : State) (e : What) → Verifies p → IsInRange e
+    → IsFit p s → IsFit p (state_after (code_of p) e s)
+unfolding state_after
+after_fits l p s e verifies range fit =
+    settled_fits l p (effect (code_of p) e (counted s)) verifies
+    (effect_fits l p e (counted s) verifies range (counted_fits p s fit))
+
+-- ---- the starts
+
+started_up_fits : (p : Program) (one : Option Activation) (s : State)
+    → FitsIf p s.world.memory one → IsOf 27 100 one → s.activations ≡ [] → IsFit p s
+    → IsFit p (started_up one s)
+unfolding FitsIf IsOf
+started_up_fits p None s one is idle fit =
+    run_starts_fits p s
+    (subst (λ (acts : List Activation). IsStanding Run acts) (sym idle)
+    (record { stack = tt; startup = tt })) fit
+started_up_fits p (Some a) s one is idle fit = record {
+  memory = fit.memory;
+  activations = (one, fit.activations);
+  standing = record {
+    stack =
+        subst (λ (acts : List Activation). IsStack Startup (a ∷ acts)) (sym idle)
+        (stack_more Startup 27 100 a [] is.0 is.1 tt
+        (refl, record { stands = refl; class_is = refl; above = tt }));
+    startup = not_empty Startup a s.activations;
+  };
+  sched = fit.sched;
+}
+
+before_fits : (l : MachineLaws) (p : Program) → IsFit p (before_start (code_of p))
+before_fits l p = record {
+  memory = l.first p;
+  activations = tt;
+  standing = record { stack = tt; startup = tt };
+  sched = rest_schedule (loaded_obs (code_of p));
+}
+
+-- a restart changes no size
+bits_length : (bits : List ℕ) → length bits ≡ 256 → length (bits_retained bits) ≡ 256
+bits_length bits is =
+    let cut : List ℕ = replicate 240 0 in
+    let count : length cut ≡ 240 = length-replicate {A = ℕ} 240 0 in
+    omega (arith, length-append (take 16 bits) cut, length-take 16 bits, count, is)
+
+cleared_sizes : (p : Program) (m : Areas) → IsMemoryOf (code_of p) m
+    → SameSizes m (memory_cleared m)
+unfolding fresh
+cleared_sizes p m is = record {
+  inputs = sym is.inputs;
+  outputs = sym is.outputs;
+  bit_memory = bits_length m.bit_memory is.bit_memory ∙ sym is.bit_memory;
+  peripheral_inputs = same_parts m.peripheral_inputs;
+  peripheral_outputs = same_parts m.peripheral_outputs;
+  data_blocks = λ number. refl;
+}
+
+cleared_fits : (l : MachineLaws) (p : Program) (s : State) → IsFit p s → IsFit p (cleared s)
+cleared_fits l p s fit =
+    let same : SameSizes s.world.memory (memory_cleared s.world.memory) =
+    cleared_sizes p s.world.memory fit.memory in
+    record {
+      memory = memory_stays p s.world.memory (memory_cleared s.world.memory) same fit.memory;
+      activations =
+          all_stay l p s.world.memory (memory_cleared s.world.memory) s.activations same
+          fit.activations;
+      standing = fit.standing;
+      sched = restarted_schedule s.sched fit.sched;
+    }
+
+-- ---- the laws
+
+pub ready : MachineLaws → FitIsReady
+ready l p s verifies fit = by s.activations fit.activations
+  where
+    by : (activations : List Activation) → AllFit p s.world.memory activations
+        → IsReady (code_of p) activations
+    by [] all = tt
+    by (a ∷ below) all =
+        let r : IsReadyIn p a = l.goes p s.world.memory a verifies all.0 in
+        record { stands = r.stands; depth = r.depth; there = r.there }
+
+pub start_fits : MachineLaws → StartIsFit
+unfolding start
+start_fits l p verifies =
+    let fit : IsFit p (before_start (code_of p)) = before_fits l p in
+    started_up_fits p (startup_ob (code_of p)) (before_start (code_of p))
+    (ob_fits l p (before_start (code_of p)).world.memory 27 100 startup_info verifies fit.memory)
+    (ob_is (code_of p) 27 100 startup_info) refl fit
+
+pub entries_keep : MachineLaws → EntriesKeepFit
+unfolding happens
+entries_keep l p s e verifies range fit = after_fits l p s e verifies range fit
+
+run_fits : (l : MachineLaws) (p : Program) (s : State) (history : List What) → Verifies p
+    → AreInRange history → IsFit p s → IsFit p (run_from (code_of p) s history)
+run_fits l p s [] verifies range fit = fit
+run_fits l p s (e ∷ rest) verifies range fit =
+    run_fits l p (happens (code_of p) s e).state rest verifies range.1
+    (entries_keep l p s e verifies range.0 fit)
+
+pub histories_fit : MachineLaws → HistoriesAreFit
+unfolding replay
+histories_fit l p history verifies range =
+    run_fits l p (start (code_of p)) history verifies range (start_fits l p verifies)
+
+stop_idle : (mode : Mode) (activations : List Activation) → is_stop mode ≡ true
+    → IsStack mode activations → activations ≡ []
+stop_idle mode [] is stack = refl
+stop_idle Run (a ∷ below) is stack = absurd cc
+stop_idle Startup (a ∷ below) is stack = absurd cc
+stop_idle (Stop cause at) (a ∷ below) is stack = absurd (no_stack cause at a below stack)
+
+pub restart_keeps : MachineLaws → RestartKeepsFit
+unfolding restarted
+restart_keeps l p s verifies stop fit =
+    let next : IsFit p (cleared (diagnosed 6 0 s)) =
+    cleared_fits l p (diagnosed 6 0 s) (diagnosed_fit p 6 0 s fit) in
+    started_up_fits p (startup_ob (code_of p)) (cleared (diagnosed 6 0 s))
+    (ob_fits l p (memory_cleared s.world.memory) 27 100 startup_info verifies next.memory)
+    (ob_is (code_of p) 27 100 startup_info)
+    (stop_idle s.mode s.activations stop fit.standing.stack) next

@@ -1,0 +1,148 @@
+-- What may begin above those that stand, and that there is room for it.
+use Rattle.std.proofs.Common.{◌≡◌, ℕ, ◌<◌, Bool, true, false, ◌||◌, IsTrue, List, [], ◌∷◌, length, Some, refl, sym, ap, ◌∙◌, subst, rules, arith, if◌then◌else◌}
+use Rattle.std.specs.Prelude.{◌==◌}
+use Rattle.std.proofs.lemmas.Bool.Decides.{nat_tests}
+use Rattle.plc_base.specs.declared.Mode.{Mode}
+use Rattle.plc_base.specs.declared.Mode.TheVariants.{Run, Startup, Stop}
+use Rattle.frames.specs.Activations.{begun}
+use Rattle.frames.specs.declared.Activation.{Activation}
+use Rattle.machine.specs.Code.{Head}
+use Rattle.ob_sched.specs.OrganizationBlock.{can_wait, class_in, is_error}
+use Rattle.ob_sched.specs.Request.{Request, best_of}
+use Rattle.ob_sched.specs.StartInformation.{ob_of_error}
+use Rattle.ob_sched.specs.declared.requests.Pending.{Pending}
+use Rattle.controller.specs.Beginning.{ob_frame}
+use Rattle.controller.specs.Errors.{is_synchronous}
+use Rattle.controller.specs.Settling.{may_start}
+use Rattle.controller.specs.Stack.{IsAbove, IsStarted, StandsOn, IsStack, RunsInStartup, IsStanding, MayBegin}
+use Rattle.controller.specs.State.{is_stop}
+use Rattle.controller.proofs.StackLemmas.{at_most_48, startup_class}
+
+-- some activation of a class
+some_head : Head
+some_head = record { local_len = 0; instance_len = 0; params = [] }
+
+abbrev some_of : (class ob : ℕ) → Activation
+some_of class ob = begun class ob (ob_frame ob some_head)
+
+pub not_empty : (mode : Mode) (a : Activation) (below : List Activation)
+    → RunsInStartup mode (a ∷ below)
+not_empty Run a below = tt
+not_empty Startup a below = tt
+not_empty (Stop cause at) a below = tt
+
+pub stack_more : (mode : Mode) (class ob : ℕ) (a : Activation) (below : List Activation)
+    → a.class ≡ class → a.ob ≡ ob → IsStack mode below → MayBegin mode class ob below
+    → IsStack mode (a ∷ below)
+stack_more mode class ob a below class_is ob_is stack may = (
+  subst (λ test. StandsOn test mode a below) (sym (ap is_synchronous ob_is ∙ may.0))
+      (subst (λ c. IsStarted mode c a.ob below) (sym class_is)
+      (subst (λ o. IsStarted mode class o below) (sym ob_is) may.1)),
+  stack,
+)
+
+pub room_to_begin : (mode : Mode) (class ob : ℕ) (below : List Activation)
+    → IsStanding mode below → MayBegin mode class ob below → length below < 48
+room_to_begin mode class ob below standing may =
+    omega (
+      arith,
+      at_most_48 mode (some_of class ob ∷ below)
+          (stack_more mode class ob (some_of class ob) below refl refl standing.stack may),
+    )
+
+pub begun_stands : (mode : Mode) (class ob : ℕ) (a : Activation) (below : List Activation)
+    → a.class ≡ class → a.ob ≡ ob → IsStanding mode below → MayBegin mode class ob below
+    → IsStanding mode (a ∷ below)
+begun_stands mode class ob a below class_is ob_is standing may = record {
+  stack = stack_more mode class ob a below class_is ob_is standing.stack may;
+  startup = not_empty mode a below;
+}
+
+-- the best request
+pub best_class : (mode : Mode) (pending : List Request) (best : Pending)
+    → best_of mode pending ≡ Some best → best.class ≡ class_in mode best.ob
+best_class mode [] best h = absurd cc
+best_class mode (first ∷ rest) best h =
+    let same : record { ob = first.0; class = class_in mode first.0; info = first.1 } ≡ best =
+    search (rules, h) in
+    subst (λ (b : Pending). b.class ≡ class_in mode b.ob) same refl
+
+no_synchronous : (ob : ℕ) → IsTrue (can_wait ob) → is_synchronous ob ≡ false
+no_synchronous ob h = grind (arith, nat_tests)
+
+above_27 : (ob class : ℕ) → IsTrue (can_wait ob) → class ≡ class_in Startup ob → 27 < class
+    → IsTrue (is_error ob)
+above_27 ob class waits is above = grind (arith, nat_tests)
+
+started_above : (mode : Mode) (class ob : ℕ) (below : List Activation) → is_stop mode ≡ false
+    → IsTrue (can_wait ob) → class ≡ class_in mode ob → IsAbove class below
+    → IsStanding mode below → IsStarted mode class ob below
+started_above Run class ob below running waits is above standing =
+    record { stands = waits; class_is = is; above = above }
+started_above Startup class ob [] running waits is above standing = absurd standing.startup
+started_above Startup class ob (b ∷ below) running waits is above standing = record {
+  stands =
+      above_27 ob class waits is
+      (omega (arith, startup_class b below standing.stack, above));
+  class_is = is;
+  above = above;
+}
+started_above (Stop cause at) class ob below running waits is above standing = absurd cc
+
+above_running : (class : ℕ) (activations : List Activation) → may_start class activations ≡ true
+    → IsAbove class activations
+above_running class [] may = tt
+above_running class (a ∷ below) may = grind (arith, nat_tests)
+
+pub best_may_begin : (mode : Mode) (class ob : ℕ) (activations : List Activation)
+    → is_stop mode ≡ false → IsTrue (can_wait ob) → class ≡ class_in mode ob
+    → may_start class activations ≡ true → IsStanding mode activations
+    → MayBegin mode class ob activations
+best_may_begin mode class ob activations running waits is may standing = (
+  no_synchronous ob waits,
+  started_above mode class ob activations running waits is
+      (above_running class activations may) standing,
+)
+
+pub cycle_may_begin : (mode : Mode) (activations : List Activation) → activations ≡ []
+    → is_stop mode ≡ false → IsStanding mode activations
+    → MayBegin mode (class_in mode 1) 1 activations
+cycle_may_begin mode activations idle running standing = (
+  refl,
+  started_above mode (class_in mode 1) 1 activations running refl refl
+      (subst (λ acts. IsAbove (class_in mode 1) acts) (sym idle) tt) standing,
+)
+
+-- an OB 121 or 122
+error_synchronous : (error : ℕ) → is_synchronous (ob_of_error error) ≡ true
+error_synchronous error = by (error == 0x42 || error == 0x43)
+  where
+    by : (test : Bool) → is_synchronous (if test then 122 else 121) ≡ true
+    by true = refl
+    by false = refl
+
+error_stack : (mode : Mode) (error : ℕ) (fresh a : Activation) (below : List Activation)
+    → fresh.class ≡ a.class → fresh.ob ≡ ob_of_error error → is_synchronous a.ob ≡ false
+    → IsStack mode (a ∷ below) → IsStack mode (fresh ∷ a ∷ below)
+error_stack mode error fresh a below class_is ob_is single stack = (
+  subst (λ test. StandsOn test mode fresh (a ∷ below))
+      (sym (ap is_synchronous ob_is ∙ error_synchronous error)) (class_is, single),
+  stack,
+)
+
+pub room_for_error : (mode : Mode) (a : Activation) (below : List Activation)
+    → is_synchronous a.ob ≡ false → IsStanding mode (a ∷ below) → length (a ∷ below) < 48
+room_for_error mode a below single standing =
+    omega (
+      arith,
+      at_most_48 mode (some_of a.class 121 ∷ a ∷ below)
+          (error_stack mode 0x21 (some_of a.class 121) a below refl refl single standing.stack),
+    )
+
+pub error_stands : (mode : Mode) (error : ℕ) (fresh a : Activation) (below : List Activation)
+    → fresh.class ≡ a.class → fresh.ob ≡ ob_of_error error → is_synchronous a.ob ≡ false
+    → IsStanding mode (a ∷ below) → IsStanding mode (fresh ∷ a ∷ below)
+error_stands mode error fresh a below class_is ob_is single standing = record {
+  stack = error_stack mode error fresh a below class_is ob_is single standing.stack;
+  startup = not_empty mode fresh (a ∷ below);
+}

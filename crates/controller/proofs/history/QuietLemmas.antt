@@ -1,0 +1,99 @@
+-- Entries one after another that show nothing.
+use Rattle.std.proofs.Common.{◌≡◌, ◌≤◌, ℕ, zero, suc, List, [], ◌∷◌, ◌++◌, length, take, replicate, refl, sym, ap, subst, ◌∙◌, arith}
+use Rattle.std.proofs.lemmas.List.{map-append, take-map, take-replicate}
+use Rattle.flat_code.specs.Loading.{Verifies}
+use Rattle.flat_code.specs.Programs.{Program}
+use Rattle.machine.specs.Code.{Code}
+use Rattle.machine.specs.Flat.{code_of}
+use Rattle.var_access.specs.declared.Entry.{Entry}
+use Rattle.var_access.specs.declared.What.{What}
+use Rattle.var_access.specs.declared.What.TheVariants.{Step}
+use Rattle.controller.specs.Fitting.{EntriesKeepFit, IsFit}
+use Rattle.controller.specs.Quiet.{ShowNothing}
+use Rattle.controller.specs.Replay.{ContinuesByMore, SeenByMore, happens, last_seen, replay, run_from, seen_from}
+use Rattle.controller.specs.Shown.{Watched, nothing_shown, watched}
+use Rattle.controller.specs.State.{State}
+use Rattle.controller.specs.declared.Observed.{Observed}
+use Rattle.controller.specs.Replayed.{events}
+
+-- ---- entries behind others
+
+pub replay-more : ContinuesByMore → (code : Code) (history more : List Entry)
+    → replay code (events (history ++ more)) ≡ run_from code (replay code (events history)) (events more)
+replay-more continues code history more =
+    ap (λ (es : List What). replay code es) (map-append (λ (e : Entry). e.what) history more)
+    ∙ continues code (events history) (events more)
+
+-- ---- what is seen after them
+
+-- nothing, if nothing was seen before
+none-still : (code : Code) (s : State) (whats : List What) → ShowNothing code s whats
+    → seen_from code s nothing_shown whats ≡ nothing_shown
+none-still code s [] quiet = refl
+none-still code s (what ∷ rest) quiet =
+    ap (λ (o : Observed). seen_from code (happens code s what).state o rest) quiet.0
+    ∙ none-still code (happens code s what).state rest quiet.1
+
+-- nothing, if they are some
+none-now : (code : Code) (s : State) (seen : Observed) (n : ℕ) → ShowNothing code s (replicate n Step) → 1 ≤ n
+    → seen_from code s seen (replicate n Step) ≡ nothing_shown
+none-now code s seen zero quiet some = absurd (omega arith)
+none-now code s seen (suc n) quiet some =
+    ap (λ (o : Observed). seen_from code (happens code s Step).state o (replicate n Step)) quiet.0
+    ∙ none-still code (happens code s Step).state (replicate n Step) quiet.1
+
+-- ---- steps
+
+-- the first of so many steps are steps
+pub fewer-steps : (es : List Entry) (k : ℕ) → k ≤ length es → events es ≡ replicate (length es) Step
+    → events (take k es) ≡ replicate k Step
+fewer-steps es k few steps =
+    sym (take-map (λ (e : Entry). e.what) k es)
+    ∙ ap (λ (whats : List What). take k whats) steps
+    ∙ take-replicate k (length es) Step few
+
+fits-steps : (p : Program) (s : State) (n : ℕ) → EntriesKeepFit → Verifies p → IsFit p s
+    → IsFit p (run_from (code_of p) s (replicate n Step))
+fits-steps p s zero keeps h fit = fit
+fits-steps p s (suc n) keeps h fit =
+    fits-steps p (happens (code_of p) s Step).state n keeps h (keeps p s Step h tt fit)
+
+pub fits-behind : (p : Program) (s t : State) (n : ℕ) → EntriesKeepFit → Verifies p → IsFit p s
+    → t ≡ run_from (code_of p) s (replicate n Step) → IsFit p t
+fits-behind p s t n keeps h fit after = subst (IsFit p) (sym after) (fits-steps p s n keeps h fit)
+
+pub quiet-behind : (code : Code) (history more : List Entry) (s : State) (n : ℕ) → s ≡ replay code (events history)
+    → events more ≡ replicate n Step → ShowNothing code s (replicate n Step)
+    → ShowNothing code (replay code (events history)) (events more)
+quiet-behind code history more s n before steps quiet =
+    subst (λ (whats : List What). ShowNothing code (replay code (events history)) whats) (sym steps)
+    (subst (λ (u : State). ShowNothing code u (replicate n Step)) before quiet)
+
+pub state-behind : ContinuesByMore → (code : Code) (history more : List Entry) (s t : State) (n : ℕ) → s ≡ replay code (events history)
+    → events more ≡ replicate n Step → t ≡ run_from code s (replicate n Step)
+    → t ≡ replay code (events (history ++ more))
+state-behind continues code history more s t n before steps after =
+    after
+    ∙ ap (λ (u : State). run_from code u (replicate n Step)) before
+    ∙ ap (λ (whats : List What). run_from code (replay code (events history)) whats) (sym steps)
+    ∙ sym (replay-more continues code history more)
+
+pub seen-behind : SeenByMore → (code : Code) (history more : List Entry) (s : State) (n : ℕ) → s ≡ replay code (events history)
+    → events more ≡ replicate n Step → ShowNothing code s (replicate n Step) → 1 ≤ n
+    → nothing_shown ≡ last_seen code (events (history ++ more))
+seen-behind continues code history more s n before steps quiet some = sym (
+    ap (λ (es : List What). last_seen code es) (map-append (λ (e : Entry). e.what) history more)
+    ∙ continues code (events history) (events more)
+    ∙ ap (λ (u : State). seen_from code u (last_seen code (events history)) (events more)) (sym before)
+    ∙ ap (λ (whats : List What). seen_from code s (last_seen code (events history)) whats) steps
+    ∙ none-now code s (last_seen code (events history)) n quiet some)
+
+-- outputs and mode are as before
+pub observer-behind : (s t : State) (w w' : Watched) (seen : Observed) → w ≡ watched s seen
+    → w' ≡ record w { seen = nothing_shown }
+    → t.world.memory.peripheral_outputs ≡ s.world.memory.peripheral_outputs → t.mode ≡ s.mode
+    → w' ≡ watched t nothing_shown
+observer-behind s t w w' seen before passed outputs mode =
+    passed
+    ∙ ap (λ (v : Watched). record v { seen = nothing_shown }) before
+    ∙ cc

@@ -1,0 +1,36 @@
+-- The cycle point: a step where nothing runs.
+use Rattle.std.specs.Prelude.{false}
+use Rattle.plc_mem.specs.Refresh.{refreshed}
+use Rattle.machine.specs.Code.{Code}
+use Rattle.machine.specs.Statement.{World}
+use Rattle.ob_sched.specs.OrganizationBlock.{class_in}
+use Rattle.ob_sched.specs.Scheduler.{cycle_begun}
+use Rattle.ob_sched.specs.StartInformation.{start_info}
+use Rattle.ob_sched.specs.declared.start_infos.StartInfo.{StartInfo}
+use Rattle.ob_sched.specs.declared.start_infos.StartEvent.TheVariants.{Cycle}
+use Rattle.controller.specs.Beginning.{ob_in, begun_above}
+use Rattle.controller.specs.State.{State}
+
+-- the process image of the outputs is written to the peripheral outputs, and the peripheral inputs are
+-- read to the process image of the inputs
+abbrev pub images_updated : World → World
+images_updated w = record w { memory = refreshed w.memory }
+
+-- and the cycle counter and the mark of an exceeded cycle time are cleared; the next cycle isn't the
+-- first one any more
+abbrev pub cycle_passed : State → State
+cycle_passed s =
+    record s {
+      world = images_updated s.world;
+      sched = cycle_begun s.sched;
+      first_cycle = false;
+    }
+
+-- the start information of OB 1: start code 16#01 in the first cycle after a start, else 16#03
+abbrev pub cycle_info : State → StartInfo
+cycle_info s = start_info (Cycle s.first_cycle) (class_in s.mode 1)
+
+-- then OB 1 begins, if it is loaded
+unfoldable pub cycle_point : Code → State → State
+cycle_point code s =
+    begun_above (ob_in code (class_in s.mode 1) 1 (cycle_info s)) (cycle_passed s)

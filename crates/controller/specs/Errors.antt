@@ -1,0 +1,64 @@
+-- Synchronous errors.
+use Rattle.std.specs.Prelude.{ℕ, ◌==◌, Bool, ◌||◌, List, ◌∷◌, Option, Some, None, if◌then◌else◌}
+use Rattle.std.specs.Option.{option_map}
+use Rattle.plc_base.specs.declared.Spot.{Spot}
+use Rattle.frames.specs.declared.Activation.{Activation}
+use Rattle.flat_code.specs.Image.{number_of_kind}
+use Rattle.machine.specs.Code.{Code}
+use Rattle.machine.specs.Entering.{at_block}
+use Rattle.ob_sched.specs.StartInformation.{ob_of_error, start_info}
+use Rattle.ob_sched.specs.declared.start_infos.StartEvent.{StartEvent}
+use Rattle.ob_sched.specs.declared.start_infos.StartEvent.TheVariants.{Synchronous}
+use Rattle.controller.specs.Beginning.{ob_in}
+use Rattle.controller.specs.State.{State, diagnosed}
+use Rattle.controller.specs.Stopping.{halted_at}
+
+-- the organization blocks of synchronous errors
+abbrev pub is_synchronous : ℕ → Bool
+is_synchronous ob = ob == 121 || ob == 122
+
+-- the stop cause where the OB of the error isn't loaded: 3 for OB 121, 4 for OB 122
+abbrev pub cause_without : (ob : ℕ) → ℕ
+cause_without ob = if ob == 122 then 4 else 3
+
+-- the stop cause of an error in an activation of OB 121 or OB 122
+abbrev pub cause_inside : ℕ
+cause_inside = 5
+
+-- a synchronous error with its code, the kind and number of the block that failed, and the line of
+-- its statement; these three are 0 where no spot is known
+abbrev pub failure : (error : ℕ) → Option Spot → StartEvent
+failure error None = Synchronous error 0 0 0
+failure error (Some at) = Synchronous error (number_of_kind at.block.kind) at.block.number at.line
+
+-- an organization block of a synchronous error begins with copies of the registers, but with OS 0, OR 0,
+-- STA 1 and /FC 0, and with the delay count of the activation in which the error came
+abbrev pub copied_from : Activation → (fresh : Activation) → Activation
+copied_from a fresh =
+    record fresh {
+      delay = a.delay;
+      running = record fresh.running { regs = at_block a.running.regs };
+    }
+
+-- it is one more activation of the same class; none where it isn't loaded
+abbrev pub error_in : Code → (error : ℕ) → (at : Option Spot) → Activation → Option Activation
+error_in code error at a =
+    option_map (copied_from a)
+    (ob_in code a.class (ob_of_error error) (start_info (failure error at) a.class))
+
+-- it starts at once, and the activation in which the error came stands below it; without it the
+-- controller stops
+abbrev pub error_answered :
+    Option Activation → (error : ℕ) → (at : Option Spot) → (a : Activation)
+    (below : List Activation) → State → State
+error_answered None error at a below s = halted_at at (cause_without (ob_of_error error)) s
+error_answered (Some fresh) error at a below s = record s { activations = fresh ∷ a ∷ below }
+
+-- a synchronous error of a statement, which stands at `at`; it is recorded by code 4, and inside OB 121
+-- or 122 it is a stop. The activation has gone on to the next statement as `a`
+unfoldable pub failed :
+    Code → (error : ℕ) → (at : Option Spot) → (a : Activation) (below : List Activation)
+    → State → State
+failed code error at a below s =
+    if is_synchronous a.ob then halted_at at cause_inside (diagnosed 4 error s)
+    else error_answered (error_in code error at a) error at a below (diagnosed 4 error s)

@@ -1,0 +1,33 @@
+-- What one entry of a history does to the state, over any program.
+use Rattle.std.specs.Prelude.{ℕ, ◌+◌, unwrap_or, if◌then◌else◌}
+use Rattle.plc_mem.specs.Peripherals.{with_input}
+use Rattle.machine.specs.Code.{Code}
+use Rattle.machine.specs.Statement.{World}
+use Rattle.var_access.specs.declared.What.{What}
+use Rattle.var_access.specs.declared.What.TheVariants.{Step, Input, Arrive, Tick}
+use Rattle.controller.specs.Requests.{arrived}
+use Rattle.controller.specs.Settling.{settled}
+use Rattle.controller.specs.State.{State, is_stop}
+use Rattle.controller.specs.Stepping.{stepped}
+use Rattle.controller.specs.Ticking.{time_passed}
+
+-- the entry is counted
+abbrev pub counted : State → State
+counted s = record s { entries = s.entries + 1 }
+
+-- a byte of the peripheral inputs takes its value; nothing changes where there is no such byte
+abbrev pub input_set : (byte value : ℕ) → World → World
+input_set byte value w =
+    record w { memory = unwrap_or (with_input w.memory byte value) w.memory }
+
+-- what an entry does by its kind: an input takes its value in every mode; a step, an arrival and a
+-- tick do nothing in STOP
+abbrev pub effect : Code → What → State → State
+effect code Step s = if is_stop s.mode then s else stepped code s
+effect code (Input byte value) s = record s { world = input_set byte value s.world }
+effect code (Arrive ob value) s = arrived code ob value s
+effect code (Tick ms) s = time_passed code ms s
+
+-- one entry: it is counted, has its effect, and settling follows
+unfoldable pub state_after : Code → What → State → State
+state_after code what s = settled code (effect code what (counted s))

@@ -1,0 +1,73 @@
+-- When the state of the CPU fits a program that verifies: the running activation can go on, and it
+-- can do so after each further entry.
+use Rattle.std.specs.Prelude.{◌≡◌, true, List, [], ◌∷◌, length}
+use Rattle.std.specs.List.{list_all}
+use Rattle.plc_mem.specs.Areas.{Areas}
+use Rattle.frames.specs.declared.Activation.{Activation}
+use Rattle.flat_code.specs.Loading.{Verifies}
+use Rattle.flat_code.specs.Programs.{Program}
+use Rattle.machine.specs.Fitting.{IsMemoryOf}
+use Rattle.machine.specs.Flat.{code_of}
+use Rattle.machine.specs.Lasting.{FitsProgram}
+use Rattle.ob_sched.specs.OrganizationBlock.{can_wait}
+use Rattle.ob_sched.specs.Request.{Request}
+use Rattle.ob_sched.specs.Scheduler.{Scheduler}
+use Rattle.var_access.specs.declared.What.{What}
+use Rattle.var_access.specs.Entry.{IsInRange}
+use Rattle.controller.specs.Ready.{IsReady}
+use Rattle.controller.specs.Replay.{happens, replay}
+use Rattle.controller.specs.Stack.{IsStanding}
+use Rattle.controller.specs.Start.{start, restarted}
+use Rattle.controller.specs.State.{State, is_stop}
+
+-- the activations that stand fit the program and its memory: the running one, and those that wait
+abbrev pub AllFit : Program → Areas → List Activation → Type 0
+AllFit p m [] = Unit {0}
+AllFit p m (a ∷ below) = FitsProgram p m a × AllFit p m below
+
+-- each pending request is of an OB that can wait; there are the four delays of OB 20 to 23, and the
+-- nine periods of OB 30 to 38
+pub record IsSchedule (s : Scheduler) : Type 0 where
+  pub pending : list_all (λ (request : Request). can_wait request.0) s.pending ≡ true
+  pub delays : length s.countdowns.delays ≡ 4
+  pub periods : length s.countdowns.periods ≡ 9
+
+-- a state fits a program: its memory and its activations do, these stand on each other as in the
+-- mode, and what is pending can wait
+pub record IsFit (p : Program) (s : State) : Type 0 where
+  pub memory : IsMemoryOf (code_of p) s.world.memory
+  pub activations : AllFit p s.world.memory s.activations
+  pub standing : IsStanding s.mode s.activations
+  pub sched : IsSchedule s.sched
+
+-- what each entry of a history does is in the ranges; its worker isn't asked for
+abbrev pub AreInRange : List What → Type 0
+AreInRange [] = Unit {0}
+AreInRange (what ∷ rest) = IsInRange what × AreInRange rest
+
+-- the next statement of a state that fits can be executed
+abbrev pub FitIsReady : Type 0
+FitIsReady =
+    (p : Program) (s : State) → Verifies p → IsFit p s → IsReady (code_of p) s.activations
+
+-- the first start is fit
+abbrev pub StartIsFit : Type 0
+StartIsFit = (p : Program) → Verifies p → IsFit p (start (code_of p))
+
+-- each valid entry keeps a state fit
+abbrev pub EntriesKeepFit : Type 0
+EntriesKeepFit =
+    (p : Program) (s : State) (what : What)
+    → Verifies p → IsInRange what → IsFit p s → IsFit p (happens (code_of p) s what).state
+
+-- so the state after each valid history is fit
+abbrev pub HistoriesAreFit : Type 0
+HistoriesAreFit =
+    (p : Program) (history : List What)
+    → Verifies p → AreInRange history → IsFit p (replay (code_of p) history)
+
+-- a warm restart out of STOP keeps a state fit
+abbrev pub RestartKeepsFit : Type 0
+RestartKeepsFit =
+    (p : Program) (s : State)
+    → Verifies p → is_stop s.mode ≡ true → IsFit p s → IsFit p (restarted (code_of p) s)

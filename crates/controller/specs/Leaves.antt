@@ -1,0 +1,141 @@
+-- What calls of the code leave of the activations, and answer.
+use Rattle.std.specs.Prelude.{◌≡◌, ℕ, ◌==◌, Bool, true, false, List, [], ◌∷◌, Option, Some, None, if◌then◌else◌}
+use Rattle.plc_base.specs.declared.Mode.{Mode}
+use Rattle.plc_base.specs.declared.Mode.TheVariants.{Run}
+use Rattle.plc_base.specs.declared.Spot.{Spot}
+use Rattle.plc_mem.specs.Areas.{Areas}
+use Rattle.frames.specs.declared.Activation.{Activation}
+use Rattle.frames.specs.declared.bindings.Binding.{Binding}
+use Rattle.machine.specs.Code.{Code}
+use Rattle.machine.specs.Statement.{World, Step, Went, Ended, SyncError, SysCall, Stop, statement}
+use Rattle.machine.specs.declared.outcomes.Outcome.{Outcome}
+use Rattle.machine.specs.declared.outcomes.Outcome.TheVariants as outcome
+use Rattle.ob_sched.specs.Scheduler.{Scheduler}
+use Rattle.sys_funcs.specs.Returned.{LeavesReturned}
+use Rattle.status_word.specs.declared.Regs.{Regs}
+use Rattle.controller.specs.Errors.{error_in, failed}
+use Rattle.controller.specs.Serving.{Served, Returns, Passes, Stops, result_given, after_service, served}
+use Rattle.controller.specs.State.{State}
+use Rattle.controller.specs.Stepping.{ob_ended}
+use Rattle.controller.specs.Stopping.{halted_at, spot_at}
+use Rattle.controller.specs.declared.serving.Answer.{Answer}
+use Rattle.controller.specs.declared.serving.Answer.TheVariants as answers
+use Rattle.controller.specs.declared.activations.Stand.{Stand}
+
+-- the running activation is the first of those that stand; none where nothing runs
+abbrev pub running_of : List Activation → Option Activation
+running_of [] = None
+running_of (a ∷ below) = Some a
+
+-- where its statement stands: its OB, and the innermost block with the position in that block
+abbrev pub stand_of : Activation → Stand
+stand_of a = record { ob = a.ob; block = a.running.frame.block; at = a.running.frame.at }
+
+-- an organization block begins above those that stand (true); where there is none, they stay
+-- (false)
+abbrev pub Begins : Option Activation → (old new : List Activation) → Bool → Type 0
+Begins None old new false = new ≡ old
+Begins (Some a) old new true = new ≡ a ∷ old
+Begins a old new answer = ⊥
+
+-- the running activation has other registers, and interrupts are delayed so often in it; where none
+-- runs nothing is handed on
+abbrev pub HandedOn : (delay : ℕ) → Regs → (old new : List Activation) → Type 0
+HandedOn delay regs [] new = new ≡ []
+HandedOn delay regs (a ∷ below) new =
+    new ≡ record a { delay = delay; running = record a.running { regs = regs } } ∷ below
+
+-- the organization block of an error of the running activation begins above it (true), or there is
+-- none, or nothing runs (false)
+abbrev pub ErrorBegins :
+    Code → (error : ℕ) → (at : Option Spot) → (old new : List Activation) → Bool → Type 0
+ErrorBegins code error at [] new answer = (new ≡ []) × (answer ≡ false)
+ErrorBegins code error at (a ∷ below) new answer =
+    Begins (error_in code error at a) (a ∷ below) new answer
+
+-- the activations, memory with timers and counters, and the answer after a statement of `a`, above
+-- `below`. By a stop `a` is as it was; for a statement that is stuck there is no answer
+abbrev pub StepsTo :
+    Step → (a : Activation) (below new : List Activation) (w w' : World) → Outcome → Type 0
+StepsTo (Went a' after) a below new w w' outcome.Went = (new ≡ a' ∷ below) × (w' ≡ after)
+StepsTo (Ended regs after) a below new w w' outcome.Ended = (new ≡ below) × (w' ≡ after)
+StepsTo (SyncError code a') a below new w w' (outcome.SyncError error) =
+    (error ≡ code) × (new ≡ a' ∷ below) × (w' ≡ w)
+StepsTo (SysCall number given a') a below new w w' (outcome.SysCall function inputs result) =
+    (function ≡ number) × (inputs ≡ given.inputs) × (result ≡ given.result)
+    × (new ≡ a' ∷ below) × (w' ≡ w)
+StepsTo (Stop cause) a below new w w' (outcome.Stop why) =
+    (why ≡ cause) × (new ≡ a ∷ below) × (w' ≡ w)
+StepsTo step a below new w w' answer = ⊥
+
+-- a statement of the running activation, and where it stood; no answer where nothing runs
+abbrev pub Steps :
+    Code → (old new : List Activation) (w w' : World) → Option (Stand × Outcome) → Type 0
+Steps code [] new w w' None = (new ≡ []) × (w' ≡ w)
+Steps code (a ∷ below) new w w' (Some done) =
+    (done.0 ≡ stand_of a) × StepsTo (statement code a w) a below new w w' done.1
+Steps code old new w w' answer = ⊥
+
+-- the mode after a statement of an organization block: RUN after the end of OB 100, else as before
+-- (a stop is still to come)
+abbrev pub mode_after : Mode → (ob : ℕ) → Outcome → Mode
+mode_after mode ob outcome.Ended = if ob == 100 then Run else mode
+mode_after mode ob _ = mode
+
+-- what is left to do after a statement with a synchronous error, which stood at `stand`: its OB
+-- begins, or it is a stop; nothing where nothing runs
+abbrev pub error_left : Code → (error : ℕ) → Stand → List Activation → State → State
+error_left code error stand [] s = s
+error_left code error stand (a ∷ below) s =
+    failed code error (spot_at code stand.block stand.at) a below s
+
+-- what is left to do after a call of a system function: it does its work, RET_VAL goes where it is
+-- bound, and a stop has the spot of the call; nothing where nothing runs
+abbrev pub call_left :
+    Code → (number : ℕ) → List ℕ → Option Binding → Stand → List Activation → State → State
+call_left code number inputs to stand [] s = s
+call_left code number inputs to stand (a ∷ below) s =
+    after_service (spot_at code stand.block stand.at) (served number inputs s.sched a) to below s
+
+-- what is left to do after a statement, by what came of it: the end of OB 100 begins RUN, an error
+-- begins its OB, a system function does its work, a stop is STOP with the spot of the statement
+unfoldable pub finished : Code → Stand → Outcome → State → State
+finished code stand outcome.Went s = s
+finished code stand outcome.Ended s = ob_ended stand.ob s
+finished code stand (outcome.SyncError error) s = error_left code error stand s.activations s
+finished code stand (outcome.SysCall number inputs to) s =
+    call_left code number inputs to stand s.activations s
+finished code stand (outcome.Stop cause) s =
+    halted_at (spot_at code stand.block stand.at) cause s
+
+-- what a system function leaves of the scheduler and its activation, and what it answers: RET_VAL,
+-- nothing, or its stop cause, which changes nothing of the scheduler
+abbrev pub Serves : Served → (s s' : Scheduler) (a' : Activation) → Answer → Type 0
+Serves (Returns r) s s' a' (answers.Value value) = LeavesReturned r s' a' value
+Serves (Passes sched a) s s' a' answers.Nothing = (s' ≡ sched) × (a' ≡ a)
+Serves (Stops cause) s s' a' (answers.Halt why) = (why ≡ cause) × (s' ≡ s)
+Serves served s s' a' answer = ⊥
+
+-- and its RET_VAL was given where it is bound, and the activation stands above `below`, with no
+-- answer; or the answer is its stop cause, and memory and scheduler stay
+abbrev pub ServesTo :
+    Served → Option Binding → (below new : List Activation) (m m' : Areas) (s s' : Scheduler)
+    → Option ℕ → Type 0
+ServesTo (Returns r) to below new m m' s s' None =
+    (new ≡ (result_given to r.value r.activation m).activation ∷ below)
+    × (m' ≡ (result_given to r.value r.activation m).memory) × (s' ≡ r.sched)
+ServesTo (Passes sched a) to below new m m' s s' None =
+    (new ≡ a ∷ below) × (m' ≡ m) × (s' ≡ sched)
+ServesTo (Stops cause) to below new m m' s s' (Some why) =
+    (why ≡ cause) × (m' ≡ m) × (s' ≡ s)
+ServesTo served to below new m m' s s' answer = ⊥
+
+-- the same of the running activation, which called the function of this number; where none runs,
+-- all stays, with no answer
+abbrev pub ServesRunning :
+    (number : ℕ) → List ℕ → Option Binding → (old new : List Activation) (m m' : Areas)
+    (s s' : Scheduler) → Option ℕ → Type 0
+ServesRunning number inputs to [] new m m' s s' None = (new ≡ []) × (m' ≡ m) × (s' ≡ s)
+ServesRunning number inputs to (a ∷ below) new m m' s s' answer =
+    ServesTo (served number inputs s a) to below new m m' s s' answer
+ServesRunning number inputs to old new m m' s s' answer = ⊥

@@ -1,0 +1,29 @@
+-- The same program at other positions: a run in one code, and in a code that follows it.
+use Rattle.std.specs.Prelude.{◌≡◌, ℕ, List, map}
+use Rattle.plc_base.specs.declared.BlockId.{BlockId}
+use Rattle.machine.specs.Code.{Code}
+use Rattle.machine.specs.Moved.{Follows, moved}
+use Rattle.var_access.specs.declared.What.{What}
+use Rattle.controller.specs.Replay.{Happened, happens, replay}
+use Rattle.controller.specs.State.{State}
+
+-- the state with each frame at the position that the function gives for its own; nothing else has
+-- a position
+abbrev pub moved_state : (BlockId → ℕ → ℕ) → State → State
+moved_state f s = record s { activations = map (moved f) s.activations }
+
+-- what happened, with the state moved so; the answer and what was shown are the same
+abbrev pub moved_happened : (BlockId → ℕ → ℕ) → Happened → Happened
+moved_happened f h = record h { state = moved_state f h.state }
+
+-- an entry does the same in a code that follows
+abbrev pub EntriesMove : Type 0
+EntriesMove =
+    (f : BlockId → ℕ → ℕ) (c d : Code) (s : State) (what : What) → Follows f c d
+    → happens d (moved_state f s) what ≡ moved_happened f (happens c s what)
+
+-- and so does a whole history: mode, memory, scheduler and diagnostics are the same after it
+abbrev pub HistoriesMove : Type 0
+HistoriesMove =
+    (f : BlockId → ℕ → ℕ) (c d : Code) (history : List What) → Follows f c d
+    → replay d history ≡ moved_state f (replay c history)

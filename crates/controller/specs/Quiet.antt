@@ -1,0 +1,44 @@
+-- Entries one after another that show nothing.
+use Rattle.std.specs.Prelude.{◌≡◌, ◌&&◌, ℕ, Bool, false, not, is_some, List, [], ◌∷◌}
+use Rattle.frames.specs.declared.Activation.{Activation}
+use Rattle.flat_code.specs.Programs.{Program}
+use Rattle.machine.specs.Code.{Code}
+use Rattle.machine.specs.Quiet.{RunsQuietly, StaysReady, goes_as, is_quiet}
+use Rattle.machine.specs.Statement.{World}
+use Rattle.ob_sched.specs.Request.{best_of}
+use Rattle.var_access.specs.declared.What.{What}
+use Rattle.controller.specs.Replay.{happens}
+use Rattle.controller.specs.Shown.{nothing_shown}
+use Rattle.controller.specs.State.{State, is_stop}
+
+-- none of these entries shows anything, from a state on
+abbrev pub ShowNothing : Code → State → List What → Type 0
+ShowNothing code s [] = Unit {0}
+ShowNothing code s (what ∷ rest) =
+    ((happens code s what).seen ≡ nothing_shown)
+    × ShowNothing code (happens code s what).state rest
+
+-- the running activation, if one runs, stays ready through quiet statements
+abbrev pub GoesOnReady : Program → List Activation → World → Type 0
+GoesOnReady p [] w = Unit {0}
+GoesOnReady p (a ∷ below) w = StaysReady p a w
+
+-- it has executed so many of them, above the others; where none runs nothing was done
+abbrev pub GoesOnQuietly :
+    Code → (count : ℕ) → (old new : List Activation) (w w' : World) → Type 0
+GoesOnQuietly code count [] new w w' = (count ≡ 0) × (new ≡ []) × (w' ≡ w)
+GoesOnQuietly code count (a ∷ below) new w w' =
+    (b : Activation) × (new ≡ b ∷ below) × RunsQuietly code count a b w w'
+
+-- ---- before which steps it stops
+
+-- the running activation goes on with a statement of the quiet kind
+abbrev pub goes_on_quietly : Code → List Activation → World → Bool
+goes_on_quietly code [] w = false
+goes_on_quietly code (a ∷ below) w = goes_as is_quiet code a w
+
+-- the next step is such a statement, outside STOP and where no request waits
+abbrev pub steps_quietly : Code → State → Bool
+steps_quietly code s =
+    not (is_stop s.mode) && not (is_some (best_of s.mode s.sched.pending))
+    && goes_on_quietly code s.activations s.world

@@ -1,0 +1,84 @@
+-- What an entry does, answers and shows, and what a history of entries comes to, over any program.
+use Rattle.std.specs.Prelude.{◌≡◌, ◌+◌, List, [], ◌∷◌, ◌++◌, length}
+use Rattle.machine.specs.Code.{Code}
+use Rattle.var_access.specs.declared.Reply.{Reply}
+use Rattle.var_access.specs.declared.Reply.TheVariants.{Done}
+use Rattle.var_access.specs.declared.What.{What}
+use Rattle.controller.specs.Event.{state_after}
+use Rattle.controller.specs.Shown.{nothing_shown, shown}
+use Rattle.controller.specs.Start.{start}
+use Rattle.controller.specs.State.{State}
+use Rattle.controller.specs.declared.observing.Observed.{Observed}
+
+-- the state after an entry, the answer, and what was shown
+pub record Happened : Type 0 where
+  pub state : State
+  pub reply : Reply
+  pub seen : Observed
+
+-- an entry, by the states before and after it: its answer is done, and it shows what has changed
+abbrev pub happened_to : Code → (before : State) → What → (after : State) → Happened
+happened_to code before what after = record {
+  state = after;
+  reply = Done;
+  seen = shown code before what after;
+}
+
+-- what an entry does in a state
+unfoldable pub happens : Code → State → What → Happened
+happens code s what = happened_to code s what (state_after code what s)
+
+-- entries one after another, from a state on
+abbrev pub run_from : Code → State → List What → State
+run_from code s [] = s
+run_from code s (what ∷ rest) = run_from code (happens code s what).state rest
+
+-- replay: a whole history, from the start on
+unfoldable pub replay : Code → List What → State
+replay code history = run_from code (start code) history
+
+-- what the last of these entries showed, from a state on; what was seen before where there is none
+abbrev pub seen_from : Code → State → (seen : Observed) → List What → Observed
+seen_from code s seen [] = seen
+seen_from code s seen (what ∷ rest) =
+    seen_from code (happens code s what).state (happens code s what).seen rest
+
+-- what the last entry of a history showed; before the first entry nothing is shown
+unfoldable pub last_seen : Code → List What → Observed
+last_seen code history = seen_from code (start code) nothing_shown history
+
+-- a history with one entry more: that entry happens in the state after the others
+abbrev pub ContinuesReplay : Type 0
+ContinuesReplay =
+    (code : Code) (history : List What) (what : What)
+    → replay code (history ++ what ∷ []) ≡ (happens code (replay code history) what).state
+
+-- and what it shows is what was seen last
+abbrev pub ContinuesSeen : Type 0
+ContinuesSeen =
+    (code : Code) (history : List What) (what : What)
+    → last_seen code (history ++ what ∷ []) ≡ (happens code (replay code history) what).seen
+
+-- a history with further entries: they are made from the state after the others on
+abbrev pub ContinuesByMore : Type 0
+ContinuesByMore =
+    (code : Code) (history more : List What)
+    → replay code (history ++ more) ≡ run_from code (replay code history) more
+
+-- and the last of them shows what was seen last
+abbrev pub SeenByMore : Type 0
+SeenByMore =
+    (code : Code) (history more : List What)
+    → last_seen code (history ++ more)
+    ≡ seen_from code (replay code history) (last_seen code history) more
+
+-- each entry is counted
+abbrev pub CountsEntries : Type 0
+CountsEntries =
+    (code : Code) (s : State) (what : What)
+    → (happens code s what).state.entries ≡ s.entries + 1
+
+-- so the count is that of the history
+abbrev pub CountsHistory : Type 0
+CountsHistory =
+    (code : Code) (history : List What) → (replay code history).entries ≡ length history

@@ -1,0 +1,73 @@
+-- Calls of system functions, which do their work in the same statement.
+use Rattle.std.specs.Prelude.{ℕ, ◌==◌, List, ◌∷◌, slice_index_or, Option, Some, None, if◌then◌else◌}
+use Rattle.plc_base.specs.declared.Spot.{Spot}
+use Rattle.plc_mem.specs.Areas.{Areas}
+use Rattle.frames.specs.declared.Activation.{Activation}
+use Rattle.frames.specs.declared.bindings.Binding.{Binding}
+use Rattle.machine.specs.Parts.{scene_of}
+use Rattle.machine.specs.Results.{with_result}
+use Rattle.machine.specs.Returning.{Stage, on_stage}
+use Rattle.machine.specs.Statement.{with_memory}
+use Rattle.machine.specs.SystemCalls.{Given}
+use Rattle.ob_sched.specs.Scheduler.{Scheduler, retriggered}
+use Rattle.sys_funcs.specs.Functions.{dis_airt, en_airt, dis_irt, en_irt, srt_dint, can_dint, time_tck}
+use Rattle.sys_funcs.specs.Returned.{Returned, passed}
+use Rattle.controller.specs.State.{State}
+use Rattle.controller.specs.Stopping.{halted_at}
+
+-- what a system function leaves: a return value, none, or STOP
+pub data Served : Type 0 where
+  Returns : (r : Returned) → Served
+  Passes : (sched : Scheduler) (a : Activation) → Served
+  Stops : (cause : ℕ) → Served
+
+-- the number of an IN parameter by its place, counted from 0; 0 where there is none
+abbrev pub input : (place : ℕ) → List ℕ → ℕ
+input place inputs = slice_index_or inputs place 0
+
+-- each by its number: 32 SRT_DINT, 33 CAN_DINT, 39 DIS_IRT, 40 EN_IRT, 41 DIS_AIRT, 42 EN_AIRT,
+-- 43 RE_TRIGR, 46 STP (stop cause 1); any other is 64 TIME_TCK
+unfoldable pub served : (number : ℕ) → (inputs : List ℕ) → Scheduler → Activation → Served
+served number inputs s a =
+    if number == 32 then
+    Returns (srt_dint s a (input 0 inputs) (input 1 inputs) (input 2 inputs))
+    else if number == 33 then Returns (can_dint s a (input 0 inputs))
+    else if number == 39 then Returns (dis_irt s a (input 0 inputs) (input 1 inputs))
+    else if number == 40 then Returns (en_irt s a (input 0 inputs) (input 1 inputs))
+    else if number == 41 then Returns (dis_airt s a)
+    else if number == 42 then Returns (en_airt s a)
+    else if number == 43 then Passes (retriggered s) (passed a)
+    else if number == 46 then Stops 1
+    else Returns (time_tck s a)
+
+-- RET_VAL goes where it is bound; where it isn't, nothing changes
+abbrev pub result_given : Option Binding → (value : ℕ) → Activation → Areas → Stage
+result_given None value a m = record { activation = a; memory = m }
+result_given (Some to) value a m = on_stage a (with_result to value (scene_of a.running m))
+
+-- the running activation goes on, with another scheduler and another memory
+abbrev pub goes_on : Stage → Scheduler → (below : List Activation) → State → State
+goes_on stage sched below s =
+    record s {
+      world = with_memory stage.memory s.world;
+      sched = sched;
+      activations = stage.activation ∷ below;
+    }
+
+-- after the system function: RET_VAL is given, if there is one, and the activation goes on; a stop
+-- has the spot of the call
+abbrev pub after_service :
+    (call : Option Spot) → Served → Option Binding → (below : List Activation) → State → State
+after_service call (Returns r) to below s =
+    goes_on (result_given to r.value r.activation s.world.memory) r.sched below s
+after_service call (Passes sched a) to below s =
+    goes_on (record { activation = a; memory = s.world.memory }) sched below s
+after_service call (Stops cause) to below s = halted_at call cause s
+
+-- a call of a system function: it does its work in the same step, and the running activation, which
+-- has gone on behind the call as `a`, goes on with its result
+abbrev pub system_called :
+    (call : Option Spot) → (number : ℕ) → Given → (a : Activation) (below : List Activation)
+    → State → State
+system_called call number given a below s =
+    after_service call (served number given.inputs s.sched a) given.result below s

@@ -1,0 +1,37 @@
+-- Settling: after each entry outside STOP the best pending request is started, if it may start.
+use Rattle.std.specs.Prelude.{ℕ, ◌==◌, ◌&&◌, nat_lt, Bool, true, List, [], ◌∷◌, Option, Some, None, if◌then◌else◌}
+use Rattle.frames.specs.declared.Activation.{Activation}
+use Rattle.machine.specs.Code.{Code}
+use Rattle.ob_sched.specs.Request.{best_of}
+use Rattle.ob_sched.specs.Scheduler.{started}
+use Rattle.ob_sched.specs.declared.requests.Pending.{Pending}
+use Rattle.controller.specs.Beginning.{ob_in, begun_above}
+use Rattle.controller.specs.State.{State, is_stop}
+
+-- an organization block of a class may start: nothing runs, or its class is above the running one's
+-- and interrupts aren't delayed there
+abbrev pub may_start : (class : ℕ) → List Activation → Bool
+may_start class [] = true
+may_start class (a ∷ below) = nat_lt a.class class && a.delay == 0
+
+-- the best request isn't pending any more
+abbrev pub request_taken : State → State
+request_taken s = record s { sched = started s.sched }
+
+-- and its organization block begins above those that stand, in its class and with its start
+-- information; if it isn't loaded, none begins
+abbrev pub request_started : Code → Pending → State → State
+request_started code best s =
+    begun_above (ob_in code best.class best.ob best.info) (request_taken s)
+
+-- the best request, if one is pending, is started where it may; else it stays pending
+abbrev pub best_started : Code → Option Pending → State → State
+best_started code None s = s
+best_started code (Some best) s =
+    if may_start best.class s.activations then request_started code best s else s
+
+-- settling: the best request, with its class in the operating mode, is started where it may; none
+-- is in STOP
+unfoldable pub settled : Code → State → State
+settled code s =
+    if is_stop s.mode then s else best_started code (best_of s.mode s.sched.pending) s

@@ -1,0 +1,77 @@
+-- What an entry shows.
+use Rattle.std.specs.Prelude.{ℕ, ◌+◌, ◌==◌, Bool, true, false, List, [], Option, Some, None, if◌then◌else◌}
+use Rattle.std.specs.List.{filter_map, range_with_len}
+use Rattle.plc_base.specs.AreaBytes.{upper_size, upper_start}
+use Rattle.plc_base.specs.declared.Mode.{Mode}
+use Rattle.plc_base.specs.declared.Mode.TheVariants.{Run, Startup, Stop}
+use Rattle.plc_mem.specs.Areas.{PeripheralBytes}
+use Rattle.plc_mem.specs.Bits.{peripheral_byte}
+use Rattle.machine.specs.Code.{Code}
+use Rattle.var_access.specs.declared.What.{What}
+use Rattle.controller.specs.State.{State}
+use Rattle.controller.specs.declared.observing.Observed.{Observed}
+
+-- a byte that exists, with its new value, unless that is the old one
+abbrev pub if_changed : (byte : ℕ) (before after : Option ℕ) → Option (ℕ × ℕ)
+if_changed byte before None = None
+if_changed byte None (Some new) = Some (byte, new)
+if_changed byte (Some old) (Some new) = if old == new then None else Some (byte, new)
+
+-- a byte of these peripheral outputs, if it changed
+abbrev pub changed_output : (before after : PeripheralBytes) (byte : ℕ) → Option (ℕ × ℕ)
+changed_output before after byte =
+    if_changed byte (peripheral_byte before byte) (peripheral_byte after byte)
+
+-- the peripheral output bytes that changed, by rising number, with their new values; the greatest number
+-- is 767
+unfoldable pub changed_outputs : (before after : PeripheralBytes) → List (ℕ × ℕ)
+changed_outputs before after =
+    filter_map (changed_output before after) (range_with_len 0 (upper_start + upper_size))
+
+-- the mode is the same before and after: one STOP is the same as another, since no entry changes
+-- cause and spot
+abbrev pub is_same_mode : Mode → Mode → Bool
+is_same_mode Run Run = true
+is_same_mode Startup Startup = true
+is_same_mode (Stop cause at) (Stop cause' at') = true
+is_same_mode before after = false
+
+-- the mode after an entry, where the entry changed it
+abbrev pub changed_mode : (before after : Mode) → Option Mode
+changed_mode before after = if is_same_mode before after then None else Some after
+
+-- where nothing changes nothing is shown
+abbrev pub nothing_shown : Observed
+nothing_shown = record { outputs = []; mode = None }
+
+-- the changed peripheral outputs, and the new mode, between two moments
+abbrev pub changes : (outputs : PeripheralBytes) → Mode → (after : State) → Observed
+changes outputs mode after =
+    record nothing_shown {
+      outputs = changed_outputs outputs after.world.memory.peripheral_outputs;
+      mode = changed_mode mode after.mode;
+    }
+
+-- what an entry shows: what changed between the states before and after it, whatever the program
+-- and the entry are
+unfoldable pub shown : Code → (before : State) → What → (after : State) → Observed
+shown code before what after =
+    changes before.world.memory.peripheral_outputs before.mode after
+
+-- what is kept from one entry to the next: the peripheral outputs and the mode, and what was shown
+pub record Watched : Type 0 where
+  pub outputs : PeripheralBytes
+  pub mode : Mode
+  pub seen : Observed
+
+-- what is kept of a state, with what was shown last
+abbrev pub watched : State → (seen : Observed) → Watched
+watched s seen = record {
+  outputs = s.world.memory.peripheral_outputs;
+  mode = s.mode;
+  seen = seen;
+}
+
+-- the next entry shows what has changed since then, and the state after it is kept
+abbrev pub watched_on : Watched → (after : State) → Watched
+watched_on w after = watched after (changes w.outputs w.mode after)

@@ -1,0 +1,47 @@
+-- A step outside STOP: one statement of the running activation, or a cycle point where none runs.
+use Rattle.std.specs.Prelude.{ℕ, ◌==◌, Option, List, [], ◌∷◌, if◌then◌else◌}
+use Rattle.plc_base.specs.declared.Mode.TheVariants.{Run}
+use Rattle.plc_base.specs.declared.Spot.{Spot}
+use Rattle.frames.specs.declared.Activation.{Activation}
+use Rattle.machine.specs.Code.{Code}
+use Rattle.machine.specs.Statement.{World, Step, Went, Ended, SyncError, SysCall, Stop, Stuck, statement}
+use Rattle.ob_sched.specs.Scheduler.{run_begun}
+use Rattle.controller.specs.CyclePoint.{cycle_point}
+use Rattle.controller.specs.Errors.{failed}
+use Rattle.controller.specs.Serving.{system_called}
+use Rattle.controller.specs.State.{State}
+use Rattle.controller.specs.Stopping.{halted_at, spot_of}
+
+-- RUN begins, with the periods of the cyclic interrupts and with the cycle counter at 0
+abbrev pub run_starts : State → State
+run_starts s = record s { mode = Run; sched = run_begun s.sched }
+
+-- an organization block has ended; the end of OB 100 is that of STARTUP
+abbrev pub ob_ended : (ob : ℕ) → State → State
+ob_ended ob s = if ob == 100 then run_starts s else s
+
+-- memory, timers and counters, and the activations are these; all else stays
+abbrev pub with_activations : World → List Activation → State → State
+with_activations w activations s = record s { world = w; activations = activations }
+
+-- the state by what comes of a statement of an organization block, which stands at `at`. One that
+-- is stuck changes nothing; a program that verifies has none
+abbrev pub after_statement :
+    Code → Step → (ob : ℕ) → (at : Option Spot) → (below : List Activation) → State → State
+after_statement code (Went a w) ob at below s = with_activations w (a ∷ below) s
+after_statement code (Ended regs w) ob at below s = ob_ended ob (with_activations w below s)
+after_statement code (SyncError error a) ob at below s = failed code error at a below s
+after_statement code (SysCall number given a) ob at below s =
+    system_called at number given a below s
+after_statement code (Stop cause) ob at below s = halted_at at cause s
+after_statement code Stuck ob at below s = s
+
+-- the next statement of the first of these activations, or a cycle point where none stands
+abbrev pub stepped_on : Code → List Activation → State → State
+stepped_on code [] s = cycle_point code s
+stepped_on code (a ∷ below) s =
+    after_statement code (statement code a s.world) a.ob (spot_of code a.running.frame) below s
+
+-- a step: of the activations that stand
+unfoldable pub stepped : Code → State → State
+stepped code s = stepped_on code s.activations s

@@ -1,0 +1,24 @@
+-- What the code's types stand for.
+use Rattle.std.specs.Prelude.{List, take, reverse, ℕ}
+use Rattle.frames.specs.declared.Activation.{Activation}
+use Rattle.machine.specs.Statement.{world}
+use Rattle.ob_sched.specs.Views.{scheduler_of}
+use Rattle.controller.specs.State.{State}
+use Rattle.controller.specs.declared.cpus.Cpu.{Cpu}
+
+-- the activations that stand, the running one first: the code keeps them in the front of a list, the
+-- other way round
+abbrev pub activations_of : (standing : ℕ) → List Activation → List Activation
+activations_of standing all = reverse (take standing all)
+
+-- the state of the CPU that the fields of the code stand for
+abbrev pub state_of : Cpu → State
+state_of p = record {
+  world = world p.memory p.timers p.counters;
+  mode = p.mode;
+  activations = p.activations;
+  sched = scheduler_of p.sched;
+  first_cycle = p.first_cycle;
+  diagnostics = p.diagnostics;
+  entries = p.entries;
+}

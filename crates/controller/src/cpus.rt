@@ -1,0 +1,42 @@
+ghost use Rattle.std.specs.Prelude.{◌≡◌};
+ghost use Rattle.std.specs.Option.{option_copied};
+ghost use Rattle.std.specs.FinMap as finmap;
+ghost use Rattle.controller.specs.Views.{state_of};
+
+use crate::activations::Activations;
+use crate::diagnostics::Diagnostics;
+use ob_sched::Sched;
+use plc_base::Mode;
+use plc_mem::Memory;
+use timers_counters::{Counters, Timers};
+
+/// The CPU between two entries of its history. A contract sees its state (`state_of`).
+#[derive(Drop)]
+pub struct Cpu {
+    pub(crate) memory: Memory,
+    pub(crate) timers: Timers,
+    pub(crate) counters: Counters,
+    pub(crate) mode: Mode,
+    pub(crate) activations: Activations,
+    pub(crate) sched: Sched,
+    pub(crate) first_cycle: bool,
+    pub(crate) diagnostics: Diagnostics,
+    pub(crate) entries: u64,
+}
+
+impl Cpu {
+    /// The operating mode.
+    pub fn mode(&self) -> Mode
+        ensures { result ≡ (state_of self.now).mode }
+    {
+        self.mode
+    }
+
+    /// The bytes of a data block, if it is loaded.
+    pub fn db_bytes(&self, number: u16) -> Option<&[u8]>
+        ensures { option_copied result
+            ≡ finmap.get (state_of self.now).world.memory.data_blocks number }
+    {
+        self.memory.data_block(number)
+    }
+}

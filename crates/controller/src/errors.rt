@@ -1,0 +1,102 @@
+//! Synchronous errors.
+ghost use Rattle.std.specs.Prelude.{◌≡◌};
+ghost use Rattle.machine.specs.Flat.{code_of};
+ghost use Rattle.controller.specs.Ready.{HasStatement};
+ghost use Rattle.controller.specs.Errors.{is_synchronous as is_error_ob, cause_without as cause_of_missing, failure as failure_of};
+ghost use Rattle.ob_sched.specs.StartInformation.{IsEvent, ob_of, ob_of_error};
+ghost use Rattle.controller.specs.Leaves.{error_left};
+ghost use Rattle.controller.specs.Stack.{IsStanding};
+ghost use Rattle.controller.specs.Views.{state_of};
+ghost use Rattle.flat_code.specs.Image.{number_of_kind};
+
+use crate::activations::Stand;
+use crate::cpus::Cpu;
+use crate::spots::spot_at;
+use image_file::Loaded;
+use ob_sched::StartEvent;
+use plc_base::{BlockKind, Spot};
+
+/// Stop cause: no OB 121.
+const NO_OB_121: u8 = 3;
+
+/// Stop cause: no OB 122.
+const NO_OB_122: u8 = 4;
+
+/// Stop cause: a synchronous error in OB 121 or 122.
+const ERROR_INSIDE: u8 = 5;
+
+/// Record of diagnostics: a synchronous error, with its code.
+const SYNCHRONOUS_ERROR: u16 = 4;
+
+fn is_synchronous(ob: u16) -> bool
+    ensures { result ≡ is_error_ob ob }
+{
+    ob == 121 || ob == 122
+}
+
+fn cause_without(ob: u16) -> u8
+    ensures { result ≡ cause_of_missing ob }
+{
+    if ob == 122 { NO_OB_122 } else { NO_OB_121 }
+}
+
+// The number of a block's kind in the start information.
+fn kind_number(kind: BlockKind) -> u8
+    ensures { result ≡ number_of_kind kind }
+{
+    match kind {
+        BlockKind::Ob => 1,
+        BlockKind::Fc => 2,
+        BlockKind::Fb => 3,
+        BlockKind::Sfc => 5,
+        _ => 0,
+    }
+}
+
+/// What failed.
+pub(crate) fn failure(code: u8, at: Option<Spot>) -> StartEvent
+    ensures value { result ≡ failure_of code at }
+    ensures ob { ob_of result ≡ ob_of_error code }
+    ensures event { IsEvent result }
+{
+    match at {
+        None => StartEvent::Synchronous {
+            code,
+            kind: 0,
+            number: 0,
+            line: 0,
+        },
+        Some(at) => StartEvent::Synchronous {
+            code,
+            kind: kind_number(at.block.kind),
+            number: at.block.number,
+            line: at.line,
+        },
+    }
+}
+
+impl Cpu {
+    /// A synchronous error of the statement that stood at `stand`: its organization block begins, or
+    /// the controller stops.
+    #[tactic(auto, unfolding(crate::specs::Errors::failed), using(crate::proofs::StandingLemmas::room_for_error, crate::proofs::StandingLemmas::error_stands))]
+    pub(crate) fn fail(&mut self, program: &Loaded, stand: Stand, code: u8)
+        requires there { HasStatement (code_of program.now.program) stand.block stand.at }
+        requires stack { IsStanding self.old.mode self.old.activations }
+        ensures state { state_of self.new
+            ≡ error_left (code_of program.now.program) code stand self.old.activations
+            (state_of self.old) }
+        ensures stack { IsStanding self.new.mode self.new.activations }
+    {
+        let Some(running) = self.activations.running() else {
+            return;
+        };
+        let is_inside = is_synchronous(running.ob);
+        let at = spot_at(program, stand.block, stand.at);
+        self.diagnose(SYNCHRONOUS_ERROR, u16::from(code));
+        if is_inside {
+            self.halt_at(at, ERROR_INSIDE);
+        } else if !self.activations.begin_error(program, code, at) {
+            self.halt_at(at, cause_without(failure(code, at).ob()));
+        }
+    }
+}

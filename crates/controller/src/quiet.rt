@@ -1,0 +1,49 @@
+//! Steps one after another that show nothing.
+ghost use Rattle.std.specs.Prelude.{◌≡◌, ◌+◌, ◌<◌, ◌≤◌, ◌^◌, false, replicate};
+ghost use Rattle.machine.specs.Flat.{code_of};
+ghost use Rattle.var_access.specs.declared.entries.What.TheVariants.{Step};
+ghost use Rattle.controller.specs.Fitting.{IsFit};
+ghost use Rattle.controller.specs.Quiet.{ShowNothing, steps_quietly};
+ghost use Rattle.controller.specs.Replay.{run_from};
+ghost use Rattle.controller.specs.Views.{state_of};
+
+use crate::cpus::Cpu;
+use crate::stopping::is_stop;
+use image_file::Loaded;
+
+impl Cpu {
+    /// Executes steps one after another as long as each shows nothing, `most` at most; the answer
+    /// is how many. It stops only before a step that isn't a statement of the quiet kind
+    /// (`machine::quiet_statements`) with which the running activation goes on, in STOP, or where a
+    /// request waits: what it leaves is for `happen`.
+    pub fn step_quietly(&mut self, program: &Loaded, most: u64) -> u64
+        requires fit { IsFit program.now.program (state_of self.old) }
+        requires few { self.old.entries + most < 2 ^ 64 }
+        ensures few { result ≤ most }
+        ensures nothing { ShowNothing (code_of program.now.program) (state_of self.old)
+            (replicate result Step) }
+        ensures state { state_of self.new
+            ≡ run_from (code_of program.now.program) (state_of self.old) (replicate result Step) }
+        ensures outputs { (state_of self.new).world.memory.peripheral_outputs
+            ≡ (state_of self.old).world.memory.peripheral_outputs }
+        ensures mode { self.new.mode ≡ self.old.mode }
+        ensures stops { result < most
+            → steps_quietly (code_of program.now.program) (state_of self.new) ≡ false }
+    {
+        if is_stop(self.mode) || self.sched.best(self.mode).is_some() {
+            return 0;
+        }
+        program.law_of_verifying();
+        machine::laws::what_fits_goes();
+        machine::laws::what_fits_lasts();
+        let done = self.activations.run_quietly(
+            program,
+            &mut self.memory,
+            &mut self.timers,
+            &mut self.counters,
+            most,
+        );
+        self.entries += done;
+        done
+    }
+}

@@ -1,0 +1,157 @@
+//! The first start.
+ghost use Rattle.std.specs.Prelude.{◌≡◌, [], map, is_some, IfOk};
+ghost use Rattle.machine.specs.Flat.{code_of};
+ghost use Rattle.plc_mem.specs.Blocks.{bytes_of};
+ghost use Rattle.plc_mem.specs.Fresh.{fresh};
+ghost use Rattle.controller.specs.Beginning.{ob_block as block_of_ob};
+ghost use Rattle.controller.specs.Start.{loaded_obs as obs_loaded, start, started_up, startup_ob};
+ghost use Rattle.controller.specs.Starting.{is_data_block as is_data_block_of, numbers_in as numbers_in_of, numbers_of, read_block as read_block_of};
+ghost use Rattle.controller.specs.Views.{state_of};
+
+use crate::activations::Activations;
+use crate::beginning::ob_block;
+use crate::diagnostics::Diagnostics;
+use crate::cpus::Cpu;
+use image_file::Loaded;
+use ob_sched::{Sched, StartEvent, StartInfo};
+use plc_base::{BlockId, BlockKind, Mode, NoMemory};
+use plc_mem::Memory;
+use std::alloc::Global;
+use timers_counters::{Counters, Timers};
+
+/// The startup and its class.
+const STARTUP_OB: u16 = 100;
+
+const STARTUP_CLASS: u8 = 27;
+
+/// The organization blocks that there are.
+static OBS: [u16; 35] = [
+    1, 10, 11, 12, 13, 14, 15, 16, 17, 20, 21, 22, 23, 30, 31, 32, 33, 34, 35, 36, 37, 38, 40, 41,
+    42, 43, 44, 45, 46, 47, 80, 85, 100, 121, 122,
+];
+
+fn is_loaded(program: &Loaded, ob: u16) -> bool
+    ensures { result ≡ is_some ((code_of program.now.program).head (block_of_ob ob)) }
+{
+    program.code(ob_block(ob)).is_some()
+}
+
+fn loaded_obs(alloc: Global, program: &Loaded) -> Result<Vec<u16>, NoMemory>
+    ensures { IfOk result (λ v. v.items ≡ obs_loaded (code_of program.now.program)) }
+{
+    OBS.iter()
+        .copied()
+        .filter(|ob| is_loaded(program, *ob))
+        .collect(alloc)
+}
+
+fn is_data_block(id: &BlockId) -> bool
+    ensures { result ≡ is_data_block_of id.now }
+{
+    matches!(id.kind, BlockKind::Db)
+}
+
+fn numbers_in(alloc: Global, ids: &[BlockId]) -> Result<Vec<u16>, NoMemory>
+    ensures { IfOk result (λ v. v.items ≡ numbers_in_of ids.now) }
+{
+    ids.iter()
+        .filter(|id| is_data_block(id))
+        .map(|id| id.number)
+        .collect(alloc)
+}
+
+/// The numbers of a program's data blocks, which rise.
+#[tactic(auto, using(crate::proofs::StartLemmas::numbers_among))]
+pub fn data_numbers(alloc: Global, program: &Loaded) -> Result<Vec<u16>, NoMemory>
+    ensures { IfOk result (λ v. v.items ≡ numbers_of (code_of program.now.program).blocks) }
+{
+    program.law_of_verifying();
+    let numbers = numbers_in(alloc, program.blocks())?;
+    Ok(numbers)
+}
+
+// The number of a data block with a copy of its bytes.
+fn read_block(alloc: Global, program: &Loaded, number: u16) -> Result<(u16, Vec<u8>), NoMemory>
+    ensures { IfOk result (λ b. (b.0, b.1.items)
+        ≡ read_block_of program.now.program.data_blocks number) }
+{
+    let Some(bytes) = program.data_block(number) else {
+        return Ok((number, Vec::new(alloc)));
+    };
+    let copy = Vec::from_slice(alloc, bytes)?;
+    Ok((number, copy))
+}
+
+fn read_blocks(
+    alloc: Global,
+    program: &Loaded,
+    numbers: &[u16],
+) -> Result<Vec<(u16, Vec<u8>)>, NoMemory>
+    ensures { IfOk result (λ v. bytes_of v.items
+        ≡ map (read_block_of program.now.program.data_blocks) numbers.now) }
+{
+    let mut blocks = Vec::new(alloc);
+    for number in numbers {
+        let block = read_block(alloc, program, *number)?;
+        blocks.push(block)?;
+    }
+    Ok(blocks)
+}
+
+// Memory with copies of the program's data blocks, in which all else is 0.
+#[tactic(auto, using(crate::proofs::StartLemmas::blocks_read, crate::proofs::StartLemmas::blocks_differ))]
+fn memory_of(alloc: Global, program: &Loaded) -> Result<Memory, NoMemory>
+    ensures { IfOk result (λ m. m ≡ fresh (code_of program.now.program).blocks) }
+{
+    program.law_of_verifying();
+    let numbers = data_numbers(alloc, program)?;
+    let blocks = read_blocks(alloc, program, numbers.as_slice())?;
+    let memory = Memory::new(alloc, blocks.as_slice())?;
+    Ok(memory)
+}
+
+impl Cpu {
+    // With OB 100 the mode is STARTUP, and it begins; else RUN begins.
+    fn start_up(&mut self, program: &Loaded)
+        requires { self.old.activations ≡ [] }
+        ensures { state_of self.new
+            ≡ started_up (startup_ob (code_of program.now.program)) (state_of self.old) }
+    {
+        let info = StartInfo::new(StartEvent::Startup, STARTUP_CLASS);
+        if self
+            .activations
+            .begin(program, STARTUP_CLASS, STARTUP_OB, &info)
+        {
+            self.mode = Mode::Startup;
+        } else {
+            self.start_run();
+        }
+    }
+
+    /// The first start of a program: data blocks as loaded, all other memory 0, and with OB 100
+    /// STARTUP, else RUN. The room for all activations is taken here, and no other call takes
+    /// memory.
+    ///
+    /// # Errors
+    ///
+    /// `NoMemory` for want of memory.
+    #[tactic(auto, unfolding(crate::specs::Start::start))]
+    pub fn start(alloc: Global, program: &Loaded) -> Result<Cpu, NoMemory>
+        ensures { IfOk result (λ p. state_of p ≡ start (code_of program.now.program)) }
+    {
+        let obs = loaded_obs(alloc, program)?;
+        let mut parts = Cpu {
+            memory: memory_of(alloc, program)?,
+            timers: Timers::new(),
+            counters: Counters::new(),
+            mode: Mode::Run,
+            activations: Activations::new(alloc)?,
+            sched: Sched::new(alloc, obs.as_slice())?,
+            first_cycle: true,
+            diagnostics: Diagnostics::new(),
+            entries: 0,
+        };
+        parts.start_up(program);
+        Ok(parts)
+    }
+}

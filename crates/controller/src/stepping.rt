@@ -1,0 +1,110 @@
+//! A step: one statement of the running activation, or a cycle point.
+ghost use Rattle.std.specs.Prelude.{◌≡◌, false};
+ghost use Rattle.machine.specs.Flat.{code_of};
+ghost use Rattle.controller.specs.Leaves.{call_left, finished, mode_after};
+ghost use Rattle.controller.specs.Ready.{HasStatement, IsReady};
+ghost use Rattle.controller.specs.Stack.{IsStanding};
+ghost use Rattle.controller.specs.State.{is_stop};
+ghost use Rattle.controller.specs.Stepping.{ob_ended, run_starts, stepped};
+ghost use Rattle.controller.specs.Views.{state_of};
+ghost use Rattle.ob_sched.specs.Scheduler.{run_begun};
+
+use crate::activations::Stand;
+use crate::cpus::Cpu;
+use crate::spots::spot_at;
+use frames::Binding;
+use image_file::Loaded;
+use machine::{Inputs, Outcome};
+use plc_base::Mode;
+
+/// The startup.
+const STARTUP_OB: u16 = 100;
+
+impl Cpu {
+    /// RUN begins.
+    pub(crate) fn start_run(&mut self)
+        ensures { state_of self.new ≡ run_starts (state_of self.old) }
+    {
+        self.mode = Mode::Run;
+        self.sched.begin_run();
+    }
+
+    // An organization block has ended; the end of OB 100 is that of STARTUP.
+    fn end_ob(&mut self, ob: u16)
+        ensures { state_of self.new ≡ ob_ended ob (state_of self.old) }
+    {
+        if ob == STARTUP_OB {
+            self.start_run();
+        }
+    }
+
+    // A call of a system function, which stood at `stand`.
+    #[tactic(auto, using(crate::proofs::CallLemmas::call_goes, crate::proofs::CallLemmas::call_halts, crate::proofs::CallLemmas::call_stands))]
+    fn call_system(
+        &mut self,
+        program: &Loaded,
+        stand: Stand,
+        number: u16,
+        inputs: &Inputs,
+        to: Option<Binding>,
+    )
+        requires there { HasStatement (code_of program.now.program) stand.block stand.at }
+        requires stack { IsStanding self.old.mode self.old.activations }
+        ensures state { state_of self.new
+            ≡ call_left (code_of program.now.program) number inputs.now to stand
+            self.old.activations (state_of self.old) }
+        ensures stack { IsStanding self.new.mode self.new.activations }
+    {
+        let stop = self
+            .activations
+            .serve(number, inputs, to, &mut self.memory, &mut self.sched);
+        if let Some(cause) = stop {
+            self.halt_at(spot_at(program, stand.block, stand.at), cause);
+        }
+    }
+
+    // What is left to do after a statement, which stood at `stand`.
+    #[tactic(auto, unfolding(crate::specs::Leaves::finished))]
+    fn finish(&mut self, program: &Loaded, stand: Stand, outcome: Outcome)
+        requires there { HasStatement (code_of program.now.program) stand.block stand.at }
+        requires stack { IsStanding (mode_after self.old.mode stand.ob outcome)
+            self.old.activations }
+        ensures state { state_of self.new
+            ≡ finished (code_of program.now.program) stand outcome (state_of self.old) }
+        ensures stack { IsStanding self.new.mode self.new.activations }
+    {
+        match outcome {
+            Outcome::Went => {}
+            Outcome::Ended => self.end_ob(stand.ob),
+            Outcome::SyncError { code } => self.fail(program, stand, code),
+            Outcome::SysCall {
+                number,
+                inputs,
+                result,
+            } => self.call_system(program, stand, number, &inputs, result),
+            Outcome::Stop { cause } => self.halt_at(spot_at(program, stand.block, stand.at), cause),
+        }
+    }
+
+    /// A step outside STOP.
+    #[tactic(auto, unfolding(crate::specs::Stepping::stepped), using(crate::proofs::StepLemmas::stepped_from, crate::proofs::StepLemmas::stepped_idle, crate::proofs::StepLemmas::idle, crate::proofs::StepLemmas::step_there, crate::proofs::StepLemmas::step_stands))]
+    pub(crate) fn step(&mut self, program: &Loaded)
+        requires ready { IsReady (code_of program.now.program) self.old.activations }
+        requires running { is_stop self.old.mode ≡ false }
+        requires stack { IsStanding self.old.mode self.old.activations }
+        ensures state { state_of self.new
+            ≡ stepped (code_of program.now.program) (state_of self.old) }
+        ensures stack { IsStanding self.new.mode self.new.activations }
+    {
+        let done = self.activations.step(
+            program,
+            &mut self.memory,
+            &mut self.timers,
+            &mut self.counters,
+        );
+        match done {
+            None => self.reach_cycle_point(program),
+            Some(done) => self.finish(program, done.0, done.1),
+        }
+    }
+}

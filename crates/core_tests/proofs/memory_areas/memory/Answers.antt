@@ -1,7 +1,0 @@
-use Rattle.std.proofs.Common.{rules}
-use Rattle.std.specs.List.{IsDistinct}
-use Rattle.core_tests.proofs.memory_areas.memory.Goals as goal
-
-pub new-requires-2 : goal.new-requires-2
-unfolding IsDistinct
-new-requires-2 c = search rules

@@ -1,6 +1,0 @@
-use Rattle.std.proofs.Common.{◌≡◌}
-use Rattle.lock_tests.specs.Workers.{IsFree}
-use Rattle.lock_tests.proofs.workers.add_notes.Given as goal
-
-abbrev pub invariant-loop-value : goal.invariant-loop-value
-invariant-loop-value g l = IsFree l.lock l.pass × (l.who ≡ l.pass.number)

@@ -1,0 +1,202 @@
+-- What the stages of compiling find, joined.
+use Rattle.std.proofs.Common.{◌≡◌, Bool, true, false, if◌then◌else◌, refl, sym, ap, subst, ◌∙◌, ℕ, suc, ◌<◌, List, [], ◌∷◌, get_or, Option, Some, None, option_map, Result, Ok, Err, inl, inr, Bor, arith}
+use Rattle.std.specs.Option.{unwrap_or, IfSome}
+use Rattle.plc_base.specs.declared.refusals.Refusal.{Refusal}
+use Rattle.plc_base.specs.declared.refusals.SourceFault.{SourceFault}
+use Rattle.plc_base.specs.declared.refusals.SourceFault.TheVariants as found
+use Rattle.flat_code.specs.Programs.{Program}
+use Rattle.sem_kept.specs.Accepted.{program_in}
+use Rattle.machine.specs.Flat.{code_of}
+use Rattle.stl_ast.specs.Literals.{AreBytes}
+use Rattle.stl_ast.specs.declared.blocks.Tree.{Tree}
+use Rattle.stl_lexer.specs.declared.kinds.Token.{Token}
+use Rattle.stl_lexer.specs.Tokens.{AreTokens, IsRefused as AreNoTokens}
+use Rattle.stl_parser.specs.Source.{IsRefusedBy as IsRefusedTree}
+use Rattle.plc_base.specs.Least.{least, lesser, is_before}
+use Rattle.stl_symbols.specs.Symbol.{Symbol}
+use Rattle.stl_symbols.specs.Symbols.{symbols_of, with_lines, Reads}
+use Rattle.plc_base.proofs.LeastLemmas.{least-append}
+use Rattle.block_layout.specs.Layouts.{layouts_of}
+use Rattle.block_layout.specs.Table.{layout_refusals}
+use Rattle.block_layout.specs.declared.blocks.BlockLayout.{BlockLayout}
+use Rattle.stl_types.specs.Table.{statement_refusals, Checks}
+use Rattle.stl_codegen.specs.Generated.{program_of}
+use Rattle.sem_kept.specs.Agreement.{AreFiles, IsRunnable, ProgramsRun, RunsAs}
+use Rattle.sem_kept.specs.Stages.{InTurn}
+use Rattle.sem_kept.specs.Meaning.{HasSymbols, HasTokens, HasTree, refusals_of, sound_by, IsSound, IsJudgedWith, IsJudged}
+use Rattle.s7_cli.specs.declared.compiling.LaidSource.{LaidSource}
+use Rattle.s7_cli.specs.Compiling.{RefusesBy, Finds, fault_in_symbols, fault_in_source, HasProgram, IsLaid, IsRefusedBy}
+
+-- an empty symbols file has no symbols
+pub empty_file : symbols_of [] ≡ Ok []
+unfolding symbols_of with_lines
+empty_file = refl
+
+-- the lesser of a refusal and another is one
+one_of : (before : Bool) (r s : Refusal)
+    → (if before then Some s else Some r) ≡ Some (unwrap_or (if before then Some s else Some r) r)
+one_of true r s = refl
+one_of false r s = refl
+
+lesser_is : (r : Refusal) (other : Option Refusal)
+    → lesser (Some r) other ≡ Some (unwrap_or (lesser (Some r) other) r)
+unfolding lesser
+lesser_is r None = refl
+lesser_is r (Some s) = one_of (is_before s r) r s
+
+both : (symbols : List Symbol) (tree : Tree) (a b : Option Refusal)
+    → least (layout_refusals tree symbols) ≡ a
+    → least (statement_refusals tree symbols (layouts_of tree symbols)) ≡ b
+    → least (refusals_of symbols tree) ≡ lesser a b
+both symbols tree a b at_a at_b =
+    least-append (layout_refusals tree symbols)
+    (statement_refusals tree symbols (layouts_of tree symbols))
+    ∙ ap (λ (z : Option Refusal). lesser z (least (statement_refusals tree symbols (layouts_of tree symbols)))) at_a
+    ∙ ap (λ (z : Option Refusal). lesser a z) at_b
+
+pub refused_so : (symbols : List Symbol) (tree : Tree) (layouts : List BlockLayout) (r : Refusal)
+    (other : Option Refusal)
+    → least (layout_refusals tree symbols) ≡ Some r → layouts ≡ layouts_of tree symbols
+    → other ≡ least (statement_refusals tree symbols layouts)
+    → IsSound symbols tree (Err (unwrap_or (lesser (Some r) other) r))
+refused_so symbols tree layouts r other here laid there =
+    sym (ap (sound_by tree)
+    (both symbols tree (Some r) other here
+    (ap (λ (z : List BlockLayout). least (statement_refusals tree symbols z)) (sym laid) ∙ sym there)
+    ∙ lesser_is r other))
+
+pub sound_both : (symbols : List Symbol) (tree : Tree) (layouts : List BlockLayout)
+    → least (layout_refusals tree symbols) ≡ None → layouts ≡ layouts_of tree symbols
+    → least (statement_refusals tree symbols layouts) ≡ None
+    → least (refusals_of symbols tree) ≡ None
+unfolding lesser
+sound_both symbols tree layouts here laid there =
+    both symbols tree None None here
+    (ap (λ (z : List BlockLayout). least (statement_refusals tree symbols z)) (sym laid) ∙ there)
+
+pub refused_by_statements : (symbols : List Symbol) (tree : Tree) (layouts : List BlockLayout)
+    (r : Refusal)
+    → least (layout_refusals tree symbols) ≡ None → layouts ≡ layouts_of tree symbols
+    → least (statement_refusals tree symbols layouts) ≡ Some r
+    → IsSound symbols tree (Err r)
+unfolding lesser
+refused_by_statements symbols tree layouts r here laid there =
+    sym (ap (sound_by tree)
+    (both symbols tree None (Some r) here
+    (ap (λ (z : List BlockLayout). least (statement_refusals tree symbols z)) (sym laid) ∙ there)))
+
+-- ---- what a stage finds
+
+pub without_file : (r : Result (List Symbol) SourceFault) → Reads (symbols_of []) r
+    → Finds (HasSymbols None) r
+without_file (Ok list) e = sym e ∙ empty_file
+without_file (Err (found.Refused refusal)) e = sym e ∙ empty_file
+without_file (Err found.NoMemory) e = tt
+
+pub with_file : (bytes : List ℕ) (r : Result (List Symbol) SourceFault)
+    → Reads (symbols_of bytes) r → Finds (HasSymbols (Some bytes)) r
+with_file bytes (Ok list) e = sym e
+with_file bytes (Err (found.Refused refusal)) e = sym e
+with_file bytes (Err found.NoMemory) e = tt
+
+pub tree_refused : (source : List ℕ) (tokens : List Token) (fault : SourceFault)
+    → AreTokens source tokens → IsRefusedTree source tokens fault
+    → Finds (InTurn HasTokens (HasTree source) source) (Err fault)
+tree_refused source tokens (found.Refused refusal) are refused = inr (tokens, are, refused)
+tree_refused source tokens found.NoMemory are refused = tt
+
+pub tokens_refused : (source : List ℕ) (fault : SourceFault) → AreNoTokens source fault
+    → Finds (InTurn HasTokens (HasTree source) source) (Err fault)
+tokens_refused source (found.Refused refusal) refused = inl refused
+tokens_refused source found.NoMemory refused = tt
+
+-- ---- whole
+
+pub symbols_refused : (source : List ℕ) (symbols : Option (List ℕ)) (fault : SourceFault)
+    → Finds (HasSymbols symbols) (Err fault) → RefusesBy source symbols (fault_in_symbols fault)
+unfolding IsJudged
+symbols_refused source symbols (found.Refused refusal) h = inl (refusal, refl, h)
+symbols_refused source symbols found.NoMemory h = tt
+
+with_tree : (source : List ℕ) (symbols : List Symbol) (refusal : Refusal)
+    → InTurn HasTokens (HasTree source) source (Err refusal)
+    → IsJudgedWith source symbols (Err refusal)
+with_tree source symbols refusal (inl refused) = inl refused
+with_tree source symbols refusal (inr (tokens, are, refused)) = inr (tokens, are, inl refused)
+
+pub tree_fault : (source : List ℕ) (symbols : Option (List ℕ)) (list : List Symbol)
+    (fault : SourceFault)
+    → HasSymbols symbols (Ok list)
+    → Finds (InTurn HasTokens (HasTree source) source) (Err fault)
+    → RefusesBy source symbols (fault_in_source fault)
+unfolding IsJudged
+tree_fault source symbols list (found.Refused refusal) has h =
+    inr (list, has, (refusal, refl, with_tree source list refusal h))
+tree_fault source symbols list found.NoMemory has h = tt
+
+pub program_fault : (source : List ℕ) (symbols : Option (List ℕ)) (list : List Symbol)
+    (tree : Tree) (fault : SourceFault)
+    → HasSymbols symbols (Ok list)
+    → InTurn HasTokens (HasTree source) source (Ok tree) → IsRefusedBy list tree fault
+    → RefusesBy source symbols (fault_in_source fault)
+unfolding IsJudged
+program_fault source symbols list tree (found.Refused refusal) has (tokens, are, is) h =
+    inr (list, has, (refusal, refl, inr (tokens, are, inr (tree, is, inl h))))
+program_fault source symbols list tree found.NoMemory has at h = tt
+
+-- the symbols file, by the files as they are read
+pub if_file : (P : List ℕ → Type 0) (file : Option (Bor (List ℕ)))
+    → IfSome file (λ s. P s.now) → IfSome (option_map (λ (s : Bor (List ℕ)). s.now) file) P
+if_file P None h = h
+if_file P (Some s) h = h
+
+pub all_bytes : (bytes : List ℕ) → ((i : ℕ) → get_or bytes i 0 < 256) → AreBytes bytes
+all_bytes [] small = tt
+all_bytes (b ∷ bytes) small =
+    let first : b < 256 = small 0 in
+    (omega (arith, first), all_bytes bytes (λ i. small (suc i)))
+
+-- ---- a source that is laid out
+
+pub statements_fault : (source : List ℕ) (symbols : Option (List ℕ)) (laid : LaidSource)
+    (checked : Tree) (fault : SourceFault)
+    → IsLaid source symbols laid
+    → Checks (least (statement_refusals laid.tree laid.symbols laid.layouts)) checked (Err fault)
+    → RefusesBy source symbols (fault_in_source fault)
+statements_fault source symbols laid checked (found.Refused refusal) is h =
+    program_fault source symbols laid.symbols laid.tree (found.Refused refusal) is.list is.parsed
+    (refused_by_statements laid.symbols laid.tree laid.layouts refusal is.right is.layout h)
+statements_fault source symbols laid checked found.NoMemory is h = tt
+
+-- where its statements break no rule, its program runs
+accepted_runs : ProgramsRun → (source : List ℕ) (symbols : Option (List ℕ)) (laid : LaidSource)
+    → AreFiles source symbols → IsLaid source symbols laid
+    → least (statement_refusals laid.tree laid.symbols laid.layouts) ≡ None
+    → IsRunnable (program_in laid.symbols laid.tree)
+    × RunsAs source symbols (code_of (program_in laid.symbols laid.tree))
+accepted_runs law source symbols laid are is there =
+    law source symbols laid.symbols is.parsed.0 laid.tree are is.list is.parsed.1 is.parsed.2
+    (sound_both laid.symbols laid.tree laid.layouts is.right is.layout there)
+
+pub has_program : ProgramsRun → (source : List ℕ) (symbols : Option (List ℕ)) (laid : LaidSource)
+    → AreFiles source symbols → IsLaid source symbols laid
+    → least (statement_refusals laid.tree laid.symbols laid.layouts) ≡ None
+    → HasProgram source symbols
+has_program law source symbols laid are is there =
+    let runs = accepted_runs law source symbols laid are is there in
+    (program_in laid.symbols laid.tree, runs.0, runs.1)
+
+-- and it is the one that is generated
+pub generated_runs : ProgramsRun → (source : List ℕ) (symbols : Option (List ℕ))
+    (laid : LaidSource) (checked : Tree)
+    → AreFiles source symbols → IsLaid source symbols laid → checked ≡ laid.tree
+    → least (statement_refusals laid.tree laid.symbols laid.layouts) ≡ None
+    → IsRunnable (program_of checked laid.symbols laid.layouts)
+    × RunsAs source symbols (code_of (program_of checked laid.symbols laid.layouts))
+generated_runs law source symbols laid checked are is same there =
+    subst (λ (p : Program). IsRunnable p × RunsAs source symbols (code_of p)) (sym generated)
+    (accepted_runs law source symbols laid are is there)
+  where
+    generated : program_of checked laid.symbols laid.layouts ≡ program_in laid.symbols laid.tree
+    generated = ap (λ (t : Tree). program_of t laid.symbols laid.layouts) same
+        ∙ ap (λ (z : List BlockLayout). program_of laid.tree laid.symbols z) is.layout

@@ -1,0 +1,44 @@
+use Rattle.std.proofs.Common.{ℕ, List, Option, option_map, Result, Err, IfErr, sym, ap, ◌∙◌, subst, Bor}
+use Rattle.std.proofs.lemmas.Result.{err_from_is_err_and}
+use Rattle.flat_code.specs.Programs.{Program}
+use Rattle.image_file.specs.Loaded.{LoadedProgram}
+use Rattle.machine.specs.Flat.{code_of}
+use Rattle.sem_kept.specs.Agreement.{IsRunnable, RunsAs}
+use Rattle.s7_cli.specs.Compiling.{RefusesBy}
+use Rattle.s7_cli.specs.declared.faults.CompileFault.{CompileFault}
+use Rattle.s7_cli.proofs.CompileLemmas.{generated_runs}
+use Rattle.s7_cli.proofs.compiling.compiled.Goals as goal
+
+pub returns-in_err-checked-clause-refused : goal.returns-in_err-checked-clause-refused
+returns-in_err-checked-clause-refused c =
+    let given : Option (List ℕ) = option_map (λ (s : Bor (List ℕ)). s.now) c.args.symbols in
+    let fault = err_from_is_err_and c.from_residual-in_err-checked.result
+    c.from_residual-in_err-checked.ensures.1 in
+    subst (λ (r : Result LoadedProgram CompileFault). IfErr r (RefusesBy c.args.source.now given))
+    (sym (fault.1 ∙ ap Err fault.2))
+    (c.in_err-checked.ensures.refused c.args.source.now given c.in_ok-laid.ensures.laid)
+
+pub generate-requires : goal.generate-requires
+generate-requires c =
+    let given : Option (List ℕ) = option_map (λ (s : Bor (List ℕ)). s.now) c.args.symbols in
+    let runs = generated_runs c.programs_run.ensures c.args.source.now given c.in_ok-laid.laid
+    c.in_ok-checked.checked c.law_of_files.ensures c.in_ok-laid.ensures.laid
+    c.in_ok-checked.ensures.tree c.in_ok-checked.ensures.sound in
+    runs.0.is
+
+pub loaded-requires : goal.loaded-requires
+loaded-requires c =
+    let given : Option (List ℕ) = option_map (λ (s : Bor (List ℕ)). s.now) c.args.symbols in
+    let runs = generated_runs c.programs_run.ensures c.args.source.now given c.in_ok-laid.laid
+    c.in_ok-checked.checked c.law_of_files.ensures c.in_ok-laid.ensures.laid
+    c.in_ok-checked.ensures.tree c.in_ok-checked.ensures.sound in
+    subst IsRunnable (sym c.in_ok-program.ensures) runs.0
+
+pub returns-clause-ok : goal.returns-clause-ok
+returns-clause-ok c =
+    let given : Option (List ℕ) = option_map (λ (s : Bor (List ℕ)). s.now) c.args.symbols in
+    let runs = generated_runs c.programs_run.ensures c.args.source.now given c.in_ok-laid.laid
+    c.in_ok-checked.checked c.law_of_files.ensures c.in_ok-laid.ensures.laid
+    c.in_ok-checked.ensures.tree c.in_ok-checked.ensures.sound in
+    subst (λ (p : Program). RunsAs c.args.source.now given (code_of p))
+    (sym (c.in_ok-loaded.ensures ∙ c.in_ok-program.ensures)) runs.1

@@ -1,0 +1,249 @@
+ghost use Rattle.std.specs.Prelude.{◌≡◌, ◌≤◌, length, IfOk, IfErr};
+ghost use Rattle.std.specs.Option.{option_map, IfSome};
+ghost use Rattle.machine.specs.Flat.{code_of};
+ghost use Rattle.stl_ast.specs.Literals.{AreBytes};
+ghost use Rattle.stl_symbols.specs.Symbols.{symbols_limit};
+ghost use Rattle.plc_base.specs.Least.{least};
+ghost use Rattle.stl_lexer.specs.Limits.{source_limit};
+ghost use Rattle.stl_types.specs.Table.{statement_refusals};
+ghost use Rattle.block_layout.specs.Table.{layout_refusals};
+ghost use Rattle.sem_kept.specs.Agreement.{AreFiles, IsRunnable, RunsAs};
+ghost use Rattle.sem_kept.specs.Meaning.{HasSymbols, HasTokens, HasTree, IsSound};
+ghost use Rattle.plc_base.specs.declared.refusals.SourceFault.TheVariants.{NoMemory};
+ghost use Rattle.sem_kept.specs.Stages.{InTurn};
+ghost use Rattle.s7_cli.specs.Compiling.{
+  RefusesBy,
+  RefusesLaid,
+  Finds,
+  HasProgram,
+  IsLaid,
+  Lays,
+};
+
+use crate::faults::{CompileFault, in_source, in_symbols};
+use block_layout::{Layouts, lay_out, lay_out_sound};
+use flat_code::Program;
+use image_file::{Loaded, VerifyError, verify};
+use plc_base::{Refusal, SourceFault, lesser};
+use std::alloc::{AllocError, Global};
+use stl_ast::Tree;
+use stl_codegen::generate;
+use stl_lexer::lex;
+use stl_parser::parse;
+use stl_symbols::{Symbols, read_symbols};
+use stl_types::{Checked, check};
+
+/// A source that breaks no rule on its symbols, tokens, clauses and layout.
+#[derive(Drop)]
+struct LaidSource {
+    symbols: Symbols,
+    tree: Tree,
+    layouts: Layouts,
+}
+
+/// The symbols of a symbols file. Without a file there are none, as in an empty one.
+fn symbols_of(alloc: Global, symbols: Option<&[u8]>) -> Result<Symbols, SourceFault>
+    requires { IfSome symbols (λ s. length s.now ≤ symbols_limit) }
+    ensures { Finds (HasSymbols (option_map (λ s. s.now) symbols.entry)) result }
+{
+    match symbols {
+        None => read_symbols(alloc, &[]),
+        Some(bytes) => {
+            let list = read_symbols(alloc, bytes)?;
+            Ok(list)
+        }
+    }
+}
+
+/// The tree of a source.
+fn tree_of(alloc: Global, source: &[u8]) -> Result<Tree, SourceFault>
+    requires { length source.now ≤ source_limit }
+    ensures { Finds (InTurn HasTokens (HasTree source.now) source.now) result }
+{
+    let tokens = lex(alloc, source)?;
+    let tree = parse(alloc, &tokens)?;
+    Ok(tree)
+}
+
+/// The least rule on statements that a tree breaks, if it breaks one.
+fn refusal_of_statements(
+    alloc: Global,
+    tree: &Tree,
+    symbols: &Symbols,
+    layouts: &Layouts,
+) -> Result<Option<Refusal>, SourceFault>
+    ensures found { IfOk result (λ r.
+        r ≡ least (statement_refusals tree.now symbols.now layouts.now)) }
+    ensures memory { IfErr result (λ e. e ≡ NoMemory) }
+{
+    match check(alloc, tree, symbols, layouts) {
+        Ok(_checked) => Ok(None),
+        Err(SourceFault::Refused { refusal }) => Ok(Some(refusal)),
+        Err(SourceFault::NoMemory) => Err(SourceFault::NoMemory),
+    }
+}
+
+/// The least refusal of a tree that breaks a rule on its layout. The statements are checked with all
+/// that breaks none.
+fn least_refusal(
+    alloc: Global,
+    tree: &Tree,
+    symbols: &Symbols,
+    refusal: Refusal,
+) -> Result<Refusal, SourceFault>
+    requires { least (layout_refusals tree.now symbols.now) ≡ Some refusal }
+    ensures found { IfOk result (λ r. IsSound symbols.now tree.now (Err r)) }
+    ensures memory { IfErr result (λ e. e ≡ NoMemory) }
+{
+    let layouts = lay_out_sound(alloc, tree, symbols)?;
+    let other = refusal_of_statements(alloc, tree, symbols, &layouts)?;
+    Ok(lesser(Some(refusal), other).unwrap_or(refusal))
+}
+
+/// The layouts of a tree that breaks no rule on them.
+fn layouts_of(alloc: Global, tree: &Tree, symbols: &Symbols) -> Result<Layouts, SourceFault>
+    ensures { Lays symbols.now tree.now result }
+{
+    match lay_out(alloc, tree, symbols) {
+        Ok(layouts) => Ok(layouts),
+        Err(SourceFault::Refused { refusal }) => {
+            let least = least_refusal(alloc, tree, symbols, refusal)?;
+            Err(SourceFault::Refused { refusal: least })
+        }
+        Err(SourceFault::NoMemory) => Err(SourceFault::NoMemory),
+    }
+}
+
+/// Lays out a source with its symbols file. The symbols are checked first, then the tokens of the
+/// source, its clauses, and its layout. Where a rule on the layout is broken, the refusal is the
+/// least one of these rules and of those on statements.
+fn laid_out(
+    alloc: Global,
+    source: &[u8],
+    symbols: Option<&[u8]>,
+) -> Result<LaidSource, CompileFault>
+    requires source { length source.now ≤ source_limit }
+    requires symbols { IfSome symbols (λ s. length s.now ≤ symbols_limit) }
+    ensures laid { IfOk result (IsLaid source.now (option_map (λ s. s.now) symbols.entry)) }
+    ensures refused { IfErr result
+        (RefusesBy source.now (option_map (λ s. s.now) symbols.entry)) }
+{
+    let list = match symbols_of(alloc, symbols) {
+        Ok(list) => list,
+        Err(fault) => return Err(in_symbols(fault)),
+    };
+    let tree = match tree_of(alloc, source) {
+        Ok(tree) => tree,
+        Err(fault) => return Err(in_source(fault)),
+    };
+    match layouts_of(alloc, &tree, &list) {
+        Ok(layouts) => Ok(LaidSource {
+            symbols: list,
+            tree,
+            layouts,
+        }),
+        Err(fault) => Err(in_source(fault)),
+    }
+}
+
+/// A source that is laid out, with its statements checked.
+fn checked_of<'a>(alloc: Global, laid: &'a LaidSource) -> Result<Checked<'a>, CompileFault>
+    ensures tree { IfOk result (λ checked. checked ≡ laid.now.tree) }
+    ensures sound { IfOk result (λ checked.
+        least (statement_refusals laid.now.tree laid.now.symbols laid.now.layouts) ≡ None) }
+    ensures refused { IfErr result (RefusesLaid laid.now) }
+{
+    match check(alloc, &laid.tree, &laid.symbols, &laid.layouts) {
+        Ok(checked) => Ok(checked),
+        Err(fault) => Err(in_source(fault)),
+    }
+}
+
+/// A program that runs, verified.
+fn loaded(alloc: Global, program: Program) -> Result<Loaded, AllocError>
+    requires { IsRunnable program }
+    ensures { IfOk result (λ l. l.program ≡ program) }
+{
+    image_file::laws::verified_or_refused();
+    match verify(alloc, program) {
+        Ok(loaded) => Ok(loaded),
+        Err(VerifyError::Fault { fault: _ }) => unreachable!(),
+        Err(VerifyError::NoMemory) => Err(AllocError),
+    }
+}
+
+/// A law: what a slice holds are bytes.
+fn law_of_bytes(bytes: &[u8])
+    ensures { AreBytes bytes.now }
+{}
+
+/// A law: so it is with a file, if there is one.
+fn law_of_file(file: Option<&[u8]>)
+    ensures { IfSome file.entry (λ bytes. AreBytes bytes.now) }
+{
+    match file {
+        None => {}
+        Some(bytes) => law_of_bytes(bytes),
+    }
+}
+
+/// A law: what is known of a source and a symbols file that are read.
+fn law_of_files(source: &[u8], symbols: Option<&[u8]>)
+    requires source { length source.now ≤ source_limit }
+    requires symbols { IfSome symbols (λ s. length s.now ≤ symbols_limit) }
+    ensures { AreFiles source.now (option_map (λ s. s.now) symbols.entry) }
+{
+    law_of_bytes(source);
+    law_of_file(symbols);
+}
+
+/// Checks a source of at most 1,048,576 bytes with its symbols file, which has at most as many, by
+/// the rules of `compiled`. No program is made: that a source which breaks no rule has one that
+/// verifies and runs as it means is proved.
+///
+/// # Errors
+///
+/// Those of `compiled`: `Symbols` or `Source` with the refusal exactly where the symbols file or the
+/// source with these symbols is refused; or `NoMemory`.
+pub fn judged(alloc: Global, source: &[u8], symbols: Option<&[u8]>) -> Result<(), CompileFault>
+    requires source { length source.now ≤ source_limit }
+    requires symbols { IfSome symbols (λ s. length s.now ≤ symbols_limit) }
+    ensures ok { IfOk result (λ done.
+        HasProgram source.now (option_map (λ s. s.now) symbols.entry)) }
+    ensures refused { IfErr result
+        (RefusesBy source.now (option_map (λ s. s.now) symbols.entry)) }
+{
+    sem_kept::laws::programs_run();
+    law_of_files(source, symbols);
+    let laid = laid_out(alloc, source, symbols)?;
+    let _checked = checked_of(alloc, &laid)?;
+    Ok(())
+}
+
+/// Compiles a source of at most 1,048,576 bytes with its symbols file, which has at most as many,
+/// into a loaded program that runs as it means. The symbols are checked first, then the tokens of
+/// the source, its clauses, and its layout together with its statements.
+///
+/// # Errors
+///
+/// `Symbols` or `Source` with the refusal exactly where the symbols file or the source with these
+/// symbols is refused; or `NoMemory`.
+pub fn compiled(
+    alloc: Global,
+    source: &[u8],
+    symbols: Option<&[u8]>,
+) -> Result<Loaded, CompileFault>
+    requires source { length source.now ≤ source_limit }
+    requires symbols { IfSome symbols (λ s. length s.now ≤ symbols_limit) }
+    ensures ok { IfOk result (λ l.
+        RunsAs source.now (option_map (λ s. s.now) symbols.entry) (code_of l.program)) }
+    ensures refused { IfErr result
+        (RefusesBy source.now (option_map (λ s. s.now) symbols.entry)) }
+{
+    sem_kept::laws::programs_run();
+    law_of_files(source, symbols);
+    let laid = laid_out(alloc, source, symbols)?;
+    let checked = checked_of(alloc, &laid)?;
+    let program = generate(alloc, &checked, &laid.layouts, &laid.symbols)?;
+    Ok(loaded(alloc, program)?)
+}

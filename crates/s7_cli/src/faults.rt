@@ -1,0 +1,44 @@
+ghost use Rattle.std.specs.Prelude.{◌≡◌};
+ghost use Rattle.s7_cli.specs.Compiling.{fault_in_source, fault_in_symbols};
+
+use plc_base::{Refusal, SourceFault};
+use std::alloc::AllocError;
+
+/// Why a source isn't compiled: what its symbols file or it breaks, or want of memory.
+#[derive(Clone, Copy, Debug, PartialEq, Eq)]
+pub enum CompileFault {
+    Symbols { refusal: Refusal },
+    Source { refusal: Refusal },
+    NoMemory,
+}
+
+impl From<AllocError> for CompileFault {
+    ghost use Rattle.std.specs.Prelude.{◌≡◌};
+    ghost use Rattle.s7_cli.specs.declared.faults.CompileFault.TheVariants.{NoMemory};
+
+    ghost from_gives = { λ _ e. e ≡ NoMemory };
+
+    fn from(_e: AllocError) -> CompileFault {
+        CompileFault::NoMemory
+    }
+}
+
+/// What a symbols file breaks.
+pub(crate) fn in_symbols(fault: SourceFault) -> CompileFault
+    ensures { result ≡ fault_in_symbols fault }
+{
+    match fault {
+        SourceFault::Refused { refusal } => CompileFault::Symbols { refusal },
+        SourceFault::NoMemory => CompileFault::NoMemory,
+    }
+}
+
+/// What a source breaks.
+pub(crate) fn in_source(fault: SourceFault) -> CompileFault
+    ensures { result ≡ fault_in_source fault }
+{
+    match fault {
+        SourceFault::Refused { refusal } => CompileFault::Source { refusal },
+        SourceFault::NoMemory => CompileFault::NoMemory,
+    }
+}

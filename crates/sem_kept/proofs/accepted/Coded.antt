@@ -1,0 +1,143 @@
+-- The code of each block of an accepted source is made of ops of the table.
+use Rattle.std.proofs.Common.{◌≡◌, ℕ, suc, ◌+◌, ◌≤◌, Bool, true, false, eqb, ◌&&◌, List, [], ◌∷◌, length, length-append, map, Option, Some, refl, ap, subst, arith}
+use Rattle.std.specs.Prelude.{IfSome, cond, not, slice_get, if◌then◌else◌}
+use Rattle.std.specs.List.{AllByRecursion, count_by}
+use Rattle.std.proofs.lemmas.Bool.{and_from, eq-eqb, ltb-false}
+use Rattle.plc_base.specs.declared.blocks.BlockId.{BlockId}
+use Rattle.flat_code.specs.Codes.{are_ops, code_bytes, code_of, is_nowhere, stop_at}
+use Rattle.flat_code.specs.declared.words.EndWord.TheVariants as end
+use Rattle.stl_ast.specs.Statements.{is_empty}
+use Rattle.stl_ast.specs.declared.blocks.Block.{Block}
+use Rattle.stl_ast.specs.declared.blocks.Tree.{Tree}
+use Rattle.stl_ast.specs.declared.statements.Statement.{Statement}
+use Rattle.stl_symbols.specs.Symbol.{Symbol}
+use Rattle.block_layout.specs.Layouts.{layouts_of}
+use Rattle.block_layout.specs.Measures.{types_of}
+use Rattle.block_layout.specs.Rule55.{has_too_many_statements}
+use Rattle.block_layout.specs.declared.blocks.BlockLayout.{BlockLayout}
+use Rattle.stl_types.specs.Context.{Context}
+use Rattle.stl_codegen.specs.Compiled.{StatedBlock, compiled}
+use Rattle.stl_codegen.specs.Emitted.{ops_of}
+use Rattle.stl_codegen.specs.Generated.{code_block, code_blocks_of, returning, stated_from, statements_of}
+use Rattle.stl_codegen.specs.Instruction.{instruction}
+use Rattle.sem_kept.proofs.accepted.Accepted.{IsSound, IsSoundStatement, IsSoundTree, all_append, context_at, right_tree, sound_code_blocks}
+use Rattle.sem_kept.proofs.accepted.CodedBlocks.{AreGood, block_coded}
+use Rattle.sem_kept.proofs.accepted.CodedBytes.{tree_has}
+use Rattle.sem_kept.proofs.accepted.CodedOps.{IsGoodSource, IsGoodStatement, end_good, statement_good}
+use Rattle.sem_kept.proofs.accepted.CodedSources.{context_fit, formals_few, sum_cons}
+use Rattle.sem_kept.proofs.accepted.CodedSymbols.{symbols_fit}
+use Rattle.sem_kept.proofs.accepted.CodedViews.{IsFit, SymbolFits, got_holds}
+use Rattle.sem_kept.specs.Coded.{AreCoded, CodedIsGood, IsCoded, StatementHasBytes}
+
+-- ---- the statements of a body
+
+stated_good : (c : Context) (body : List Statement) (n : ℕ) (ss : List Statement) → IsFit c
+    → AllByRecursion (IsGoodSource c) ss → AreGood (stated_from c body n ss)
+stated_good c body n [] fit h = tt
+stated_good c body n (s ∷ ss) fit h =
+    by (is_empty s.code) refl (stated_good c body n ss fit h.1)
+    (stated_good c body (suc n) ss fit h.1)
+  where
+    by : (b : Bool) → is_empty s.code ≡ b → AreGood (stated_from c body n ss)
+        → AreGood (stated_from c body (suc n) ss)
+        → AreGood (if b then stated_from c body n ss
+        else record { instr = instruction c body n s; line = s.line }
+        ∷ stated_from c body (suc n) ss)
+    by true e same next = same
+    by false e same next = (statement_good c body n s fit h.0 e, next)
+
+stated_count : (c : Context) (body : List Statement) (n : ℕ) (ss : List Statement)
+    → length (stated_from c body n ss) ≡ count_by (λ s. not (is_empty s.code)) ss
+stated_count c body n [] = refl
+stated_count c body n (s ∷ ss) =
+    let all = sum_cons (λ s. cond (not (is_empty s.code)) 1 0) s ss in
+    let here = by (is_empty s.code) (stated_count c body n ss) (stated_count c body (suc n) ss) in
+    omega (arith, all, here)
+  where
+    rest : ℕ
+    rest = count_by (λ s. not (is_empty s.code)) ss
+
+    by : (b : Bool) → length (stated_from c body n ss) ≡ rest
+        → length (stated_from c body (suc n) ss) ≡ rest
+        → length (if b then stated_from c body n ss
+        else record { instr = instruction c body n s; line = s.line }
+        ∷ stated_from c body (suc n) ss)
+        ≡ cond (not b) 1 0 + rest
+    by true same next = omega (arith, same)
+    by false same next = omega (arith, next)
+
+-- ---- a block
+
+sources_good : (symbols : List Symbol) (t : Tree) (k : ℕ) (ss : List Statement)
+    → AllByRecursion SymbolFits symbols → IsSoundTree symbols t
+    → AllByRecursion (IsSoundStatement (types_of symbols t.blocks) (context_at symbols t k)) ss
+    → AllByRecursion StatementHasBytes ss
+    → AllByRecursion (IsGoodSource (context_at symbols t k)) ss
+sources_good symbols t k [] fit tree sound has = tt
+sources_good symbols t k (s ∷ ss) fit tree sound has = (
+  record {
+    formed = sound.0.well_formed;
+    has = has.0;
+    callee = formals_few symbols t k s fit tree;
+  },
+  sources_good symbols t k ss fit tree sound.1 has.1,
+)
+
+few_statements : (b : Block) → has_too_many_statements b ≡ false
+    → count_by (λ s. not (is_empty s.code)) b.body ≤ 65534
+few_statements b h =
+    let k = ltb-false 65534 (count_by (λ s. not (is_empty s.code)) b.body) h in omega (arith, k)
+
+source_coded : (symbols : List Symbol) (t : Tree) (k : ℕ) (b : Block) (l : BlockLayout)
+    (id : BlockId) → AllByRecursion SymbolFits symbols → IsSoundTree symbols t
+    → IsSound symbols t k b l → AllByRecursion StatementHasBytes b.body
+    → IsCoded (compiled (code_block (context_at symbols t k) b l id))
+unfolding statements_of
+source_coded symbols t k b l id fit tree sound has =
+    let c = context_at symbols t k in
+    let inner = stated_from c b.body 0 b.body in
+    let good = stated_good c b.body 0 b.body (context_fit symbols t k b l fit tree sound)
+    (sources_good symbols t k b.body fit tree sound.statements has) in
+    let count = stated_count c b.body 0 b.body in
+    let few = few_statements b sound.head.by_55 in
+    let all = length-append inner (returning b ∷ []) in
+    block_coded (code_block c b l id) inner b.end_line refl
+    (all_append (λ s. IsGoodStatement (ops_of s.instr)) inner (returning b ∷ []) good
+    (end_good end.Be, tt))
+    (omega (arith, count, few, all))
+
+-- ---- the program
+
+mapped_coded : (bs : List StatedBlock) → AllByRecursion (λ b. IsCoded (compiled b)) bs
+    → AllByRecursion IsCoded (map compiled bs)
+mapped_coded [] h = tt
+mapped_coded (b ∷ bs) h = (h.0, mapped_coded bs h.1)
+
+got_some : {A : Type 0} (P : A → Type 0) (xs : List A) (i : ℕ) (x : A) → AllByRecursion P xs
+    → slice_get xs i ≡ Some x → P x
+got_some P xs i x h e = subst (λ (o : Option _). IfSome o P) e (got_holds P xs i h)
+
+-- THE CODE OF AN ACCEPTED SOURCE
+pub are_coded : AreCoded
+are_coded source file symbols t accepted bytes =
+    let fit = symbols_fit file symbols accepted.named in
+    let tree = right_tree source file symbols t accepted in
+    let has = tree_has source accepted.tokens t bytes accepted.parsed in
+    mapped_coded (code_blocks_of t symbols (layouts_of t symbols))
+    (sound_code_blocks symbols t (λ b. IsCoded (compiled b)) tree
+    (λ k b l id sound named is.
+    source_coded symbols t k b l id fit tree sound
+    (got_some (λ (b : Block). AllByRecursion StatementHasBytes b.body) t.blocks k b has
+    sound.block_there)))
+
+pub coded_is_good : CodedIsGood
+unfolding code_of
+coded_is_good judged b coded =
+    let n = length (code_bytes b.code) in
+    and_from (are_ops b.code && is_nowhere (stop_at judged b.code [])) (eqb n n)
+    (and_from (are_ops b.code) (is_nowhere (stop_at judged b.code [])) coded.ops (stops judged))
+    (eq-eqb n n refl)
+  where
+    stops : (judged : Bool) → is_nowhere (stop_at judged b.code []) ≡ true
+    stops true = ap is_nowhere coded.right
+    stops false = refl

@@ -1,0 +1,546 @@
+-- The ops of a statement are ops of the table, wherever its targets lead, and at most 64.
+use Rattle.std.proofs.Common.{◌≡◌, ℕ, suc, ◌+◌, ◌<◌, ◌≤◌, Bool, true, false, ltb, ◌&&◌, List, [], ◌∷◌, ◌++◌, length, length-append, take, drop, take-append-drop, Option, Some, None, refl, sym, ap, subst, ◌∙◌, arith}
+use Rattle.std.specs.Prelude.{IfSome, is_none, not, if◌then◌else◌}
+use Rattle.std.specs.List.{AllByRecursion}
+use Rattle.std.specs.Str.{bytes_eq}
+use Rattle.std.proofs.lemmas.Bool.{and_from, lt-ltb}
+use Rattle.plc_base.specs.declared.blocks.BlockId.{BlockId}
+use Rattle.plc_base.specs.declared.blocks.BlockKind.{BlockKind}
+use Rattle.plc_base.specs.declared.blocks.BlockKind.TheVariants as kinds
+use Rattle.plc_base.specs.declared.places.Place.{Place}
+use Rattle.plc_base.specs.declared.places.Width.{Width}
+use Rattle.flat_code.specs.Forms.{actual, actual_fits, direct, is_callable, payload_fits}
+use Rattle.flat_code.specs.Instr.{Passing, Does, Calls, Returns}
+use Rattle.flat_code.specs.Kinds.{kind_of}
+use Rattle.flat_code.specs.OpCodes.{code_of}
+use Rattle.flat_code.specs.Ops.{OpData, is_instruction, is_op}
+use Rattle.flat_code.specs.Table.{admits, takes_of_word}
+use Rattle.flat_code.specs.declared.kinds.JumpWord.{JumpWord}
+use Rattle.flat_code.specs.declared.operands.Operand.{Operand as FlatOperand}
+use Rattle.flat_code.specs.declared.operands.Operand.TheVariants as flat
+use Rattle.flat_code.specs.declared.operands.Passed.{Passed}
+use Rattle.flat_code.specs.declared.operands.Passed.TheVariants as passed
+use Rattle.flat_code.specs.declared.words.CallWord.{CallWord}
+use Rattle.flat_code.specs.declared.words.EndWord.{EndWord}
+use Rattle.flat_code.specs.declared.words.EndWord.TheVariants as ends
+use Rattle.flat_code.specs.declared.words.Word.{Word}
+use Rattle.flat_code.specs.declared.words.Word.TheVariants as word
+use Rattle.block_layout.specs.Fits.{bits_of}
+use Rattle.stl_ast.specs.Literals.{IsLiteral}
+use Rattle.stl_ast.specs.Operands.{IsOperand}
+use Rattle.stl_ast.specs.Statements.{AreActuals, IsStatement, is_empty}
+use Rattle.stl_ast.specs.declared.blocks.Block.{Block}
+use Rattle.stl_ast.specs.declared.declarations.Simple.{Simple}
+use Rattle.stl_ast.specs.declared.literals.Literal.{Literal}
+use Rattle.stl_ast.specs.declared.mnemonics.Mnemonic.{Mnemonic}
+use Rattle.stl_ast.specs.declared.operands.Numbered.TheVariants as numbered
+use Rattle.stl_ast.specs.declared.operands.Operand.{Operand}
+use Rattle.stl_ast.specs.declared.operands.Operand.TheVariants as operand
+use Rattle.stl_ast.specs.declared.statements.Actual.{Actual}
+use Rattle.stl_ast.specs.declared.statements.Statement.{Statement}
+use Rattle.plc_base.specs.Folding.{folded}
+use Rattle.stl_types.specs.Constants.{takes_constant}
+use Rattle.stl_types.specs.Context.{Context}
+use Rattle.stl_types.specs.Forms.{form_of}
+use Rattle.stl_types.specs.Kinds.{is_composite, width_in}
+use Rattle.stl_types.specs.Operands.{has_width, is_input, is_on_wrong_side, operand_rule, rule_of, rule_seen, statement_rule, takes as form_takes, writes}
+use Rattle.stl_types.specs.Parameters.{Callee, callee_of}
+use Rattle.stl_types.specs.Resolved.{resolved, seen_view}
+use Rattle.stl_types.specs.Seen.{seen}
+use Rattle.stl_types.specs.declared.forms.Form.{Form}
+use Rattle.stl_types.specs.declared.parameters.Formal.{Formal}
+use Rattle.stl_types.specs.declared.views.Register.TheVariants as register
+use Rattle.stl_types.specs.declared.views.Seen.{Seen}
+use Rattle.stl_types.specs.declared.views.Seen.TheVariants.{Sees, Unknown, Rests}
+use Rattle.stl_types.specs.declared.views.View.{View}
+use Rattle.stl_types.specs.declared.views.View.TheVariants as view
+use Rattle.stl_codegen.proofs.OpLemmas.{jumps, jump_ops}
+use Rattle.stl_codegen.specs.Compiled.{aimed}
+use Rattle.stl_codegen.specs.Emitted.{call_op, called_kind, end_op, ending, instance_number, jump_op, opening, ops_of, passing, preparing}
+use Rattle.stl_codegen.specs.Instruction.{block_at, call_instr, end_instr, filler, in_order, instr_by, instruction, jump_instr, passings_to, resolved_instr, return_last, target_of, view_instr}
+use Rattle.stl_codegen.specs.Operands.{constant_bits, is_in_named_block, opened_by, operand_of}
+use Rattle.stl_codegen.specs.Passed.{passed_actual, passed_place, passed_seen, passed_view, passings_from, supplied, with_index}
+use Rattle.stl_codegen.specs.Words.{call_of, end_of, jump_of, word_of}
+use Rattle.sem_kept.proofs.accepted.CodedBits.{bits_small, constant_taken}
+use Rattle.sem_kept.proofs.accepted.CodedTables.{taken, word_is_op}
+use Rattle.sem_kept.proofs.accepted.CodedViews.{IsFit, IsWord, PlaceFits, SeenFits, ViewFits, direct_fits, found_holds, payload_right, pointer_fits, seen_fits, word_fits}
+use Rattle.sem_kept.specs.Coded.{HasBytes, OperandHasBytes, StatementHasBytes}
+
+-- ---- ops that stay ops wherever they lead
+
+abbrev pub IsGood : OpData → Type 0
+IsGood op = (f : ℕ → ℕ) → ((n : ℕ) → f n < 4294967296) → is_op op.code (aimed f op.operand) ≡ true
+
+-- an op that prepares its statement
+pub record IsGoodPart (op : OpData) : Type 0 where
+  pub good : IsGood op
+  pub inner : op.last ≡ false
+
+-- the ops of a statement: those that prepare, at most 63, and the last one
+pub record IsGoodStatement (ops : List OpData) : Type 0 where
+  pub front : List OpData
+  pub final : OpData
+  pub whole : ops ≡ front ++ final ∷ []
+  pub parts : AllByRecursion IsGoodPart front
+  pub few : length front ≤ 63
+  pub good : IsGood final
+  pub last : final.last ≡ true
+
+-- an operand that isn't a jump's
+still_good : (w : Word) (last : Bool) (o : FlatOperand) → ((f : ℕ → ℕ) → aimed f o ≡ o)
+    → is_instruction w o ≡ true → IsGood (record { code = code_of w; last = last; operand = o })
+still_good w last o still h f small =
+    ap (λ (x : FlatOperand). is_op (code_of w) x) (still f) ∙ word_is_op w o h
+
+-- one op alone
+alone : (op : OpData) → IsGood op → op.last ≡ true → IsGoodStatement (op ∷ [])
+alone op good last = record {
+  front = [];
+  final = op;
+  whole = refl;
+  parts = tt;
+  few = omega arith;
+  good = good;
+  last = last;
+}
+
+-- ---- instructions that go on
+
+-- what the rules say of an operand and what it names
+abbrev IsAllowed : Form → Operand → View → Type 0
+IsAllowed f (operand.Constant value) v = (takes_constant f value ≡ true) × (v ≡ view.Constant)
+IsAllowed f _ v = rule_of f v ≡ None
+
+record IsTaken (f : Form) (v : View) : Type 0 where
+  takes : form_takes f v ≡ true
+  side : is_on_wrong_side f v ≡ false
+
+-- the rule that is broken, by its tests
+abbrev rule_by : (a b c d e : Bool) → Option ℕ
+rule_by a b c d e =
+    if a then Some 24
+    else if not b then Some 25
+    else if not c then Some 24
+    else if d then Some 25
+    else if e then Some 39
+    else None
+
+rule_parts : (f : Form) (v : View) → rule_of f v ≡ None → IsTaken f v
+unfolding rule_of
+rule_parts f v h =
+    by (is_composite v) (form_takes f v) (has_width f (width_in v)) (is_on_wrong_side f v)
+    (writes f && is_input v) refl refl h
+  where
+    by : (a b c d e : Bool) → form_takes f v ≡ b → is_on_wrong_side f v ≡ d
+        → rule_by a b c d e ≡ None → IsTaken f v
+    by true b c d e t s k = absurd cc
+    by false false c d e t s k = absurd cc
+    by false true false d e t s k = absurd cc
+    by false true true true e t s k = absurd cc
+    by false true true false e t s k = record { takes = t; side = s }
+
+still_view : (o : Operand) (v : View) (f : ℕ → ℕ) → aimed f (operand_of o v) ≡ operand_of o v
+unfolding operand_of
+still_view o (view.NumberBy numbered.Timer from byte) f = refl
+still_view o (view.NumberBy numbered.Counter from byte) f = refl
+still_view o (view.NumberBy numbered.Db from byte) f = refl
+still_view o (view.NumberBy numbered.Di from byte) f = refl
+still_view o (view.Register register.Dblg) f = refl
+still_view o (view.Register register.Dbno) f = refl
+still_view o (view.Register register.Dilg) f = refl
+still_view o (view.Register register.Dino) f = refl
+still_view o (view.Register _) f = refl
+still_view o _ f = refl
+
+by_rule : (m : Mnemonic) (o : Operand) (v : View) → jump_of m ≡ None → call_of m ≡ None
+    → end_of m ≡ None → is_empty m ≡ false → ViewFits o v → rule_of (form_of m) v ≡ None
+    → is_instruction (word_of m o v) (operand_of o v) ≡ true
+unfolding is_instruction
+by_rule m o v j c e n fits rule =
+    let t = rule_parts (form_of m) v rule in
+    and_from (admits (takes_of_word (word_of m o v)) (operand_of o v))
+    (payload_fits (operand_of o v))
+    (taken m o v j c e n (pointer_fits o v fits) t.takes)
+    (payload_right (form_of m) o v t.side fits)
+
+by_constant : (m : Mnemonic) (value : Literal) → IsLiteral value → HasBytes value
+    → takes_constant (form_of m) value ≡ true
+    → is_instruction (word_of m (operand.Constant value) view.Constant)
+    (operand_of (operand.Constant value) view.Constant) ≡ true
+unfolding is_instruction operand_of
+by_constant m value is has h =
+    let small = bits_small value is has in
+    and_from
+    (admits (takes_of_word (word_of m (operand.Constant value) view.Constant))
+    (flat.Literal (bits_of value)))
+    (ltb (bits_of value) 4294967296) (constant_taken m value is has h)
+    (lt-ltb (bits_of value) 4294967296 (omega (arith, small)))
+
+is_taken : (m : Mnemonic) (o : Operand) (v : View) → jump_of m ≡ None → call_of m ≡ None
+    → end_of m ≡ None → is_empty m ≡ false → IsOperand o → OperandHasBytes o → ViewFits o v
+    → IsAllowed (form_of m) o v → is_instruction (word_of m o v) (operand_of o v) ≡ true
+is_taken m (operand.Constant value) v j c e n is has fits allowed =
+    subst
+    (λ (x : View).
+    is_instruction (word_of m (operand.Constant value) x) (operand_of (operand.Constant value) x)
+    ≡ true)
+    (sym allowed.1) (by_constant m value is has allowed.0)
+is_taken m operand.Nothing v j c e n is has fits allowed =
+    by_rule m operand.Nothing v j c e n fits allowed
+is_taken m (operand.Direct name a w byte bit) v j c e n is has fits allowed =
+    by_rule m (operand.Direct name a w byte bit) v j c e n fits allowed
+is_taken m (operand.Timer k) v j c e n is has fits allowed =
+    by_rule m (operand.Timer k) v j c e n fits allowed
+is_taken m (operand.Counter k) v j c e n is has fits allowed =
+    by_rule m (operand.Counter k) v j c e n fits allowed
+is_taken m (operand.Named path steps) v j c e n is has fits allowed =
+    by_rule m (operand.Named path steps) v j c e n fits allowed
+is_taken m (operand.ByMemory a w from byte) v j c e n is has fits allowed =
+    by_rule m (operand.ByMemory a w from byte) v j c e n fits allowed
+is_taken m (operand.NumberBy what from byte) v j c e n is has fits allowed =
+    by_rule m (operand.NumberBy what from byte) v j c e n fits allowed
+is_taken m (operand.ByRegister a w r bits) v j c e n is has fits allowed =
+    by_rule m (operand.ByRegister a w r bits) v j c e n fits allowed
+is_taken m (operand.Pointer a byte bit) v j c e n is has fits allowed =
+    by_rule m (operand.Pointer a byte bit) v j c e n fits allowed
+is_taken m (operand.Label name) v j c e n is has fits allowed =
+    by_rule m (operand.Label name) v j c e n fits allowed
+is_taken m (operand.OfStatus flag) v j c e n is has fits allowed =
+    by_rule m (operand.OfStatus flag) v j c e n fits allowed
+is_taken m (operand.Other name) v j c e n is has fits allowed =
+    by_rule m (operand.Other name) v j c e n fits allowed
+is_taken m (operand.OpenBlock di name) v j c e n is has fits allowed =
+    by_rule m (operand.OpenBlock di name) v j c e n fits allowed
+is_taken m (operand.Called name instance) v j c e n is has fits allowed =
+    by_rule m (operand.Called name instance) v j c e n fits allowed
+
+-- what stands in the source
+seen_rule : (f : Form) (s : Seen) (v : View) → s ≡ Sees v → rule_seen f s ≡ None → rule_of f v ≡ None
+seen_rule f s v e h = subst (λ (x : Seen). rule_seen f x ≡ None) e h
+
+abbrev constant_by : Bool → Option ℕ
+constant_by b = if b then None else Some 25
+
+constant_rule : (b : Bool) → constant_by b ≡ None → b ≡ true
+constant_rule true h = refl
+constant_rule false h = absurd cc
+
+abbrev the_view : View → Seen → View
+the_view d (Sees v) = v
+the_view d _ = d
+
+allowed_by : (c : Context) (f : Form) (o : Operand) (v : View) → operand_rule c f o ≡ None
+    → seen c o ≡ Sees v → IsAllowed f o v
+unfolding seen
+allowed_by c f (operand.Constant value) v h e =
+    (constant_rule (takes_constant f value) h, sym (ap (the_view view.Constant) e))
+allowed_by c f operand.Nothing v h e = seen_rule f (seen c operand.Nothing) v e h
+allowed_by c f (operand.Direct name a w byte bit) v h e =
+    seen_rule f (seen c (operand.Direct name a w byte bit)) v e h
+allowed_by c f (operand.Timer k) v h e = seen_rule f (seen c (operand.Timer k)) v e h
+allowed_by c f (operand.Counter k) v h e = seen_rule f (seen c (operand.Counter k)) v e h
+allowed_by c f (operand.Named path steps) v h e =
+    seen_rule f (seen c (operand.Named path steps)) v e h
+allowed_by c f (operand.ByMemory a w from byte) v h e =
+    seen_rule f (seen c (operand.ByMemory a w from byte)) v e h
+allowed_by c f (operand.NumberBy what from byte) v h e =
+    seen_rule f (seen c (operand.NumberBy what from byte)) v e h
+allowed_by c f (operand.ByRegister a w r bits) v h e =
+    seen_rule f (seen c (operand.ByRegister a w r bits)) v e h
+allowed_by c f (operand.Pointer a byte bit) v h e =
+    seen_rule f (seen c (operand.Pointer a byte bit)) v e h
+allowed_by c f (operand.Label name) v h e = seen_rule f (seen c (operand.Label name)) v e h
+allowed_by c f (operand.OfStatus flag) v h e = seen_rule f (seen c (operand.OfStatus flag)) v e h
+allowed_by c f (operand.Other name) v h e = seen_rule f (seen c (operand.Other name)) v e h
+allowed_by c f (operand.OpenBlock di name) v h e =
+    seen_rule f (seen c (operand.OpenBlock di name)) v e h
+allowed_by c f (operand.Called name instance) v h e =
+    seen_rule f (seen c (operand.Called name instance)) v e h
+
+-- ---- one that opens a data block first
+
+opened_fits : (o : Operand) (v : View) → ViewFits o v → IfSome (opened_by v) IsWord
+opened_fits o (view.Direct place w side declared) fits = by (is_in_named_block place)
+  where
+    by : (b : Bool) → IfSome (if b then Some place.number else None) IsWord
+    by true = fits.0
+    by false = tt
+opened_fits o _ fits = tt
+
+opening_good : (n : ℕ) → IsWord n → IsGoodPart (preparing word.UseDb (flat.UseDb n))
+unfolding is_instruction admits
+opening_good n h = record {
+  good = still_good word.UseDb false (flat.UseDb n) (λ f. refl) (word_fits n h);
+  inner = refl;
+}
+
+opened_good : (use_db : Option ℕ) (w : Word) (o : FlatOperand) → IfSome use_db IsWord
+    → IsGood (ending w o) → IsGoodStatement (opening use_db ++ ending w o ∷ [])
+opened_good None w o h good = alone (ending w o) good refl
+opened_good (Some n) w o h good = record {
+  front = opening (Some n);
+  final = ending w o;
+  whole = refl;
+  parts = (opening_good n h, tt);
+  few = omega arith;
+  good = good;
+  last = refl;
+}
+
+-- ---- calls
+
+kind_called : (k : BlockKind) → (ltb (called_kind k) 256 && is_callable (called_kind k)) ≡ true
+kind_called kinds.Fc = refl
+kind_called kinds.Fb = refl
+kind_called _ = refl
+
+instance_small : (instance : Option ℕ) → IfSome instance IsWord → IsWord (instance_number instance)
+instance_small None h = omega arith
+instance_small (Some n) h = h
+
+call_takes : (how : CallWord) (k n m : ℕ)
+    → (ltb k 256 && is_callable k) ≡ true → IsWord n → IsWord m
+    → is_instruction (word.Call how) (flat.Called k n m) ≡ true
+unfolding is_instruction admits
+call_takes how k n m h i j =
+    and_from (ltb k 256 && is_callable k) _ h
+    (and_from (ltb n 65536) (ltb m 65536) (word_fits n i) (word_fits m j))
+
+call_good : (how : CallWord) (id : BlockId) (instance : Option ℕ) → IsWord id.number
+    → IfSome instance IsWord → IsGood (call_op how id instance)
+call_good how id instance h k =
+    still_good (word.Call how) true
+    (flat.Called (called_kind id.kind) id.number (instance_number instance)) (λ f. refl)
+    (call_takes how (called_kind id.kind) id.number (instance_number instance)
+    (kind_called id.kind) h (instance_small instance k))
+
+-- what is passed
+place_passed : (place : Place) (w : Width) → PlaceFits place
+    → actual_fits (passed_place place w) ≡ true
+place_passed place w fits = by (is_in_named_block place)
+  where
+    inside : direct.fits (place.area, (w, (place.byte, place.bit))) ≡ true
+    inside = direct_fits place.area w place.byte place.bit fits.1 fits.2
+
+    by : (b : Bool)
+        → actual_fits (if b then passed.InBlock place.number place.area w place.byte place.bit
+        else passed.Direct place.area w place.byte place.bit) ≡ true
+    by true = and_from (ltb place.number 65536) _ (word_fits place.number fits.0) inside
+    by false = inside
+
+view_passed : (o : Operand) (v : View) → ViewFits o v
+    → IfSome (passed_view o v) (λ p. actual_fits p ≡ true)
+view_passed o (view.Direct place w side declared) fits = place_passed place w fits
+view_passed o (view.Parameter index section declared) fits =
+    and_from (ltb index 256) true (lt-ltb index 256 fits) refl
+view_passed o view.Constant fits =
+    lt-ltb (constant_bits o) 4294967296 (omega (arith, fits))
+view_passed o _ fits = tt
+
+seen_passed : (o : Operand) (s : Seen) → SeenFits o s
+    → IfSome (passed_seen o s) (λ p. actual_fits p ≡ true)
+seen_passed o (Sees v) fits = view_passed o v fits
+seen_passed o Unknown fits = tt
+seen_passed o Rests fits = tt
+
+-- what a call passes for the parameters from an index on
+record IsGoodPassing (most : ℕ) (ps : List Passing) : Type 0 where
+  parts : AllByRecursion IsGoodPart (passing ps)
+  few : length (passing ps) ≤ most
+
+pass_takes : (index : ℕ) (a : Passed) → index < 256 → actual_fits a ≡ true
+    → is_instruction word.Pass (flat.Pass index a) ≡ true
+unfolding is_instruction admits actual
+pass_takes index a lt fits = and_from (ltb index 256) (actual_fits a) (lt-ltb index 256 lt) fits
+
+pass_good : (index : ℕ) (a : Passed) → index < 256 → actual_fits a ≡ true
+    → IsGoodPart (preparing word.Pass (flat.Pass index a))
+pass_good index a lt fits = record {
+  good = still_good word.Pass false (flat.Pass index a) (λ f. refl) (pass_takes index a lt fits);
+  inner = refl;
+}
+
+abbrev IsActualOf : Context → Actual → Type 0
+IsActualOf c a = SeenFits a.value (seen c a.value)
+
+passed_one : (c : Context) (index : ℕ) (a : Option Actual) (ps : List Passing) (n : ℕ)
+    → index < 256 → IfSome a (IsActualOf c) → IsGoodPassing n ps
+    → IsGoodPassing (suc n) (passed_actual c index a ++ ps)
+passed_one c index None ps n lt h more = record { parts = more.parts; few = omega (arith, more.few) }
+passed_one c index (Some a) ps n lt h more =
+    by (passed_seen a.value (seen c a.value)) (seen_passed a.value (seen c a.value) h)
+  where
+    by : (p : Option Passed) → IfSome p (λ p. actual_fits p ≡ true)
+        → IsGoodPassing (suc n) (with_index index p ++ ps)
+    by None k = record { parts = more.parts; few = omega (arith, more.few) }
+    by (Some p) k = record {
+      parts = (pass_good index p lt k, more.parts);
+      few = omega (arith, more.few);
+    }
+
+passed_good : (c : Context) (actuals : List Actual) (index : ℕ) (formals : List Formal)
+    → AllByRecursion (IsActualOf c) actuals → index + length formals ≤ 256
+    → IsGoodPassing (length formals) (passings_from c actuals index formals)
+passed_good c actuals index [] all few = record { parts = tt; few = omega arith }
+passed_good c actuals index (f ∷ fs) all few =
+    passed_one c index (supplied actuals f) (passings_from c actuals (suc index) fs) (length fs)
+    (omega (arith, few))
+    (found_holds (IsActualOf c) (λ a. bytes_eq (folded a.name) f.name) actuals all)
+    (passed_good c actuals (suc index) fs all (omega (arith, few)))
+
+in_order_length : (b : Option Block) (formals : List Formal)
+    → length (in_order b formals) ≡ length formals
+in_order_length None formals = refl
+in_order_length (Some b) formals = by b.result
+  where
+    by : (result : Option Simple) → length (return_last result formals) ≡ length formals
+    by None = refl
+    by (Some kind) =
+        let all = ap length (take-append-drop 1 formals) in
+        let front = length-append (take 1 formals) (drop 1 formals) in
+        let behind = length-append (drop 1 formals) (take 1 formals) in
+        omega (arith, all, front, behind)
+
+abbrev pub HasFewFormals : Context → Statement → Type 0
+HasFewFormals c s = IfSome (callee_of c s.operand) (λ callee. length callee.formals ≤ 60)
+
+passings_good : (c : Context) (s : Statement) (callee : Option Callee)
+    → AllByRecursion (IsActualOf c) s.actuals → IfSome callee (λ callee. length callee.formals ≤ 60)
+    → IsGoodPassing 60 (passings_to c s callee)
+passings_good c s None all few = record { parts = tt; few = omega arith }
+passings_good c s (Some callee) all few =
+    let ordered = in_order (block_at c.blocks callee.place) callee.formals in
+    let same : length ordered ≡ length callee.formals =
+    in_order_length (block_at c.blocks callee.place) callee.formals in
+    let within : 0 + length ordered ≤ 256 = omega (arith, same, few) in
+    let good = passed_good c s.actuals 0 ordered all within in
+    record { parts = good.parts; few = omega (arith, good.few, same, few) }
+
+called_good : (how : CallWord) (id : BlockId) (instance : Option ℕ) (ps : List Passing)
+    → IsWord id.number → IfSome instance IsWord → IsGoodPassing 60 ps
+    → IsGoodStatement (ops_of (Calls how id instance ps))
+unfolding ops_of
+called_good how id instance ps h k good = record {
+  front = passing ps;
+  final = call_op how id instance;
+  whole = refl;
+  parts = good.parts;
+  few = omega (arith, good.few);
+  good = call_good how id instance h k;
+  last = refl;
+}
+
+-- ---- statements
+
+filler_good : IsGoodStatement (ops_of filler)
+unfolding ops_of is_instruction admits
+filler_good =
+    alone (ending word.Nop (flat.Literal 0))
+    (still_good word.Nop true (flat.Literal 0) (λ f. refl) refl) refl
+
+jump_good : (how : JumpWord) (n target : ℕ) → IsGoodStatement (ops_of (jump_instr how n target))
+jump_good how n target =
+    subst IsGoodStatement (sym (jump_ops how n target))
+    (alone (jump_op how target)
+    (λ f small. word_is_op word.Jump (flat.Jump (kind_of how) (f target)) (jumps how (f target) (small target)))
+    refl)
+
+end_takes : (how : EndWord) → is_instruction (word.End how) flat.Nothing ≡ true
+unfolding is_instruction admits
+end_takes ends.Be = refl
+end_takes ends.Bec = refl
+end_takes ends.Beu = refl
+
+pub end_good : (how : EndWord) → IsGoodStatement (ops_of (Returns how))
+unfolding ops_of
+end_good how =
+    alone (end_op how)
+    (still_good (word.End how) true flat.Nothing (λ f. refl) (end_takes how)) refl
+
+does_good : (use_db : Option ℕ) (w : Word) (o : FlatOperand) → IfSome use_db IsWord
+    → IsGood (ending w o) → IsGoodStatement (ops_of (Does use_db w o))
+unfolding ops_of
+does_good use_db w o h good = opened_good use_db w o h good
+
+-- what a statement needs of its source
+pub record IsGoodSource (c : Context) (s : Statement) : Type 0 where
+  pub formed : IsStatement s
+  pub has : StatementHasBytes s
+  pub callee : HasFewFormals c s
+
+actual_seen : (c : Context) (actuals : List Actual) → IsFit c → AreActuals actuals
+    → AllByRecursion (λ a. OperandHasBytes a.value) actuals → AllByRecursion (IsActualOf c) actuals
+actual_seen c [] fit are has = tt
+actual_seen c (a ∷ actuals) fit are has =
+    (seen_fits c a.value fit are.0.value has.0, actual_seen c actuals fit are.1 has.1)
+
+call_view_good : (c : Context) (s : Statement) (how : CallWord) (v : View) → IsFit c
+    → IsGoodSource c s → ViewFits s.operand v → IsGoodStatement (ops_of (call_instr c s how v))
+call_view_good c s how (view.Called id instance) fit good fits =
+    called_good how id instance (passings_to c s (callee_of c s.operand)) fits.0 fits.1
+    (passings_good c s (callee_of c s.operand)
+    (actual_seen c s.actuals fit good.formed.actuals good.has.actuals) good.callee)
+call_view_good c s how _ fit good fits = filler_good
+
+view_good : (c : Context) (s : Statement) (v : View) → IsFit c → IsGoodSource c s
+    → is_empty s.code ≡ false → jump_of s.code ≡ None → statement_rule c s ≡ None
+    → seen c s.operand ≡ Sees v → IsGoodStatement (ops_of (view_instr c s v (call_of s.code)))
+view_good c s v fit good some no_jump rule e = by (call_of s.code) refl
+  where
+    fits : ViewFits s.operand v
+    fits =
+        subst (SeenFits s.operand) e (seen_fits c s.operand fit good.formed.value good.has.operand)
+
+    ended : (end : Option EndWord) → call_of s.code ≡ None → end_of s.code ≡ end
+        → IsGoodStatement (ops_of (end_instr s v end))
+    ended (Some how) no_call is = end_good how
+    ended None no_call is =
+        does_good (opened_by v) (word_of s.code s.operand v) (operand_of s.operand v)
+        (opened_fits s.operand v fits)
+        (still_good (word_of s.code s.operand v) true (operand_of s.operand v)
+        (still_view s.operand v)
+        (is_taken s.code s.operand v no_jump no_call is some good.formed.value good.has.operand fits
+        (allowed_by c (form_of s.code) s.operand v rule e)))
+
+    by : (how : Option CallWord) → call_of s.code ≡ how
+        → IsGoodStatement (ops_of (view_instr c s v how))
+    by (Some how) is = call_view_good c s how v fit good fits
+    by None is = ended (end_of s.code) is refl
+
+record IsResolved (c : Context) (s : Statement) (v : View) : Type 0 where
+  rule : statement_rule c s ≡ None
+  seen : seen c s.operand ≡ Sees v
+
+resolved_parts : (c : Context) (s : Statement) (v : View) → resolved c s ≡ Some v
+    → IsResolved c s v
+unfolding resolved
+resolved_parts c s v e = by (statement_rule c s) (seen c s.operand) refl refl e
+  where
+    by : (rule : Option ℕ) (what : Seen) → statement_rule c s ≡ rule → seen c s.operand ≡ what
+        → (if is_none rule then seen_view what else None) ≡ Some v → IsResolved c s v
+    by None (Sees x) r k h = record { rule = r; seen = k ∙ ap Sees (ap (view_or x) h) }
+      where
+        view_or : View → Option View → View
+        view_or d None = d
+        view_or d (Some y) = y
+    by None Unknown r k h = absurd cc
+    by None Rests r k h = absurd cc
+    by (Some n) what r k h = absurd cc
+
+-- THE OPS OF A STATEMENT
+pub statement_good : (c : Context) (body : List Statement) (n : ℕ) (s : Statement) → IsFit c
+    → IsGoodSource c s → is_empty s.code ≡ false
+    → IsGoodStatement (ops_of (instruction c body n s))
+unfolding instruction
+statement_good c body n s fit good some = by (jump_of s.code) refl
+  where
+    resolves : (v : Option View) → jump_of s.code ≡ None → resolved c s ≡ v
+        → IsGoodStatement (ops_of (resolved_instr c s v))
+    resolves None no_jump e = filler_good
+    resolves (Some v) no_jump e =
+        let r = resolved_parts c s v e in view_good c s v fit good some no_jump r.rule r.seen
+
+    by : (how : Option JumpWord) → jump_of s.code ≡ how
+        → IsGoodStatement (ops_of (instr_by c body n s how))
+    by (Some how) is = jump_good how n (target_of body s.operand)
+    by None is = resolves (resolved c s) is refl

@@ -1,0 +1,714 @@
+-- The code of a block whose labels, brackets and jumps break no rule has no fault in them.
+use Rattle.std.proofs.Common.{◌≡◌, ℕ, zero, suc, ◌+◌, ◌-◌, Bool, true, false, ◌&&◌, if◌then◌else◌, eqb, List, [], ◌∷◌, ◌++◌, length, map, append_assoc, Option, Some, None, refl, sym, ap, subst, ◌∙◌, arith}
+use Rattle.std.specs.Prelude.{◌||◌, nat_le, nat_lt}
+use Rattle.std.specs.List.{AllByRecursion, flat_map}
+use Rattle.std.proofs.lemmas.Bool.{eq-eqb}
+use Rattle.std.proofs.lemmas.Bool.Decides.{nat_tests}
+use Rattle.flat_code.specs.Blocks.{differing, is_bad_list, jump_fault, leads, same_codes, target_fault}
+use Rattle.flat_code.specs.Codes.{size}
+use Rattle.flat_code.specs.Instr.{Instr, Jumps, Returns}
+use Rattle.flat_code.specs.Kinds.{kind_of}
+use Rattle.flat_code.specs.Ops.{OpData}
+use Rattle.flat_code.specs.Placed.{Placed, Spot, bracket_codes, few, open_behind, opened, placed, spot_at, spots}
+use Rattle.flat_code.specs.declared.image_fields.OpenBracket.{OpenBracket}
+use Rattle.flat_code.specs.declared.kinds.JumpWord.{JumpWord}
+use Rattle.flat_code.specs.declared.kinds.JumpWord.TheVariants as jump
+use Rattle.flat_code.specs.declared.operands.Operand.{Operand as FlatOperand}
+use Rattle.flat_code.specs.declared.operands.Operand.TheVariants as flat
+use Rattle.flat_code.specs.declared.words.EndWord.TheVariants as ends
+use Rattle.stl_ast.specs.Statements.{is_empty}
+use Rattle.stl_ast.specs.declared.mnemonics.Mnemonic.{Mnemonic}
+use Rattle.stl_ast.specs.declared.mnemonics.Mnemonic.TheVariants as code
+use Rattle.stl_ast.specs.declared.operands.Operand.{Operand}
+use Rattle.stl_ast.specs.declared.operands.Operand.TheVariants as operand
+use Rattle.stl_ast.specs.declared.blocks.Block.{Block}
+use Rattle.stl_ast.specs.declared.statements.Statement.{Statement}
+use Rattle.plc_base.specs.Least.{broken_if}
+use Rattle.stl_types.specs.Brackets.{behind, behind_all, closes, left_open, opening}
+use Rattle.stl_types.specs.Context.{Context}
+use Rattle.stl_types.specs.Labels.{is_unknown_label, labels_of, unknown_labels}
+use Rattle.stl_types.specs.Landings.{crossing_jumps, lists_at_labels}
+use Rattle.stl_types.specs.Lists.{goes_on, has_label, is_list_jump, is_list_to, is_plain_jump, left_behind, lists_from}
+use Rattle.stl_types.specs.declared.brackets.Bracket.{Bracket}
+use Rattle.stl_codegen.specs.Bodies.{count_of}
+use Rattle.stl_codegen.specs.Compiled.{Stated, aimed, aimed_op, code_in}
+use Rattle.stl_codegen.specs.Emitted.{jump_op}
+use Rattle.stl_codegen.specs.Generated.{stated_from, statements_of}
+use Rattle.stl_codegen.specs.Instruction.{counted, instr_by, instruction, target_in, target_of}
+use Rattle.stl_codegen.specs.Words.{jump_of}
+use Rattle.sem_kept.specs.Back.{is_target}
+use Rattle.sem_kept.proofs.compiled.Reading.{aimed_append, aimed_are, aimed_bytes, aimed_extent, aimed_is, aimed_part, aimed_parts, ends_append, ends_at, is_statement, parted, parts, parts_append, parts_are, position, position_is, the_code, the_code_is}
+use Rattle.sem_kept.proofs.compiled.Runs.{Parted, bytes_of, flat as flat_parts, size_aimed, total}
+use Rattle.sem_kept.specs.Jumps.{AllLandRight, LandsRight, jump_fault_of}
+use Rattle.sem_kept.proofs.accepted.JumpsCode.{AreQuiet, IsQuiet, codes_after, codes_behind, codes_fault, codes_opened, fault_is, few_codes, few_is, none_left, open_after, placed_all, spot_there}
+use Rattle.sem_kept.proofs.accepted.JumpsRules.{AreRightFrom, HasList, IsRightAt, IsTarget, behind_more, by_29, by_31, few_open, functions, has_list, right_body, same_lists, target_is, target_past}
+use Rattle.sem_kept.proofs.accepted.JumpsWords.{IsLastOf, TakesRight, behind_codes, bracket_right, codes_of, front_quiet, jumps_to, last_of, last_op}
+
+-- ---- small facts
+
+empty_code : (m : Mnemonic) → is_empty m ≡ true → (opening m ≡ None) × (closes m ≡ false)
+unfolding opening closes
+empty_code code.Empty e = (refl, refl)
+empty_code _ e = absurd cc
+
+-- an empty statement leaves brackets alone
+empty_behind : (bs : List Bracket) (s : Statement) → is_empty s.code ≡ true → behind bs s ≡ bs
+empty_behind bs s e =
+    let none = empty_code s.code e in
+    rw none.0 (rw none.1 refl)
+
+same_as_itself : (xs : List ℕ) → same_codes xs xs ≡ true
+same_as_itself [] = refl
+same_as_itself (x ∷ xs) = rw (eq-eqb x x refl) (same_as_itself xs)
+
+no_difference : (xs : List ℕ) → differing (few_codes xs) (few_codes xs) ≡ None
+no_difference xs = by (nat_le (length xs) 7)
+  where
+    by : (few : Bool)
+        → differing (if few then Some xs else None) (if few then Some xs else None) ≡ None
+    by true = rw (same_as_itself xs) refl
+    by false = refl
+
+codes_by : (bs : List Bracket) → codes_of bs ≡ map (λ k. 0x18 + k) (functions bs)
+codes_by [] = refl
+codes_by (b ∷ bs) = ap (λ (z : List ℕ). (0x18 + b.function) ∷ z) (codes_by bs)
+
+same_functions : (bs ds : List Bracket) → functions bs ≡ functions ds → codes_of bs ≡ codes_of ds
+same_functions bs ds e =
+    codes_by bs ∙ ap (λ (z : List ℕ). map (λ k. 0x18 + k) z) e ∙ sym (codes_by ds)
+
+leads_at_once : (most at : ℕ) (ops : List OpData) → leads most at at ops ≡ true
+leads_at_once most at [] = eq-eqb at at refl
+leads_at_once zero at (op ∷ ops) = eq-eqb at at refl
+leads_at_once (suc most) at (op ∷ ops) = rw (eq-eqb at at refl) refl
+
+or_true : (a b : Bool) → b ≡ true → (a || b) ≡ true
+or_true true b e = refl
+or_true false b e = e
+
+ju_code : (m : Mnemonic) → is_plain_jump m ≡ true → jump_of m ≡ Some jump.Ju
+ju_code code.Ju e = refl
+ju_code _ e = absurd cc
+
+jl_code : (m : Mnemonic) → jump_of m ≡ Some jump.Jl → is_list_jump m ≡ true
+jl_code code.Jl e = refl
+jl_code _ e = absurd cc
+
+codes_more : (ps qs : List Parted) (codes : List ℕ)
+    → codes_after (ps ++ qs) codes ≡ codes_after qs (codes_after ps codes)
+codes_more [] qs codes = refl
+codes_more (p ∷ ps) qs codes = codes_more ps qs (codes_behind p.end.code codes)
+
+-- ---- what prepares
+
+aimed_quiet : (f : ℕ → ℕ) (ops : List OpData) → AllByRecursion IsQuiet ops
+    → AllByRecursion IsQuiet (map (aimed_op f) ops)
+aimed_quiet f [] h = tt
+aimed_quiet f (op ∷ ops) h = (one op h.0, aimed_quiet f ops h.1)
+  where
+    stays : (o : FlatOperand) → is_target o ≡ false → is_target (aimed f o) ≡ false
+    stays (flat.Jump kind target) e = absurd cc
+    stays _ e = e
+
+    one : (op : OpData) → IsQuiet op → IsQuiet (aimed_op f op)
+    one op q = record { opens = q.opens; closes = q.closes; stays = stays op.operand q.stays }
+
+parts_quiet : (f : ℕ → ℕ) (ss : List Stated) → AreQuiet (aimed_parts f (parts ss))
+parts_quiet f [] = tt
+parts_quiet f (s ∷ ss) = (aimed_quiet f (parted s.instr).front (front_quiet s.instr), parts_quiet f ss)
+
+-- ---- the statements of a body
+
+count_one : (xs : List Statement) (s : Statement) → count_of (xs ++ s ∷ []) ≡ count_of xs + counted s
+count_one [] s = omega arith
+count_one (x ∷ xs) s = let more = count_one xs s in omega (arith, more)
+
+-- its code, with the statement that returns
+abbrev code_from : Context → (body : List Statement) → (ret : Stated) → (f : ℕ → ℕ) → (n : ℕ)
+    → List Statement → List OpData
+code_from c body ret f n ss = the_code f (stated_from c body n ss ++ ret ∷ [])
+
+-- the statement of a number
+abbrev stated : Context → List Statement → (n : ℕ) → Statement → Stated
+stated c body n s = record { instr = instruction c body n s; line = s.line }
+
+stated_append : (c : Context) (body : List Statement) (n : ℕ) (xs ys : List Statement)
+    → stated_from c body n (xs ++ ys) ≡ stated_from c body n xs ++ stated_from c body (n + count_of xs) ys
+stated_append c body n [] ys = ap (λ (k : ℕ). stated_from c body k ys) (omega arith)
+stated_append c body n (x ∷ xs) ys =
+    by (is_empty x.code) (stated_append c body n xs ys) (stated_append c body (suc n) xs ys)
+  where
+    by : (e : Bool)
+        → stated_from c body n (xs ++ ys) ≡ stated_from c body n xs ++ stated_from c body (n + count_of xs) ys
+        → stated_from c body (suc n) (xs ++ ys)
+        ≡ stated_from c body (suc n) xs ++ stated_from c body (suc n + count_of xs) ys
+        → (if e then stated_from c body n (xs ++ ys) else stated c body n x ∷ stated_from c body (suc n) (xs ++ ys))
+        ≡ (if e then stated_from c body n xs else stated c body n x ∷ stated_from c body (suc n) xs)
+        ++ stated_from c body (n + ((if e then 0 else 1) + count_of xs)) ys
+    by true same next =
+        same ∙ ap (λ (k : ℕ). stated_from c body n xs ++ stated_from c body k ys) (omega arith)
+    by false same next =
+        ap (λ (z : List Stated). stated c body n x ∷ z)
+        (next ∙ ap (λ (k : ℕ). stated_from c body (suc n) xs ++ stated_from c body k ys) (omega arith))
+
+stated_count : (c : Context) (body : List Statement) (n : ℕ) (xs : List Statement)
+    → length (stated_from c body n xs) ≡ count_of xs
+stated_count c body n [] = refl
+stated_count c body n (x ∷ xs) =
+    by (is_empty x.code) (stated_count c body n xs) (stated_count c body (suc n) xs)
+  where
+    by : (e : Bool) → length (stated_from c body n xs) ≡ count_of xs
+        → length (stated_from c body (suc n) xs) ≡ count_of xs
+        → length (if e then stated_from c body n xs else stated c body n x ∷ stated_from c body (suc n) xs)
+        ≡ (if e then 0 else 1) + count_of xs
+    by true same next = omega (arith, same)
+    by false same next = omega (arith, next)
+
+-- where the statements before end
+abbrev ends_of : Context → (body : List Statement) → (pre : List Statement) → ℕ
+ends_of c body pre = ends_at (stated_from c body 0 pre)
+
+-- a statement more
+abbrev bytes_by : Context → (body : List Statement) → (n : ℕ) → Statement → (empty : Bool) → ℕ
+bytes_by c body n s empty = if empty then 0 else bytes_of (parted (instruction c body n s))
+
+ends_one : (c : Context) (body pre : List Statement) (n : ℕ) (s : Statement) → n ≡ count_of pre
+    → ends_of c body (pre ++ s ∷ []) ≡ ends_of c body pre + bytes_by c body n s (is_empty s.code)
+ends_one c body pre n s e =
+    ap ends_at (stated_append c body 0 pre (s ∷ []))
+    ∙ ends_append (stated_from c body 0 pre) (stated_from c body (0 + count_of pre) (s ∷ []))
+    ∙ ap (λ (k : ℕ). ends_of c body pre + ends_at (stated_from c body k (s ∷ []))) (omega (arith, e))
+    ∙ ap (λ (k : ℕ). ends_of c body pre + k) (by (is_empty s.code))
+  where
+    by : (empty : Bool)
+        → ends_at (if empty then [] else stated c body n s ∷ []) ≡ bytes_by c body n s empty
+    by true = refl
+    by false = omega arith
+
+-- an empty statement adds nothing
+ends_empty : (c : Context) (body pre : List Statement) (s : Statement) → is_empty s.code ≡ true
+    → ends_of c body (pre ++ s ∷ []) ≡ ends_of c body pre
+ends_empty c body pre s e =
+    ends_one c body pre (count_of pre) s refl
+    ∙ ap (λ (t : Bool). ends_of c body pre + bytes_by c body (count_of pre) s t) e ∙ omega arith
+
+count_empty : (pre : List Statement) (s : Statement) → is_empty s.code ≡ true
+    → count_of (pre ++ s ∷ []) ≡ count_of pre
+count_empty pre s e =
+    count_one pre s ∙ ap (λ (t : Bool). count_of pre + (if t then 0 else 1)) e ∙ omega arith
+
+ends_more : (c : Context) (body pre : List Statement) (n : ℕ) (s : Statement) → is_empty s.code ≡ false
+    → n ≡ count_of pre
+    → ends_of c body (pre ++ s ∷ []) ≡ ends_of c body pre + bytes_of (parted (instruction c body n s))
+ends_more c body pre n s e is =
+    ends_one c body pre n s is ∙ ap (λ (t : Bool). ends_of c body pre + bytes_by c body n s t) e
+
+count_more : (pre : List Statement) (s : Statement) → is_empty s.code ≡ false
+    → count_of (pre ++ s ∷ []) ≡ suc (count_of pre)
+count_more pre s e =
+    count_one pre s ∙ ap (λ (t : Bool). count_of pre + (if t then 0 else 1)) e ∙ omega arith
+
+-- the brackets behind statements
+stated_codes : (f : ℕ → ℕ) (c : Context) (body : List Statement) (n : ℕ) (bs : List Bracket)
+    (xs : List Statement) → AllByRecursion TakesRight xs
+    → codes_after (aimed_parts f (parts (stated_from c body n xs))) (codes_of bs)
+    ≡ codes_of (behind_all bs xs)
+stated_codes f c body n bs [] h = refl
+stated_codes f c body n bs (x ∷ xs) h =
+    by (is_empty x.code) refl (stated_codes f c body n (behind bs x) xs h.1)
+    (stated_codes f c body (suc n) (behind bs x) xs h.1)
+  where
+    by : (e : Bool) → is_empty x.code ≡ e
+        → codes_after (aimed_parts f (parts (stated_from c body n xs))) (codes_of (behind bs x))
+        ≡ codes_of (behind_all (behind bs x) xs)
+        → codes_after (aimed_parts f (parts (stated_from c body (suc n) xs))) (codes_of (behind bs x))
+        ≡ codes_of (behind_all (behind bs x) xs)
+        → codes_after (aimed_parts f (parts
+        (if e then stated_from c body n xs else stated c body n x ∷ stated_from c body (suc n) xs))) (codes_of bs)
+        ≡ codes_of (behind_all (behind bs x) xs)
+    by true is same next =
+        ap (λ (z : List Bracket). codes_after (aimed_parts f (parts (stated_from c body n xs))) (codes_of z))
+        (sym (empty_behind bs x is)) ∙ same
+    by false is same next =
+        ap (codes_after (aimed_parts f (parts (stated_from c body (suc n) xs))))
+        (behind_codes bs body x (last_op (instruction c body n x)) (last_of c body n x h.0)) ∙ next
+
+-- ---- where a label is
+
+-- some statement, and those behind it
+pub record HasFirst (xs : List Stated) : Type 0 where
+  first : Stated
+  rest : List Stated
+  is : xs ≡ first ∷ rest
+
+has_first : (xs : List Stated) (y : Stated) → HasFirst (xs ++ y ∷ [])
+has_first [] y = record { first = y; rest = []; is = refl }
+has_first (x ∷ xs) y = record { first = x; rest = xs ++ y ∷ []; is = refl }
+
+-- the statements of a body, the last one that returns among them
+abbrev whole : Context → List Statement → Stated → List Stated
+whole c body ret = stated_from c body 0 body ++ ret ∷ []
+
+abbrev place : Context → List Statement → Stated → ℕ → ℕ
+place c body ret n = position (whole c body ret) n
+
+whole_cut : (c : Context) (body : List Statement) (ret : Stated) (pre rest : List Statement)
+    → body ≡ pre ++ rest
+    → whole c body ret
+    ≡ stated_from c body 0 pre ++ (stated_from c body (count_of pre) rest ++ ret ∷ [])
+whole_cut c body ret pre rest e =
+    ap (λ (z : List Statement). stated_from c body 0 z ++ ret ∷ []) e
+    ∙ ap (λ (z : List Stated). z ++ ret ∷ []) (stated_append c body 0 pre rest)
+    ∙ ap (λ (k : ℕ). (stated_from c body 0 pre ++ stated_from c body k rest) ++ ret ∷ []) (omega arith)
+    ∙ append_assoc (stated_from c body 0 pre) (stated_from c body (count_of pre) rest) (ret ∷ [])
+
+place_is : (c : Context) (body : List Statement) (ret : Stated) (pre rest : List Statement)
+    → body ≡ pre ++ rest → place c body ret (count_of pre) ≡ ends_of c body pre
+place_is c body ret pre rest e =
+    ap (λ (z : List Stated). position z (count_of pre)) (whole_cut c body ret pre rest e)
+    ∙ ap (position (stated_from c body 0 pre ++ (stated_from c body (count_of pre) rest ++ ret ∷ [])))
+    (sym (stated_count c body 0 pre))
+    ∙ position_is (stated_from c body 0 pre) (stated_from c body (count_of pre) rest ++ ret ∷ [])
+
+-- the statement behind statements, and the brackets that are open there
+spot_behind : (f : ℕ → ℕ) (front : List Stated) (s : Stated) (rest : List Stated)
+    → spot_at (spots (the_code f (front ++ s ∷ rest))) (ends_at front)
+    ≡ Some (few_codes (codes_after (aimed_parts f (parts front)) []))
+spot_behind f front s rest =
+    ap (λ (z : List Parted). spot_at (spots (flat_parts z)) (ends_at front)) cut
+    ∙ ap (spot_at (spots (flat_parts (ps ++ aimed_part f (parted s.instr) ∷ aimed_parts f (parts rest)))))
+    (sym (aimed_extent f (parts front)) ∙ omega arith)
+    ∙ spot_there 0 [] ps (aimed_part f (parted s.instr)) (aimed_parts f (parts rest))
+    (aimed_are f (parts front) (parts_are front)) (parts_quiet f front)
+    (aimed_quiet f (parted s.instr).front (front_quiet s.instr))
+    (aimed_is f (parted s.instr) (is_statement s.instr))
+  where
+    ps : List Parted
+    ps = aimed_parts f (parts front)
+
+    cut : aimed_parts f (parts (front ++ s ∷ rest))
+        ≡ ps ++ aimed_part f (parted s.instr) ∷ aimed_parts f (parts rest)
+    cut = ap (aimed_parts f) (parts_append front (s ∷ rest))
+        ∙ aimed_append f (parts front) (parts (s ∷ rest))
+
+spot_of : (c : Context) (body : List Statement) (ret : Stated) (f : ℕ → ℕ) (pre rest : List Statement)
+    → body ≡ pre ++ rest → AllByRecursion TakesRight pre
+    → spot_at (spots (the_code f (whole c body ret))) (ends_of c body pre)
+    ≡ Some (few_codes (codes_of (behind_all [] pre)))
+spot_of c body ret f pre rest e takes =
+    let h = has_first (stated_from c body (count_of pre) rest) ret in
+    ap (λ (z : List Stated). spot_at (spots (the_code f z)) (ends_of c body pre))
+    (whole_cut c body ret pre rest e ∙ ap (λ (z : List Stated). stated_from c body 0 pre ++ z) h.is)
+    ∙ spot_behind f (stated_from c body 0 pre) h.first h.rest
+    ∙ ap (λ (z : List ℕ). Some (few_codes z)) (stated_codes f c body 0 [] pre takes)
+
+-- ---- the list of a JL
+
+abbrev ops_with : (ℕ → ℕ) → Instr → List OpData → List OpData
+ops_with f i rest = (aimed_part f (parted i)).front ++ (aimed_part f (parted i)).end ∷ rest
+
+ju_instruction : (c : Context) (body : List Statement) (n : ℕ) (s : Statement)
+    → is_plain_jump s.code ≡ true
+    → instruction c body n s ≡ Jumps jump.Ju (target_of body s.operand)
+unfolding instruction
+ju_instruction c body n s e = ap (instr_by c body n s) (ju_code s.code e)
+
+-- a list goes on behind a JU
+ju_leads : (f : ℕ → ℕ) (most target at there : ℕ) (rest : List OpData)
+    → leads most target (at + bytes_of (parted (Jumps jump.Ju there))) rest ≡ true
+    → leads (suc most) target at (ops_with f (Jumps jump.Ju there) rest) ≡ true
+ju_leads f most target at there rest led =
+    let long = size_aimed f (jump_op jump.Ju there) in
+    or_true (eqb at target) (leads most target (at + size (jump_op jump.Ju (f there))) rest)
+    (ap (λ (k : ℕ). leads most target k rest) (omega (arith, long)) ∙ led)
+
+record IsJuLeft (left : ℕ) (m : Mnemonic) (next : ℕ → Bool) : Type 0 where
+  fewer : ℕ
+  is : left ≡ suc fewer
+  ju : is_plain_jump m ≡ true
+  more : next fewer ≡ true
+
+ju_left : (left : ℕ) (m : Mnemonic) (next : ℕ → Bool)
+    → goes_on (if is_plain_jump m && nat_lt 0 left then Some (left - 1) else None) next ≡ true
+    → IsJuLeft left m next
+ju_left left m next e = by left (is_plain_jump m) refl e
+  where
+    by : (left : ℕ) (ju : Bool) → is_plain_jump m ≡ ju
+        → goes_on (if ju && nat_lt 0 left then Some (left - 1) else None) next ≡ true
+        → IsJuLeft left m next
+    by zero true is h = absurd cc
+    by zero false is h = absurd cc
+    by (suc fewer) false is h = absurd cc
+    by (suc fewer) true is h =
+        let some : nat_lt 0 (suc fewer) ≡ true = grind (arith, nat_tests) in
+        let taken : next (suc fewer - 1) ≡ true = rw some at h in
+        let same : suc fewer - 1 ≡ fewer = omega arith in
+        record { fewer = fewer; is = refl; ju = is; more = ap next (sym same) ∙ taken }
+
+-- one statement of a list, and those behind it
+listed_on : (c : Context) (body : List Statement) (ret : Stated) (name : List ℕ) (left : ℕ)
+    (pre : List Statement) (s : Statement) (ss : List Statement) (at n : ℕ)
+    → at ≡ ends_of c body pre → n ≡ count_of pre → (further : ℕ)
+    → (empty : Bool) → is_empty s.code ≡ empty
+    → goes_on (if empty then Some left
+    else if is_plain_jump s.code && nat_lt 0 left then Some (left - 1) else None)
+    (λ next. is_list_to next name ss) ≡ true
+    → ((left at n : ℕ) → at ≡ ends_of c body (pre ++ s ∷ []) → n ≡ count_of (pre ++ s ∷ [])
+    → is_list_to left name ss ≡ true
+    → leads left (place c body ret (n + further)) at (code_from c body ret (place c body ret) n ss) ≡ true)
+    → leads left (place c body ret (n + ((if empty then 0 else 1) + further))) at
+    (the_code (place c body ret) ((if empty then stated_from c body n ss
+    else stated c body n s ∷ stated_from c body (suc n) ss) ++ ret ∷ [])) ≡ true
+listed_on c body ret name left pre s ss at n is_at is_n further true is h more =
+    ap (λ (k : ℕ). leads left (place c body ret k) at (code_from c body ret (place c body ret) n ss))
+    (omega arith)
+    ∙ more left at n (is_at ∙ sym (ends_empty c body pre s is)) (is_n ∙ sym (count_empty pre s is)) h
+listed_on c body ret name left pre s ss at n is_at is_n further false is h more =
+    let r = ju_left left s.code (λ next. is_list_to next name ss) h in
+    let ju = ju_instruction c body n s r.ju in
+    let there = target_of body s.operand in
+    let long : bytes_of (parted (instruction c body n s)) ≡ bytes_of (parted (Jumps jump.Ju there)) =
+    ap (λ (i : Instr). bytes_of (parted i)) ju in
+    let end = ends_more c body pre n s is is_n in
+    let number = count_more pre s is in
+    let rest : List OpData = code_from c body ret (place c body ret) (suc n) ss in
+    let target : ℕ = place c body ret (n + (1 + further)) in
+    ap (λ (k : ℕ). leads k target at (ops_with (place c body ret) (instruction c body n s) rest)) r.is
+    ∙ ap (λ (i : Instr). leads (suc r.fewer) target at (ops_with (place c body ret) i rest)) ju
+    ∙ ju_leads (place c body ret) r.fewer target at there rest
+    (ap (λ (k : ℕ). leads r.fewer (place c body ret k) (at + bytes_of (parted (Jumps jump.Ju there))) rest)
+    (omega arith)
+    ∙ more r.fewer (at + bytes_of (parted (Jumps jump.Ju there))) (suc n)
+    (omega (arith, long, end, is_at)) (omega (arith, number, is_n)) r.more)
+
+-- the statements from here on are a list up to a label, and so are their ops
+leads_from : (c : Context) (body : List Statement) (ret : Stated) (name : List ℕ) (left : ℕ)
+    (pre rest : List Statement) (at n : ℕ)
+    → body ≡ pre ++ rest → at ≡ ends_of c body pre → n ≡ count_of pre
+    → is_list_to left name rest ≡ true
+    → leads left (place c body ret (n + target_in name rest)) at
+    (code_from c body ret (place c body ret) n rest) ≡ true
+unfolding target_in
+leads_from c body ret name left pre [] at n e is_at is_n led = absurd cc
+leads_from c body ret name left pre (s ∷ ss) at n e is_at is_n led =
+    by (has_label name s.label) led
+    (λ left at n is_at is_n led. leads_from c body ret name left (pre ++ s ∷ []) ss at n
+    (e ∙ sym (append_assoc pre (s ∷ []) ss)) is_at is_n led)
+  where
+    by : (label : Bool)
+        → (if label then true else goes_on (left_behind left s.code) (λ next. is_list_to next name ss)) ≡ true
+        → ((left at n : ℕ) → at ≡ ends_of c body (pre ++ s ∷ []) → n ≡ count_of (pre ++ s ∷ [])
+        → is_list_to left name ss ≡ true
+        → leads left (place c body ret (n + target_in name ss)) at
+        (code_from c body ret (place c body ret) n ss) ≡ true)
+        → leads left (place c body ret (n + (if label then 0 else counted s + target_in name ss))) at
+        (code_from c body ret (place c body ret) n (s ∷ ss)) ≡ true
+    by true h more =
+        let here : place c body ret (n + 0) ≡ at =
+        ap (place c body ret) (omega (arith, is_n)) ∙ place_is c body ret pre (s ∷ ss) e ∙ sym is_at in
+        ap (λ (k : ℕ). leads left k at (code_from c body ret (place c body ret) n (s ∷ ss))) here
+        ∙ leads_at_once left at (code_from c body ret (place c body ret) n (s ∷ ss))
+    by false h more =
+        listed_on c body ret name left pre s ss at n is_at is_n (target_in name ss) (is_empty s.code) refl h more
+
+-- ---- the last op of a statement
+
+-- nothing but a jump has such a fault
+stays_right : (ss : List Spot) (p : Placed) (f : ℕ → ℕ) (o : FlatOperand) → is_target o ≡ false
+    → jump_fault_of ss p (aimed f o) ≡ None
+stays_right ss p f (flat.Jump kind target) e = absurd cc
+stays_right ss p f _ e = refl
+
+jump_right : (ss : List Spot) (p : Placed) (kind target : ℕ) (codes : List ℕ)
+    → is_bad_list p kind target ≡ false → few p.brackets ≡ few_codes codes
+    → spot_at ss target ≡ Some (few_codes codes) → jump_fault ss p kind target ≡ None
+jump_right ss p kind target codes list here there =
+    ap (λ (t : Bool). if t then Some 6 else target_fault (few p.brackets) (spot_at ss target)) list
+    ∙ ap (target_fault (few p.brackets)) there
+    ∙ ap (λ (z : Option (List ℕ)). differing z (few_codes codes)) here
+    ∙ no_difference codes
+
+-- only a JL has a list
+list_right : (how : JumpWord) (p : Placed) (target : ℕ)
+    → (how ≡ jump.Jl → leads 255 target (p.at + size p.op) p.rest ≡ true)
+    → is_bad_list p (kind_of how) target ≡ false
+list_right jump.Jl p target h = rw (h refl) refl
+list_right _ p target h = refl
+
+all_before : {A : Type 0} (P : A → Type 0) (xs ys : List A) → AllByRecursion P (xs ++ ys)
+    → AllByRecursion P xs
+all_before P [] ys h = tt
+all_before P (x ∷ xs) ys h = (h.0, all_before P xs ys h.1)
+
+-- a body that breaks none of these rules, and of which each operand goes with its instruction
+pub record IsRightBody (body : List Statement) : Type 0 where
+  pub takes : AllByRecursion TakesRight body
+  pub by_26 : unknown_labels (labels_of body) body ≡ []
+  pub by_29 : by_29 [] body ≡ []
+  pub by_30 : left_open body ≡ []
+  pub by_31 : by_31 [] body ≡ []
+  pub by_32 : lists_from [] body ≡ []
+  pub by_33 : crossing_jumps (labels_of body) (lists_at_labels [] body) body ≡ []
+
+-- a label is where its jump leads, with the same brackets
+record Lands (c : Context) (body : List Statement) (ret : Stated) (pre : List Statement) (name : List ℕ)
+    : Type 0 where
+  spot : spot_at (spots (the_code (place c body ret) (whole c body ret)))
+      (place c body ret (target_in name body))
+      ≡ Some (few_codes (codes_of (behind_all [] pre)))
+
+lands : (c : Context) (body : List Statement) (ret : Stated) (pre : List Statement) (s : Statement)
+    (post : List Statement) (name : List ℕ)
+    → IsRightBody body → body ≡ pre ++ s ∷ post → IsRightAt body pre s post
+    → s.operand ≡ operand.Label name → Lands c body ret pre name
+lands c body ret pre s post name all e right label = record {
+  spot = ap (spot_at (spots (the_code f (whole c body ret))))
+      (ap f there.count ∙ place_is c body ret there.before there.rest there.whole)
+      ∙ spot_of c body ret f there.before there.rest there.whole
+      (all_before TakesRight there.before there.rest
+      (subst (AllByRecursion TakesRight) there.whole all.takes))
+      ∙ ap (λ (z : List ℕ). Some (few_codes z)) (sym same);
+}
+  where
+    f : ℕ → ℕ
+    f = place c body ret
+
+    there : IsTarget body [] name
+    there = target_is body name (ap (is_unknown_label (labels_of body)) (sym label) ∙ right.known)
+
+    same : codes_of (behind_all [] pre) ≡ codes_of (behind_all [] there.before)
+    same = same_functions (behind_all [] pre) (behind_all [] there.before)
+        (same_lists body pre there.before s post name right label
+        (few_open body pre (s ∷ post) e all.by_31)
+        (few_open body there.before there.rest there.whole all.by_31) there.list)
+
+-- the list of a JL is there
+listed : (c : Context) (body : List Statement) (ret : Stated) (pre : List Statement) (s : Statement)
+    (post : List Statement) (name : List ℕ) (at n : ℕ)
+    → body ≡ pre ++ s ∷ post → is_empty s.code ≡ false
+    → at ≡ ends_of c body (pre ++ s ∷ []) → n ≡ count_of (pre ++ s ∷ [])
+    → HasList body pre s name post
+    → leads 255 (place c body ret (target_in name body)) at
+    (code_from c body ret (place c body ret) n post) ≡ true
+listed c body ret pre s post name at n e is is_at is_n has =
+    ap (λ (k : ℕ). leads 255 (place c body ret k) at (code_from c body ret (place c body ret) n post)) target
+    ∙ leads_from c body ret name 255 (pre ++ s ∷ []) post at n cut is_at is_n has.leads
+  where
+    cut : body ≡ (pre ++ s ∷ []) ++ post
+    cut = e ∙ sym (append_assoc pre (s ∷ []) post)
+
+    target : target_in name body ≡ n + target_in name post
+    target = ap (target_in name) cut ∙ target_past name (pre ++ s ∷ []) post has.new
+        ∙ ap (λ (k : ℕ). k + target_in name post) (sym is_n)
+
+-- a statement at its place
+record IsHere (c : Context) (body pre : List Statement) (s : Statement) (post : List Statement)
+    (at n : ℕ) (bs : List OpenBracket) : Type 0 where
+  whole : body ≡ pre ++ s ∷ post
+  full : is_empty s.code ≡ false
+  is_at : at ≡ ends_of c body pre
+  is_n : n ≡ count_of pre
+  codes : bracket_codes bs ≡ codes_of (behind_all [] pre)
+  takes : TakesRight s
+  right : IsRightAt body pre s post
+
+abbrev front_of : Context → List Statement → Stated → (n : ℕ) → Statement → List OpData
+front_of c body ret n s =
+    (aimed_part (place c body ret) (parted (instruction c body n s))).front
+
+abbrev end_of : Context → List Statement → Stated → (n : ℕ) → Statement → OpData
+end_of c body ret n s = (aimed_part (place c body ret) (parted (instruction c body n s))).end
+
+abbrev placed_end : Context → List Statement → Stated → Statement → List Statement → (at n : ℕ)
+    → List OpenBracket → List OpData → Placed
+placed_end c body ret s post at n bs done = record {
+  at = at + total (front_of c body ret n s);
+  brackets = bs;
+  before = done;
+  op = end_of c body ret n s;
+  rest = code_from c body ret (place c body ret) (suc n) post;
+}
+
+-- where it ends
+ends_here : (c : Context) (body : List Statement) (ret : Stated) (pre : List Statement) (s : Statement)
+    (post : List Statement) (at n : ℕ) (bs : List OpenBracket) → IsHere c body pre s post at n bs
+    → at + total (front_of c body ret n s) + size (end_of c body ret n s) ≡ ends_of c body (pre ++ s ∷ [])
+ends_here c body ret pre s post at n bs h =
+    let end = ends_more c body pre n s h.full h.is_n in
+    let long = aimed_bytes (place c body ret) (parted (instruction c body n s)) in
+    let here = h.is_at in
+    omega (arith, end, long, here)
+
+jump_lands : (c : Context) (body : List Statement) (ret : Stated) (pre : List Statement) (s : Statement)
+    (post : List Statement) (at n : ℕ) (bs : List OpenBracket) (done : List OpData)
+    → IsRightBody body → IsHere c body pre s post at n bs
+    → (how : JumpWord) → jump_of s.code ≡ Some how
+    → jump_fault (spots (the_code (place c body ret) (whole c body ret)))
+    (placed_end c body ret s post at n bs done) (kind_of how) (place c body ret (target_of body s.operand))
+    ≡ None
+jump_lands c body ret pre s post at n bs done all h how is =
+    let label = h.takes.jumps how is in
+    let name = label.0 in
+    let target : ℕ = place c body ret (target_in name body) in
+    let p = placed_end c body ret s post at n bs done in
+    let ss = spots (the_code (place c body ret) (whole c body ret)) in
+    let number = count_more pre s h.full in
+    let same = h.is_n in
+    ap (λ (o : Operand). jump_fault ss p (kind_of how) (place c body ret (target_of body o))) label.1
+    ∙ jump_right ss p (kind_of how) target (codes_of (behind_all [] pre))
+    (list_right how p target (λ jl.
+    listed c body ret pre s post name (p.at + size p.op) (suc n) h.whole h.full
+    (ends_here c body ret pre s post at n bs h) (omega (arith, number, same))
+    (has_list body pre s name post h.right (jl_code s.code (is ∙ ap (λ (j : JumpWord). Some j) jl)) label.1)))
+    (few_is bs ∙ ap few_codes h.codes)
+    (lands c body ret pre s post name all h.whole h.right label.1).spot
+
+last_lands : (c : Context) (body : List Statement) (ret : Stated) (pre : List Statement) (s : Statement)
+    (post : List Statement) (at n : ℕ) (bs : List OpenBracket) (done : List OpData)
+    → IsRightBody body → IsHere c body pre s post at n bs
+    → LandsRight (spots (the_code (place c body ret) (whole c body ret)))
+    (placed_end c body ret s post at n bs done)
+last_lands c body ret pre s post at n bs done all h = record {
+  jump = by (jump_of s.code) refl last.jumps;
+  brackets = fault_is op.code bs ∙ ap (codes_fault op.code) h.codes
+      ∙ bracket_right (behind_all [] pre) body s op last h.right.closes h.right.few;
+}
+  where
+    op : OpData
+    op = last_op (instruction c body n s)
+
+    last : IsLastOf body s op
+    last = last_of c body n s h.takes
+
+    ss : List Spot
+    ss = spots (the_code (place c body ret) (whole c body ret))
+
+    p : Placed
+    p = placed_end c body ret s post at n bs done
+
+    by : (j : Option JumpWord) → jump_of s.code ≡ j → jumps_to body s j op.operand
+        → jump_fault_of ss p (aimed (place c body ret) op.operand) ≡ None
+    by None is stays = stays_right ss p (place c body ret) op.operand stays
+    by (Some how) is there =
+        ap (λ (o : FlatOperand). jump_fault_of ss p (aimed (place c body ret) o)) there
+        ∙ jump_lands c body ret pre s post at n bs done all h how is
+
+-- ---- the ops of a body
+
+quiet_lands : (ss : List Spot) (q : Placed) → IsQuiet q.op → LandsRight ss q
+quiet_lands ss q h = record { jump = by q.op.operand h.stays; brackets = rw h.opens (rw h.closes refl) }
+  where
+    by : (o : FlatOperand) → is_target o ≡ false → jump_fault_of ss q o ≡ None
+    by (flat.Jump kind target) e = absurd cc
+    by _ e = refl
+
+abbrev AllLand : Context → List Statement → Stated → (at : ℕ) → List OpenBracket → List OpData → Type 0
+AllLand c body ret at bs ops =
+    AllByRecursion (LandsRight (spots (the_code (place c body ret) (whole c body ret)))) (placed at bs [] ops)
+
+-- a statement, and those behind it
+next_lands : (c : Context) (body : List Statement) (ret : Stated) (pre : List Statement) (s : Statement)
+    (post : List Statement) (at n : ℕ) (bs : List OpenBracket) → IsRightBody body
+    → body ≡ pre ++ s ∷ post → at ≡ ends_of c body pre → n ≡ count_of pre
+    → bracket_codes bs ≡ codes_of (behind_all [] pre) → TakesRight s → IsRightAt body pre s post
+    → ((at n : ℕ) (bs : List OpenBracket) → at ≡ ends_of c body (pre ++ s ∷ [])
+    → n ≡ count_of (pre ++ s ∷ []) → bracket_codes bs ≡ codes_of (behind_all [] (pre ++ s ∷ []))
+    → AllLand c body ret at bs (code_from c body ret (place c body ret) n post))
+    → (empty : Bool) → is_empty s.code ≡ empty
+    → AllLand c body ret at bs (the_code (place c body ret) ((if empty then stated_from c body n post
+    else stated c body n s ∷ stated_from c body (suc n) post) ++ ret ∷ []))
+next_lands c body ret pre s post at n bs all e is_at is_n codes takes right more true is =
+    more at n bs (is_at ∙ sym (ends_empty c body pre s is)) (is_n ∙ sym (count_empty pre s is))
+    (codes ∙ ap codes_of (sym (behind_more [] pre (s ∷ []) ∙ empty_behind (behind_all [] pre) s is)))
+next_lands c body ret pre s post at n bs all e is_at is_n codes takes right more false is =
+    placed_all (LandsRight (spots (the_code f (whole c body ret)))) at bs [] front op
+    (code_from c body ret f (suc n) post) (aimed_quiet f (parted i).front (front_quiet i))
+    (aimed_is f (parted i) (is_statement i)).front (aimed_is f (parted i) (is_statement i)).end
+    (quiet_lands (spots (the_code f (whole c body ret))))
+    (λ done. last_lands c body ret pre s post at n bs done all here)
+    (more (at + (total front + size op)) (suc n) (opened (at + total front) op.code bs)
+    (omega arith ∙ ends_here c body ret pre s post at n bs here)
+    (let number = count_more pre s is in omega (arith, number, is_n))
+    (codes_opened (at + total front) op.code bs
+    ∙ ap (codes_behind op.code) codes
+    ∙ behind_codes (behind_all [] pre) body s (last_op i) (last_of c body n s takes)
+    ∙ ap codes_of (sym (behind_more [] pre (s ∷ [])))))
+  where
+    f : ℕ → ℕ
+    f = place c body ret
+
+    i : Instr
+    i = instruction c body n s
+
+    front : List OpData
+    front = front_of c body ret n s
+
+    op : OpData
+    op = end_of c body ret n s
+
+    here : IsHere c body pre s post at n bs
+    here = record {
+      whole = e;
+      full = is;
+      is_at = is_at;
+      is_n = is_n;
+      codes = codes;
+      takes = takes;
+      right = right;
+    }
+
+abbrev returning_at : ℕ → Stated
+returning_at line = record { instr = Returns ends.Be; line = line }
+
+body_lands : (c : Context) (body : List Statement) (line : ℕ) (pre post : List Statement) (at n : ℕ)
+    (bs : List OpenBracket) → IsRightBody body
+    → body ≡ pre ++ post → at ≡ ends_of c body pre → n ≡ count_of pre
+    → bracket_codes bs ≡ codes_of (behind_all [] pre)
+    → AllByRecursion TakesRight post → AreRightFrom body pre post
+    → AllLand c body (returning_at line) at bs
+    (code_from c body (returning_at line) (place c body (returning_at line)) n post)
+body_lands c body line pre [] at n bs all e is_at is_n codes takes right =
+    (record { jump = refl; brackets = refl }, tt)
+body_lands c body line pre (s ∷ post) at n bs all e is_at is_n codes takes right =
+    next_lands c body (returning_at line) pre s post at n bs all e is_at is_n codes takes.0 right.0
+    (λ at n bs is_at is_n codes.
+    body_lands c body line (pre ++ s ∷ []) post at n bs all
+    (e ∙ sym (append_assoc pre (s ∷ []) post)) is_at is_n codes takes.1 right.1)
+    (is_empty s.code) refl
+
+-- ---- a block
+
+none_open : (bs : List Bracket) → flat_map (λ b. broken_if true b.line 30) bs ≡ [] → bs ≡ []
+none_open [] e = refl
+none_open (b ∷ bs) e = absurd cc
+
+all_closed : (c : Context) (body : List Statement) (line : ℕ) (f : ℕ → ℕ) → IsRightBody body
+    → open_behind 0 [] (the_code f (whole c body (returning_at line))) ≡ []
+all_closed c body line f all =
+    none_left (open_behind 0 [] (the_code f (whole c body (returning_at line))))
+    (open_after 0 [] (aimed_parts f (parts (whole c body (returning_at line))))
+    (parts_quiet f (whole c body (returning_at line)))
+    ∙ ap (λ (z : List Parted). codes_after (aimed_parts f z) [])
+    (parts_append (stated_from c body 0 body) (returning_at line ∷ []))
+    ∙ ap (λ (z : List Parted). codes_after z [])
+    (aimed_append f (parts (stated_from c body 0 body)) (parts (returning_at line ∷ [])))
+    ∙ codes_more (aimed_parts f (parts (stated_from c body 0 body)))
+    (aimed_parts f (parts (returning_at line ∷ []))) []
+    ∙ stated_codes f c body 0 [] body all.takes
+    ∙ ap codes_of (none_open (behind_all [] body) all.by_30))
+
+whole_lands : (c : Context) (body : List Statement) (line : ℕ) → IsRightBody body
+    → AllLandRight (the_code (place c body (returning_at line)) (whole c body (returning_at line)))
+whole_lands c body line all = record {
+  each = body_lands c body line [] body 0 0 [] all refl refl refl refl all.takes
+      (right_body body all.by_26 all.by_29 all.by_31 all.by_32 all.by_33);
+  closed = all_closed c body line (place c body (returning_at line)) all;
+}
+
+-- the code of a block
+pub lands_right : (c : Context) (b : Block) → IsRightBody b.body
+    → AllLandRight (code_in (statements_of c b))
+unfolding statements_of
+lands_right c b all =
+    subst AllLandRight (sym (the_code_is (whole c b.body (returning_at b.end_line))))
+    (whole_lands c b.body b.end_line all)

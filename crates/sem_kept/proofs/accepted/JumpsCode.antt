@@ -1,0 +1,221 @@
+-- Brackets and jumps of code that lies statement by statement.
+use Rattle.std.proofs.Common.{◌≡◌, ℕ, zero, suc, ◌+◌, ◌-◌, Bool, true, false, if◌then◌else◌, eqb, List, [], ◌∷◌, ◌++◌, length, take, Option, Some, None, refl, sym, ap, subst, ◌∙◌, arith}
+use Rattle.std.specs.Prelude.{nat_le, ◌==◌}
+use Rattle.std.proofs.lemmas.Bool.{eq-eqb, ne_eqb}
+use Rattle.std.specs.List.{AllByRecursion}
+use Rattle.flat_code.specs.Blocks.{bracket_fault}
+use Rattle.flat_code.specs.Codes.{size}
+use Rattle.flat_code.specs.Ops.{OpData}
+use Rattle.flat_code.specs.Placed.{Placed, Spot, before_next, bracket_codes, few, inner, is_empty, open_behind, opened, opens, placed, spot_at, spots_from}
+use Rattle.flat_code.specs.declared.image_fields.OpenBracket.{OpenBracket}
+use Rattle.sem_kept.specs.Back.{is_target}
+use Rattle.sem_kept.proofs.compiled.Runs.{total, Parted, IsPreparing, IsStatement, AreStatements, flat, bytes_of, bytes_long, extent}
+
+-- ---- the codes of open brackets
+
+abbrev pub codes_behind : (code : ℕ) → List ℕ → List ℕ
+codes_behind code codes =
+    if opens code then codes ++ code ∷ []
+    else if code == 0x1E then take (length codes - 1) codes
+    else codes
+
+abbrev pub few_codes : List ℕ → Option (List ℕ)
+few_codes codes = if nat_le (length codes) 7 then Some codes else None
+
+abbrev pub codes_fault : (code : ℕ) → List ℕ → Option ℕ
+codes_fault code codes =
+    if opens code then (if nat_le 7 (length codes) then Some 8 else None)
+    else if code == 0x1E then (if is_empty codes then Some 8 else None)
+    else None
+
+codes_count : (bs : List OpenBracket) → length (bracket_codes bs) ≡ length bs
+codes_count [] = refl
+codes_count (b ∷ bs) = ap suc (codes_count bs)
+
+codes_append : (xs ys : List OpenBracket)
+    → bracket_codes (xs ++ ys) ≡ bracket_codes xs ++ bracket_codes ys
+codes_append [] ys = refl
+codes_append (x ∷ xs) ys = ap (λ (z : List ℕ). x.code ∷ z) (codes_append xs ys)
+
+codes_take : (n : ℕ) (bs : List OpenBracket) → bracket_codes (take n bs) ≡ take n (bracket_codes bs)
+codes_take zero bs = refl
+codes_take (suc n) [] = refl
+codes_take (suc n) (b ∷ bs) = ap (λ (z : List ℕ). b.code ∷ z) (codes_take n bs)
+
+codes_inner : (bs : List OpenBracket)
+    → bracket_codes (inner bs) ≡ take (length (bracket_codes bs) - 1) (bracket_codes bs)
+codes_inner bs =
+    codes_take (length bs - 1) bs
+    ∙ ap (λ (k : ℕ). take (k - 1) (bracket_codes bs)) (sym (codes_count bs))
+
+pub codes_opened : (at code : ℕ) (bs : List OpenBracket)
+    → bracket_codes (opened at code bs) ≡ codes_behind code (bracket_codes bs)
+codes_opened at code bs = by (opens code) (code == 0x1E)
+  where
+    by : (o c : Bool)
+        → bracket_codes (if o then bs ++ record { at = at; code = code } ∷ [] else if c then inner bs else bs)
+        ≡ (if o then bracket_codes bs ++ code ∷ []
+        else if c then take (length (bracket_codes bs) - 1) (bracket_codes bs)
+        else bracket_codes bs)
+    by true c = codes_append bs (record { at = at; code = code } ∷ [])
+    by false true = codes_inner bs
+    by false false = refl
+
+pub few_is : (bs : List OpenBracket) → few bs ≡ few_codes (bracket_codes bs)
+few_is bs =
+    ap (λ (k : ℕ). if nat_le k 7 then Some (bracket_codes bs) else None) (sym (codes_count bs))
+
+none_open : (bs : List OpenBracket) → is_empty bs ≡ is_empty (bracket_codes bs)
+none_open [] = refl
+none_open (b ∷ bs) = refl
+
+abbrev fault_by : (code count : ℕ) → (none : Bool) → Option ℕ
+fault_by code count none =
+    if opens code then (if nat_le 7 count then Some 8 else None)
+    else if code == 0x1E then (if none then Some 8 else None)
+    else None
+
+pub fault_is : (code : ℕ) (bs : List OpenBracket)
+    → bracket_fault code bs ≡ codes_fault code (bracket_codes bs)
+fault_is code bs =
+    ap (λ (k : ℕ). fault_by code k (is_empty bs)) (sym (codes_count bs))
+    ∙ ap (fault_by code (length (bracket_codes bs))) (none_open bs)
+
+pub none_left : (bs : List OpenBracket) → bracket_codes bs ≡ [] → bs ≡ []
+none_left [] e = refl
+none_left (b ∷ bs) e = absurd cc
+
+-- ---- ops that prepare
+
+-- an op that has nothing to do with brackets and doesn't jump
+pub record IsQuiet (op : OpData) : Type 0 where
+  pub opens : opens op.code ≡ false
+  pub closes : (op.code == 0x1E) ≡ false
+  pub stays : is_target op.operand ≡ false
+
+abbrev pub AreQuiet : List Parted → Type 0
+AreQuiet ps = AllByRecursion (λ p. AllByRecursion IsQuiet p.front) ps
+
+quiet_opens : (at : ℕ) (op : OpData) (bs : List OpenBracket) → IsQuiet op
+    → opened at op.code bs ≡ bs
+quiet_opens at op bs h = rw h.opens (rw h.closes refl)
+
+-- ---- the statements
+
+spots_inside : (at : ℕ) (bs : List OpenBracket) (front : List OpData) (op : OpData) (rest : List OpData)
+    → AllByRecursion IsQuiet front → AllByRecursion IsPreparing front → op.last ≡ true
+    → spots_from at false bs (front ++ op ∷ rest)
+    ≡ spots_from (at + (total front + size op)) true (opened (at + total front) op.code bs) rest
+spots_inside at bs [] op rest quiet fs last =
+    let here : at + size op ≡ at + (total [] + size op) = omega arith in
+    let there : at ≡ at + total [] = omega arith in
+    ap (λ (t : Bool). spots_from (at + size op) t (opened at op.code bs) rest) last
+    ∙ ap (λ (k : ℕ). spots_from k true (opened at op.code bs) rest) here
+    ∙ ap (λ (k : ℕ). spots_from (at + (total [] + size op)) true (opened k op.code bs) rest) there
+spots_inside at bs (x ∷ front) op rest quiet fs last =
+    let here : at + size x + (total front + size op) ≡ at + (size x + total front + size op) = omega arith in
+    let there : at + size x + total front ≡ at + (size x + total front) = omega arith in
+    ap (λ (t : Bool). spots_from (at + size x) t (opened at x.code bs) (front ++ op ∷ rest)) fs.0
+    ∙ ap (λ (z : List OpenBracket). spots_from (at + size x) false z (front ++ op ∷ rest))
+    (quiet_opens at x bs quiet.0)
+    ∙ spots_inside (at + size x) bs front op rest quiet.1 fs.1 last
+    ∙ ap (λ (k : ℕ). spots_from k true (opened (at + size x + total front) op.code bs) rest) here
+    ∙ ap (λ (k : ℕ). spots_from (at + (size x + total front + size op)) true (opened k op.code bs) rest) there
+
+-- a statement, and those behind it
+spots_next : (at : ℕ) (bs : List OpenBracket) (p : Parted) (rest : List OpData)
+    → AllByRecursion IsQuiet p.front → IsStatement p
+    → spots_from at true bs (p.front ++ p.end ∷ rest)
+    ≡ record { at = at; codes = few bs }
+    ∷ spots_from (at + bytes_of p) true (opened (at + total p.front) p.end.code bs) rest
+spots_next at bs p rest quiet h = by p.front quiet h.front
+  where
+    by : (front : List OpData) → AllByRecursion IsQuiet front → AllByRecursion IsPreparing front
+        → spots_from at true bs (front ++ p.end ∷ rest)
+        ≡ record { at = at; codes = few bs }
+        ∷ spots_from (at + (total front + size p.end)) true (opened (at + total front) p.end.code bs) rest
+    by [] q fs =
+        ap (λ (z : List Spot). record { at = at; codes = few bs } ∷ z)
+        (spots_inside at bs [] p.end rest q fs h.end)
+    by (x ∷ front) q fs =
+        ap (λ (z : List Spot). record { at = at; codes = few bs } ∷ z)
+        (spots_inside at bs (x ∷ front) p.end rest q fs h.end)
+
+-- the codes of the brackets that are open behind statements
+abbrev pub codes_after : List Parted → List ℕ → List ℕ
+codes_after [] codes = codes
+codes_after (p ∷ ps) codes = codes_after ps (codes_behind p.end.code codes)
+
+-- the statement behind others is found by its offset
+pub spot_there : (at : ℕ) (bs : List OpenBracket) (ps : List Parted) (p : Parted) (qs : List Parted)
+    → AreStatements ps → AreQuiet ps → AllByRecursion IsQuiet p.front → IsStatement p
+    → spot_at (spots_from at true bs (flat (ps ++ p ∷ qs))) (at + extent ps)
+    ≡ Some (few_codes (codes_after ps (bracket_codes bs)))
+spot_there at bs [] p qs hs quiets quiet h =
+    rw (spots_next at bs p (flat qs) quiet h)
+    (rw (eq-eqb at (at + 0) (omega arith)) (ap (λ (z : Option (List ℕ)). Some z) (few_is bs)))
+spot_there at bs (q ∷ ps) p qs hs quiets quiet h =
+    let long = bytes_long q in
+    let other : eqb at (at + (bytes_of q + extent ps)) ≡ false =
+    ne_eqb at (at + (bytes_of q + extent ps)) (λ e. omega (arith, e, long)) in
+    let moved : at + (bytes_of q + extent ps) ≡ at + bytes_of q + extent ps = omega arith in
+    let next : List OpenBracket = opened (at + total q.front) q.end.code bs in
+    rw (spots_next at bs q (flat (ps ++ p ∷ qs)) quiets.0 hs.0)
+    (rw other (ap (spot_at (spots_from (at + bytes_of q) true next (flat (ps ++ p ∷ qs)))) moved
+    ∙ spot_there (at + bytes_of q) next ps p qs hs.1 quiets.1 quiet h
+    ∙ ap (λ (z : List ℕ). Some (few_codes (codes_after ps z)))
+    (codes_opened (at + total q.front) q.end.code bs)))
+
+-- ---- brackets open behind all
+
+open_inside : (at : ℕ) (bs : List OpenBracket) (front rest : List OpData)
+    → AllByRecursion IsQuiet front
+    → open_behind at bs (front ++ rest) ≡ open_behind (at + total front) bs rest
+open_inside at bs [] rest quiet = ap (λ (k : ℕ). open_behind k bs rest) (omega arith)
+open_inside at bs (x ∷ front) rest quiet =
+    ap (λ (z : List OpenBracket). open_behind (at + size x) z (front ++ rest))
+    (quiet_opens at x bs quiet.0)
+    ∙ open_inside (at + size x) bs front rest quiet.1
+    ∙ ap (λ (k : ℕ). open_behind k bs rest) (omega arith)
+
+pub open_after : (at : ℕ) (bs : List OpenBracket) (ps : List Parted) → AreQuiet ps
+    → bracket_codes (open_behind at bs (flat ps)) ≡ codes_after ps (bracket_codes bs)
+open_after at bs [] quiets = refl
+open_after at bs (p ∷ ps) quiets =
+    ap bracket_codes (open_inside at bs p.front (p.end ∷ flat ps) quiets.0)
+    ∙ open_after (at + total p.front + size p.end) (opened (at + total p.front) p.end.code bs) ps quiets.1
+    ∙ ap (codes_after ps) (codes_opened (at + total p.front) p.end.code bs)
+
+-- ---- each op
+
+-- what holds of each op of a statement, and of those behind it
+pub placed_all : (P : Placed → Type 0) (at : ℕ) (bs : List OpenBracket) (before front : List OpData)
+    (op : OpData) (rest : List OpData)
+    → AllByRecursion IsQuiet front → AllByRecursion IsPreparing front → op.last ≡ true
+    → ((q : Placed) → IsQuiet q.op → P q)
+    → ((done : List OpData)
+    → P (record { at = at + total front; brackets = bs; before = done; op = op; rest = rest }))
+    → AllByRecursion P (placed (at + (total front + size op)) (opened (at + total front) op.code bs) [] rest)
+    → AllByRecursion P (placed at bs before (front ++ op ∷ rest))
+placed_all P at bs before [] op rest quiet fs last one end more =
+    let here : at + total [] ≡ at = omega arith in
+    let there : at + (total [] + size op) ≡ at + size op = omega arith in
+    let none : [] ≡ before_next op before =
+    ap (λ (t : Bool). if t then [] else before ++ op ∷ []) (sym last) in (
+      subst (λ (k : ℕ). P (record { at = k; brackets = bs; before = before; op = op; rest = rest })) here (end before),
+      subst (λ (z : List OpData). AllByRecursion P (placed (at + size op) (opened at op.code bs) z rest)) none
+          (subst (λ (k : ℕ). AllByRecursion P (placed (at + size op) (opened k op.code bs) [] rest)) here
+          (subst (λ (k : ℕ). AllByRecursion P (placed k (opened (at + total []) op.code bs) [] rest)) there more)),
+    )
+placed_all P at bs before (x ∷ front) op rest quiet fs last one end more =
+    let here : at + (size x + total front) ≡ at + size x + total front = omega arith in
+    let there : at + (size x + total front + size op) ≡ at + size x + (total front + size op) = omega arith in
+    let same : bs ≡ opened at x.code bs = sym (quiet_opens at x bs quiet.0) in (
+      one (record { at = at; brackets = bs; before = before; op = x; rest = front ++ op ∷ rest }) quiet.0,
+      subst (λ (z : List OpenBracket). AllByRecursion P
+          (placed (at + size x) z (before_next x before) (front ++ op ∷ rest))) same
+          (placed_all P (at + size x) bs (before_next x before) front op rest quiet.1 fs.1 last one
+          (λ done. subst (λ (k : ℕ). P (record { at = k; brackets = bs; before = done; op = op; rest = rest })) here (end done))
+          (subst (λ (k : ℕ). AllByRecursion P (placed (at + size x + (total front + size op)) (opened k op.code bs) [] rest)) here
+          (subst (λ (k : ℕ). AllByRecursion P (placed k (opened (at + (size x + total front)) op.code bs) [] rest)) there more))),
+    )

@@ -1,0 +1,100 @@
+-- In an accepted source the operand of each statement but a call is checked.
+use Rattle.std.proofs.Common.{◌≡◌, ◌≤◌, ℕ, Bool, true, false, List, [], ◌∷◌, map, Option, Some, None, refl, sym, ap, subst}
+use Rattle.std.specs.List.{AllByRecursion, slice_get}
+use Rattle.plc_base.specs.declared.blocks.BlockKind.{BlockKind}
+use Rattle.plc_base.specs.declared.blocks.BlockKind.TheVariants as kinds
+use Rattle.flat_code.specs.Blocks.{Around}
+use Rattle.flat_code.specs.Image.{number_of_kind, record_of_param}
+use Rattle.stl_ast.specs.Blocks.{has_body}
+use Rattle.stl_ast.specs.Statements.{is_called}
+use Rattle.stl_ast.specs.declared.blocks.Block.{Block}
+use Rattle.stl_ast.specs.declared.blocks.Tree.{Tree}
+use Rattle.stl_ast.specs.declared.statements.Statement.{Statement}
+use Rattle.stl_symbols.specs.Symbol.{Symbol}
+use Rattle.block_layout.specs.Blocks.{is_code}
+use Rattle.block_layout.specs.Layouts.{block_layout}
+use Rattle.block_layout.specs.Lengths.{farthest, local_len}
+use Rattle.block_layout.specs.Measures.{types_of}
+use Rattle.block_layout.specs.declared.blocks.BlockLayout.{BlockLayout}
+use Rattle.stl_types.specs.Seen.{seen}
+use Rattle.stl_types.specs.declared.views.Seen.{Seen}
+use Rattle.stl_codegen.specs.Generated.{params_of}
+use Rattle.sem_kept.specs.Accepted.{IsAccepted}
+use Rattle.sem_kept.proofs.accepted.Accepted.{IsSound, IsSoundStatement, IsSoundTree, context_at, right_tree}
+use Rattle.sem_kept.proofs.accepted.JumpsOperands.{Settles}
+use Rattle.sem_kept.proofs.accepted.OperandsCells.{layout_of_block}
+use Rattle.sem_kept.proofs.accepted.OperandsSymbols.{SymbolFits, symbols_fit}
+use Rattle.sem_kept.proofs.accepted.OperandsViews.{EndsBy, IsSeen, ends_by, holds_locals, operand_seen}
+
+-- the operand of a statement of the block at a place
+abbrev pub Settle : List Symbol → Tree → ℕ → Statement → Type 0
+Settle symbols t k s = is_called s.operand ≡ false → Settles (seen (context_at symbols t k) s.operand)
+
+seen_settles : (a : Around) (x : Seen) → IsSeen a x → Settles x
+seen_settles a x h = subst Settles (sym h.is) tt
+
+-- no other block has a part in it
+abbrev around_of : Block → BlockLayout → Around
+around_of b l = record {
+  kind = number_of_kind b.kind;
+  local_len = l.local_len;
+  params = map record_of_param (params_of b l);
+  blocks = [];
+  data_lens = None;
+}
+
+all_settle : (symbols : List Symbol) (t : Tree) → IsSoundTree symbols t
+    → AllByRecursion SymbolFits symbols → (k : ℕ) (b : Block) (l : BlockLayout)
+    → IsSound symbols t k b l → is_code b.kind ≡ true → (ss : List Statement)
+    → AllByRecursion (IsSoundStatement (types_of symbols t.blocks) (context_at symbols t k)) ss
+    → AllByRecursion (EndsBy l.local_len) ss → AllByRecursion (Settle symbols t k) ss
+all_settle symbols t tree fit k b l block is [] h ends = tt
+all_settle symbols t tree fit k b l block is (s ∷ ss) h ends = (
+  λ other.
+      seen_settles (around_of b l) (seen (context_at symbols t k) s.operand)
+      (operand_seen symbols t tree fit k b l block is (around_of b l)
+      (record { kind = refl; local = refl; params = refl }) s.operand (record {
+        well_formed = h.0.well_formed.value;
+        known = h.0.known;
+        there = h.0.there;
+        inside = h.0.inside;
+      }) other ends.0.0),
+  all_settle symbols t tree fit k b l block is ss h.1 ends.1,
+)
+
+local_is : (symbols : List Symbol) (t : Tree) (k : ℕ) (b : Block) (l : BlockLayout)
+    → IsSound symbols t k b l → l.local_len ≡ local_len (types_of symbols t.blocks) b
+unfolding block_layout
+local_is symbols t k b l block = ap (λ (z : BlockLayout). z.local_len) block.layout
+
+-- a block without code has no statements
+no_body : (k : BlockKind) → is_code k ≡ false → has_body k ≡ false
+no_body kinds.Ob e = absurd cc
+no_body kinds.Fc e = absurd cc
+no_body kinds.Fb e = absurd cc
+no_body kinds.Db e = refl
+no_body kinds.Sfc e = refl
+no_body kinds.Udt e = refl
+
+block_settles : (symbols : List Symbol) (t : Tree) → IsSoundTree symbols t
+    → AllByRecursion SymbolFits symbols → (k : ℕ) (b : Block) (l : BlockLayout)
+    → IsSound symbols t k b l → AllByRecursion (Settle symbols t k) b.body
+block_settles symbols t tree fit k b l block = by (is_code b.kind) refl
+  where
+    by : (code : Bool) → is_code b.kind ≡ code → AllByRecursion (Settle symbols t k) b.body
+    by true is =
+        all_settle symbols t tree fit k b l block is b.body block.statements
+        (ends_by l.local_len b.body
+        (subst (λ (n : ℕ). farthest b.body ≤ n) (sym (local_is symbols t k b l block))
+        (holds_locals (types_of symbols t.blocks) b is block.head.by_50).operands))
+    by false is =
+        subst (AllByRecursion (Settle symbols t k))
+        (sym (block.well_formed.runs.1 (no_body b.kind is))) tt
+
+pub operands_settle : (source : List ℕ) (file : Option (List ℕ)) (symbols : List Symbol) (t : Tree)
+    → IsAccepted source file symbols t → (k : ℕ) (b : Block) → slice_get t.blocks k ≡ Some b
+    → AllByRecursion (Settle symbols t k) b.body
+operands_settle source file symbols t accepted k b there =
+    let tree = right_tree source file symbols t accepted in
+    let laid = layout_of_block symbols t tree k b there in
+    block_settles symbols t tree (symbols_fit file symbols accepted.named) k b laid.0 laid.2

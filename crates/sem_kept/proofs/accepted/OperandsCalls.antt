@@ -1,0 +1,1038 @@
+-- A call fits what surrounds its block: what it calls is there, its instance is long enough, and all
+-- that it owes is passed.
+use Rattle.std.proofs.Common.{ℕ, suc, ◌≡◌, ◌≤◌, ◌/◌, ◌⊎◌, inl, inr, ⊎_elim, List, [], ◌∷◌, ◌++◌, append_assoc, Option, Some, None, is_some, Bool, true, false, ◌&&◌, ◌||◌, not, nat_lt, nat_le, refl, sym, ◌∙◌, ap, subst, arith, map, find, bytes_eq, if◌then◌else◌, eqb-true, le-ltb, leb-true, eq-eqb, ne_eqb}
+use Rattle.std.specs.Prelude.{◌==◌}
+use Rattle.std.specs.List.{AllByRecursion, list_all, slice_get}
+use Rattle.std.specs.Option.{is_none, option_and_then, option_map}
+use Rattle.std.specs.Bool.{Decides}
+use Rattle.std.proofs.lemmas.Slice.Eq.{bytes_eq-Decides}
+use Rattle.plc_base.specs.declared.blocks.BlockId.{BlockId}
+use Rattle.plc_base.specs.declared.blocks.BlockKind.{BlockKind}
+use Rattle.plc_base.specs.declared.blocks.BlockKind.TheVariants as kinds
+use Rattle.flat_code.specs.Blocks.{Around, Callee as FlatCallee, Signature, are_passed, block_with, callee as flat_callee, data_len, is_bad_call, is_bad_instance, is_index, is_passed, is_short, pass_index, signature_of, system_function, system_params}
+use Rattle.flat_code.specs.Image.{number_of_kind, record_of_block, record_of_param}
+use Rattle.flat_code.specs.Instr.{Passing, Calls}
+use Rattle.flat_code.specs.Loading.{lens_of}
+use Rattle.flat_code.specs.Ops.{OpData}
+use Rattle.flat_code.specs.Placed.{is_empty as is_nothing_in}
+use Rattle.flat_code.specs.declared.image_fields.ParameterRecord.{ParameterRecord}
+use Rattle.flat_code.specs.declared.operands.Operand.TheVariants as flat
+use Rattle.flat_code.specs.declared.operands.Passed.{Passed}
+use Rattle.flat_code.specs.declared.words.CallWord.{CallWord}
+use Rattle.flat_code.specs.declared.words.CallWord.TheVariants as calls
+use Rattle.flat_code.specs.declared.words.Word.TheVariants as word
+use Rattle.stl_ast.specs.Blocks.{is_parameter}
+use Rattle.stl_ast.specs.Statements.{IsActual, has_actuals, is_call, is_called}
+use Rattle.stl_ast.specs.WellFormed.{IsBlock}
+use Rattle.stl_ast.specs.declared.blocks.Block.{Block}
+use Rattle.stl_ast.specs.declared.blocks.Tree.{Tree}
+use Rattle.stl_ast.specs.declared.declarations.Simple.{Simple}
+use Rattle.stl_ast.specs.declared.mnemonics.Mnemonic.{Mnemonic}
+use Rattle.stl_ast.specs.declared.mnemonics.Mnemonic.TheVariants as code
+use Rattle.stl_ast.specs.declared.names.BlockName.{BlockName}
+use Rattle.stl_ast.specs.declared.operands.Operand.{Operand}
+use Rattle.stl_ast.specs.declared.operands.Operand.TheVariants as operand
+use Rattle.stl_ast.specs.declared.statements.Actual.{Actual}
+use Rattle.stl_ast.specs.declared.statements.Statement.{Statement}
+use Rattle.plc_base.specs.Folding.{folded}
+use Rattle.stl_symbols.specs.Names.{place_of}
+use Rattle.stl_symbols.specs.Symbol.{Symbol}
+use Rattle.block_layout.specs.Blocks.{id_of, is_block_number, is_code, is_data_block, is_function, is_function_block, is_system_function, known_block, named_block}
+use Rattle.block_layout.specs.Cells.{components_of}
+use Rattle.block_layout.specs.Layouts.{block_layout, layouts_of}
+use Rattle.block_layout.specs.Lengths.{block_bits, length_of, local_end, shape_bits}
+use Rattle.block_layout.specs.Measures.{types_of}
+use Rattle.block_layout.specs.Paths.{cells_at, if_whole, whole_at}
+use Rattle.block_layout.specs.Rule23.{is_unknown_called, is_unknown_instance, names_unknown}
+use Rattle.block_layout.specs.Rule44.{is_beyond}
+use Rattle.block_layout.specs.declared.blocks.BlockLayout.{BlockLayout}
+use Rattle.block_layout.specs.declared.blocks.Shape.{Shape}
+use Rattle.block_layout.specs.declared.blocks.Shape.TheVariants as shape
+use Rattle.block_layout.specs.declared.cells.Cell.{Cell}
+use Rattle.stl_types.specs.Actuals.{formal_named}
+use Rattle.stl_types.specs.Calls.{calls_unknown, has_formals, has_no_instance, has_wrong_instance, is_instance, is_no_instance, is_of_block, is_supplied, is_unknown_function, misfits, supplied as supplied_names}
+use Rattle.stl_types.specs.Context.{Context, data_number, ids, whole_data_place, whole_place}
+use Rattle.stl_types.specs.Forms.{form_of}
+use Rattle.stl_types.specs.Kinds.{is_callable, is_called as is_called_view}
+use Rattle.stl_types.specs.Operands.{operand_rule, rule_of, rule_seen, takes}
+use Rattle.stl_types.specs.Parameters.{Callee, callee_at, callee_by, callee_of, formals_of, is_sound_formal, source_callee, system_callee, system_formals}
+use Rattle.stl_types.specs.Seen.{called_seen, id_at, instance_number as instance_of_name, seen, whole_block}
+use Rattle.stl_types.specs.declared.forms.Form.{Form}
+use Rattle.stl_types.specs.declared.forms.Form.TheVariants as form
+use Rattle.stl_types.specs.declared.parameters.Formal.{Formal}
+use Rattle.stl_types.specs.declared.views.Seen.{Seen}
+use Rattle.stl_types.specs.declared.views.Seen.TheVariants.{Sees}
+use Rattle.stl_types.specs.declared.views.View.{View}
+use Rattle.stl_types.specs.declared.views.View.TheVariants as view
+use Rattle.stl_codegen.specs.Compiled.{compiled}
+use Rattle.stl_codegen.specs.Emitted.{called_kind, instance_number, passing, preparing}
+use Rattle.stl_codegen.specs.Generated.{code_blocks_of, data_blocks_of, instance_len, params_of}
+use Rattle.stl_codegen.specs.Instruction.{block_at, in_order, passings_to, return_last}
+use Rattle.stl_codegen.specs.Passed.{passed_actual, passings_from, supplied, with_index}
+use Rattle.stl_codegen.specs.Words.{call_of}
+use Rattle.sem_kept.specs.Coded.{OperandHasBytes, StatementHasBytes}
+use Rattle.sem_kept.specs.Operands.{ArePassed, InstrFits, PassesAlone}
+use Rattle.sem_kept.proofs.accepted.Accepted.{IsSound, IsSoundActual, IsSoundCall, IsSoundStatement, IsSoundTree, context_at}
+use Rattle.sem_kept.proofs.accepted.OperandsCells.{are_right, block_unbroken, cells_are, known_there, layout_of_block, measured_symbols}
+use Rattle.sem_kept.proofs.accepted.OperandsFormals.{Distinct, IsFoundIn, IsSystem, Matched, block_formals, found_each, fresh_distinct, return_all, source_matched, system_matched}
+use Rattle.sem_kept.proofs.accepted.OperandsInstr.{CallFits}
+use Rattle.sem_kept.proofs.accepted.OperandsMembers.{called_block, instance_found}
+use Rattle.sem_kept.proofs.accepted.OperandsPassed.{IsGoodActual, Passes, passed_from, supplied_passes}
+use Rattle.sem_kept.proofs.accepted.OperandsSymbols.{SymbolFits}
+use Rattle.sem_kept.proofs.accepted.OperandsViews.{EndsBy, IsData, IsThere, Surrounds, block_own, data_block_kind, data_length, data_there, id_there, id_there_is, ids_same, instance_length, layout_id, layout_shape, operand_seen, whole_is}
+use Rattle.sem_kept.proofs.accepted.OperandsWords.{allowed}
+
+-- ---- what is passed stands among the ops
+
+passed_here : (index : ℕ) (done : List OpData) (actual : Passed) (behind : List OpData)
+    → is_passed index (done ++ preparing word.Pass (flat.Pass index actual) ∷ behind) ≡ true
+passed_here index [] actual behind =
+    ap (λ (t : Bool). t || is_passed index behind) (eq-eqb index index refl)
+passed_here index (op ∷ done) actual behind =
+    either (is_index index (pass_index op.operand)) (passed_here index done actual behind)
+  where
+    either : (t : Bool) → is_passed index (done ++ preparing word.Pass (flat.Pass index actual) ∷ behind) ≡ true
+        → (t || is_passed index (done ++ preparing word.Pass (flat.Pass index actual) ∷ behind)) ≡ true
+    either true h = refl
+    either false h = h
+
+-- each parameter is supplied
+abbrev AreSupplied : List Actual → List Formal → Type 0
+AreSupplied actuals fs = AllByRecursion (λ (f : Formal). (x : Actual) × (supplied actuals f ≡ Some x)) fs
+
+module _ (a : Around) (c : Context) (formals : List Formal) (actuals : List Actual)
+    (good : AllByRecursion (IsGoodActual a c formals) actuals) where
+  all_passed : (i : ℕ) (fs : List Formal) (rs : List ParameterRecord) (done : List OpData)
+      → Matched fs rs → AllByRecursion (IsFoundIn formals) fs → AreSupplied actuals fs
+      → are_passed i rs (done ++ passing (passings_from c actuals i fs)) ≡ true
+  all_passed i [] [] done matched found given = refl
+  all_passed i [] (r ∷ rs) done matched found given = absurd matched
+  all_passed i (f ∷ fs) [] done matched found given = absurd matched
+  all_passed i (f ∷ fs) (r ∷ rs) done matched found given =
+      subst (λ (ops : List OpData). are_passed i (r ∷ rs) ops ≡ true) (sym ops_are)
+      (ap (λ (t : Bool). t && are_passed (suc i) rs (done ++ op ∷ passing (passings_from c actuals (suc i) fs)))
+      (passed_here i done p.actual (passing (passings_from c actuals (suc i) fs)))
+      ∙ subst (λ (ops : List OpData). are_passed (suc i) rs ops ≡ true)
+      (append_assoc done (op ∷ []) (passing (passings_from c actuals (suc i) fs)))
+      (all_passed (suc i) fs rs (done ++ op ∷ []) matched.1 found.1 given.1))
+    where
+      x : Actual
+      x = given.0.0
+
+      p : Passes a c r given.0.0.value
+      p = supplied_passes a c formals actuals f r given.0.0 good found.0 matched.0 given.0.1
+
+      op : OpData
+      op = preparing word.Pass (flat.Pass i p.actual)
+
+      ops_are : done ++ passing (passings_from c actuals i (f ∷ fs))
+          ≡ done ++ preparing word.Pass (flat.Pass i p.actual) ∷ passing (passings_from c actuals (suc i) fs)
+      ops_are =
+          ap (λ (o : Option Actual). done ++ passing (passed_actual c i o ++ passings_from c actuals (suc i) fs)) given.0.1
+          ∙ ap (λ (o : Option Passed). done ++ passing (with_index i o ++ passings_from c actuals (suc i) fs)) p.is
+
+-- ---- what is supplied
+
+swapped : (xs ys : List ℕ) → bytes_eq xs ys ≡ true → bytes_eq ys xs ≡ true
+swapped xs ys e = by (bytes_eq xs ys) (bytes_eq ys xs) (bytes_eq-Decides xs ys) (bytes_eq-Decides ys xs) e
+  where
+    by : (s t : Bool) → Decides s (xs ≡ ys) → Decides t (ys ≡ xs) → s ≡ true → t ≡ true
+    by true true h k e = refl
+    by true false h k e = sym (sym (k.1 (sym (h.0 refl))))
+    by false t h k e = absurd cc
+
+supplied_there : (actuals : List Actual) (f : Formal)
+    → is_some (place_of f.name (map (λ (x : Actual). folded x.name) actuals)) ≡ true
+    → (x : Actual) × (supplied actuals f ≡ Some x)
+supplied_there [] f e = absurd cc
+supplied_there (z ∷ zs) f e =
+    by (bytes_eq (folded z.name) f.name) (bytes_eq f.name (folded z.name)) refl refl e (supplied_there zs f)
+  where
+    some_suc : (o : Option ℕ) → is_some (option_map (λ k. suc k) o) ≡ true → is_some o ≡ true
+    some_suc None h = absurd cc
+    some_suc (Some m) h = refl
+
+    by : (s t : Bool) → bytes_eq (folded z.name) f.name ≡ s → bytes_eq f.name (folded z.name) ≡ t
+        → is_some (if t then Some 0 else option_map (λ k. suc k) (place_of f.name (map (λ (x : Actual). folded x.name) zs))) ≡ true
+        → (is_some (place_of f.name (map (λ (x : Actual). folded x.name) zs)) ≡ true → (x : Actual) × (supplied zs f ≡ Some x))
+        → (x : Actual) × ((if s then Some z else find (λ x. bytes_eq (folded x.name) f.name) zs) ≡ Some x)
+    by true t g h e more = (z, refl)
+    by false true g h e more =
+        let other : bytes_eq (folded z.name) f.name ≡ true = swapped f.name (folded z.name) h in
+        absurd cc
+    by false false g h e more =
+        more (some_suc (place_of f.name (map (λ (x : Actual). folded x.name) zs)) e)
+
+all_supplied : (actuals : List Actual) (fs : List Formal)
+    → list_all (is_supplied (supplied_names actuals)) fs ≡ true → AreSupplied actuals fs
+all_supplied actuals [] e = tt
+all_supplied actuals (f ∷ fs) e = (
+  supplied_there actuals f (first (is_supplied (supplied_names actuals) f) (list_all (is_supplied (supplied_names actuals)) fs) e),
+  all_supplied actuals fs (second (is_supplied (supplied_names actuals) f) (list_all (is_supplied (supplied_names actuals)) fs) e),
+)
+  where
+    first : (x y : Bool) → (x && y) ≡ true → x ≡ true
+    first true y e = refl
+    first false y e = absurd cc
+
+    second : (x y : Bool) → (x && y) ≡ true → y ≡ true
+    second true y e = e
+    second false y e = absurd cc
+
+-- nothing is passed where nothing is supplied
+pub none_passed : (c : Context) (i : ℕ) (fs : List Formal) → passings_from c [] i fs ≡ []
+none_passed c i [] = refl
+none_passed c i (f ∷ fs) = none_passed c (suc i) fs
+
+-- ---- what a call names
+
+abbrev IsInstanceOf : Context → Option BlockName → Option ℕ → Type 0
+IsInstanceOf c None None = Unit {0}
+IsInstanceOf c (Some name) (Some n) = data_number c name ≡ Some n
+IsInstanceOf c None (Some n) = ⊥
+IsInstanceOf c (Some name) None = ⊥
+
+record IsCall (c : Context) (name : BlockName) (inst : Option BlockName) (id : BlockId)
+    (instance : Option ℕ) : Type 0 where
+  named : named_block c.symbols name ≡ Some id
+  whole : is_system_function id.kind ≡ false → (p : ℕ) × (whole_place c id ≡ Some p)
+  with_instance : IsInstanceOf c inst instance
+
+called_same : (a b : BlockId) (m n : Option ℕ) → Sees (view.Called a m) ≡ Sees (view.Called b n) → a ≡ b
+called_same a b m n e = cc
+
+instance_same : (a b : BlockId) (m n : Option ℕ) → Sees (view.Called a m) ≡ Sees (view.Called b n)
+    → m ≡ n
+instance_same a b m n e = cc
+
+seen_call : (c : Context) (name : BlockName) (inst : Option BlockName) (id : BlockId)
+    (instance : Option ℕ) → seen c (operand.Called name inst) ≡ Sees (view.Called id instance)
+    → IsCall c name inst id instance
+unfolding seen
+seen_call c name inst id instance e = by (named_block c.symbols name) refl e
+  where
+    given : (x : BlockId) (inst : Option BlockName)
+        → called_seen (Some x) inst (instance_of_name c inst) ≡ Sees (view.Called id instance)
+        → (x ≡ id) × IsInstanceOf c inst instance
+    given x None h = (
+      called_same x id None instance h,
+      subst (λ (o : Option ℕ). IsInstanceOf c None o) (instance_same x id None instance h) tt,
+    )
+    given x (Some nm) h = number (data_number c nm) refl h
+      where
+        number : (o : Option ℕ) → data_number c nm ≡ o
+            → called_seen (Some x) (Some nm) o ≡ Sees (view.Called id instance)
+            → (x ≡ id) × IsInstanceOf c (Some nm) instance
+        number None is h = absurd cc
+        number (Some n) is h = (
+          called_same x id (Some n) instance h,
+          subst (λ (o : Option ℕ). IsInstanceOf c (Some nm) o) (instance_same x id (Some n) instance h) is,
+        )
+
+    made : (x : BlockId) → named_block c.symbols name ≡ Some x
+        → (is_system_function x.kind ≡ false → (p : ℕ) × (whole_place c x ≡ Some p))
+        → called_seen (Some x) inst (instance_of_name c inst) ≡ Sees (view.Called id instance)
+        → IsCall c name inst id instance
+    made x is whole h =
+        let both = given x inst h in
+        record {
+          named = is ∙ ap (λ (z : BlockId). Some z) both.0;
+          whole = subst (λ (z : BlockId). is_system_function z.kind ≡ false → (p : ℕ) × (whole_place c z ≡ Some p)) both.0 whole;
+          with_instance = both.1;
+        }
+
+    placed : (x : BlockId) → named_block c.symbols name ≡ Some x → is_system_function x.kind ≡ false
+        → (o : Option ℕ) → whole_place c x ≡ o
+        → called_seen (id_at x o) inst (instance_of_name c inst) ≡ Sees (view.Called id instance)
+        → IsCall c name inst id instance
+    placed x is other None w h = absurd cc
+    placed x is other (Some p) w h = made x is (λ k. (p, w)) h
+
+    whether : (x : BlockId) → named_block c.symbols name ≡ Some x → (t : Bool) → is_system_function x.kind ≡ t
+        → called_seen (if t then Some x else id_at x (whole_place c x)) inst (instance_of_name c inst) ≡ Sees (view.Called id instance)
+        → IsCall c name inst id instance
+    whether x is true sys h = made x is (λ k. absurd cc) h
+    whether x is false sys h = placed x is sys (whole_place c x) refl h
+
+    by : (o : Option BlockId) → named_block c.symbols name ≡ o
+        → called_seen (whole_block c o) inst (instance_of_name c inst) ≡ Sees (view.Called id instance)
+        → IsCall c name inst id instance
+    by None is h = absurd cc
+    by (Some x) is h = whether x is (is_system_function x.kind) refl h
+
+-- ---- what is called
+
+-- a block that is called, as the source and as the code have it
+record IsCallee (symbols : List Symbol) (t : Tree) (k : ℕ) (blocks : List Signature) (o : Operand)
+    (id : BlockId) : Type 0 where
+  of_source : Callee
+  is : callee_of (context_at symbols t k) o ≡ Some of_source
+  same : of_source.id ≡ id
+  il : ℕ
+  params : List ParameterRecord
+  flat : flat_callee blocks (called_kind id.kind) id.number ≡ Some (called_kind id.kind, il, params)
+  matched : Matched (in_order (block_at t.blocks of_source.place) of_source.formals) params
+  found : AllByRecursion (IsFoundIn of_source.formals)
+      (in_order (block_at t.blocks of_source.place) of_source.formals)
+  result : Option Simple
+  order : in_order (block_at t.blocks of_source.place) of_source.formals ≡ return_last result of_source.formals
+  long : is_function_block id.kind ≡ true → (p : ℕ) × (b : Block) × (of_source.place ≡ Some p)
+      × (slice_get t.blocks p ≡ Some b) × (b.kind ≡ kinds.Fb)
+      × (il ≡ length_of (types_of symbols t.blocks) t.blocks b)
+
+in_order_all : (b : Block) (P : Formal → Type 0) (fs : List Formal) → AllByRecursion P fs
+    → AllByRecursion P (in_order (Some b) fs)
+in_order_all b P fs h = return_all P b.result fs h
+
+system_kind : (k : BlockKind) → is_system_function k ≡ true → k ≡ kinds.Sfc
+system_kind kinds.Sfc e = refl
+system_kind kinds.Ob e = absurd cc
+system_kind kinds.Fc e = absurd cc
+system_kind kinds.Fb e = absurd cc
+system_kind kinds.Db e = absurd cc
+system_kind kinds.Udt e = absurd cc
+
+known_function : (n : ℕ) (k : BlockKind) → k ≡ kinds.Sfc
+    → (is_system_function k && is_none (system_formals n)) ≡ false
+    → (fs : List Formal) × (system_formals n ≡ Some fs)
+known_function n k is e = by (system_formals n) (ap (λ (j : BlockKind). is_system_function j && is_none (system_formals n)) (sym is) ∙ e)
+  where
+    by : (o : Option (List Formal)) → is_none o ≡ false → (fs : List Formal) × (o ≡ Some fs)
+    by None h = absurd cc
+    by (Some fs) h = (fs, refl)
+
+system_flat : (blocks : List Signature) (id : BlockId) (params : List ParameterRecord)
+    → id.kind ≡ kinds.Sfc → system_params id.number ≡ Some params
+    → flat_callee blocks (called_kind id.kind) id.number ≡ Some (called_kind id.kind, 0, params)
+unfolding flat_callee
+system_flat blocks id params is e =
+    subst (λ (j : BlockKind). flat_callee blocks (called_kind j) id.number ≡ Some (called_kind j, 0, params)) (sym is)
+    (ap (λ (o : Option (List ParameterRecord)). option_map system_function o) e)
+
+system_called : (symbols : List Symbol) (t : Tree) (k : ℕ) (blocks : List Signature)
+    (name : BlockName) (inst : Option BlockName) (id : BlockId)
+    → named_block symbols name ≡ Some id → is_system_function id.kind ≡ true
+    → is_unknown_function (named_block symbols name) ≡ false
+    → IsCallee symbols t k blocks (operand.Called name inst) id
+unfolding callee_of
+system_called symbols t k blocks name inst id named sys known = record {
+  of_source = record { id = id; place = None; formals = formals.0 };
+  is =
+      ap (λ (o : Option BlockId). option_and_then (λ id. callee_by (context_at symbols t k) id id.kind) o) named
+      ∙ ap (λ (t' : Bool). if t' then system_callee id
+      else if is_function id.kind then source_callee (context_at symbols t k) id
+      else if is_function_block id.kind then source_callee (context_at symbols t k) id
+      else None) sys
+      ∙ ap (λ (o : Option (List Formal)). option_map (λ formals. record { id = id; place = None; formals = formals }) o) formals.1;
+  same = refl;
+  il = 0;
+  params = system.params;
+  flat = system_flat blocks id system.params kind system.is;
+  matched = system.matched;
+  found = found_each formals.0 (fresh_distinct [] formals.0 system.fresh);
+  result = None;
+  order = refl;
+  long = λ e.
+      let other : is_function_block id.kind ≡ false = ap is_function_block kind in
+      absurd cc;
+}
+  where
+    kind : id.kind ≡ kinds.Sfc
+    kind = system_kind id.kind sys
+
+    formals : (fs : List Formal) × (system_formals id.number ≡ Some fs)
+    formals = known_function id.number id.kind kind (ap is_unknown_function (sym named) ∙ known)
+
+    system : IsSystem id.number formals.0
+    system = system_matched id.number formals.0 formals.1
+
+-- a function or a function block
+source_kind : (k : BlockKind) → is_callable k ≡ true → is_system_function k ≡ false
+    → (k ≡ kinds.Fc) ⊎ (k ≡ kinds.Fb)
+source_kind kinds.Fc e f = inl refl
+source_kind kinds.Fb e f = inr refl
+source_kind kinds.Sfc e f = absurd cc
+source_kind kinds.Ob e f = absurd cc
+source_kind kinds.Db e f = absurd cc
+source_kind kinds.Udt e f = absurd cc
+
+source_code : (k : BlockKind) → (k ≡ kinds.Fc) ⊎ (k ≡ kinds.Fb) → is_code k ≡ true
+source_code k h = ⊎_elim (λ e. ap is_code e) (λ e. ap is_code e) h
+
+source_called_kind : (k : BlockKind) → (k ≡ kinds.Fc) ⊎ (k ≡ kinds.Fb)
+    → called_kind k ≡ number_of_kind k
+source_called_kind k h =
+    ⊎_elim (λ e. ap called_kind e ∙ sym (ap number_of_kind e))
+    (λ e. ap called_kind e ∙ sym (ap number_of_kind e)) h
+
+not_five : (k : BlockKind) → (k ≡ kinds.Fc) ⊎ (k ≡ kinds.Fb) → (called_kind k == 5) ≡ false
+not_five k h =
+    ⊎_elim (λ e. ap (λ (j : BlockKind). called_kind j == 5) e) (λ e. ap (λ (j : BlockKind). called_kind j == 5) e) h
+
+source_flat : (blocks : List Signature) (k : BlockKind) (number : ℕ) → (k ≡ kinds.Fc) ⊎ (k ≡ kinds.Fb)
+    → flat_callee blocks (called_kind k) number ≡ block_with (number_of_kind k) number blocks
+unfolding flat_callee
+source_flat blocks k number h =
+    ap (λ (t' : Bool). if t' then option_map system_function (system_params number) else block_with (called_kind k) number blocks)
+    (not_five k h)
+    ∙ ap (λ (n : ℕ). block_with n number blocks) (source_called_kind k h)
+
+sound_all : (cells : List Cell)
+    → ((place : ℕ) (c : Cell) → slice_get cells place ≡ Some c → c.sound ≡ true)
+    → list_all is_sound_formal cells ≡ true
+sound_all [] h = refl
+sound_all (c ∷ cs) h =
+    ap (λ (t' : Bool). t' && list_all is_sound_formal cs) (one (is_parameter c.section))
+    ∙ sound_all cs (λ place x e. h (suc place) x e)
+  where
+    one : (t' : Bool) → (if t' then c.sound else true) ≡ true
+    one true = h 0 c refl
+    one false = refl
+
+callee_source : (symbols : List Symbol) (t : Tree) (k : ℕ) (name : BlockName)
+    (inst : Option BlockName) (id : BlockId) (p : ℕ)
+    → named_block symbols name ≡ Some id → (id.kind ≡ kinds.Fc) ⊎ (id.kind ≡ kinds.Fb)
+    → whole_place (context_at symbols t k) id ≡ Some p
+    → list_all is_sound_formal (cells_at (layouts_of t symbols) p false) ≡ true
+    → callee_of (context_at symbols t k) (operand.Called name inst)
+    ≡ Some (record { id = id; place = Some p; formals = formals_of (cells_at (layouts_of t symbols) p false) })
+unfolding callee_of
+callee_source symbols t k name inst id p named kind whole sound =
+    ap (λ (o : Option BlockId). option_and_then (λ id. callee_by (context_at symbols t k) id id.kind) o) named
+    ∙ ⊎_elim
+    (λ e. ap (callee_by (context_at symbols t k) id) e)
+    (λ e. ap (callee_by (context_at symbols t k) id) e) kind
+    ∙ ap (λ (o : Option ℕ). option_and_then (callee_at (context_at symbols t k) id) o) whole
+    ∙ ap (λ (t' : Bool). option_map (λ formals. record { id = id; place = Some p; formals = formals })
+    (if t' then Some (formals_of (cells_at (layouts_of t symbols) p false)) else None)) sound
+
+whole_known : (l : List BlockLayout) (o : Option ℕ) (p : ℕ) → option_and_then (if_whole l) o ≡ Some p
+    → o ≡ Some p
+whole_known l None p e = absurd cc
+whole_known l (Some q) p e = by (is_some (whole_at l q)) e
+  where
+    by : (t' : Bool) → (if t' then Some q else None) ≡ Some p → Some q ≡ Some p
+    by true h = h
+    by false h = absurd cc
+
+components_same : (symbols : List Symbol) (t : Tree) (p : ℕ) (b : Block) (l : BlockLayout)
+    → IsSound symbols t p b l → l.components ≡ components_of (types_of symbols t.blocks) b
+unfolding block_layout
+components_same symbols t p b l h = ap (λ (z : BlockLayout). z.components) h.layout
+
+length_same : (symbols : List Symbol) (t : Tree) (p : ℕ) (b : Block) (l : BlockLayout)
+    → IsSound symbols t p b l → l.length ≡ length_of (types_of symbols t.blocks) t.blocks b
+unfolding block_layout
+length_same symbols t p b l h = ap (λ (z : BlockLayout). z.length) h.layout
+
+source_called : (symbols : List Symbol) (t : Tree) → IsSoundTree symbols t → (k : ℕ)
+    (name : BlockName) (inst : Option BlockName) (id : BlockId) (p : ℕ)
+    → named_block symbols name ≡ Some id → (id.kind ≡ kinds.Fc) ⊎ (id.kind ≡ kinds.Fb)
+    → whole_place (context_at symbols t k) id ≡ Some p
+    → IsCallee symbols t k
+    (map signature_of (map record_of_block (map compiled (code_blocks_of t symbols (layouts_of t symbols)))))
+    (operand.Called name inst) id
+source_called symbols t tree k name inst id p named kind whole = record {
+  of_source = record { id = id; place = Some p; formals = formals_of (cells_at (layouts_of t symbols) p false) };
+  is = callee_source symbols t k name inst id p named kind whole
+      (sound_all (cells_at (layouts_of t symbols) p false)
+      (λ place c e. (are_right symbols t tree p place false c e).sound));
+  same = refl;
+  il = instance_len there.block there.layout;
+  params = map record_of_param (params_of there.block there.layout);
+  flat =
+      source_flat (map signature_of (map record_of_block (map compiled (code_blocks_of t symbols (layouts_of t symbols))))) id.kind id.number kind
+      ∙ called_block symbols t tree p there.block there.layout id there.sound is_there (source_code id.kind kind)
+      ∙ ap (λ (n : ℕ). Some (n, instance_len there.block there.layout, map record_of_param (params_of there.block there.layout)))
+      (sym (source_called_kind id.kind kind));
+  matched = subst (λ (o : Option Block). Matched (in_order o (formals_of (cells_at (layouts_of t symbols) p false))) (map record_of_param (params_of there.block there.layout)))
+      (sym there.sound.block_there)
+      (source_matched there.block there.layout (cells_at (layouts_of t symbols) p false)
+      (components_same symbols t p there.block there.layout there.sound ∙ sym cells));
+  found = subst (λ (o : Option Block). AllByRecursion (IsFoundIn (formals_of (cells_at (layouts_of t symbols) p false))) (in_order o (formals_of (cells_at (layouts_of t symbols) p false))))
+      (sym there.sound.block_there)
+      (in_order_all there.block (IsFoundIn (formals_of (cells_at (layouts_of t symbols) p false))) (formals_of (cells_at (layouts_of t symbols) p false))
+      (found_each (formals_of (cells_at (layouts_of t symbols) p false)) distinct));
+  result = there.block.result;
+  order = ap (λ (o : Option Block). in_order o (formals_of (cells_at (layouts_of t symbols) p false))) there.sound.block_there;
+  long = λ e. (
+    p,
+    there.block,
+    refl,
+    there.sound.block_there,
+    own_kind ∙ fb_kind id.kind e,
+    ap (λ (t' : Bool). if t' then there.layout.length else 0) (ap is_function_block own_kind ∙ e)
+        ∙ length_same symbols t p there.block there.layout there.sound,
+  );
+}
+  where
+    listed : slice_get (types_of symbols t.blocks).ids p ≡ Some (Some id)
+    listed =
+        ap (λ (is : List (Option BlockId)). slice_get is p) (sym (ids_same symbols t))
+        ∙ known_there id (ids (context_at symbols t k)) p
+        (whole_known (layouts_of t symbols) (known_block id (ids (context_at symbols t k))) p whole)
+
+    there : IsThere symbols t is_code p
+    there = id_there symbols t tree is_code p id listed (source_code id.kind kind)
+
+    one : there.id ≡ id
+    one = id_there_is symbols t tree is_code p id listed (source_code id.kind kind)
+
+    is_there : there.layout.id ≡ Some id
+    is_there = there.is ∙ ap (λ (z : BlockId). Some z) one
+
+    own_kind : there.block.kind ≡ id.kind
+    own_kind = there.same ∙ ap (λ (z : BlockId). z.kind) one
+
+    cells : cells_at (layouts_of t symbols) p false ≡ components_of (types_of symbols t.blocks) there.block
+    cells = cells_are symbols t p there.block there.layout there.sound false
+
+    distinct : Distinct (formals_of (cells_at (layouts_of t symbols) p false))
+    distinct = subst (λ (cs : List Cell). Distinct (formals_of cs)) (sym cells)
+        (fresh_distinct [] (formals_of (components_of (types_of symbols t.blocks) there.block))
+        (block_formals (types_of symbols t.blocks) there.block there.sound.well_formed
+        (block_unbroken (types_of symbols t.blocks) there.block there.sound.declarations)))
+
+    fb_kind : (j : BlockKind) → is_function_block j ≡ true → j ≡ kinds.Fb
+    fb_kind kinds.Fb e = refl
+    fb_kind kinds.Ob e = absurd cc
+    fb_kind kinds.Fc e = absurd cc
+    fb_kind kinds.Db e = absurd cc
+    fb_kind kinds.Sfc e = absurd cc
+    fb_kind kinds.Udt e = absurd cc
+
+-- ---- a call
+
+-- the block of a call is one of the three kinds
+data CallKind (k : BlockKind) : Type 0 where
+  OfSystem : (sys : is_system_function k ≡ true) (no_block : is_function_block k ≡ false) → CallKind k
+  OfFunction : (is : k ≡ kinds.Fc) → CallKind k
+  OfBlock : (is : k ≡ kinds.Fb) → CallKind k
+
+call_kind : (k : BlockKind) → is_callable k ≡ true → CallKind k
+call_kind kinds.Sfc e = OfSystem refl refl
+call_kind kinds.Fc e = OfFunction refl
+call_kind kinds.Fb e = OfBlock refl
+call_kind kinds.Ob e = absurd cc
+call_kind kinds.Db e = absurd cc
+call_kind kinds.Udt e = absurd cc
+
+callee_there : (symbols : List Symbol) (t : Tree) → IsSoundTree symbols t → (k : ℕ)
+    (name : BlockName) (inst : Option BlockName) (id : BlockId) (instance : Option ℕ)
+    → IsCall (context_at symbols t k) name inst id instance → is_callable id.kind ≡ true
+    → is_unknown_function (named_block symbols name) ≡ false
+    → IsCallee symbols t k
+    (map signature_of (map record_of_block (map compiled (code_blocks_of t symbols (layouts_of t symbols)))))
+    (operand.Called name inst) id
+callee_there symbols t tree k name inst id instance call callable known = by (call_kind id.kind callable)
+  where
+    source : (id.kind ≡ kinds.Fc) ⊎ (id.kind ≡ kinds.Fb) → is_system_function id.kind ≡ false
+        → IsCallee symbols t k
+        (map signature_of (map record_of_block (map compiled (code_blocks_of t symbols (layouts_of t symbols)))))
+        (operand.Called name inst) id
+    source kind other =
+        let at = call.whole other in
+        source_called symbols t tree k name inst id at.0 call.named kind at.1
+
+    by : CallKind id.kind
+        → IsCallee symbols t k
+        (map signature_of (map record_of_block (map compiled (code_blocks_of t symbols (layouts_of t symbols)))))
+        (operand.Called name inst) id
+    by (OfSystem sys no_block) =
+        system_called symbols t k
+        (map signature_of (map record_of_block (map compiled (code_blocks_of t symbols (layouts_of t symbols)))))
+        name inst id call.named sys known
+    by (OfFunction is) = source (inl is) (ap is_system_function is)
+    by (OfBlock is) = source (inr is) (ap is_system_function is)
+
+-- the words of calls
+calls_form : (m : Mnemonic) (how : CallWord) → call_of m ≡ Some how → form_of m ≡ form.Calls
+unfolding form_of
+calls_form code.Call how e = refl
+calls_form code.Uc how e = refl
+calls_form code.Cc how e = refl
+calls_form _ how e = absurd cc
+
+calls_alone : (m : Mnemonic) (how : CallWord) (ps : List Passing) → call_of m ≡ Some how
+    → (has_actuals m ≡ false → ps ≡ []) → PassesAlone how ps
+calls_alone code.Call how ps e none =
+    subst (λ (h : CallWord). PassesAlone h ps) (let same : calls.Call ≡ how = cc in same) tt
+calls_alone code.Uc how ps e none =
+    subst (λ (h : CallWord). PassesAlone h ps) (let same : calls.Uc ≡ how = cc in same) (none refl)
+calls_alone code.Cc how ps e none =
+    subst (λ (h : CallWord). PassesAlone h ps) (let same : calls.Cc ≡ how = cc in same) (none refl)
+calls_alone _ how ps e none = absurd cc
+
+calls_are : (m : Mnemonic) (how : CallWord) → call_of m ≡ Some how → is_call m ≡ true
+calls_are code.Call how e = refl
+calls_are code.Uc how e = refl
+calls_are code.Cc how e = refl
+calls_are _ how e = absurd cc
+
+-- a rule of calls, by whether the word is CALL
+none_owed : (call no_form : Bool) → call ≡ false → (not call && no_form) ≡ false → no_form ≡ false
+none_owed true n e h = absurd cc
+none_owed false n e h = h
+
+no_formals : (fs : List Formal) → has_formals fs ≡ false → fs ≡ []
+no_formals [] e = refl
+no_formals (f ∷ fs) e = absurd cc
+
+no_params : (fs : List Formal) (rs : List ParameterRecord) → fs ≡ [] → Matched fs rs → rs ≡ []
+no_params fs [] e h = refl
+no_params [] (r ∷ rs) e h = absurd h
+no_params (f ∷ fs) (r ∷ rs) e h = absurd cc
+
+no_order : (result : Option Simple) (fs : List Formal) → fs ≡ [] → return_last result fs ≡ []
+no_order None fs e = e
+no_order (Some kind) [] e = refl
+no_order (Some kind) (f ∷ fs) e = absurd cc
+
+lacking : (call fb all : Bool) → (call && not fb && not all) ≡ false → call ≡ true → fb ≡ false
+    → all ≡ true
+lacking true false true e f g = refl
+lacking true false false e f g = absurd cc
+lacking true true all e f g = absurd cc
+lacking false fb all e f g = absurd cc
+
+either_first : (a b : Bool) → (a || b) ≡ false → a ≡ false
+either_first true b e = absurd cc
+either_first false b e = refl
+
+either_second : (a b : Bool) → (a || b) ≡ false → b ≡ false
+either_second true b e = absurd cc
+either_second false b e = e
+
+-- how a call's instance is checked
+no_instance_right : (lens : List (ℕ × ℕ)) (kind il : ℕ) (params : List ParameterRecord)
+    → (kind == 3) ≡ false → is_bad_instance lens (kind, il, params) 0 ≡ false
+no_instance_right lens kind il params e =
+    ap (λ (t' : Bool). if t' then (if true then not (is_nothing_in params) else is_short il (data_len 0 lens)) else not true) e
+
+bare_right : (lens : List (ℕ × ℕ)) (il : ℕ) (params : List ParameterRecord) → params ≡ []
+    → is_bad_instance lens (3, il, params) 0 ≡ false
+bare_right lens il params e = ap (λ (ps : List ParameterRecord). not (is_nothing_in ps)) e
+
+given_right : (lens : List (ℕ × ℕ)) (il n len : ℕ) (params : List ParameterRecord)
+    → (n == 0) ≡ false → data_len n lens ≡ Some len → nat_lt len il ≡ false
+    → is_bad_instance lens (3, il, params) n ≡ false
+given_right lens il n len params e f g =
+    ap (λ (t' : Bool). if t' then not (is_nothing_in params) else is_short il (data_len n lens)) e
+    ∙ ap (λ (o : Option ℕ). is_short il o) f ∙ g
+
+-- a call of another block than a function block passes all, and has no instance
+call_right : (lens : List (ℕ × ℕ)) (kind il : ℕ) (params : List ParameterRecord) (ops : List OpData)
+    → (kind == 3) ≡ false → are_passed 0 params ops ≡ true
+    → is_bad_call lens (Some (kind, il, params)) 0 ops ≡ false
+call_right lens kind il params ops e f =
+    ap (λ (t' : Bool). (not (kind == 3) && not t') || is_bad_instance lens (kind, il, params) 0) f
+    ∙ ap (λ (t' : Bool). (not t' && false) || is_bad_instance lens (kind, il, params) 0) e
+    ∙ no_instance_right lens kind il params e
+
+block_call_right : (lens : List (ℕ × ℕ)) (il n : ℕ) (params : List ParameterRecord) (ops : List OpData)
+    → is_bad_instance lens (3, il, params) n ≡ false
+    → is_bad_call lens (Some (3, il, params)) n ops ≡ false
+block_call_right lens il n params ops e = e
+
+-- ---- an instance
+
+instance_number_right : (symbols : List Symbol) (t : Tree) (q : ℕ) (d : IsThere symbols t is_data_block q)
+    → (d.id.number == 0) ≡ false
+instance_number_right symbols t q d =
+    ne_eqb d.id.number 0 (λ e. let least = some in omega (arith, e, least))
+  where
+    named : id_of (types_of symbols t.blocks).symbols d.block ≡ Some d.id
+    named =
+        ap (λ (ss : List Symbol). id_of ss d.block) (measured_symbols symbols t.blocks)
+        ∙ sym (layout_id symbols t q d.block d.layout d.sound) ∙ d.is
+
+    not_false : (x : Bool) → not x ≡ false → x ≡ true
+    not_false true e = refl
+    not_false false e = absurd cc
+
+    number : is_block_number d.id.kind d.id.number ≡ true
+    number = not_false (is_block_number d.id.kind d.id.number)
+        (ap is_beyond (sym named) ∙ d.sound.head.by_44)
+
+    first : (x y : Bool) → (x && y) ≡ true → x ≡ true
+    first true y e = refl
+    first false y e = absurd cc
+
+    some : 1 ≤ d.id.number
+    some = leb-true 1 d.id.number
+        (first (nat_le 1 d.id.number) (nat_le d.id.number 2047)
+        (ap (λ (j : BlockKind). is_block_number j d.id.number) (sym (data_block_kind d.id.kind d.kind)) ∙ number))
+
+shape_is_of : (p : ℕ) (s : Shape) → is_of_block (Some p) s ≡ true → s ≡ shape.Of p
+shape_is_of p (shape.Of other) e =
+    ap (λ (n : ℕ). shape.Of n) (sym (eqb-true p other e))
+shape_is_of p shape.Own e = absurd cc
+shape_is_of p shape.Unknown e = absurd cc
+
+-- the data block of an instance is as long as the function block's structure
+instance_long : (symbols : List Symbol) (t : Tree) → (q p : ℕ) (d : IsThere symbols t is_data_block q)
+    (b : Block) → slice_get t.blocks p ≡ Some b → b.kind ≡ kinds.Fb → IsBlock b
+    → is_of_block (Some p) d.layout.shape ≡ true
+    → d.layout.length ≡ length_of (types_of symbols t.blocks) t.blocks b
+instance_long symbols t q p d b there is well of_block =
+    length_same symbols t q d.block d.layout d.sound
+    ∙ data_length (types_of symbols t.blocks) t.blocks d.block (d.same ∙ data_block_kind d.id.kind d.kind)
+    ∙ ap (λ (s : Shape). shape_bits (types_of symbols t.blocks) t.blocks d.block s / 8)
+    (sym (layout_shape symbols t q d.block d.layout d.sound) ∙ shape_is_of p d.layout.shape of_block)
+    ∙ ap (λ (o : Option Block). block_bits (types_of symbols t.blocks) o / 8) there
+    ∙ sym (instance_length (types_of symbols t.blocks) t.blocks b is
+    (block_own (types_of symbols t.blocks) b well is))
+
+-- ---- the call of a statement
+
+operand_called : (o : Operand) → is_called o ≡ true
+    → (name : BlockName) × (inst : Option BlockName) × (o ≡ operand.Called name inst)
+operand_called (operand.Called name inst) e = (name, inst, refl)
+operand_called operand.Nothing e = absurd cc
+operand_called (operand.Direct n r w y i) e = absurd cc
+operand_called (operand.Timer n) e = absurd cc
+operand_called (operand.Counter n) e = absurd cc
+operand_called (operand.Named p s) e = absurd cc
+operand_called (operand.ByMemory r w f y) e = absurd cc
+operand_called (operand.NumberBy w f y) e = absurd cc
+operand_called (operand.ByRegister r w g b) e = absurd cc
+operand_called (operand.Pointer r y i) e = absurd cc
+operand_called (operand.Constant v) e = absurd cc
+operand_called (operand.Label n) e = absurd cc
+operand_called (operand.OfStatus f) e = absurd cc
+operand_called (operand.Other n) e = absurd cc
+operand_called (operand.OpenBlock d n) e = absurd cc
+
+taken_call : (v : View) → rule_of form.Calls v ≡ None → is_called_view v ≡ true
+unfolding takes
+taken_call v e = (allowed form.Calls v e).taken
+
+callable_by : (id : BlockId) (instance : Option ℕ) → is_called_view (view.Called id instance) ≡ true
+    → is_callable id.kind ≡ true
+callable_by id None e = e
+callable_by id (Some n) e = by id.kind e
+  where
+    by : (k : BlockKind) → is_function_block k ≡ true → is_callable k ≡ true
+    by kinds.Fb e = refl
+    by kinds.Ob e = absurd cc
+    by kinds.Fc e = absurd cc
+    by kinds.Db e = absurd cc
+    by kinds.Sfc e = absurd cc
+    by kinds.Udt e = absurd cc
+
+good_actuals : (symbols : List Symbol) (t : Tree) → IsSoundTree symbols t
+    → AllByRecursion SymbolFits symbols → (k : ℕ) (b : Block) (l : BlockLayout)
+    → IsSound symbols t k b l → is_code b.kind ≡ true → (a : Around) → Surrounds symbols t b l a
+    → (formals : List Formal) (xs : List Actual)
+    → AllByRecursion IsActual xs
+    → AllByRecursion (IsSoundActual (types_of symbols t.blocks) (context_at symbols t k)) xs
+    → AllByRecursion (λ (x : Actual). local_end x.value ≤ a.local_len) xs
+    → AllByRecursion (λ (x : Actual). OperandHasBytes x.value) xs
+    → AllByRecursion (λ (x : Actual). misfits (context_at symbols t k) x (formal_named formals x.name) ≡ false) xs
+    → AllByRecursion (IsGoodActual a (context_at symbols t k) formals) xs
+good_actuals symbols t tree fit k b l block code a around formals [] well sound ends bytes fits = tt
+good_actuals symbols t tree fit k b l block code a around formals (x ∷ xs) well sound ends bytes fits = (
+  record {
+    seen = operand_seen symbols t tree fit k b l block code a around x.value
+        (record {
+          well_formed = well.0.value;
+          known = sound.0.known;
+          there = sound.0.there;
+          inside = sound.0.inside;
+        })
+        well.0.no_block ends.0;
+    well = well.0.value;
+    bytes = bytes.0;
+    fits = fits.0;
+  },
+  good_actuals symbols t tree fit k b l block code a around formals xs well.1 sound.1 ends.1 bytes.1 fits.1,
+)
+
+-- an instance by its name
+instance_none : (c : Context) (inst : Option BlockName) → IsInstanceOf c inst None → inst ≡ None
+instance_none c None h = refl
+instance_none c (Some name) h = absurd h
+
+instance_some : (c : Context) (inst : Option BlockName) (n : ℕ) → IsInstanceOf c inst (Some n)
+    → (name : BlockName) × (inst ≡ Some name) × (data_number c name ≡ Some n)
+instance_some c None n h = absurd h
+instance_some c (Some name) n h = (name, refl, h)
+
+three_true : (a b c : Bool) → (a && b && c) ≡ false → a ≡ true → b ≡ true → c ≡ true → ⊥
+three_true true true true e f g h = let never = e in absurd cc
+three_true true true false e f g h = absurd cc
+three_true true false c e f g h = absurd cc
+three_true false b c e f g h = absurd cc
+
+second_false : (a b : Bool) → (a && b) ≡ false → a ≡ true → b ≡ false
+second_false true b e f = e
+second_false false b e f = absurd cc
+
+not_false : (b : Bool) → not b ≡ false → b ≡ true
+not_false true e = refl
+not_false false e = absurd cc
+
+some_number : (m n : ℕ) → Some m ≡ Some n → m ≡ n
+some_number m n e = cc
+
+other_than_three : (k : BlockKind) → is_callable k ≡ true → is_function_block k ≡ false
+    → (called_kind k == 3) ≡ false
+other_than_three kinds.Fc e f = refl
+other_than_three kinds.Sfc e f = refl
+other_than_three kinds.Fb e f = absurd cc
+other_than_three kinds.Ob e f = absurd cc
+other_than_three kinds.Db e f = absurd cc
+other_than_three kinds.Udt e f = absurd cc
+
+block_three : (k : BlockKind) → is_function_block k ≡ true → called_kind k ≡ 3
+block_three kinds.Fb e = refl
+block_three kinds.Ob e = absurd cc
+block_three kinds.Fc e = absurd cc
+block_three kinds.Db e = absurd cc
+block_three kinds.Sfc e = absurd cc
+block_three kinds.Udt e = absurd cc
+
+module _ (symbols : List Symbol) (t : Tree) (tree : IsSoundTree symbols t)
+    (fit : AllByRecursion SymbolFits symbols) (k : ℕ) (b : Block) (l : BlockLayout)
+    (block : IsSound symbols t k b l) (code : is_code b.kind ≡ true)
+    (a : Around) (around : Surrounds symbols t b l a)
+    (blocks : a.blocks ≡ map signature_of (map record_of_block (map compiled (code_blocks_of t symbols (layouts_of t symbols)))))
+    (s : Statement) (sound : IsSoundStatement (types_of symbols t.blocks) (context_at symbols t k) s)
+    (ends : EndsBy a.local_len s) (bytes : StatementHasBytes s) where
+  -- what is known of the call
+  record IsMade (how : CallWord) (id : BlockId) (instance : Option ℕ) : Type 0 where
+    name : BlockName
+    inst : Option BlockName
+    operand_is : s.operand ≡ operand.Called name inst
+    call : IsCall (context_at symbols t k) name inst id instance
+    by_view : is_called_view (view.Called id instance) ≡ true
+    word : call_of s.code ≡ Some how
+    cal : IsCallee symbols t k (map signature_of (map record_of_block (map compiled (code_blocks_of t symbols (layouts_of t symbols))))) (operand.Called name inst) id
+    rules : IsSoundCall (context_at symbols t k) cal.of_source s
+
+  made : (how : CallWord) (id : BlockId) (instance : Option ℕ) → call_of s.code ≡ Some how
+      → seen (context_at symbols t k) s.operand ≡ Sees (view.Called id instance)
+      → IsMade how id instance
+  made how id instance word e = record {
+    name = o.0;
+    inst = o.1;
+    operand_is = o.2;
+    call = call;
+    by_view = by_view;
+    word = word;
+    cal = cal;
+    rules = sound.calls cal.of_source (ap (callee_of (context_at symbols t k)) o.2 ∙ cal.is);
+  }
+    where
+      o : (name : BlockName) × (inst : Option BlockName) × (s.operand ≡ operand.Called name inst)
+      o = operand_called s.operand (sound.well_formed.called ∙ calls_are s.code how word)
+
+      seen_is : seen (context_at symbols t k) (operand.Called o.0 o.1) ≡ Sees (view.Called id instance)
+      seen_is = ap (seen (context_at symbols t k)) (sym o.2) ∙ e
+
+      call : IsCall (context_at symbols t k) o.0 o.1 id instance
+      call = seen_call (context_at symbols t k) o.0 o.1 id instance seen_is
+
+      rule : rule_of form.Calls (view.Called id instance) ≡ None
+      rule =
+          ap (λ (f : Form). rule_of f (view.Called id instance)) (sym (calls_form s.code how word))
+          ∙ ap (λ (x : Seen). rule_seen (form_of s.code) x) (sym seen_is)
+          ∙ ap (λ (x : Operand). operand_rule (context_at symbols t k) (form_of s.code) x) (sym o.2)
+          ∙ sound.allowed
+
+      by_view : is_called_view (view.Called id instance) ≡ true
+      by_view = taken_call (view.Called id instance) rule
+
+      cal : IsCallee symbols t k (map signature_of (map record_of_block (map compiled (code_blocks_of t symbols (layouts_of t symbols))))) (operand.Called o.0 o.1) id
+      cal = callee_there symbols t tree k o.0 o.1 id instance call (callable_by id instance by_view)
+          (ap (calls_unknown (context_at symbols t k)) (sym o.2) ∙ sound.one_of_nine)
+
+  -- what it passes
+  passings_are : (how : CallWord) (id : BlockId) (instance : Option ℕ) (m : IsMade how id instance)
+      → passings_to (context_at symbols t k) s (callee_of (context_at symbols t k) s.operand)
+      ≡ passings_from (context_at symbols t k) s.actuals 0 (in_order (block_at t.blocks m.cal.of_source.place) m.cal.of_source.formals)
+  passings_are how id instance m =
+      ap (passings_to (context_at symbols t k) s) (ap (callee_of (context_at symbols t k)) m.operand_is ∙ m.cal.is)
+
+  goods : (how : CallWord) (id : BlockId) (instance : Option ℕ) (m : IsMade how id instance)
+      → AllByRecursion (IsGoodActual a (context_at symbols t k) m.cal.of_source.formals) s.actuals
+  goods how id instance m =
+      good_actuals symbols t tree fit k b l block code a around m.cal.of_source.formals s.actuals
+      sound.well_formed.actuals sound.actuals ends.1 bytes.actuals m.rules.fits
+
+  passes_right : (how : CallWord) (id : BlockId) (instance : Option ℕ) (m : IsMade how id instance)
+      → ArePassed a (Some (called_kind id.kind, m.cal.il, m.cal.params)) None
+      (passings_from (context_at symbols t k) s.actuals 0 (in_order (block_at t.blocks m.cal.of_source.place) m.cal.of_source.formals))
+  passes_right how id instance m =
+      passed_from a (context_at symbols t k) m.cal.of_source.formals s.actuals (goods how id instance m)
+      (called_kind id.kind) m.cal.il m.cal.params None 0
+      (in_order (block_at t.blocks m.cal.of_source.place) m.cal.of_source.formals) [] m.cal.params
+      (λ n e. refl) m.cal.matched m.cal.found refl refl
+
+  -- UC and CC call blocks without parameters
+  nothing_owed : (how : CallWord) (id : BlockId) (instance : Option ℕ) (m : IsMade how id instance)
+      → has_actuals s.code ≡ false → m.cal.params ≡ []
+  nothing_owed how id instance m e =
+      no_params (in_order (block_at t.blocks m.cal.of_source.place) m.cal.of_source.formals) m.cal.params
+      (m.cal.order ∙ no_order m.cal.result m.cal.of_source.formals
+      (no_formals m.cal.of_source.formals
+      (none_owed (has_actuals s.code) (has_formals m.cal.of_source.formals) e
+      (either_second (has_actuals s.code && is_function_block m.cal.of_source.id.kind && has_no_instance s.operand)
+      (not (has_actuals s.code) && has_formals m.cal.of_source.formals) m.rules.bare))))
+      m.cal.matched
+
+  all_owed : (how : CallWord) (id : BlockId) (instance : Option ℕ) (m : IsMade how id instance)
+      → is_function_block id.kind ≡ false
+      → are_passed 0 m.cal.params (passing (passings_from (context_at symbols t k) s.actuals 0
+      (in_order (block_at t.blocks m.cal.of_source.place) m.cal.of_source.formals))) ≡ true
+  all_owed how id instance m other = by (has_actuals s.code) refl
+    where
+      by : (call : Bool) → has_actuals s.code ≡ call
+          → are_passed 0 m.cal.params (passing (passings_from (context_at symbols t k) s.actuals 0
+          (in_order (block_at t.blocks m.cal.of_source.place) m.cal.of_source.formals))) ≡ true
+      by false e =
+          ap (λ (ps : List ParameterRecord). are_passed 0 ps (passing (passings_from (context_at symbols t k) s.actuals 0
+          (in_order (block_at t.blocks m.cal.of_source.place) m.cal.of_source.formals))))
+          (nothing_owed how id instance m e)
+      by true e =
+          all_passed a (context_at symbols t k) m.cal.of_source.formals s.actuals (goods how id instance m) 0
+          (in_order (block_at t.blocks m.cal.of_source.place) m.cal.of_source.formals) m.cal.params []
+          m.cal.matched m.cal.found
+          (subst (AreSupplied s.actuals) (sym m.cal.order)
+          (return_all (λ (f : Formal). (x : Actual) × (supplied s.actuals f ≡ Some x)) m.cal.result m.cal.of_source.formals
+          (all_supplied s.actuals m.cal.of_source.formals
+          (lacking (has_actuals s.code) (is_function_block m.cal.of_source.id.kind)
+          (list_all (is_supplied (supplied_names s.actuals)) m.cal.of_source.formals) m.rules.complete e
+          (ap (λ (z : BlockId). is_function_block z.kind) m.cal.same ∙ other)))))
+
+  -- the instance of a function block
+  instance_right : (how : CallWord) (id : BlockId) (n : ℕ) (m : IsMade how id (Some n))
+      → is_function_block id.kind ≡ true
+      → is_bad_instance (lens_of (data_blocks_of t symbols (layouts_of t symbols))) (3, m.cal.il, m.cal.params) n ≡ false
+  instance_right how id n m fb =
+      given_right (lens_of (data_blocks_of t symbols (layouts_of t symbols))) m.cal.il n d.block.layout.length m.cal.params
+      (ap (λ (i : ℕ). i == 0) number ∙ instance_number_right symbols t d.place d.block)
+      (ap (λ (i : ℕ). data_len i (lens_of (data_blocks_of t symbols (layouts_of t symbols)))) number
+      ∙ instance_found symbols t tree d.place d.block.block d.block.layout d.block.id d.block.sound d.block.is d.block.kind)
+      (le-ltb d.block.layout.length m.cal.il (omega (arith, long)))
+    where
+      at : (nm : BlockName) × (m.inst ≡ Some nm) × (data_number (context_at symbols t k) nm ≡ Some n)
+      at = instance_some (context_at symbols t k) m.inst n m.call.with_instance
+
+      operand_is : s.operand ≡ operand.Called m.name (Some at.0)
+      operand_is = m.operand_is ∙ ap (λ (i : Option BlockName). operand.Called m.name i) at.1
+
+      d : IsData symbols t k at.0
+      d = data_there symbols t tree k at.0
+          (either_second (is_unknown_called (types_of symbols t.blocks) m.name)
+          (is_unknown_instance (types_of symbols t.blocks) (Some at.0))
+          (ap (names_unknown (types_of symbols t.blocks)) (sym operand_is) ∙ sound.there))
+
+      number : n ≡ d.block.id.number
+      number = some_number n d.block.id.number (sym at.2 ∙ d.number)
+
+      fb_at : (p : ℕ) × (c : Block) × (m.cal.of_source.place ≡ Some p) × (slice_get t.blocks p ≡ Some c)
+          × (c.kind ≡ kinds.Fb) × (m.cal.il ≡ length_of (types_of symbols t.blocks) t.blocks c)
+      fb_at = m.cal.long fb
+
+      place : whole_data_place (context_at symbols t k) at.0 ≡ Some d.place
+      place =
+          ap (λ (o : Option ℕ). option_and_then (if_whole (layouts_of t symbols)) o) d.found
+          ∙ ap (λ (t' : Bool). if t' then Some d.place else None)
+          (ap is_some (whole_is (layouts_of t symbols) d.place d.block.layout d.block.laid d.block.sound.whole))
+
+      wrong : is_no_instance (context_at symbols t k) m.cal.of_source.place (whole_data_place (context_at symbols t k) at.0) ≡ false
+      wrong =
+          second_false (is_function_block m.cal.of_source.id.kind)
+          (is_no_instance (context_at symbols t k) m.cal.of_source.place (whole_data_place (context_at symbols t k) at.0))
+          (ap (has_wrong_instance (context_at symbols t k) m.cal.of_source) (sym operand_is) ∙ m.rules.instance)
+          (ap (λ (z : BlockId). is_function_block z.kind) m.cal.same ∙ fb)
+
+      of_block : is_of_block (Some fb_at.0) d.block.layout.shape ≡ true
+      of_block =
+          not_false (is_of_block (Some fb_at.0) d.block.layout.shape)
+          (ap (λ (o : Option BlockLayout). not (is_instance (Some fb_at.0) o)) (sym d.block.laid)
+          ∙ ap (λ (o : Option ℕ). not (is_instance o (slice_get (layouts_of t symbols) d.place))) (sym fb_at.2)
+          ∙ ap (λ (o : Option ℕ). is_no_instance (context_at symbols t k) m.cal.of_source.place o) (sym place)
+          ∙ wrong)
+
+      well : IsBlock fb_at.1
+      well = (layout_of_block symbols t tree fb_at.0 fb_at.1 fb_at.3).2.well_formed
+
+      long : m.cal.il ≤ d.block.layout.length
+      long =
+          let one = fb_at.5 in
+          let two = instance_long symbols t d.place fb_at.0 d.block fb_at.1 fb_at.3 fb_at.4 well of_block in
+          omega (arith, one, two)
+
+  -- CALL names one
+  bare_owed : (how : CallWord) (id : BlockId) (m : IsMade how id None) → is_function_block id.kind ≡ true
+      → m.cal.params ≡ []
+  bare_owed how id m fb = by (has_actuals s.code) refl
+    where
+      by : (call : Bool) → has_actuals s.code ≡ call → m.cal.params ≡ []
+      by false e = nothing_owed how id None m e
+      by true e =
+          absurd (three_true (has_actuals s.code) (is_function_block m.cal.of_source.id.kind) (has_no_instance s.operand)
+          (either_first (has_actuals s.code && is_function_block m.cal.of_source.id.kind && has_no_instance s.operand)
+          (not (has_actuals s.code) && has_formals m.cal.of_source.formals) m.rules.bare) e
+          (ap (λ (z : BlockId). is_function_block z.kind) m.cal.same ∙ fb)
+          (ap has_no_instance (m.operand_is ∙ ap (λ (i : Option BlockName). operand.Called m.name i)
+          (instance_none (context_at symbols t k) m.inst m.call.with_instance))))
+
+  call_bad : (how : CallWord) (id : BlockId) (instance : Option ℕ) (m : IsMade how id instance)
+      → is_bad_call (lens_of (data_blocks_of t symbols (layouts_of t symbols)))
+      (Some (called_kind id.kind, m.cal.il, m.cal.params)) (instance_number instance)
+      (passing (passings_from (context_at symbols t k) s.actuals 0
+      (in_order (block_at t.blocks m.cal.of_source.place) m.cal.of_source.formals))) ≡ false
+  call_bad how id instance m = by instance m (is_function_block id.kind) refl
+    where
+      by : (instance : Option ℕ) (m : IsMade how id instance) (fb : Bool) → is_function_block id.kind ≡ fb
+          → is_bad_call (lens_of (data_blocks_of t symbols (layouts_of t symbols)))
+          (Some (called_kind id.kind, m.cal.il, m.cal.params)) (instance_number instance)
+          (passing (passings_from (context_at symbols t k) s.actuals 0
+          (in_order (block_at t.blocks m.cal.of_source.place) m.cal.of_source.formals))) ≡ false
+      by None m false e =
+          call_right (lens_of (data_blocks_of t symbols (layouts_of t symbols))) (called_kind id.kind) m.cal.il m.cal.params
+          (passing (passings_from (context_at symbols t k) s.actuals 0
+          (in_order (block_at t.blocks m.cal.of_source.place) m.cal.of_source.formals)))
+          (other_than_three id.kind (callable_by id None m.by_view) e) (all_owed how id None m e)
+      by (Some n) m false e = let given = m.by_view in absurd cc
+      by None m true e =
+          subst (λ (n : ℕ). is_bad_call (lens_of (data_blocks_of t symbols (layouts_of t symbols)))
+          (Some (n, m.cal.il, m.cal.params)) 0
+          (passing (passings_from (context_at symbols t k) s.actuals 0
+          (in_order (block_at t.blocks m.cal.of_source.place) m.cal.of_source.formals))) ≡ false)
+          (sym (block_three id.kind e))
+          (bare_right (lens_of (data_blocks_of t symbols (layouts_of t symbols))) m.cal.il m.cal.params (bare_owed how id m e))
+      by (Some n) m true e =
+          subst (λ (i : ℕ). is_bad_call (lens_of (data_blocks_of t symbols (layouts_of t symbols)))
+          (Some (i, m.cal.il, m.cal.params)) n
+          (passing (passings_from (context_at symbols t k) s.actuals 0
+          (in_order (block_at t.blocks m.cal.of_source.place) m.cal.of_source.formals))) ≡ false)
+          (sym (block_three id.kind e)) (instance_right how id n m e)
+
+  pub call_fits : CallFits a (lens_of (data_blocks_of t symbols (layouts_of t symbols))) (context_at symbols t k) s
+  call_fits how id instance word e =
+      subst (λ (ps : List Passing). InstrFits a (lens_of (data_blocks_of t symbols (layouts_of t symbols))) (Calls how id instance ps))
+      (sym (passings_are how id instance m)) (
+        alone,
+        subst (λ (o : Option FlatCallee). ArePassed a o None ps) (sym flat_is) (passes_right how id instance m),
+        subst (λ (o : Option FlatCallee). is_bad_call (lens_of (data_blocks_of t symbols (layouts_of t symbols))) o (instance_number instance) (passing ps) ≡ false)
+            (sym flat_is) (call_bad how id instance m),
+      )
+    where
+      m : IsMade how id instance
+      m = made how id instance word e
+
+      ps : List Passing
+      ps = passings_from (context_at symbols t k) s.actuals 0 (in_order (block_at t.blocks m.cal.of_source.place) m.cal.of_source.formals)
+
+      alone : PassesAlone how ps
+      alone = calls_alone s.code how ps word
+          (λ none. ap (λ (xs : List Actual). passings_from (context_at symbols t k) xs 0 (in_order (block_at t.blocks m.cal.of_source.place) m.cal.of_source.formals))
+          (sound.well_formed.no_actuals none)
+          ∙ none_passed (context_at symbols t k) 0 (in_order (block_at t.blocks m.cal.of_source.place) m.cal.of_source.formals))
+
+      flat_is : flat_callee a.blocks (called_kind id.kind) id.number ≡ Some (called_kind id.kind, m.cal.il, m.cal.params)
+      flat_is = ap (λ (sg : List Signature). flat_callee sg (called_kind id.kind) id.number) blocks ∙ m.cal.flat

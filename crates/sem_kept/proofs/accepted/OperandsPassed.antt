@@ -1,0 +1,390 @@
+-- What a CALL passes fits the parameters of the block that is called, and each that is owed is passed.
+use Rattle.std.proofs.Common.{ℕ, suc, ◌≡◌, ◌≤◌, ◌+◌, ◌*◌, ◌-◌, pos, negsuc, List, [], ◌∷◌, ◌++◌, append_assoc, Option, Some, None, Bool, true, false, ◌&&◌, ◌||◌, not, nat_eq, nat_le, refl, sym, ◌∙◌, ap, subst, arith, length, find, bytes_eq, if◌then◌else◌, eqb-true, leb-true, le-leb, lt-ltb, eq-eqb}
+use Rattle.std.specs.Prelude.{◌==◌}
+use Rattle.std.specs.List.{AllByRecursion, slice_get}
+use Rattle.plc_base.specs.declared.places.Area.{Area}
+use Rattle.plc_base.specs.declared.places.Area.TheVariants as area
+use Rattle.plc_base.specs.declared.places.Width.{Width}
+use Rattle.plc_base.specs.declared.places.Width.TheVariants as width
+use Rattle.flat_code.specs.Blocks.{Around, is_above, is_bad_actual, is_bad_place, is_input as is_input_parameter, is_odd_bit, is_past_locals, literal_fits, misfits_index, misfits_parameter, own_parameter}
+use Rattle.flat_code.specs.Forms.{width_code}
+use Rattle.flat_code.specs.declared.image_fields.ParameterRecord.{ParameterRecord}
+use Rattle.flat_code.specs.declared.operands.Passed.{Passed}
+use Rattle.flat_code.specs.declared.operands.Passed.TheVariants as passed
+use Rattle.flat_code.specs.Table.{admits}
+use Rattle.stl_ast.specs.Blocks.{is_parameter}
+use Rattle.stl_ast.specs.Literals.{AreBytes, IsLiteral}
+use Rattle.stl_ast.specs.Operands.{IsOperand}
+use Rattle.stl_ast.specs.declared.blocks.PartKind.{PartKind}
+use Rattle.stl_ast.specs.declared.blocks.PartKind.TheVariants as part
+use Rattle.stl_ast.specs.declared.declarations.Simple.{Simple}
+use Rattle.stl_ast.specs.declared.declarations.Simple.TheVariants as simple
+use Rattle.stl_ast.specs.declared.literals.Literal.{Literal}
+use Rattle.stl_ast.specs.declared.literals.Literal.TheVariants as literal
+use Rattle.stl_ast.specs.declared.mnemonics.Mnemonic.TheVariants as code
+use Rattle.stl_ast.specs.declared.operands.Operand.{Operand}
+use Rattle.stl_ast.specs.declared.operands.Operand.TheVariants as operand
+use Rattle.stl_ast.specs.declared.statements.Actual.{Actual}
+use Rattle.plc_base.specs.Folding.{folded}
+use Rattle.block_layout.specs.Fits.{bits_of, fits}
+use Rattle.block_layout.specs.Offsets.{width_of}
+use Rattle.stl_types.specs.Actuals.{fits_operand, fits_seen, fits_type, fits_view, formal_named, is_input_section, is_same_type, is_same_width, takes_section, takes_side, type_number}
+use Rattle.stl_types.specs.Calls.{misfits}
+use Rattle.stl_types.specs.Constants.{takes_constant}
+use Rattle.stl_types.specs.Context.{Context}
+use Rattle.stl_types.specs.Forms.{form_of}
+use Rattle.stl_types.specs.Seen.{seen}
+use Rattle.stl_types.specs.declared.parameters.Formal.{Formal}
+use Rattle.stl_types.specs.declared.views.Seen.TheVariants.{Sees}
+use Rattle.stl_types.specs.declared.views.View.{View}
+use Rattle.stl_types.specs.declared.views.View.TheVariants as view
+use Rattle.stl_codegen.specs.Generated.{section_number}
+use Rattle.stl_codegen.specs.Passed.{passed_actual, passed_place, passed_seen, passings_from, supplied, with_index}
+use Rattle.stl_codegen.specs.Words.{word_of}
+use Rattle.sem_kept.specs.Coded.{HasBytes, OperandHasBytes}
+use Rattle.sem_kept.specs.Operands.{ArePassed}
+use Rattle.sem_kept.proofs.accepted.Accepted.{there}
+use Rattle.sem_kept.proofs.accepted.CodedBits.{constant_taken}
+use Rattle.sem_kept.proofs.accepted.OperandsFormals.{IsFoundIn, IsRecordOf, Matched}
+use Rattle.sem_kept.proofs.accepted.OperandsViews.{IsSeen}
+use Rattle.sem_kept.proofs.accepted.OperandsWords.{HasWidth, ViewFits}
+
+-- ---- literals
+
+one_byte : (bytes : List ℕ) → nat_eq (length bytes) 1 ≡ true → AreBytes bytes
+    → nat_le (bits_of (literal.Characters bytes)) 255 ≡ true
+unfolding bits_of
+one_byte [] e h = absurd cc
+one_byte (b ∷ []) e h = le-leb (256 * 0 + b) 255 (let few = h.0 in omega (arith, few))
+one_byte (b ∷ c ∷ bs) e h =
+    let never = eqb-true (length (b ∷ c ∷ bs)) 1 e in absurd (omega (arith, never))
+
+word_fits : (value : Literal) → IsLiteral value → HasBytes value → fits value simple.Word ≡ true
+    → nat_le (bits_of value) 65535 ≡ true
+unfolding form_of takes_constant admits word_of
+word_fits value is has h = constant_taken code.Aw value is has h
+
+truth_fits : (value : Literal) → fits value simple.Bool ≡ true → nat_le (bits_of value) 1 ≡ true
+unfolding bits_of fits
+truth_fits (literal.Truth true) h = refl
+truth_fits (literal.Truth false) h = refl
+truth_fits (literal.Number (pos n)) h = absurd cc
+truth_fits (literal.Number (negsuc n)) h = absurd cc
+truth_fits _ h = absurd cc
+
+byte_fits : (value : Literal) → IsLiteral value → fits value simple.Byte ≡ true
+    → nat_le (bits_of value) 255 ≡ true
+unfolding bits_of fits
+byte_fits (literal.Number (pos n)) is h = h
+byte_fits (literal.Number (negsuc n)) is h = absurd cc
+byte_fits (literal.Binary n) is h = h
+byte_fits (literal.Byte n) is h = le-leb n 255 is
+byte_fits (literal.Word n) is h = h
+byte_fits _ is h = absurd cc
+
+char_fits : (value : Literal) → HasBytes value → fits value simple.Char ≡ true
+    → nat_le (bits_of value) 255 ≡ true
+unfolding fits
+char_fits (literal.Characters bytes) has h = one_byte bytes h has
+char_fits (literal.Number (pos n)) has h = absurd cc
+char_fits (literal.Number (negsuc n)) has h = absurd cc
+char_fits _ has h = absurd cc
+
+int_fits : (value : Literal) → IsLiteral value → fits value simple.Int ≡ true
+    → nat_le (bits_of value) 65535 ≡ true
+unfolding bits_of fits
+int_fits (literal.Number (pos n)) is h =
+    let few = leb-true n 32767 h in le-leb n 65535 (omega (arith, few))
+int_fits (literal.Number (negsuc n)) is h = le-leb (65536 - (n + 1)) 65535 (omega arith)
+int_fits _ is h = absurd cc
+
+time_fits : (value : Literal) → IsLiteral value → HasBytes value → fits value simple.S5time ≡ true
+    → nat_le (bits_of value) 65535 ≡ true
+unfolding fits
+time_fits (literal.S5time ms) is has h = word_fits (literal.S5time ms) is has refl
+time_fits (literal.Number (pos n)) is has h = absurd cc
+time_fits (literal.Number (negsuc n)) is has h = absurd cc
+time_fits _ is has h = absurd cc
+
+literal_width : (value : Literal) (kind : Simple) → IsLiteral value → HasBytes value
+    → fits value kind ≡ true → literal_fits (width_code (width_of kind)) (bits_of value) ≡ true
+literal_width value simple.Dword is has h = refl
+literal_width value simple.Dint is has h = refl
+literal_width value simple.Time is has h = refl
+literal_width value simple.Word is has h = word_fits value is has h
+literal_width value simple.Bool is has h = truth_fits value h
+literal_width value simple.Byte is has h = byte_fits value is h
+literal_width value simple.Char is has h = char_fits value has h
+literal_width value simple.Int is has h = int_fits value is h
+literal_width value simple.S5time is has h = time_fits value is has h
+
+-- ---- what is passed for a parameter
+
+-- an actual parameter that a parameter's record is passed
+pub record Passes (a : Around) (c : Context) (r : ParameterRecord) (o : Operand) : Type 0 where
+  pub actual : Passed
+  pub is : passed_seen o (seen c o) ≡ Some actual
+  pub right : is_bad_actual a actual ≡ false
+  pub fits : misfits_parameter a r actual ≡ false
+
+both_left : (a b : Bool) → (a && b) ≡ true → a ≡ true
+both_left true b e = refl
+both_left false b e = absurd cc
+
+both_right : (a b : Bool) → (a && b) ≡ true → b ≡ true
+both_right true b e = e
+both_right false b e = absurd cc
+
+either_none : (a b : Bool) → a ≡ false → b ≡ false → (a || b) ≡ false
+either_none true b h k = h
+either_none false b h k = k
+
+same_widths : (a b : Width) → is_same_width a b ≡ true → a ≡ b
+same_widths width.Bit width.Bit e = refl
+same_widths width.Byte width.Byte e = refl
+same_widths width.Word width.Word e = refl
+same_widths width.Dword width.Dword e = refl
+same_widths width.Bit _ e = absurd cc
+same_widths width.Byte _ e = absurd cc
+same_widths width.Word _ e = absurd cc
+same_widths width.Dword _ e = absurd cc
+
+same_types : (a b : Simple) → is_same_type a b ≡ true → width_of a ≡ width_of b
+same_types a b e = by a b (eqb-true (type_number a) (type_number b) e)
+  where
+    by : (a b : Simple) → type_number a ≡ type_number b → width_of a ≡ width_of b
+    by simple.Bool simple.Bool e = refl
+    by simple.Byte simple.Byte e = refl
+    by simple.Char simple.Char e = refl
+    by simple.Word simple.Word e = refl
+    by simple.Int simple.Int e = refl
+    by simple.S5time simple.S5time e = refl
+    by simple.Dword simple.Dword e = refl
+    by simple.Dint simple.Dint e = refl
+    by simple.Time simple.Time e = refl
+    by simple.Bool _ e = absurd (omega (arith, e))
+    by simple.Byte _ e = absurd (omega (arith, e))
+    by simple.Char _ e = absurd (omega (arith, e))
+    by simple.Word _ e = absurd (omega (arith, e))
+    by simple.Int _ e = absurd (omega (arith, e))
+    by simple.S5time _ e = absurd (omega (arith, e))
+    by simple.Dword _ e = absurd (omega (arith, e))
+    by simple.Dint _ e = absurd (omega (arith, e))
+    by simple.Time _ e = absurd (omega (arith, e))
+
+typed_width : (f : Formal) (w : Width) (declared : Option Simple) → fits_type f w declared ≡ true
+    → HasWidth w declared → w ≡ width_of f.kind
+typed_width f w None e h = same_widths w (width_of f.kind) e
+typed_width f w (Some kind) e h = h ∙ same_types kind f.kind e
+
+width_same : (r : ParameterRecord) (f : Formal) (w : Width) → IsRecordOf f r → w ≡ width_of f.kind
+    → not (r.width == width_code w) ≡ false
+width_same r f w h e = ap not (eq-eqb r.width (width_code w) (h.1 ∙ ap width_code (sym e)))
+
+first_none : (a b : Bool) → (a || b) ≡ false → a ≡ false
+first_none true b e = absurd cc
+first_none false b e = refl
+
+-- a place
+place_passes : (a : Around) (r : ParameterRecord) (ar : Area) (number byte bit : ℕ) (w : Width)
+    → is_bad_place a ar w byte bit ≡ false → not (r.width == width_code w) ≡ false
+    → (is_bad_actual a (passed_place (record { area = ar; number = number; byte = byte; bit = bit }) w) ≡ false)
+    × (misfits_parameter a r (passed_place (record { area = ar; number = number; byte = byte; bit = bit }) w) ≡ false)
+place_passes a r area.Db number byte bit w fits same = by (nat_eq number 0)
+  where
+    by : (t : Bool)
+        → (is_bad_actual a (if true && not t then passed.InBlock number area.Db w byte bit else passed.Direct area.Db w byte bit) ≡ false)
+        × (misfits_parameter a r (if true && not t then passed.InBlock number area.Db w byte bit else passed.Direct area.Db w byte bit) ≡ false)
+    by true = (fits, same)
+    by false = (first_none (is_odd_bit w bit) (is_past_locals a area.Db w byte) fits, same)
+place_passes a r area.I number byte bit w fits same = (fits, same)
+place_passes a r area.Q number byte bit w fits same = (fits, same)
+place_passes a r area.M number byte bit w fits same = (fits, same)
+place_passes a r area.P number byte bit w fits same = (fits, same)
+place_passes a r area.Di number byte bit w fits same = (fits, same)
+place_passes a r area.L number byte bit w fits same = (fits, same)
+
+section_input : (f : Formal) (r : ParameterRecord) → IsRecordOf f r
+    → (r.section == 1) ≡ is_input_section f.section
+section_input f r h = ap (λ (n : ℕ). n == 1) h.0 ∙ by f.section h.2
+  where
+    by : (p : PartKind) → is_parameter p ≡ true → (section_number p == 1) ≡ is_input_section p
+    by part.Input e = refl
+    by part.Output e = refl
+    by part.InOut e = refl
+    by part.Static e = absurd cc
+    by part.Temp e = absurd cc
+
+own_section : (s own : Bool) → (s || not own) ≡ true → (not s && own) ≡ false
+own_section true own e = refl
+own_section false true e = absurd cc
+own_section false false e = refl
+
+view_passes : (a : Around) (c : Context) (f : Formal) (r : ParameterRecord) (o : Operand) (v : View)
+    → seen c o ≡ Sees v → ViewFits a v → IsRecordOf f r → fits_view f v ≡ true → Passes a c r o
+unfolding fits_view
+view_passes a c f r o (view.Direct place w side declared) e fits h taken = record {
+  actual = passed_place place w;
+  is = ap (passed_seen o) e;
+  right = (place_passes a r place.area place.number place.byte place.bit w fits.0 same).0;
+  fits = (place_passes a r place.area place.number place.byte place.bit w fits.0 same).1;
+}
+  where
+    same : not (r.width == width_code w) ≡ false
+    same = width_same r f w h (typed_width f w declared
+        (both_left (fits_type f w declared) (takes_side f.section side) taken) fits.1)
+view_passes a c f r o (view.Parameter index own declared) e fits h taken = record {
+  actual = passed.Parameter index (width_of declared);
+  is = ap (passed_seen o) e;
+  right = fits.0;
+  fits = either_none (not (r.width == width_code (width_of declared)))
+      (not (r.section == 1) && is_input_parameter (own_parameter a index))
+      (width_same r f (width_of declared) h
+      (same_types declared f.kind (both_left (is_same_type declared f.kind) (takes_section f.section own) taken)))
+      (ap (λ (t : Bool). not t && is_input_parameter (own_parameter a index)) (section_input f r h)
+      ∙ ap (λ (t : Bool). not (is_input_section f.section) && t) fits.1
+      ∙ own_section (is_input_section f.section) (is_input_section own)
+      (both_right (is_same_type declared f.kind) (takes_section f.section own) taken));
+}
+view_passes a c f r o _ e fits h taken = absurd cc
+
+other_passes : (a : Around) (c : Context) (f : Formal) (r : ParameterRecord) (o : Operand)
+    → IsSeen a (seen c o) → IsRecordOf f r → fits_seen f (seen c o) ≡ true → Passes a c r o
+other_passes a c f r o s h taken =
+    view_passes a c f r o s.view s.is s.fits h (ap (fits_seen f) (sym s.is) ∙ taken)
+
+constant_is : (c : Context) (value : Literal)
+    → passed_seen (operand.Constant value) (seen c (operand.Constant value))
+    ≡ Some (passed.Literal (bits_of value))
+unfolding seen
+constant_is c value = refl
+
+constant_passes : (a : Around) (c : Context) (f : Formal) (r : ParameterRecord) (value : Literal)
+    → IsLiteral value → HasBytes value → IsRecordOf f r
+    → (is_input_section f.section && fits value f.kind) ≡ true
+    → Passes a c r (operand.Constant value)
+constant_passes a c f r value is has h taken = record {
+  actual = passed.Literal (bits_of value);
+  is = constant_is c value;
+  right = refl;
+  fits = either_none (not (r.section == 1)) (not (literal_fits r.width (bits_of value)))
+      (ap not (section_input f r h ∙ both_left (is_input_section f.section) (fits value f.kind) taken))
+      (ap not (ap (λ (n : ℕ). literal_fits n (bits_of value)) h.1
+      ∙ literal_width value f.kind is has (both_right (is_input_section f.section) (fits value f.kind) taken)));
+}
+
+pub passes : (a : Around) (c : Context) (f : Formal) (r : ParameterRecord) (o : Operand)
+    → IsSeen a (seen c o) → IsOperand o → OperandHasBytes o → IsRecordOf f r
+    → fits_operand c f o ≡ true → Passes a c r o
+unfolding fits_operand
+passes a c f r (operand.Constant value) s is has h taken = constant_passes a c f r value is has h taken
+passes a c f r operand.Nothing s is has h taken = other_passes a c f r operand.Nothing s h taken
+passes a c f r (operand.Direct n g w y i) s is has h taken = other_passes a c f r (operand.Direct n g w y i) s h taken
+passes a c f r (operand.Timer n) s is has h taken = other_passes a c f r (operand.Timer n) s h taken
+passes a c f r (operand.Counter n) s is has h taken = other_passes a c f r (operand.Counter n) s h taken
+passes a c f r (operand.Named p t) s is has h taken = other_passes a c f r (operand.Named p t) s h taken
+passes a c f r (operand.ByMemory g w m y) s is has h taken = other_passes a c f r (operand.ByMemory g w m y) s h taken
+passes a c f r (operand.NumberBy w m y) s is has h taken = other_passes a c f r (operand.NumberBy w m y) s h taken
+passes a c f r (operand.ByRegister g w n b) s is has h taken = other_passes a c f r (operand.ByRegister g w n b) s h taken
+passes a c f r (operand.Pointer g y i) s is has h taken = other_passes a c f r (operand.Pointer g y i) s h taken
+passes a c f r (operand.Label n) s is has h taken = other_passes a c f r (operand.Label n) s h taken
+passes a c f r (operand.OfStatus g) s is has h taken = other_passes a c f r (operand.OfStatus g) s h taken
+passes a c f r (operand.Other n) s is has h taken = other_passes a c f r (operand.Other n) s h taken
+passes a c f r (operand.OpenBlock d n) s is has h taken = other_passes a c f r (operand.OpenBlock d n) s h taken
+passes a c f r (operand.Called n i) s is has h taken = other_passes a c f r (operand.Called n i) s h taken
+
+-- ---- the actual parameters of a call
+
+-- an actual parameter of a call, by the parameters of what is called
+pub record IsGoodActual (a : Around) (c : Context) (formals : List Formal) (x : Actual) : Type 0 where
+  pub seen : IsSeen a (seen c x.value)
+  pub well : IsOperand x.value
+  pub bytes : OperandHasBytes x.value
+  pub fits : misfits c x (formal_named formals x.name) ≡ false
+
+found_holds : {A : Type 0} (P : A → Type 0) (test : A → Bool) (xs : List A) (x : A)
+    → AllByRecursion P xs → find test xs ≡ Some x → P x × (test x ≡ true)
+found_holds P test [] x h e = absurd cc
+found_holds P test (z ∷ zs) x h e = by (test z) refl e (found_holds P test zs x h.1)
+  where
+    some_same : (y : _) → Some z ≡ Some y → z ≡ y
+    some_same y e = cc
+
+    by : (t : Bool) → test z ≡ t → (if t then Some z else find test zs) ≡ Some x
+        → (find test zs ≡ Some x → P x × (test x ≡ true)) → P x × (test x ≡ true)
+    by true is k more =
+        let same = some_same x k in
+        (subst P same h.0, ap test (sym same) ∙ is)
+    by false is k more = more k
+
+not_false : (b : Bool) → not b ≡ false → b ≡ true
+not_false true e = refl
+not_false false e = absurd cc
+
+-- what is supplied for a parameter is passed
+pub supplied_passes : (a : Around) (c : Context) (formals : List Formal) (actuals : List Actual)
+    (f : Formal) (r : ParameterRecord) (x : Actual)
+    → AllByRecursion (IsGoodActual a c formals) actuals → IsFoundIn formals f → IsRecordOf f r
+    → supplied actuals f ≡ Some x → Passes a c r x.value
+supplied_passes a c formals actuals f r x good found h e =
+    passes a c f r x.value one.0.seen one.0.well one.0.bytes h
+    (not_false (fits_operand c f x.value)
+    (ap (misfits c x) (sym (found (folded x.name) one.1)) ∙ one.0.fits))
+  where
+    one : IsGoodActual a c formals x × (bytes_eq (folded x.name) f.name ≡ true)
+    one = found_holds (IsGoodActual a c formals) (λ x. bytes_eq (folded x.name) f.name) actuals x good e
+
+-- indices from one on are above what was passed before
+abbrev Under : (before : Option ℕ) → ℕ → Type 0
+Under before i = (n : ℕ) → i ≤ n → is_above n before ≡ true
+
+under_next : (before : Option ℕ) (i : ℕ) → Under before i → Under before (suc i)
+under_next before i h n e = h n (omega (arith, e))
+
+under_some : (i : ℕ) → Under (Some i) (suc i)
+under_some i n e = lt-ltb i n e
+
+there_at : {all : List ParameterRecord} (front : List ParameterRecord) (r : ParameterRecord)
+    (rs : List ParameterRecord) (i : ℕ) → all ≡ front ++ r ∷ rs → length front ≡ i
+    → slice_get all i ≡ Some r
+there_at front r rs i e n =
+    ap (λ (z : List ParameterRecord). slice_get z i) e
+    ∙ ap (λ (k : ℕ). slice_get (front ++ r ∷ rs) k) (sym n) ∙ there front r rs
+
+module _ (a : Around) (c : Context) (formals : List Formal) (actuals : List Actual)
+    (good : AllByRecursion (IsGoodActual a c formals) actuals) (kind il : ℕ)
+    (all : List ParameterRecord) where
+  pub passed_from : (before : Option ℕ) (i : ℕ) (fs : List Formal) (front rs : List ParameterRecord)
+      → Under before i → Matched fs rs → AllByRecursion (IsFoundIn formals) fs
+      → all ≡ front ++ rs → length front ≡ i
+      → ArePassed a (Some (kind, il, all)) before (passings_from c actuals i fs)
+  passed_from before i [] front rs under matched found e n = tt
+  passed_from before i (f ∷ fs) front [] under matched found e n = absurd matched
+  passed_from before i (f ∷ fs) front (r ∷ rs) under matched found e n =
+      by (supplied actuals f) refl
+      (λ last under. passed_from last (suc i) fs (front ++ r ∷ []) rs under matched.1 found.1
+      (e ∙ sym (append_assoc front (r ∷ []) rs)) (longer front ∙ ap suc n))
+    where
+      longer : (xs : List ParameterRecord) → length (xs ++ r ∷ []) ≡ suc (length xs)
+      longer [] = refl
+      longer (x ∷ xs) = ap suc (longer xs)
+
+      one : (x : Actual) → Passes a c r x.value
+          → ((last : Option ℕ) → Under last (suc i) → ArePassed a (Some (kind, il, all)) last (passings_from c actuals (suc i) fs))
+          → ArePassed a (Some (kind, il, all)) before
+          (with_index i (passed_seen x.value (seen c x.value)) ++ passings_from c actuals (suc i) fs)
+      one x p more =
+          subst (λ (o : Option Passed). ArePassed a (Some (kind, il, all)) before (with_index i o ++ passings_from c actuals (suc i) fs))
+          (sym p.is) (
+            under i (omega arith),
+            p.right,
+            ap (λ (o : Option ParameterRecord). misfits_index a o p.actual) (there_at front r rs i e n) ∙ p.fits,
+            more (Some i) (under_some i),
+          )
+
+      by : (o : Option Actual) → supplied actuals f ≡ o
+          → ((last : Option ℕ) → Under last (suc i) → ArePassed a (Some (kind, il, all)) last (passings_from c actuals (suc i) fs))
+          → ArePassed a (Some (kind, il, all)) before (passed_actual c i o ++ passings_from c actuals (suc i) fs)
+      by None is more = more before (under_next before i under)
+      by (Some x) is more =
+          one x (supplied_passes a c formals actuals f r x good found.0 matched.0 is) more

@@ -1,0 +1,362 @@
+-- The ops of a block have no fault by their operands, their end marks and their calls, where the
+-- instruction of each statement fits what surrounds the block.
+use Rattle.std.proofs.Common.{◌≡◌, ℕ, ◌+◌, Bool, true, false, ◌&&◌, ◌||◌, not, List, [], ◌∷◌, ◌++◌, map, append_assoc, Option, Some, None, refl, sym, ap, subst, ◌∙◌}
+use Rattle.std.specs.Prelude.{◌==◌}
+use Rattle.std.specs.List.{AllByRecursion}
+use Rattle.std.proofs.lemmas.List.{map-append}
+use Rattle.plc_base.specs.declared.blocks.BlockId.{BlockId}
+use Rattle.flat_code.specs.Blocks.{Around, callee, call_fault_among, is_above, is_bad_actual, is_bad_call, is_bad_place, is_in_db, is_stray_pass, is_stray_use_db, lacks_width, mark_fault, misfits_call, misfits_callee, operand_fault, pass_before, pass_index, prepares, seven_if}
+use Rattle.flat_code.specs.Codes.{first_of, size}
+use Rattle.flat_code.specs.Instr.{Instr, Passing, Does, Jumps, JumpsByList, Calls, Returns}
+use Rattle.flat_code.specs.Kinds.{kind_of}
+use Rattle.flat_code.specs.OpCodes.{code_of}
+use Rattle.flat_code.specs.Ops.{OpData}
+use Rattle.flat_code.specs.Placed.{Placed, Spot, before_next, ending as ending_op, last_op, opened, placed}
+use Rattle.flat_code.specs.declared.image_fields.OpenBracket.{OpenBracket}
+use Rattle.flat_code.specs.declared.operands.Operand.{Operand}
+use Rattle.flat_code.specs.declared.operands.Operand.TheVariants as operand
+use Rattle.flat_code.specs.declared.words.CallWord.{CallWord}
+use Rattle.flat_code.specs.declared.words.CallWord.TheVariants as calls
+use Rattle.flat_code.specs.declared.words.EndWord.{EndWord}
+use Rattle.flat_code.specs.declared.words.EndWord.TheVariants as ends
+use Rattle.flat_code.specs.declared.words.Word.{Word}
+use Rattle.flat_code.specs.declared.words.Word.TheVariants as word
+use Rattle.stl_codegen.specs.Compiled.{Stated, aimed, aimed_op, ops_in, placed_ops}
+use Rattle.stl_codegen.specs.Emitted.{call_op, called_kind, end_op, ending, instance_number, ops_of, passing, preparing}
+use Rattle.sem_kept.specs.Operands.{ArePassed, AreFine, InstrFits, IsFine, IsRightOperand}
+
+seven_none : (b : Bool) → b ≡ false → seven_if b ≡ None
+seven_none b e = ap seven_if e
+
+both_false : (a b : Bool) → a ≡ false → b ≡ false → (a || b) ≡ false
+both_false true b h k = h
+both_false false b h k = k
+
+and_false : (a b : Bool) → b ≡ false → (a && b) ≡ false
+and_false true b h = h
+and_false false b h = refl
+
+not_true : (b : Bool) → b ≡ true → not b ≡ false
+not_true b e = ap not e
+
+-- an op with the end mark ends its statement
+ends_here : (op : OpData) (rest : List OpData) → op.last ≡ true → ending_op op rest ≡ op
+ends_here op [] e = refl
+ends_here op (next ∷ ops) e = rw e refl
+
+marked : (w : Word) (o : Operand) → prepares (code_of w) ≡ false → mark_fault (ending w o) ≡ None
+marked w o e = rw e refl
+
+-- an operand that isn't a jump's stays as it is
+aimed_still : (f : ℕ → ℕ) (a : Around) (op : OpData) (o : Operand) → IsRightOperand a op o
+    → aimed f o ≡ o
+aimed_still f a op (operand.Jump kind target) h = absurd h
+aimed_still f a op operand.Nothing h = refl
+aimed_still f a op (operand.Literal value) h = refl
+aimed_still f a op (operand.Direct area w byte bit) h = refl
+aimed_still f a op (operand.ByMemory area w from byte) h = refl
+aimed_still f a op (operand.ByRegister area w register bits) h = refl
+aimed_still f a op (operand.Parameter index w) h = refl
+aimed_still f a op (operand.Numbered kind number) h = refl
+aimed_still f a op (operand.NumberedBy kind from byte) h = refl
+aimed_still f a op (operand.OfStatus condition) h = refl
+aimed_still f a op (operand.UseDb number) h = refl
+aimed_still f a op (operand.Pass index actual) h = refl
+aimed_still f a op (operand.Called kind number instance) h = refl
+aimed_still f a op (operand.OpenBlock register number) h = refl
+aimed_still f a op (operand.OpenBy register from byte) h = refl
+
+right_operand : (a : Around) (ss : List Spot) (p : Placed) (o : Operand) → IsRightOperand a p.op o
+    → operand_fault a ss p o ≡ None
+right_operand a ss p (operand.Direct area w byte bit) h =
+    seven_none (lacks_width p.op w || is_bad_place a area w byte bit)
+    (both_false (lacks_width p.op w) (is_bad_place a area w byte bit) h.0 h.1)
+right_operand a ss p (operand.ByMemory area w from byte) h = seven_none (lacks_width p.op w) h
+right_operand a ss p (operand.ByRegister area w register bits) h = seven_none (lacks_width p.op w) h
+right_operand a ss p (operand.Parameter index w) h =
+    let lacks = h.0 in let own = h.1 in let written = h.2 in rw lacks (rw own (rw written refl))
+right_operand a ss p (operand.Jump kind target) h = absurd h
+right_operand a ss p (operand.UseDb number) h = absurd h
+right_operand a ss p (operand.Pass index actual) h = absurd h
+right_operand a ss p (operand.Called kind number instance) h = absurd h
+right_operand a ss p operand.Nothing h = refl
+right_operand a ss p (operand.Literal value) h = refl
+right_operand a ss p (operand.Numbered kind number) h = refl
+right_operand a ss p (operand.NumberedBy kind from byte) h = refl
+right_operand a ss p (operand.OfStatus condition) h = refl
+right_operand a ss p (operand.OpenBlock register number) h = refl
+right_operand a ss p (operand.OpenBy register from byte) h = refl
+
+right_call : (a : Around) (lens : List (ℕ × ℕ)) (p : Placed) (o : Operand) → IsRightOperand a p.op o
+    → call_fault_among a lens p o ≡ None
+right_call a lens p (operand.Direct area w byte bit) h = refl
+right_call a lens p (operand.ByMemory area w from byte) h = refl
+right_call a lens p (operand.ByRegister area w register bits) h = refl
+right_call a lens p (operand.Parameter index w) h = refl
+right_call a lens p (operand.Jump kind target) h = absurd h
+right_call a lens p (operand.UseDb number) h = absurd h
+right_call a lens p (operand.Pass index actual) h = absurd h
+right_call a lens p (operand.Called kind number instance) h = absurd h
+right_call a lens p operand.Nothing h = refl
+right_call a lens p (operand.Literal value) h = refl
+right_call a lens p (operand.Numbered kind number) h = refl
+right_call a lens p (operand.NumberedBy kind from byte) h = refl
+right_call a lens p (operand.OfStatus condition) h = refl
+right_call a lens p (operand.OpenBlock register number) h = refl
+right_call a lens p (operand.OpenBy register from byte) h = refl
+
+-- the ops behind a statement are fine wherever they stand
+abbrev FineBehind : Around → List (ℕ × ℕ) → List Spot → List OpData → Type 0
+FineBehind a lens ss rest = (at : ℕ) (brackets : List OpenBracket)
+    → AreFine a lens ss (placed at brackets [] rest)
+
+-- an op that ends a statement, and those behind it
+last_fine : (a : Around) (lens : List (ℕ × ℕ)) (ss : List Spot) (at : ℕ)
+    (brackets : List OpenBracket) (before : List OpData) (op : OpData) (rest : List OpData)
+    → op.last ≡ true
+    → IsFine a lens ss (record { at = at; brackets = brackets; before = before; op = op; rest = rest })
+    → FineBehind a lens ss rest → AreFine a lens ss (placed at brackets before (op ∷ rest))
+last_fine a lens ss at brackets before op rest last fine behind = (
+  fine,
+  subst (λ (z : List OpData). AreFine a lens ss (placed (at + size op) (opened at op.code brackets) z rest))
+      (sym next) (behind (at + size op) (opened at op.code brackets)),
+)
+  where
+    next : before_next op before ≡ []
+    next = rw last refl
+
+does_fine : (a : Around) (lens : List (ℕ × ℕ)) (ss : List Spot) (at : ℕ)
+    (brackets : List OpenBracket) (before : List OpData) (w : Word) (o : Operand) (rest : List OpData)
+    → prepares (code_of w) ≡ false → IsRightOperand a (ending w o) o → FineBehind a lens ss rest
+    → AreFine a lens ss (placed at brackets before (ending w o ∷ rest))
+does_fine a lens ss at brackets before w o rest own right behind =
+    last_fine a lens ss at brackets before (ending w o) rest refl
+    (record {
+      operand = λ still. right_operand a ss
+          (record { at = at; brackets = brackets; before = before; op = ending w o; rest = rest }) o right;
+      call = right_call a lens
+          (record { at = at; brackets = brackets; before = before; op = ending w o; rest = rest }) o right;
+      mark = marked w o own;
+    })
+    behind
+
+use_db_fine : (a : Around) (lens : List (ℕ × ℕ)) (ss : List Spot) (at number : ℕ)
+    (brackets : List OpenBracket) (w : Word) (o : Operand) (rest : List OpData)
+    → is_in_db o ≡ true
+    → IsFine a lens ss (record {
+      at = at;
+      brackets = brackets;
+      before = [];
+      op = preparing word.UseDb (operand.UseDb number);
+      rest = ending w o ∷ rest;
+    })
+use_db_fine a lens ss at number brackets w o rest db = record {
+  operand = λ still. seven_none _ stray;
+  call = refl;
+  mark = refl;
+}
+  where
+    here : Placed
+    here = record {
+      at = at;
+      brackets = brackets;
+      before = [];
+      op = preparing word.UseDb (operand.UseDb number);
+      rest = ending w o ∷ rest;
+    }
+
+    last : last_op here ≡ ending w o
+    last = ends_here (ending w o) rest refl
+
+    stray : is_stray_use_db here ≡ false
+    stray = ap (λ (op : OpData). not (is_in_db op.operand)) last ∙ not_true (is_in_db o) db
+
+-- ---- calls
+
+passing_still : (f : ℕ → ℕ) (ps : List Passing) → map (aimed_op f) (passing ps) ≡ passing ps
+passing_still f [] = refl
+passing_still f (p ∷ ps) =
+    ap (λ (z : List OpData). preparing word.Pass (operand.Pass p.index p.actual) ∷ z)
+    (passing_still f ps)
+
+pass_last : (found : Option ℕ) (ops : List OpData) (op : OpData)
+    → pass_before found (ops ++ op ∷ []) ≡ first_of (pass_index op.operand) (pass_before found ops)
+pass_last found [] op = refl
+pass_last found (x ∷ ops) op = pass_last (first_of (pass_index x.operand) found) ops op
+
+-- the statement of a PASS is ended by its CALL
+ends_calls : (op : OpData) (ps : List Passing) (call : OpData) (rest : List OpData)
+    → op.last ≡ false → call.last ≡ true → ending_op op (passing ps ++ call ∷ rest) ≡ call
+ends_calls op [] call rest going closed = rw going (ends_here call rest closed)
+ends_calls op (p ∷ ps) call rest going closed =
+    rw going (ends_calls (preparing word.Pass (operand.Pass p.index p.actual)) ps call rest refl closed)
+
+pass_fine : (a : Around) (lens : List (ℕ × ℕ)) (ss : List Spot) (at : ℕ)
+    (brackets : List OpenBracket) (before : List OpData) (p : Passing) (ps : List Passing)
+    (block : BlockId) (instance : Option ℕ) (rest : List OpData)
+    → is_above p.index (pass_before None before) ≡ true → is_bad_actual a p.actual ≡ false
+    → misfits_callee a (callee a.blocks (called_kind block.kind) block.number) p.index p.actual ≡ false
+    → IsFine a lens ss (record {
+      at = at;
+      brackets = brackets;
+      before = before;
+      op = preparing word.Pass (operand.Pass p.index p.actual);
+      rest = passing ps ++ call_op calls.Call block instance ∷ rest;
+    })
+pass_fine a lens ss at brackets before p ps block instance rest above bad misfits = record {
+  operand = λ still. seven_none _ (both_false (is_stray_pass here p.index) (is_bad_actual a p.actual) stray bad);
+  call = seven_none _ unfit;
+  mark = refl;
+}
+  where
+    here : Placed
+    here = record {
+      at = at;
+      brackets = brackets;
+      before = before;
+      op = preparing word.Pass (operand.Pass p.index p.actual);
+      rest = passing ps ++ call_op calls.Call block instance ∷ rest;
+    }
+
+    last : last_op here ≡ call_op calls.Call block instance
+    last = ends_calls (preparing word.Pass (operand.Pass p.index p.actual)) ps
+        (call_op calls.Call block instance) rest refl refl
+
+    stray : is_stray_pass here p.index ≡ false
+    stray =
+        ap (λ (op : OpData). not (op.code == 0x78) || not (is_above p.index (pass_before None before))) last
+        ∙ not_true (is_above p.index (pass_before None before)) above
+
+    unfit : ((last_op here).code == 0x78 && misfits_call a (last_op here).operand p.index p.actual) ≡ false
+    unfit =
+        ap (λ (op : OpData). op.code == 0x78 && misfits_call a op.operand p.index p.actual) last
+        ∙ misfits
+
+call_fine : (a : Around) (lens : List (ℕ × ℕ)) (ss : List Spot) (at : ℕ)
+    (brackets : List OpenBracket) (before : List OpData) (how : CallWord) (block : BlockId)
+    (instance : Option ℕ) (rest : List OpData)
+    → is_bad_call lens (callee a.blocks (called_kind block.kind) block.number)
+    (instance_number instance) before ≡ false
+    → FineBehind a lens ss rest
+    → AreFine a lens ss (placed at brackets before (call_op how block instance ∷ rest))
+call_fine a lens ss at brackets before how block instance rest bad behind =
+    last_fine a lens ss at brackets before (call_op how block instance) rest refl
+    (record { operand = λ still. refl; call = seven_none _ bad; mark = by how }) behind
+  where
+    by : (how : CallWord) → mark_fault (call_op how block instance) ≡ None
+    by calls.Call = refl
+    by calls.Uc = refl
+    by calls.Cc = refl
+
+calls_fine : (a : Around) (lens : List (ℕ × ℕ)) (ss : List Spot) (at : ℕ)
+    (brackets : List OpenBracket) (done : List OpData) (block : BlockId)
+    (instance : Option ℕ) (left : List Passing) (rest : List OpData)
+    → ArePassed a (callee a.blocks (called_kind block.kind) block.number) (pass_before None done) left
+    → is_bad_call lens (callee a.blocks (called_kind block.kind) block.number)
+    (instance_number instance) (done ++ passing left) ≡ false
+    → FineBehind a lens ss rest
+    → AreFine a lens ss (placed at brackets done (passing left ++ call_op calls.Call block instance ∷ rest))
+calls_fine a lens ss at brackets done block instance [] rest passed bad behind =
+    call_fine a lens ss at brackets done calls.Call block instance rest
+    (subst (λ (z : List OpData). is_bad_call lens (callee a.blocks (called_kind block.kind) block.number)
+    (instance_number instance) z ≡ false) (append_nothing done) bad) behind
+  where
+    append_nothing : (ops : List OpData) → ops ++ [] ≡ ops
+    append_nothing [] = refl
+    append_nothing (op ∷ ops) = ap (λ (z : List OpData). op ∷ z) (append_nothing ops)
+calls_fine a lens ss at brackets done block instance (p ∷ ps) rest passed bad behind = (
+  pass_fine a lens ss at brackets done p ps block instance rest passed.0 passed.1 passed.2,
+  calls_fine a lens ss (at + size op) (opened at op.code brackets) (done ++ op ∷ []) block instance ps rest
+      (subst (λ (o : Option ℕ). ArePassed a (callee a.blocks (called_kind block.kind) block.number) o ps)
+      (sym (pass_last None done op)) passed.3)
+      (subst (λ (z : List OpData). is_bad_call lens (callee a.blocks (called_kind block.kind) block.number)
+      (instance_number instance) z ≡ false) (sym (append_assoc done (op ∷ []) (passing ps))) bad)
+      behind,
+)
+  where
+    op : OpData
+    op = preparing word.Pass (operand.Pass p.index p.actual)
+
+-- ---- statements
+
+jump_fine : (a : Around) (lens : List (ℕ × ℕ)) (ss : List Spot) (at kind target : ℕ)
+    (brackets : List OpenBracket) (rest : List OpData)
+    → FineBehind a lens ss rest
+    → AreFine a lens ss (placed at brackets [] (ending word.Jump (operand.Jump kind target) ∷ rest))
+jump_fine a lens ss at kind target brackets rest behind =
+    last_fine a lens ss at brackets [] (ending word.Jump (operand.Jump kind target)) rest refl
+    (record { operand = λ still. absurd still; call = refl; mark = refl }) behind
+
+end_fine : (a : Around) (lens : List (ℕ × ℕ)) (ss : List Spot) (at : ℕ)
+    (brackets : List OpenBracket) (how : EndWord) (rest : List OpData) → FineBehind a lens ss rest
+    → AreFine a lens ss (placed at brackets [] (end_op how ∷ rest))
+end_fine a lens ss at brackets how rest behind =
+    last_fine a lens ss at brackets [] (end_op how) rest refl
+    (record { operand = λ still. refl; call = refl; mark = by how }) behind
+  where
+    by : (how : EndWord) → mark_fault (end_op how) ≡ None
+    by ends.Be = refl
+    by ends.Bec = refl
+    by ends.Beu = refl
+
+instr_fine : (a : Around) (lens : List (ℕ × ℕ)) (ss : List Spot) (f : ℕ → ℕ) (at : ℕ)
+    (brackets : List OpenBracket) (i : Instr) (rest : List OpData) → InstrFits a lens i
+    → FineBehind a lens ss rest
+    → AreFine a lens ss (placed at brackets [] (map (aimed_op f) (ops_of i) ++ rest))
+unfolding ops_of
+instr_fine a lens ss f at brackets (Does None w o) rest h behind =
+    subst (λ (x : Operand). AreFine a lens ss (placed at brackets [] (ending w x ∷ rest)))
+    (sym (aimed_still f a (ending w o) o h.1))
+    (does_fine a lens ss at brackets [] w o rest h.0 h.1 behind)
+instr_fine a lens ss f at brackets (Does (Some number) w o) rest h behind =
+    subst (λ (x : Operand). AreFine a lens ss (placed at brackets []
+    (preparing word.UseDb (operand.UseDb number) ∷ ending w x ∷ rest)))
+    (sym (aimed_still f a (ending w o) o h.1)) (
+      use_db_fine a lens ss at number brackets w o rest h.2,
+      does_fine a lens ss (at + size (preparing word.UseDb (operand.UseDb number))) brackets
+          (preparing word.UseDb (operand.UseDb number) ∷ []) w o rest h.0 h.1 behind,
+    )
+instr_fine a lens ss f at brackets (Jumps how target) rest h behind =
+    jump_fine a lens ss at (kind_of how) (f target) brackets rest behind
+instr_fine a lens ss f at brackets (JumpsByList targets otherwise) rest h behind =
+    jump_fine a lens ss at 1 (f otherwise) brackets rest behind
+instr_fine a lens ss f at brackets (Returns how) rest h behind =
+    end_fine a lens ss at brackets how rest behind
+instr_fine a lens ss f at brackets (Calls calls.Call block instance ps) rest h behind =
+    subst (λ (z : List OpData). AreFine a lens ss (placed at brackets [] z)) (sym same)
+    (calls_fine a lens ss at brackets [] block instance ps rest h.1 h.2 behind)
+  where
+    call : OpData
+    call = call_op calls.Call block instance
+
+    same : map (aimed_op f) (passing ps ++ call ∷ []) ++ rest ≡ passing ps ++ call ∷ rest
+    same =
+        ap (λ (z : List OpData). z ++ rest) (map-append (aimed_op f) (passing ps) (call ∷ [])
+        ∙ ap (λ (z : List OpData). z ++ call ∷ []) (passing_still f ps))
+        ∙ append_assoc (passing ps) (call ∷ []) rest
+instr_fine a lens ss f at brackets (Calls calls.Uc block instance []) rest h behind =
+    call_fine a lens ss at brackets [] calls.Uc block instance rest h.2 behind
+instr_fine a lens ss f at brackets (Calls calls.Cc block instance []) rest h behind =
+    call_fine a lens ss at brackets [] calls.Cc block instance rest h.2 behind
+instr_fine a lens ss f at brackets (Calls calls.Uc block instance (p ∷ ps)) rest h behind =
+    let none = h.0 in absurd cc
+instr_fine a lens ss f at brackets (Calls calls.Cc block instance (p ∷ ps)) rest h behind =
+    let none = h.0 in absurd cc
+
+-- ---- a block
+
+statements_fine : (a : Around) (lens : List (ℕ × ℕ)) (ss : List Spot) (f : ℕ → ℕ)
+    (statements : List Stated) → AllByRecursion (λ s. InstrFits a lens s.instr) statements
+    → FineBehind a lens ss (map (aimed_op f) (ops_in statements))
+statements_fine a lens ss f [] h at brackets = tt
+statements_fine a lens ss f (s ∷ more) h at brackets =
+    subst (λ (z : List OpData). AreFine a lens ss (placed at brackets [] z))
+    (sym (map-append (aimed_op f) (ops_of s.instr) (ops_in more)))
+    (instr_fine a lens ss f at brackets s.instr (map (aimed_op f) (ops_in more)) h.0
+    (statements_fine a lens ss f more h.1))
+
+pub code_fine : (a : Around) (lens : List (ℕ × ℕ)) (ss : List Spot) (statements : List Stated)
+    → AllByRecursion (λ s. InstrFits a lens s.instr) statements
+    → AreFine a lens ss (placed 0 [] [] (placed_ops (ops_in statements)))
+unfolding placed_ops
+code_fine a lens ss statements h = statements_fine a lens ss _ statements h 0 []

@@ -1,0 +1,1022 @@
+-- What the operands of a source that breaks no rule name: each is seen, and fits its block.
+use Rattle.std.proofs.Common.{ℕ, zero, suc, ◌≡◌, ◌<◌, ◌≤◌, ◌+◌, ◌/◌, ◌%◌, max, List, [], ◌∷◌, ◌++◌, Option, Some, None, is_some, Bool, true, false, ◌||◌, not, refl, sym, ◌∙◌, ap, subst, arith, length, map, if◌then◌else◌, ltb-false, le-ltb, eq-eqb}
+use Rattle.std.specs.Prelude.{◌==◌}
+use Rattle.std.specs.List.{AllByRecursion, flat_map, slice_get}
+use Rattle.std.specs.Option.{is_none, option_and_then}
+use Rattle.plc_base.specs.Widths.{byte_count}
+use Rattle.plc_base.specs.declared.blocks.BlockId.{BlockId}
+use Rattle.plc_base.specs.declared.blocks.BlockKind.{BlockKind}
+use Rattle.plc_base.specs.declared.blocks.BlockKind.TheVariants as kinds
+use Rattle.plc_base.specs.declared.places.Area.{Area}
+use Rattle.plc_base.specs.declared.places.Area.TheVariants as area
+use Rattle.plc_base.specs.declared.places.Width.{Width}
+use Rattle.plc_base.specs.declared.places.Width.TheVariants as width
+use Rattle.flat_code.specs.Blocks.{Around, is_bad_place, is_input as is_input_parameter, is_odd_bit, is_past_locals, lacks_own, own_parameter}
+use Rattle.flat_code.specs.Forms.{width_code}
+use Rattle.flat_code.specs.Image.{number_of_kind, record_of_param}
+use Rattle.flat_code.specs.declared.image_fields.ParameterRecord.{ParameterRecord}
+use Rattle.stl_ast.specs.Blocks.{is_parameter, may_have}
+use Rattle.stl_ast.specs.Operands.{IsBitOf, IsOperand}
+use Rattle.stl_ast.specs.Statements.{is_called}
+use Rattle.stl_ast.specs.WellFormed.{AreSections, IsBlock, IsSection, IsShapeOf, MayReturn}
+use Rattle.stl_ast.specs.declared.blocks.Block.{Block}
+use Rattle.stl_ast.specs.declared.blocks.Part.{Part}
+use Rattle.stl_ast.specs.declared.blocks.PartKind.{PartKind}
+use Rattle.stl_ast.specs.declared.blocks.PartKind.TheVariants as part
+use Rattle.stl_ast.specs.declared.blocks.PathStep.{PathStep}
+use Rattle.stl_ast.specs.declared.blocks.Tree.{Tree}
+use Rattle.stl_ast.specs.declared.declarations.Declaration.{Declaration}
+use Rattle.stl_ast.specs.declared.declarations.Simple.{Simple}
+use Rattle.stl_ast.specs.declared.declarations.TypeTree.{TypeTree}
+use Rattle.stl_ast.specs.declared.names.BlockName.{BlockName}
+use Rattle.stl_ast.specs.declared.operands.Letters.{Letters}
+use Rattle.stl_ast.specs.declared.operands.Letters.TheVariants as letters
+use Rattle.stl_ast.specs.declared.operands.Operand.{Operand}
+use Rattle.stl_ast.specs.declared.operands.Operand.TheVariants as operand
+use Rattle.stl_ast.specs.declared.operands.PathHead.{PathHead}
+use Rattle.stl_ast.specs.declared.operands.PathHead.TheVariants as head
+use Rattle.stl_ast.specs.declared.statements.Actual.{Actual}
+use Rattle.stl_ast.specs.declared.statements.Statement.{Statement}
+use Rattle.plc_base.specs.Folding.{folded}
+use Rattle.stl_symbols.specs.Symbol.{Symbol, symbol_named}
+use Rattle.stl_symbols.specs.declared.targets.Target.{Target}
+use Rattle.stl_symbols.specs.declared.targets.Target.TheVariants as target
+use Rattle.block_layout.specs.Around.{Outside, of_sections, of_structure, onto}
+use Rattle.block_layout.specs.Blocks.{found_block, has_structure, id_of, is_code, is_data_block, is_function, is_function_block}
+use Rattle.block_layout.specs.Cells.{cells_of, components_of, is_temp, returned_cells, section_cells, temps_of}
+use Rattle.block_layout.specs.Layouts.{block_layout, layouts_by, layouts_from, layouts_of}
+use Rattle.block_layout.specs.Lengths.{actuals_end, block_bits, farthest, is_local, least_local, length_of, local_end, local_len, named_type, referred, shape_at, shape_bits, shape_named, shape_of}
+use Rattle.block_layout.specs.Measures.{types_of}
+use Rattle.block_layout.specs.Members.{component}
+use Rattle.block_layout.specs.Offsets.{place_at, placed, width_of}
+use Rattle.block_layout.specs.Paths.{cells_at, elementary_at, folded_path, kind_of, leaves_local, shape_block, structure_of, walked_data, walked_local, whole_at, whole_block}
+use Rattle.block_layout.specs.Rule23.{is_unknown_data, is_unknown_path, is_unknown_shape, names_unknown}
+use Rattle.block_layout.specs.Rule42.{leaves_found, leaves_path, operand_is_outside}
+use Rattle.block_layout.specs.Rule50.{has_too_much_local}
+use Rattle.block_layout.specs.Sizes.{structure_bits, up}
+use Rattle.block_layout.specs.Types.{Types}
+use Rattle.block_layout.specs.declared.blocks.BlockLayout.{BlockLayout}
+use Rattle.block_layout.specs.declared.blocks.Shape.{Shape}
+use Rattle.block_layout.specs.declared.blocks.Shape.TheVariants as shape
+use Rattle.block_layout.specs.declared.cells.Cell.{Cell}
+use Rattle.block_layout.specs.declared.cells.Element.{Element}
+use Rattle.block_layout.specs.declared.cells.Element.TheVariants.{Plain, Structure, DateAndTime, Udt}
+use Rattle.block_layout.specs.declared.cells.Element.TheVariants as cell_element
+use Rattle.block_layout.specs.declared.walks.Spot.{Spot}
+use Rattle.block_layout.specs.declared.walks.Walk.{Walk}
+use Rattle.block_layout.specs.declared.walks.Walk.TheVariants as walk
+use Rattle.stl_types.specs.Actuals.{is_input_section}
+use Rattle.stl_types.specs.Addresses.{address, address_in, area_left, area_of}
+use Rattle.stl_types.specs.Context.{data_number, data_place, in_function, is_of_function, number_of}
+use Rattle.stl_types.specs.Seen.{opened_seen, path_seen, register_of, seen, symbol_seen, target_view}
+use Rattle.stl_types.specs.Unknown.{is_unknown}
+use Rattle.stl_types.specs.Variables.{composite, data_at, date_or_composite, data_path, data_variable, data_walked, in_area, own_at, own_elementary, own_variable, own_walked, parameter, parameter_at, parameter_index}
+use Rattle.stl_types.specs.declared.views.Seen.{Seen}
+use Rattle.stl_types.specs.declared.views.Seen.TheVariants.{Sees}
+use Rattle.stl_types.specs.declared.views.Side.TheVariants as side
+use Rattle.stl_types.specs.declared.views.View.{View}
+use Rattle.stl_types.specs.declared.views.View.TheVariants as view
+use Rattle.stl_codegen.specs.Generated.{param, param_here, param_of, params_of, section_number}
+use Rattle.stl_codegen.specs.Instruction.{return_last}
+use Rattle.sem_kept.proofs.accepted.Accepted.{IsSound, IsSoundTree, context_at}
+use Rattle.sem_kept.proofs.accepted.OperandsCells.{IsFoundBlock, IsOrigin, all_there, are_right, cells_are, found_there, id_kind, layout_of_block, measured_ids, measured_symbols, origin}
+use Rattle.sem_kept.proofs.accepted.OperandsPaths.{Moves, data_goes, local_goes, local_moves}
+use Rattle.sem_kept.proofs.accepted.OperandsPlaces.{AreParameters, GivesOne, IsElementary, IsParameterCell, IsPlaced, Stays, count_each, data_fits, elementary, function_components, in_its_order, instance_fits, local_fits, local_stays, one_each, placed_sees, reached_place}
+use Rattle.sem_kept.proofs.accepted.OperandsSymbols.{SymbolFits, TargetFits, is_symbols_area, named_fits}
+use Rattle.sem_kept.proofs.accepted.OperandsWalks.{AreRight, Goes, Lies, structure_even}
+use Rattle.sem_kept.proofs.accepted.OperandsWords.{ViewFits}
+
+-- ---- what surrounds a block
+
+-- what surrounds the code block of a block of the source
+pub record Surrounds (symbols : List Symbol) (t : Tree) (b : Block) (l : BlockLayout) (a : Around)
+    : Type 0 where
+  pub kind : a.kind ≡ number_of_kind b.kind
+  pub local : a.local_len ≡ l.local_len
+  pub params : a.params ≡ map record_of_param (params_of b l)
+
+-- ---- lengths
+
+-- no operand of a body lies farther than the farthest
+abbrev pub EndsBy : ℕ → Statement → Type 0
+EndsBy n s = (local_end s.operand ≤ n) × AllByRecursion (λ (a : Actual). local_end a.value ≤ n) s.actuals
+
+actuals_by : (n : ℕ) (actuals : List Actual) → actuals_end actuals ≤ n
+    → AllByRecursion (λ (a : Actual). local_end a.value ≤ n) actuals
+actuals_by n [] h = tt
+actuals_by n (a ∷ more) h = (
+  first (local_end a.value) (actuals_end more) h,
+  actuals_by n more (rest (local_end a.value) (actuals_end more) h),
+)
+  where
+    first : (x y : ℕ) → max x y ≤ n → x ≤ n
+    first x y h = omega (arith, h)
+
+    rest : (x y : ℕ) → max x y ≤ n → y ≤ n
+    rest x y h = omega (arith, h)
+
+pub ends_by : (n : ℕ) (body : List Statement) → farthest body ≤ n
+    → AllByRecursion (EndsBy n) body
+ends_by n [] h = tt
+ends_by n (s ∷ ss) h = (
+  (
+    own (local_end s.operand) (actuals_end s.actuals) (farthest ss) h,
+    actuals_by n s.actuals (given (local_end s.operand) (actuals_end s.actuals) (farthest ss) h),
+  ),
+  ends_by n ss (rest (local_end s.operand) (actuals_end s.actuals) (farthest ss) h),
+)
+  where
+    own : (x y z : ℕ) → max (max x y) z ≤ n → x ≤ n
+    own x y z h = omega (arith, h)
+
+    given : (x y z : ℕ) → max (max x y) z ≤ n → y ≤ n
+    given x y z h = omega (arith, h)
+
+    rest : (x y z : ℕ) → max (max x y) z ≤ n → z ≤ n
+    rest x y z h = omega (arith, h)
+
+-- the local data of a code block hold its temporary variables and its farthest operand
+pub record HoldsLocals (y : Types) (b : Block) (local : ℕ) : Type 0 where
+  pub temps : structure_bits (temps_of y b) / 8 ≤ local
+  pub operands : farthest b.body ≤ local
+  pub short : local ≤ 1024
+
+up_2_behind : (n : ℕ) → n ≤ up n 2
+unfolding up
+up_2_behind n = omega arith
+
+code_len : (y : Types) (b : Block) → is_code b.kind ≡ true
+    → local_len y b
+    ≡ max (least_local b.kind) (up (max (structure_bits (temps_of y b) / 8) (farthest b.body)) 2)
+unfolding local_len
+code_len y b code =
+    ap (λ (t : Bool). if t then max (least_local b.kind) (up (max (structure_bits (temps_of y b) / 8) (farthest b.body)) 2) else 0) code
+
+pub holds_locals : (y : Types) (b : Block) → is_code b.kind ≡ true → has_too_much_local y b ≡ false
+    → HoldsLocals y b (local_len y b)
+holds_locals y b code few = record {
+  temps = subst (λ (n : ℕ). structure_bits (temps_of y b) / 8 ≤ n) (sym is)
+      (first (least_local b.kind) (structure_bits (temps_of y b) / 8) (farthest b.body)
+      (up (max (structure_bits (temps_of y b) / 8) (farthest b.body)) 2)
+      (up_2_behind (max (structure_bits (temps_of y b) / 8) (farthest b.body))));
+  operands = subst (λ (n : ℕ). farthest b.body ≤ n) (sym is)
+      (second (least_local b.kind) (structure_bits (temps_of y b) / 8) (farthest b.body)
+      (up (max (structure_bits (temps_of y b) / 8) (farthest b.body)) 2)
+      (up_2_behind (max (structure_bits (temps_of y b) / 8) (farthest b.body))));
+  short = ltb-false 1024 (local_len y b) few;
+}
+  where
+    is : local_len y b ≡ max (least_local b.kind) (up (max (structure_bits (temps_of y b) / 8) (farthest b.body)) 2)
+    is = code_len y b code
+
+    first : (least x z whole : ℕ) → max x z ≤ whole → x ≤ max least whole
+    first least x z whole h = omega (arith, h)
+
+    second : (least x z whole : ℕ) → max x z ≤ whole → z ≤ max least whole
+    second least x z whole h = omega (arith, h)
+
+-- the structure of a function block is as long as its instances
+pub block_own : (y : Types) (b : Block) → IsBlock b → b.kind ≡ kinds.Fb → shape_of y b ≡ shape.Own
+block_own y b h is =
+    ap (λ (n : Option BlockName). shape_named y (referred n b.shape)) none.1
+    ∙ ap (λ (s : Option TypeTree). shape_named y (named_type s)) none.0
+  where
+    none : IsShapeOf kinds.Fb b.shape b.instance_of b.components
+    none = subst (λ (k : BlockKind). IsShapeOf k b.shape b.instance_of b.components) is h.shaped
+
+pub instance_length : (y : Types) (blocks : List Block) (b : Block) → b.kind ≡ kinds.Fb
+    → shape_of y b ≡ shape.Own → length_of y blocks b ≡ structure_bits (components_of y b) / 8
+unfolding length_of
+instance_length y blocks b is own = rw is (rw own refl)
+
+short_bits : (n bits : ℕ) → n ≤ 16384 → n ≡ bits / 8 → bits % 16 ≡ 0 → bits ≤ 131072
+short_bits n bits few same even = omega (arith, few, same, even)
+
+-- an organization block has temporary variables alone
+only_temps : (p : PartKind) → may_have kinds.Ob p ≡ true → not (is_temp p) ≡ false
+unfolding may_have
+only_temps part.Temp e = refl
+only_temps part.Input e = absurd cc
+only_temps part.Output e = absurd cc
+only_temps part.InOut e = absurd cc
+only_temps part.Static e = absurd cc
+
+no_sections : (y : Types) (o : Outside) (before : List Declaration) (ps : List Part)
+    → AllByRecursion (IsSection kinds.Ob) ps → section_cells y o (λ k. not (is_temp k)) before ps ≡ []
+no_sections y o before [] h = refl
+no_sections y o before (p ∷ ps) h =
+    let none = only_temps p.kind h.0.0 in
+    rw none (no_sections y o (onto before p.items) ps h.1)
+
+no_components : (y : Types) (b : Block) → IsBlock b → b.kind ≡ kinds.Ob → components_of y b ≡ []
+no_components y b h is =
+    ap (λ (r : Option Simple). returned_cells r ++ section_cells y (of_sections b) (λ k. not (is_temp k)) [] b.parts ++ cells_of y of_structure part.Static [] b.components) returned
+    ∙ ap (λ (cs : List Cell). [] ++ cs ++ cells_of y of_structure part.Static [] b.components)
+    (no_sections y (of_sections b) [] b.parts sections.1)
+    ∙ ap (λ (ds : List Declaration). [] ++ [] ++ cells_of y of_structure part.Static [] ds) shaped.2
+  where
+    returned : b.result ≡ None
+    returned = subst (λ (k : BlockKind). MayReturn k b.result) is h.returns
+
+    sections : AreSections kinds.Ob b.parts
+    sections = subst (λ (k : BlockKind). AreSections k b.parts) is h.sections
+
+    shaped : IsShapeOf kinds.Ob b.shape b.instance_of b.components
+    shaped = subst (λ (k : BlockKind). IsShapeOf k b.shape b.instance_of b.components) is h.shaped
+
+-- ---- what is seen
+
+-- an operand is seen, and what it names fits
+pub record IsSeen (a : Around) (s : Seen) : Type 0 where
+  pub view : View
+  pub is : s ≡ Sees view
+  pub fits : ViewFits a view
+
+composite_fits : (a : Around) (o : Option Cell) → ViewFits a (composite o)
+composite_fits a None = tt
+composite_fits a (Some c) = by c.of
+  where
+    by : (e : Element) → ViewFits a (date_or_composite e)
+    by DateAndTime = tt
+    by Structure = tt
+    by (Plain kind) = tt
+    by (Udt block bits) = tt
+    by cell_element.Unknown = tt
+
+-- ---- parameters
+
+mapped_there : {A B : Type 0} (f : A → B) (xs : List A) (k : ℕ) (x : A) → slice_get xs k ≡ Some x
+    → slice_get (map f xs) k ≡ Some (f x)
+mapped_there f [] k x e = absurd cc
+mapped_there f (z ∷ zs) zero x e = ap (λ y. Some (f y)) (let same : z ≡ x = cc in same)
+mapped_there f (z ∷ zs) (suc k) x e = mapped_there f zs k x e
+
+param_here_is : (cells : List Cell) (c : Cell) (kind : Simple) → is_parameter c.section ≡ true
+    → c.of ≡ Plain kind
+    → param_here false cells c ≡ param (section_number c.section) (width_of kind) 0 ∷ []
+param_here_is cells c kind is plain =
+    ap (λ (t : Bool). if t then param_of false cells c c.of else []) is
+    ∙ ap (λ (e : Element). param_of false cells c e) plain
+
+params_each : (cells all : List Cell) → AreParameters cells
+    → AllByRecursion (GivesOne (λ c. param_here false all c)) cells
+params_each [] all h = tt
+params_each (c ∷ cs) all h = (
+  record {
+    one = param (section_number c.section) (width_of h.0.kind) 0;
+    is = param_here_is all c h.0.kind h.0.section h.0.plain;
+  },
+  params_each cs all h.1,
+)
+
+-- the parameter of a function that a component is
+param_there : (b : Block) (l : BlockLayout) (cells : List Cell) (place : ℕ) (c : Cell) (kind : Simple)
+    → b.kind ≡ kinds.Fc → l.components ≡ cells → AreParameters cells
+    → slice_get cells place ≡ Some c → c.of ≡ Plain kind → is_parameter c.section ≡ true
+    → slice_get (params_of b l) (parameter_index (length cells) place (Some b))
+    ≡ Some (param (section_number c.section) (width_of kind) 0)
+unfolding params_of
+param_there b l cells place c kind is same each there plain section =
+    subst (λ (cs : List Cell). slice_get (return_last b.result (flat_map (λ c. param_here (is_function_block b.kind) cs c) cs))
+    (parameter_index (length cells) place (Some b)) ≡ Some (param (section_number c.section) (width_of kind) 0))
+    (sym same)
+    (subst (λ (k : BlockKind). slice_get (return_last b.result (flat_map (λ c. param_here (is_function_block k) cells c) cells))
+    (parameter_index (length cells) place (Some b)) ≡ Some (param (section_number c.section) (width_of kind) 0))
+    (sym is)
+    (ap (λ (n : ℕ). slice_get (return_last b.result (flat_map (λ c. param_here false cells c) cells)) (parameter_index n place (Some b)))
+    (sym (count_each (λ c. param_here false cells c) cells (params_each cells cells each)))
+    ∙ in_its_order b.result (flat_map (λ c. param_here false cells c) cells) place
+    (param (section_number c.section) (width_of kind) 0)
+    (one_each (λ c. param_here false cells c) cells place c (param (section_number c.section) (width_of kind) 0)
+    (params_each cells cells each) there (param_here_is cells c kind section plain))))
+
+section_is_input : (p : PartKind) → is_parameter p ≡ true
+    → (section_number p == 1) ≡ is_input_section p
+section_is_input part.Input e = refl
+section_is_input part.Output e = refl
+section_is_input part.InOut e = refl
+section_is_input part.Static e = absurd cc
+section_is_input part.Temp e = absurd cc
+
+own_there : (a : Around) (index : ℕ) (q : ParameterRecord) → a.kind ≡ 2
+    → slice_get a.params index ≡ Some q → own_parameter a index ≡ Some q
+own_there a index q is there =
+    ap (λ (t : Bool). if t then slice_get a.params index else None) (eq-eqb a.kind 2 is) ∙ there
+
+-- ---- addresses and symbols
+
+neither : (a b : Bool) → a ≡ false → b ≡ false → (a || b) ≡ false
+neither true b h k = h
+neither false b h k = k
+
+no_odd_bit : (w : Width) (bit : ℕ) → IsBitOf w bit → is_odd_bit w bit ≡ false
+no_odd_bit width.Bit bit h = refl
+no_odd_bit width.Byte bit h = ap not (eq-eqb bit 0 h)
+no_odd_bit width.Word bit h = ap not (eq-eqb bit 0 h)
+no_odd_bit width.Dword bit h = ap not (eq-eqb bit 0 h)
+
+no_past : (a : Around) (ar : Letters) (w : Width) (byte : ℕ)
+    → (if is_local ar then byte + byte_count w else 0) ≤ a.local_len
+    → is_past_locals a (area_of ar) w byte ≡ false
+no_past a letters.L w byte h = le-ltb a.local_len (byte + byte_count w) h
+no_past a letters.I w byte h = refl
+no_past a letters.Q w byte h = refl
+no_past a letters.M w byte h = refl
+no_past a letters.Db w byte h = refl
+no_past a letters.Di w byte h = refl
+no_past a letters.Pi w byte h = refl
+no_past a letters.Pq w byte h = refl
+
+address_fits : (a : Around) (ar : Letters) (w : Width) (byte bit : ℕ) → IsBitOf w bit
+    → (if is_local ar then byte + byte_count w else 0) ≤ a.local_len
+    → is_bad_place a (area_of ar) w byte bit ≡ false
+address_fits a ar w byte bit h ends =
+    neither (is_odd_bit w bit) (is_past_locals a (area_of ar) w byte) (no_odd_bit w bit h)
+    (no_past a ar w byte ends)
+
+outside_locals : (a : Around) (ar : Area) (w : Width) (byte : ℕ) → is_symbols_area ar ≡ true
+    → is_past_locals a ar w byte ≡ false
+outside_locals a area.L w byte h = absurd cc
+outside_locals a area.I w byte h = refl
+outside_locals a area.Q w byte h = refl
+outside_locals a area.M w byte h = refl
+outside_locals a area.P w byte h = refl
+outside_locals a area.Db w byte h = refl
+outside_locals a area.Di w byte h = refl
+
+target_fits : (a : Around) (x : Target) → TargetFits x → ViewFits a (target_view x)
+target_fits a (target.Variable place w) h = (
+  neither (is_odd_bit w place.bit) (is_past_locals a place.area w place.byte) h.0
+      (outside_locals a place.area w place.byte h.1),
+  tt,
+)
+target_fits a (target.Timer number) h = tt
+target_fits a (target.Counter number) h = tt
+target_fits a (target.Block id) h = tt
+
+pub not_none : {A : Type 0} (o : Option A) → is_none o ≡ false → (x : A) × (o ≡ Some x)
+not_none None e = absurd cc
+not_none (Some x) e = (x, refl)
+
+code_kind : (k : BlockKind) → is_code k ≡ true → is_function k ≡ false → is_function_block k ≡ false
+    → k ≡ kinds.Ob
+code_kind kinds.Ob e f g = refl
+code_kind kinds.Fc e f g = absurd cc
+code_kind kinds.Fb e f g = absurd cc
+code_kind kinds.Db e f g = absurd cc
+code_kind kinds.Sfc e f g = absurd cc
+code_kind kinds.Udt e f g = absurd cc
+
+function_kind : (k : BlockKind) → is_function k ≡ true → k ≡ kinds.Fc
+function_kind kinds.Fc e = refl
+function_kind kinds.Ob e = absurd cc
+function_kind kinds.Fb e = absurd cc
+function_kind kinds.Db e = absurd cc
+function_kind kinds.Sfc e = absurd cc
+function_kind kinds.Udt e = absurd cc
+
+function_block_kind : (k : BlockKind) → is_function_block k ≡ true → k ≡ kinds.Fb
+function_block_kind kinds.Fb e = refl
+function_block_kind kinds.Ob e = absurd cc
+function_block_kind kinds.Fc e = absurd cc
+function_block_kind kinds.Db e = absurd cc
+function_block_kind kinds.Sfc e = absurd cc
+function_block_kind kinds.Udt e = absurd cc
+
+pub data_block_kind : (k : BlockKind) → is_data_block k ≡ true → k ≡ kinds.Db
+data_block_kind kinds.Db e = refl
+data_block_kind kinds.Ob e = absurd cc
+data_block_kind kinds.Fc e = absurd cc
+data_block_kind kinds.Fb e = absurd cc
+data_block_kind kinds.Sfc e = absurd cc
+data_block_kind kinds.Udt e = absurd cc
+
+pub whole_is : (l : List BlockLayout) (p : ℕ) (at : BlockLayout) → slice_get l p ≡ Some at
+    → at.broken ≡ false → whole_at l p ≡ Some at
+whole_is l p at there whole =
+    ap (λ (o : Option BlockLayout). whole_block o) there
+    ∙ ap (λ (t : Bool). if t then None else Some at) whole
+
+no_component : (name : List ℕ) → is_some (component 0 0 0 name []) ≡ true → ⊥
+unfolding component
+no_component name e = absurd cc
+
+-- ---- the block's own variables
+
+module _ (symbols : List Symbol) (t : Tree) (tree : IsSoundTree symbols t) (k : ℕ) (b : Block)
+    (l : BlockLayout) (block : IsSound symbols t k b l) (code : is_code b.kind ≡ true)
+    (a : Around) (around : Surrounds symbols t b l a) where
+  whole_here : is_some (whole_at (layouts_of t symbols) k) ≡ true
+  whole_here = ap is_some (whole_is (layouts_of t symbols) k l block.layout_there block.whole)
+
+  components_here : cells_at (layouts_of t symbols) k false ≡ components_of (types_of symbols t.blocks) b
+  components_here = cells_are symbols t k b l block false
+
+  temps_here : cells_at (layouts_of t symbols) k true ≡ temps_of (types_of symbols t.blocks) b
+  temps_here = cells_are symbols t k b l block true
+
+  local_is : l.local_len ≡ local_len (types_of symbols t.blocks) b
+  unfolding block_layout
+  local_is = ap (λ (z : BlockLayout). z.local_len) block.layout
+
+  components_are : l.components ≡ components_of (types_of symbols t.blocks) b
+  unfolding block_layout
+  components_are = ap (λ (z : BlockLayout). z.components) block.layout
+
+  locals_here : HoldsLocals (types_of symbols t.blocks) b (local_len (types_of symbols t.blocks) b)
+  locals_here = holds_locals (types_of symbols t.blocks) b code block.head.by_50
+
+  function_here : in_function (context_at symbols t k) ≡ is_function b.kind
+  function_here = ap (λ (o : Option Block). is_of_function o) block.block_there
+
+  -- a temporary variable
+  temporary_seen : (s : Spot) → Lies (layouts_of t symbols) (structure_bits (cells_at (layouts_of t symbols) k true)) s
+      → (o : Option Simple) → elementary_at (layouts_of t symbols) s ≡ o
+      → IsSeen a (own_at (context_at symbols t k) true s o)
+  temporary_seen s h None e = record {
+    view = composite (slice_get (cells_at (layouts_of t symbols) s.block s.temporary) s.place);
+    is = refl;
+    fits = composite_fits a (slice_get (cells_at (layouts_of t symbols) s.block s.temporary) s.place);
+  }
+  temporary_seen s h (Some kind) e = record {
+    view = view.Direct (place_at area.L 0 s.offset) (width_of kind) side.Both (Some kind);
+    is = placed_sees area.L 0 s.offset (structure_bits (cells_at (layouts_of t symbols) k true)) kind at
+        (few (structure_bits (cells_at (layouts_of t symbols) k true)) a.local_len within short);
+    fits = (
+      local_fits a s.offset (structure_bits (cells_at (layouts_of t symbols) k true)) kind at
+          (structure_even (cells_at (layouts_of t symbols) k true)) within,
+      refl,
+    );
+  }
+    where
+      at : IsPlaced (structure_bits (cells_at (layouts_of t symbols) k true)) s.offset kind
+      at = reached_place (layouts_of t symbols) (structure_bits (cells_at (layouts_of t symbols) k true)) s kind h e
+
+      is_local_len : a.local_len ≡ local_len (types_of symbols t.blocks) b
+      is_local_len = around.local ∙ local_is
+
+      within : structure_bits (cells_at (layouts_of t symbols) k true) / 8 ≤ a.local_len
+      within = subst (λ (n : ℕ). structure_bits (cells_at (layouts_of t symbols) k true) / 8 ≤ n) (sym is_local_len)
+          (subst (λ (cs : List Cell). structure_bits cs / 8 ≤ local_len (types_of symbols t.blocks) b) (sym temps_here)
+          locals_here.temps)
+
+      short : a.local_len ≤ 1024
+      short = subst (λ (n : ℕ). n ≤ 1024) (sym is_local_len) locals_here.short
+
+      few : (limit local : ℕ) → limit / 8 ≤ local → local ≤ 1024 → limit ≤ 524280
+      few limit local h k = omega (arith, h, k)
+
+  -- a variable of a function block
+  instance_seen : (limit : ℕ) → limit ≤ 131072 → is_function b.kind ≡ false → (s : Spot)
+      → Lies (layouts_of t symbols) limit s
+      → (o : Option Simple) → elementary_at (layouts_of t symbols) s ≡ o
+      → IsSeen a (own_at (context_at symbols t k) false s o)
+  instance_seen limit few other s h None e = record {
+    view = composite (slice_get (cells_at (layouts_of t symbols) s.block s.temporary) s.place);
+    is = refl;
+    fits = composite_fits a (slice_get (cells_at (layouts_of t symbols) s.block s.temporary) s.place);
+  }
+  instance_seen limit few other s h (Some kind) e = record {
+    view = view.Direct (place_at area.Di 0 s.offset) (width_of kind) side.Both (Some kind);
+    is =
+        ap (λ (t' : Bool). if t' then parameter_at (context_at symbols t k) s kind
+        else in_area kind (placed area.Di 0 s.offset (Some kind))) (function_here ∙ other)
+        ∙ placed_sees area.Di 0 s.offset limit kind at (omega (arith, few));
+    fits = (instance_fits a s.offset limit kind at, refl);
+  }
+    where
+      at : IsPlaced limit s.offset kind
+      at = reached_place (layouts_of t symbols) limit s kind h e
+
+  -- a parameter of a function
+  parameter_seen : b.kind ≡ kinds.Fc → (s : Spot) → s.block ≡ k → s.temporary ≡ false
+      → (o : Option Simple) → elementary_at (layouts_of t symbols) s ≡ o
+      → IsSeen a (own_at (context_at symbols t k) false s o)
+  parameter_seen is s at own None e = record {
+    view = composite (slice_get (cells_at (layouts_of t symbols) s.block s.temporary) s.place);
+    is = refl;
+    fits = composite_fits a (slice_get (cells_at (layouts_of t symbols) s.block s.temporary) s.place);
+  }
+  parameter_seen is s at own (Some kind) e =
+      by (slice_get (cells_at (layouts_of t symbols) k false) s.place) refl
+      (ap (λ (n : ℕ). kind_of s (slice_get (cells_at (layouts_of t symbols) n false) s.place)) (sym at)
+      ∙ ap (λ (t' : Bool). kind_of s (slice_get (cells_at (layouts_of t symbols) s.block t') s.place)) (sym own)
+      ∙ e)
+    where
+      index : ℕ
+      index = parameter_index (length (cells_at (layouts_of t symbols) k false)) s.place (slice_get t.blocks k)
+
+      parameters : AreParameters (cells_at (layouts_of t symbols) k false)
+      parameters = subst AreParameters (sym components_here)
+          (function_components (types_of symbols t.blocks) b block.well_formed is)
+
+      found : (c : Cell) → slice_get (cells_at (layouts_of t symbols) k false) s.place ≡ Some c
+          → IsElementary s c kind → IsSeen a (own_elementary (context_at symbols t k) false s kind)
+      found c there elem = record {
+        view = view.Parameter index c.section kind;
+        is =
+            ap (λ (t' : Bool). if t' then parameter_at (context_at symbols t k) s kind
+            else in_area kind (placed area.Di 0 s.offset (Some kind)))
+            (function_here ∙ ap is_function is)
+            ∙ ap (λ (o : Option Cell). parameter index kind o) there;
+        fits = (
+          ap (λ (o : Option ParameterRecord). lacks_own o (width_of kind)) given
+              ∙ ap not (eq-eqb (width_code (width_of kind)) (width_code (width_of kind)) refl),
+          ap (λ (o : Option ParameterRecord). is_input_parameter o) given
+              ∙ section_is_input c.section cell.section,
+        );
+      }
+        where
+          cell : IsParameterCell c
+          cell = all_there IsParameterCell (cells_at (layouts_of t symbols) k false) s.place c parameters there
+
+          given : own_parameter a index ≡ Some (record_of_param (param (section_number c.section) (width_of kind) 0))
+          given =
+              own_there a index (record_of_param (param (section_number c.section) (width_of kind) 0))
+              (around.kind ∙ ap number_of_kind is)
+              (ap (λ (ps : List ParameterRecord). slice_get ps index) around.params
+              ∙ mapped_there record_of_param (params_of b l) index (param (section_number c.section) (width_of kind) 0)
+              (ap (λ (o : Option Block). slice_get (params_of b l) (parameter_index (length (cells_at (layouts_of t symbols) k false)) s.place o)) block.block_there
+              ∙ param_there b l (cells_at (layouts_of t symbols) k false) s.place c kind is
+              (components_are ∙ sym components_here) parameters there elem.plain cell.section))
+
+      by : (o : Option Cell) → slice_get (cells_at (layouts_of t symbols) k false) s.place ≡ o
+          → kind_of s o ≡ Some kind
+          → IsSeen a (own_elementary (context_at symbols t k) false s kind)
+      by None there f = absurd cc
+      by (Some c) there f = found c there (elementary s c kind f)
+
+  -- a path into them
+  own_seen : (name : List ℕ) (steps : List PathStep)
+      → is_unknown (own_variable (context_at symbols t k) name steps) ≡ false
+      → leaves_local (layouts_of t symbols) k name steps ≡ false
+      → IsSeen a (own_variable (context_at symbols t k) name steps)
+  own_seen name steps known stays =
+      by (is_some (component 0 0 0 name (cells_at (layouts_of t symbols) k false))) refl known
+    where
+      right : AreRight (layouts_of t symbols)
+      right = are_right symbols t tree
+
+      reads : (temporary : Bool) (limit : ℕ) (w : Walk)
+          → ((s : Spot) → w ≡ walk.Reaches s → IsSeen a (own_at (context_at symbols t k) temporary s (elementary_at (layouts_of t symbols) s)))
+          → Moves w → is_unknown (own_walked (context_at symbols t k) temporary w) ≡ false
+          → IsSeen a (own_walked (context_at symbols t k) temporary w)
+      reads temporary limit (walk.Reaches s) f m known = f s refl
+      reads temporary limit walk.Unknown f m known = absurd cc
+      reads temporary limit walk.Rests f m known = absurd m
+
+      lies : (limit : ℕ) (w : Walk) (s : Spot) → w ≡ walk.Reaches s → Goes (layouts_of t symbols) limit w
+          → Lies (layouts_of t symbols) limit s
+      lies limit w s e g = subst (Goes (layouts_of t symbols) limit) e g
+
+      moves : Moves (walked_local (layouts_of t symbols) k name steps)
+      moves = local_moves (layouts_of t symbols) right k name steps whole_here
+
+      temps_small : structure_bits (cells_at (layouts_of t symbols) k true) < 2147483648
+      temps_small =
+          let h = subst (λ (cs : List Cell). structure_bits cs / 8 ≤ local_len (types_of symbols t.blocks) b) (sym temps_here) locals_here.temps in
+          let s = locals_here.short in
+          small (structure_bits (cells_at (layouts_of t symbols) k true)) (local_len (types_of symbols t.blocks) b) h s
+        where
+          small : (limit local : ℕ) → limit / 8 ≤ local → local ≤ 1024 → limit < 2147483648
+          small limit local h k = omega (arith, h, k)
+
+      temporary : is_some (component 0 0 0 name (cells_at (layouts_of t symbols) k false)) ≡ false
+          → is_unknown (own_walked (context_at symbols t k) true (walked_local (layouts_of t symbols) k name steps)) ≡ false
+          → IsSeen a (own_walked (context_at symbols t k) true (walked_local (layouts_of t symbols) k name steps))
+      temporary e known =
+          reads true 0 (walked_local (layouts_of t symbols) k name steps)
+          (λ s is. temporary_seen s
+          (lies (structure_bits (cells_at (layouts_of t symbols) k true)) (walked_local (layouts_of t symbols) k name steps) s is
+          (local_goes (layouts_of t symbols) (structure_bits (cells_at (layouts_of t symbols) k true)) right
+          temps_small k name steps false e (omega arith) whole_here stays))
+          (elementary_at (layouts_of t symbols) s) refl)
+          moves known
+
+      of_function : b.kind ≡ kinds.Fc
+          → is_some (component 0 0 0 name (cells_at (layouts_of t symbols) k false)) ≡ true
+          → is_unknown (own_walked (context_at symbols t k) false (walked_local (layouts_of t symbols) k name steps)) ≡ false
+          → IsSeen a (own_walked (context_at symbols t k) false (walked_local (layouts_of t symbols) k name steps))
+      of_function is e known =
+          reads false 0 (walked_local (layouts_of t symbols) k name steps)
+          (λ s reaches.
+          let home : Stays k (walk.Reaches s) = subst (Stays k) reaches
+          (local_stays (layouts_of t symbols) k plain name steps e whole_here) in
+          parameter_seen is s home.0 home.1 (elementary_at (layouts_of t symbols) s) refl)
+          moves known
+        where
+          plain : (place : ℕ) (c : Cell) → slice_get (cells_at (layouts_of t symbols) k false) place ≡ Some c
+              → IsParameterCell c
+          plain place c there =
+              all_there IsParameterCell (cells_at (layouts_of t symbols) k false) place c
+              (subst AreParameters (sym components_here)
+              (function_components (types_of symbols t.blocks) b block.well_formed is)) there
+
+      of_block : b.kind ≡ kinds.Fb
+          → is_some (component 0 0 0 name (cells_at (layouts_of t symbols) k false)) ≡ true
+          → is_unknown (own_walked (context_at symbols t k) false (walked_local (layouts_of t symbols) k name steps)) ≡ false
+          → IsSeen a (own_walked (context_at symbols t k) false (walked_local (layouts_of t symbols) k name steps))
+      of_block is e known =
+          reads false 0 (walked_local (layouts_of t symbols) k name steps)
+          (λ s reaches. instance_seen (structure_bits (cells_at (layouts_of t symbols) k false)) small
+          (ap is_function is) s
+          (lies (structure_bits (cells_at (layouts_of t symbols) k false)) (walked_local (layouts_of t symbols) k name steps) s reaches
+          (local_goes (layouts_of t symbols) (structure_bits (cells_at (layouts_of t symbols) k false)) right
+          (omega (arith, small)) k name steps true e (omega arith) whole_here stays))
+          (elementary_at (layouts_of t symbols) s) refl)
+          moves known
+        where
+          small : structure_bits (cells_at (layouts_of t symbols) k false) ≤ 131072
+          small = subst (λ (cs : List Cell). structure_bits cs ≤ 131072) (sym components_here)
+              (short_bits (length_of (types_of symbols t.blocks) t.blocks b)
+              (structure_bits (components_of (types_of symbols t.blocks) b))
+              (ltb-false 16384 (length_of (types_of symbols t.blocks) t.blocks b) block.head.by_51)
+              (instance_length (types_of symbols t.blocks) t.blocks b is
+              (block_own (types_of symbols t.blocks) b block.well_formed is))
+              (structure_even (components_of (types_of symbols t.blocks) b)))
+
+      of_organization : b.kind ≡ kinds.Ob
+          → is_some (component 0 0 0 name (cells_at (layouts_of t symbols) k false)) ≡ true
+          → IsSeen a (own_walked (context_at symbols t k) false (walked_local (layouts_of t symbols) k name steps))
+      of_organization is e =
+          absurd (never (ap (λ (cs : List Cell). is_some (component 0 0 0 name cs))
+          (sym (components_here ∙ no_components (types_of symbols t.blocks) b block.well_formed is)) ∙ e))
+        where
+          never : is_some (component 0 0 0 name []) ≡ true → ⊥
+          never e = no_component name e
+
+      own : is_some (component 0 0 0 name (cells_at (layouts_of t symbols) k false)) ≡ true
+          → is_unknown (own_walked (context_at symbols t k) false (walked_local (layouts_of t symbols) k name steps)) ≡ false
+          → IsSeen a (own_walked (context_at symbols t k) false (walked_local (layouts_of t symbols) k name steps))
+      own e known = function (is_function b.kind) refl
+        where
+          instance : (t' : Bool) → is_function_block b.kind ≡ t' → is_function b.kind ≡ false
+              → IsSeen a (own_walked (context_at symbols t k) false (walked_local (layouts_of t symbols) k name steps))
+          instance true f g = of_block (function_block_kind b.kind f) e known
+          instance false f g = of_organization (code_kind b.kind code g f) e
+
+          function : (t' : Bool) → is_function b.kind ≡ t'
+              → IsSeen a (own_walked (context_at symbols t k) false (walked_local (layouts_of t symbols) k name steps))
+          function true f = of_function (function_kind b.kind f) e known
+          function false f = instance (is_function_block b.kind) refl f
+
+      by : (t' : Bool) → is_some (component 0 0 0 name (cells_at (layouts_of t symbols) k false)) ≡ t'
+          → is_unknown (own_variable (context_at symbols t k) name steps) ≡ false
+          → IsSeen a (own_variable (context_at symbols t k) name steps)
+      by true e known =
+          subst (λ (t' : Bool). IsSeen a (own_walked (context_at symbols t k) (not t') (walked_local (layouts_of t symbols) k name steps)))
+          (sym e) (own e (subst (λ (t' : Bool). is_unknown (own_walked (context_at symbols t k) (not t') (walked_local (layouts_of t symbols) k name steps)) ≡ false) e known))
+      by false e known =
+          subst (λ (t' : Bool). IsSeen a (own_walked (context_at symbols t k) (not t') (walked_local (layouts_of t symbols) k name steps)))
+          (sym e) (temporary e (subst (λ (t' : Bool). is_unknown (own_walked (context_at symbols t k) (not t') (walked_local (layouts_of t symbols) k name steps)) ≡ false) e known))
+
+-- ---- data blocks
+
+-- the layouts have the kinds and numbers of the blocks
+ids_laid : (y : Types) (blocks before bs : List Block)
+    → map (λ (b : BlockLayout). b.id) (layouts_from y blocks before bs) ≡ map (λ b. id_of y.symbols b) bs
+unfolding block_layout
+ids_laid y blocks before [] = refl
+ids_laid y blocks before (b ∷ bs) =
+    ap (λ (is : List (Option BlockId)). id_of y.symbols b ∷ is) (ids_laid y blocks (b ∷ before) bs)
+
+pub ids_same : (symbols : List Symbol) (t : Tree)
+    → map (λ (b : BlockLayout). b.id) (layouts_of t symbols) ≡ (types_of symbols t.blocks).ids
+unfolding layouts_of layouts_by
+ids_same symbols t =
+    ids_laid (types_of symbols t.blocks) t.blocks [] t.blocks
+    ∙ ap (λ (s : List Symbol). map (λ b. id_of s b) t.blocks) (measured_symbols symbols t.blocks)
+    ∙ sym (measured_ids symbols t.blocks)
+
+-- a block that is found by its name, with its layout
+pub record IsThere (symbols : List Symbol) (t : Tree) (kinds : BlockKind → Bool) (p : ℕ) : Type 0 where
+  pub id : BlockId
+  pub block : Block
+  pub layout : BlockLayout
+  pub laid : slice_get (layouts_of t symbols) p ≡ Some layout
+  pub is : layout.id ≡ Some id
+  pub kind : kinds id.kind ≡ true
+  pub same : block.kind ≡ id.kind
+  pub sound : IsSound symbols t p block layout
+
+pub layout_id : (symbols : List Symbol) (t : Tree) (p : ℕ) (b : Block) (l : BlockLayout)
+    → IsSound symbols t p b l → l.id ≡ id_of symbols b
+unfolding block_layout
+layout_id symbols t p b l h =
+    ap (λ (z : BlockLayout). z.id) h.layout
+    ∙ ap (λ (s : List Symbol). id_of s b) (measured_symbols symbols t.blocks)
+
+pub id_there : (symbols : List Symbol) (t : Tree) → IsSoundTree symbols t
+    → (kinds : BlockKind → Bool) (p : ℕ) (id : BlockId)
+    → slice_get (types_of symbols t.blocks).ids p ≡ Some (Some id) → kinds id.kind ≡ true
+    → IsThere symbols t kinds p
+id_there symbols t tree kinds p id there kind = record {
+  id = id;
+  block = from.of;
+  layout = laid.0;
+  laid = laid.1;
+  is = layout_id symbols t p from.of laid.0 laid.2 ∙ from.image;
+  kind = kind;
+  same = id_kind symbols from.of id from.image;
+  sound = laid.2;
+}
+  where
+    from : IsOrigin (λ b. id_of symbols b) t.blocks p (Some id)
+    from = origin (λ b. id_of symbols b) t.blocks p (Some id)
+        (ap (λ (ids : List (Option BlockId)). slice_get ids p) (sym (measured_ids symbols t.blocks)) ∙ there)
+
+    laid : (l : BlockLayout) × (slice_get (layouts_of t symbols) p ≡ Some l) × IsSound symbols t p from.of l
+    laid = layout_of_block symbols t tree p from.of from.there
+
+pub id_there_is : (symbols : List Symbol) (t : Tree) (tree : IsSoundTree symbols t)
+    (kinds : BlockKind → Bool) (p : ℕ) (id : BlockId)
+    (there : slice_get (types_of symbols t.blocks).ids p ≡ Some (Some id)) (kind : kinds id.kind ≡ true)
+    → (id_there symbols t tree kinds p id there kind).id ≡ id
+unfolding id_there
+id_there_is symbols t tree kinds p id there kind = refl
+
+pub block_there : (symbols : List Symbol) (t : Tree) → IsSoundTree symbols t
+    → (kinds : BlockKind → Bool) (name : BlockName) (p : ℕ)
+    → found_block (types_of symbols t.blocks).symbols (types_of symbols t.blocks).ids kinds name ≡ Some p
+    → IsThere symbols t kinds p
+block_there symbols t tree kinds name p e =
+    id_there symbols t tree kinds p found.id found.there found.kind
+  where
+    found : IsFoundBlock (types_of symbols t.blocks).ids kinds p
+    found = found_there (types_of symbols t.blocks).symbols (types_of symbols t.blocks).ids kinds name p e
+
+place_same : (symbols : List Symbol) (t : Tree) (k : ℕ) (name : BlockName)
+    → data_place (context_at symbols t k) name
+    ≡ found_block (types_of symbols t.blocks).symbols (types_of symbols t.blocks).ids is_data_block name
+place_same symbols t k name =
+    ap (λ (is : List (Option BlockId)). found_block symbols is is_data_block name) (ids_same symbols t)
+    ∙ ap (λ (s : List Symbol). found_block s (types_of symbols t.blocks).ids is_data_block name)
+    (sym (measured_symbols symbols t.blocks))
+
+-- the data block of a name that is known
+pub record IsData (symbols : List Symbol) (t : Tree) (k : ℕ) (name : BlockName) : Type 0 where
+  pub place : ℕ
+  pub found : data_place (context_at symbols t k) name ≡ Some place
+  pub listed : found_block (types_of symbols t.blocks).symbols (types_of symbols t.blocks).ids is_data_block name ≡ Some place
+  pub block : IsThere symbols t is_data_block place
+  pub number : data_number (context_at symbols t k) name ≡ Some block.id.number
+
+pub data_there : (symbols : List Symbol) (t : Tree) → IsSoundTree symbols t → (k : ℕ)
+    (name : BlockName) → is_unknown_data (types_of symbols t.blocks) name ≡ false
+    → IsData symbols t k name
+data_there symbols t tree k name e = record {
+  place = place.0;
+  found = found;
+  listed = place.1;
+  block = found_block_there;
+  number =
+      ap (λ (o : Option ℕ). option_and_then (λ (b : BlockLayout). number_of b.id) (option_and_then (whole_at (layouts_of t symbols)) o)) found
+      ∙ ap (λ (o : Option BlockLayout). option_and_then (λ (b : BlockLayout). number_of b.id) o)
+      (whole_is (layouts_of t symbols) place.0 found_block_there.layout found_block_there.laid found_block_there.sound.whole)
+      ∙ ap (λ (o : Option BlockId). number_of o) found_block_there.is;
+}
+  where
+    place : (p : ℕ) × (found_block (types_of symbols t.blocks).symbols (types_of symbols t.blocks).ids is_data_block name ≡ Some p)
+    place = not_none (found_block (types_of symbols t.blocks).symbols (types_of symbols t.blocks).ids is_data_block name) e
+
+    found : data_place (context_at symbols t k) name ≡ Some place.0
+    found = place_same symbols t k name ∙ place.1
+
+    found_block_there : IsThere symbols t is_data_block place.0
+    found_block_there = block_there symbols t tree is_data_block name place.0 place.1
+
+-- where the structure of a data block is
+pub record IsStructured (symbols : List Symbol) (t : Tree) (p : ℕ) : Type 0 where
+  pub inside : ℕ
+  pub is : structure_of (layouts_of t symbols) p ≡ Some inside
+  pub small : structure_bits (cells_at (layouts_of t symbols) inside false) ≤ 131072
+
+or_last : (a b : Bool) → (a || b) ≡ false → b ≡ false
+or_last true b e = absurd cc
+or_last false b e = e
+
+pub data_length : (y : Types) (blocks : List Block) (b : Block) → b.kind ≡ kinds.Db
+    → length_of y blocks b ≡ shape_bits y blocks b (shape_of y b) / 8
+unfolding length_of
+data_length y blocks b is = rw is refl
+
+-- what a shape refers to was found
+shape_found : (y : Types) (name : Option BlockName) (other : ℕ)
+    → shape_named y name ≡ shape.Of other
+    → (n : BlockName) × (found_block y.symbols y.ids has_structure n ≡ Some other)
+shape_found y None other e = absurd cc
+shape_found y (Some n) other e = (n, by (found_block y.symbols y.ids has_structure n) e)
+  where
+    by : (o : Option ℕ) → shape_at o ≡ shape.Of other → o ≡ Some other
+    by None e = absurd cc
+    by (Some m) e = ap (λ (i : ℕ). Some i) (let same : m ≡ other = cc in same)
+
+pub layout_shape : (symbols : List Symbol) (t : Tree) (p : ℕ) (b : Block) (l : BlockLayout)
+    → IsSound symbols t p b l → l.shape ≡ shape_of (types_of symbols t.blocks) b
+unfolding block_layout
+layout_shape symbols t p b l h = ap (λ (z : BlockLayout). z.shape) h.layout
+
+pub structured : (symbols : List Symbol) (t : Tree) → IsSoundTree symbols t → (p : ℕ)
+    → IsThere symbols t is_data_block p → IsStructured symbols t p
+structured symbols t tree p d = by (shape_of (types_of symbols t.blocks) d.block) refl
+  where
+    kind : d.block.kind ≡ kinds.Db
+    kind = d.same ∙ data_block_kind d.id.kind d.kind
+
+    whole : whole_at (layouts_of t symbols) p ≡ Some d.layout
+    whole = whole_is (layouts_of t symbols) p d.layout d.laid d.sound.whole
+
+    shape_is : d.layout.shape ≡ shape_of (types_of symbols t.blocks) d.block
+    shape_is = layout_shape symbols t p d.block d.layout d.sound
+
+    structure : (sh : Shape) → shape_of (types_of symbols t.blocks) d.block ≡ sh
+        → structure_of (layouts_of t symbols) p ≡ shape_block (layouts_of t symbols) p sh
+    structure sh e =
+        ap (λ (o : Option BlockLayout). option_and_then (λ (b : BlockLayout). shape_block (layouts_of t symbols) p b.shape) o) whole
+        ∙ ap (λ (s : Shape). shape_block (layouts_of t symbols) p s) (shape_is ∙ e)
+
+    short : (sh : Shape) → shape_of (types_of symbols t.blocks) d.block ≡ sh
+        → shape_bits (types_of symbols t.blocks) t.blocks d.block sh / 8 ≤ 16384
+    short sh e =
+        subst (λ (s : Shape). shape_bits (types_of symbols t.blocks) t.blocks d.block s / 8 ≤ 16384) e
+        (subst (λ (n : ℕ). n ≤ 16384) (data_length (types_of symbols t.blocks) t.blocks d.block kind)
+        (ltb-false 16384 (length_of (types_of symbols t.blocks) t.blocks d.block) d.sound.head.by_51))
+
+    by : (sh : Shape) → shape_of (types_of symbols t.blocks) d.block ≡ sh → IsStructured symbols t p
+    by shape.Own e = record {
+      inside = p;
+      is = structure shape.Own e;
+      small = subst (λ (cs : List Cell). structure_bits cs ≤ 131072)
+          (sym (cells_are symbols t p d.block d.layout d.sound false))
+          (short_bits (structure_bits (components_of (types_of symbols t.blocks) d.block) / 8)
+          (structure_bits (components_of (types_of symbols t.blocks) d.block)) (short shape.Own e) refl
+          (structure_even (components_of (types_of symbols t.blocks) d.block)));
+    }
+    by (shape.Of other) e = record {
+      inside = other;
+      is = structure (shape.Of other) e
+          ∙ ap (λ (t' : Bool). if t' then Some other else None)
+          (ap is_some (whole_is (layouts_of t symbols) other there.layout there.laid there.sound.whole));
+      small = subst (λ (cs : List Cell). structure_bits cs ≤ 131072)
+          (sym (cells_are symbols t other there.block there.layout there.sound false))
+          (short_bits (structure_bits (components_of (types_of symbols t.blocks) there.block) / 8)
+          (structure_bits (components_of (types_of symbols t.blocks) there.block))
+          (subst (λ (o : Option Block). block_bits (types_of symbols t.blocks) o / 8 ≤ 16384)
+          there.sound.block_there (short (shape.Of other) e)) refl
+          (structure_even (components_of (types_of symbols t.blocks) there.block)));
+    }
+      where
+        found : (n : BlockName) × (found_block (types_of symbols t.blocks).symbols (types_of symbols t.blocks).ids has_structure n ≡ Some other)
+        found = shape_found (types_of symbols t.blocks) (referred d.block.instance_of d.block.shape) other e
+
+        there : IsThere symbols t has_structure other
+        there = block_there symbols t tree has_structure found.0 other found.1
+    by shape.Unknown e =
+        let known = or_last (is_none (id_of (types_of symbols t.blocks).symbols d.block))
+        (is_unknown_shape (shape_of (types_of symbols t.blocks) d.block)) d.sound.head.by_23 in
+        let never : is_unknown_shape shape.Unknown ≡ false
+        = ap is_unknown_shape (sym e) ∙ known in
+        absurd cc
+
+-- a component of a data block
+pub data_seen : (symbols : List Symbol) (t : Tree) → IsSoundTree symbols t → (k : ℕ) (a : Around)
+    (name : BlockName) (steps : List PathStep)
+    → is_unknown_data (types_of symbols t.blocks) name ≡ false
+    → is_unknown (data_variable (context_at symbols t k) name steps) ≡ false
+    → leaves_found (layouts_of t symbols)
+    (found_block (types_of symbols t.blocks).symbols (types_of symbols t.blocks).ids is_data_block name) steps ≡ false
+    → IsSeen a (data_variable (context_at symbols t k) name steps)
+data_seen symbols t tree k a name steps there known stays =
+    subst (IsSeen a) (sym whole)
+    (reads (walked_data (layouts_of t symbols) d.place steps) refl goes
+    (subst (λ (s : Seen). is_unknown s ≡ false) whole known))
+  where
+    d : IsData symbols t k name
+    d = data_there symbols t tree k name there
+
+    s : IsStructured symbols t d.place
+    s = structured symbols t tree d.place d.block
+
+    whole : data_variable (context_at symbols t k) name steps
+        ≡ data_walked (context_at symbols t k) d.block.id.number (walked_data (layouts_of t symbols) d.place steps)
+    whole =
+        ap (λ (o : Option ℕ). data_path (context_at symbols t k) steps o (data_place (context_at symbols t k) name)) d.number
+        ∙ ap (λ (o : Option ℕ). data_path (context_at symbols t k) steps (Some d.block.id.number) o) d.found
+
+    goes : Goes (layouts_of t symbols) (structure_bits (cells_at (layouts_of t symbols) s.inside false))
+        (walked_data (layouts_of t symbols) d.place steps)
+    goes = data_goes (layouts_of t symbols) (structure_bits (cells_at (layouts_of t symbols) s.inside false))
+        (are_right symbols t tree) (let small = s.small in omega (arith, small)) d.place s.inside steps s.is
+        (omega arith)
+        (subst (λ (o : Option ℕ). leaves_found (layouts_of t symbols) o steps ≡ false) d.listed stays)
+
+    at : (w : Spot) → Lies (layouts_of t symbols) (structure_bits (cells_at (layouts_of t symbols) s.inside false)) w
+        → (o : Option Simple) → elementary_at (layouts_of t symbols) w ≡ o
+        → IsSeen a (data_at (context_at symbols t k) d.block.id.number w o)
+    at w h None e = record {
+      view = composite (slice_get (cells_at (layouts_of t symbols) w.block w.temporary) w.place);
+      is = refl;
+      fits = composite_fits a (slice_get (cells_at (layouts_of t symbols) w.block w.temporary) w.place);
+    }
+    at w h (Some kind) e = record {
+      view = view.Direct (place_at area.Db d.block.id.number w.offset) (width_of kind) side.Both (Some kind);
+      is = placed_sees area.Db d.block.id.number w.offset
+          (structure_bits (cells_at (layouts_of t symbols) s.inside false)) kind place
+          (let small = s.small in omega (arith, small));
+      fits = (
+        data_fits a w.offset (structure_bits (cells_at (layouts_of t symbols) s.inside false)) kind place,
+        refl,
+      );
+    }
+      where
+        place : IsPlaced (structure_bits (cells_at (layouts_of t symbols) s.inside false)) w.offset kind
+        place = reached_place (layouts_of t symbols) (structure_bits (cells_at (layouts_of t symbols) s.inside false)) w kind h e
+
+    reads : (w : Walk) → w ≡ walked_data (layouts_of t symbols) d.place steps
+        → Goes (layouts_of t symbols) (structure_bits (cells_at (layouts_of t symbols) s.inside false)) w
+        → is_unknown (data_walked (context_at symbols t k) d.block.id.number w) ≡ false
+        → IsSeen a (data_walked (context_at symbols t k) d.block.id.number w)
+    reads (walk.Reaches w) e g u = at w g (elementary_at (layouts_of t symbols) w) refl
+    reads walk.Unknown e g u = absurd cc
+    reads walk.Rests e g u = absurd g
+
+-- ---- operands
+
+-- what the rules leave of an operand
+pub record IsJudged (symbols : List Symbol) (t : Tree) (k : ℕ) (o : Operand) : Type 0 where
+  pub well_formed : IsOperand o
+  pub known : is_unknown (seen (context_at symbols t k) o) ≡ false
+  pub there : names_unknown (types_of symbols t.blocks) o ≡ false
+  pub inside : operand_is_outside (types_of symbols t.blocks) (layouts_of t symbols) k o ≡ false
+
+module _ (symbols : List Symbol) (t : Tree) (tree : IsSoundTree symbols t)
+    (fit : AllByRecursion SymbolFits symbols) (k : ℕ) (b : Block) (l : BlockLayout)
+    (block : IsSound symbols t k b l) (code : is_code b.kind ≡ true)
+    (a : Around) (around : Surrounds symbols t b l a) where
+  symbol_fits : (name : List ℕ) (o : Option Symbol) → symbol_named name symbols ≡ o
+      → is_unknown (symbol_seen o) ≡ false → IsSeen a (symbol_seen o)
+  symbol_fits name None e known = absurd cc
+  symbol_fits name (Some s) e known = record {
+    view = target_view s.target;
+    is = refl;
+    fits = target_fits a s.target (named_fits name symbols s fit e);
+  }
+
+  path_fits : (p : PathHead) (steps : List PathStep)
+      → is_unknown (path_seen (context_at symbols t k) p steps) ≡ false
+      → is_unknown_path (types_of symbols t.blocks) p ≡ false
+      → leaves_path (types_of symbols t.blocks) (layouts_of t symbols) k p steps ≡ false
+      → IsSeen a (path_seen (context_at symbols t k) p steps)
+  path_fits (head.Local name) steps known there inside =
+      own_seen symbols t tree k b l block code a around (folded name) (folded_path steps) known inside
+  path_fits (head.InBlock name) steps known there inside =
+      data_seen symbols t tree k a name (folded_path steps) there known inside
+  path_fits (head.Symbol name) steps known there inside =
+      symbol_fits name (symbol_named name symbols) refl known
+
+  pub operand_seen : (o : Operand) → IsJudged symbols t k o → is_called o ≡ false
+      → local_end o ≤ a.local_len → IsSeen a (seen (context_at symbols t k) o)
+  unfolding seen
+  operand_seen operand.Nothing h other ends = record { view = view.Nothing; is = refl; fits = tt }
+  operand_seen (operand.Direct None ar w byte bit) h other ends = record {
+    view = address 0 ar w byte bit;
+    is = refl;
+    fits = (address_fits a ar w byte bit h.well_formed.2 ends, tt);
+  }
+  operand_seen (operand.Direct (Some name) ar w byte bit) h other ends = record {
+    view = address d.block.id.number ar w byte bit;
+    is = ap (λ (o : Option ℕ). address_in o ar w byte bit) d.number;
+    fits = (address_fits a ar w byte bit h.well_formed.2 ends, tt);
+  }
+    where
+      d : IsData symbols t k name
+      d = data_there symbols t tree k name h.there
+  operand_seen (operand.Timer number) h other ends =
+      record { view = view.Timer number; is = refl; fits = tt }
+  operand_seen (operand.Counter number) h other ends =
+      record { view = view.Counter number; is = refl; fits = tt }
+  operand_seen (operand.Named p steps) h other ends = path_fits p steps h.known h.there h.inside
+  operand_seen (operand.ByMemory ar w from byte) h other ends =
+      record { view = view.ByMemory (area_of ar) w (area_of from) byte; is = refl; fits = tt }
+  operand_seen (operand.NumberBy what from byte) h other ends =
+      record { view = view.NumberBy what (area_of from) byte; is = refl; fits = tt }
+  operand_seen (operand.ByRegister ar w r bits) h other ends =
+      record { view = view.ByRegister (area_left ar) w r bits; is = refl; fits = tt }
+  operand_seen (operand.Pointer ar byte bit) h other ends =
+      record { view = view.Pointer (area_left ar) byte bit; is = refl; fits = tt }
+  operand_seen (operand.Constant value) h other ends =
+      record { view = view.Constant; is = refl; fits = tt }
+  operand_seen (operand.Label name) h other ends = record { view = view.Label; is = refl; fits = tt }
+  operand_seen (operand.OfStatus flag) h other ends =
+      record { view = view.OfStatus flag; is = refl; fits = tt }
+  operand_seen (operand.Other name) h other ends =
+      record { view = view.Register (register_of name); is = refl; fits = tt }
+  operand_seen (operand.OpenBlock di name) h other ends = record {
+    view = view.OpenBlock di d.block.id.number;
+    is = ap (λ (o : Option ℕ). opened_seen di o) d.number;
+    fits = tt;
+  }
+    where
+      d : IsData symbols t k name
+      d = data_there symbols t tree k name h.there
+  operand_seen (operand.Called name instance) h other ends = absurd cc

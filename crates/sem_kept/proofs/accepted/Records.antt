@@ -1,0 +1,87 @@
+-- The records of an accepted source's program: no field of them has a fault.
+use Rattle.std.proofs.Common.{◌≡◌, ℕ, ◌+◌, ◌<◌, Bool, true, List, [], ◌∷◌, length, map, get_or, Option, Some, None, refl, sym, ap, subst, ◌∙◌, arith}
+use Rattle.std.specs.Prelude.{suc}
+use Rattle.std.specs.List.{AllByRecursion}
+use Rattle.std.proofs.lemmas.Bool.{and_from}
+use Rattle.std.proofs.lemmas.Bool.Decides.{nat_tests}
+use Rattle.std.proofs.lemmas.List.{length-map}
+use Rattle.flat_code.specs.Checking.{all_good, good_counts, good_datas, good_names}
+use Rattle.flat_code.specs.Faults.{fault_of}
+use Rattle.flat_code.specs.Image.{after_block, after_data, after_name, body, code_block, code_blocks, counts, data_block, data_blocks, data_count, name_of_entry, name_record, names, number_of_kind, plain_u16, raw_records, record_of_block, records, zero_u16}
+use Rattle.flat_code.specs.Programs.{Program}
+use Rattle.stl_ast.specs.declared.blocks.Tree.{Tree}
+use Rattle.stl_parser.specs.Lines.{Rises, lines_of, LinesRise}
+use Rattle.stl_parser.proofs.RiseLemmas.{lines_rise}
+use Rattle.stl_symbols.specs.Symbol.{Symbol}
+use Rattle.block_layout.specs.Layouts.{layouts_of}
+use Rattle.stl_codegen.specs.Compiled.{compiled}
+use Rattle.stl_codegen.specs.Generated.{code_blocks_of}
+use Rattle.stl_codegen.specs.Order.{is_code_before}
+use Rattle.sem_kept.specs.Accepted.{AreSymbols, program_in}
+use Rattle.sem_kept.specs.Records.{HasCode, HasCounts, IsOfBytes, RecordsAreRight}
+use Rattle.sem_kept.proofs.accepted.Accepted.{IsSoundTree, all_both, right_tree, sound_code_blocks}
+use Rattle.sem_kept.proofs.accepted.RecordBlocks.{HasFields, IsRightBlock, code_blocks_rise, counted, data_blocks_rise, fields_of, first_good, next_good}
+use Rattle.sem_kept.proofs.accepted.RecordData.{data_blocks_right}
+use Rattle.sem_kept.proofs.accepted.RecordNames.{AreNamed, OfBytes, names_right, symbols_named}
+use Rattle.sem_kept.proofs.accepted.RecordOrder.{good_all}
+
+-- ---- a program of right records
+
+counts_good : (codes datas names : ℕ) → good_counts codes datas names ≡ true → counts.good (codes, (datas, (names, 0))) ≡ true
+unfolding counts plain_u16 data_count zero_u16 fault_of
+counts_good codes datas names h = grind (arith, nat_tests)
+
+body_good : (judged : Bool) (p : Program) → HasCounts p
+    → all_good (code_block judged) after_block (0, 0) (map record_of_block p.code_blocks) ≡ true
+    → good_datas (0, 0) p.data_blocks ≡ true → good_names [] p.names ≡ true → (body judged).good p ≡ true
+unfolding body records raw_records code_blocks data_blocks names
+body_good judged p enough blocks datas entries =
+    and_from _ _
+    (rw (length-map p.code_blocks record_of_block, length-map p.names name_of_entry) (counts_good (length p.code_blocks) (length p.data_blocks) (length p.names) enough))
+    (and_from _ _ (counted (code_block judged) after_block (0, 0) (map record_of_block p.code_blocks) ∙ blocks)
+    (and_from _ _ (counted data_block after_data (0, 0) p.data_blocks ∙ datas)
+    (counted name_record after_name [] (map name_of_entry p.names) ∙ entries)))
+
+-- ---- that of an accepted source
+
+map_twice : {A B C : Type 0} (f : A → B) (g : B → C) (xs : List A) → map g (map f xs) ≡ map (λ x. g (f x)) xs
+map_twice f g [] = refl
+map_twice {C = C} f g (x ∷ xs) = ap (λ (z : List C). g (f x) ∷ z) (map_twice f g xs)
+
+unmapped : {A B : Type 0} (P : B → Type 0) (f : A → B) (xs : List A) → AllByRecursion P (map f xs) → AllByRecursion (λ x. P (f x)) xs
+unmapped P f [] h = tt
+unmapped P f (x ∷ xs) h = (h.0, unmapped P f xs h.1)
+
+pub code_blocks_right : (symbols : List Symbol) (t : Tree) (last : ℕ) (judged : Bool) → IsSoundTree symbols t → last < 4294967296
+    → AllByRecursion (λ b. Rises last 1 (lines_of b)) t.blocks
+    → AllByRecursion HasCode (map compiled (code_blocks_of t symbols (layouts_of t symbols)))
+    → all_good (code_block judged) after_block (0, 0) (map record_of_block (map compiled (code_blocks_of t symbols (layouts_of t symbols)))) ≡ true
+code_blocks_right symbols t last judged h near rise codes =
+    let blocks = code_blocks_of t symbols (layouts_of t symbols) in
+    ap (λ z. all_good (code_block judged) after_block (0, 0) z) (map_twice compiled record_of_block blocks)
+    ∙ good_all (code_block judged) after_block (λ x. record_of_block (compiled x)) (λ x. (number_of_kind x.id.kind, x.id.number)) is_code_before (IsRightBlock last) (0, 0)
+    (λ s x. refl) (λ x is. first_good last judged x near is) (λ x y there rises is. next_good last judged x y near there.0.code rises is)
+    blocks (code_blocks_rise symbols t h)
+    (all_both (λ x. HasFields last (compiled x)) (λ x. HasCode (compiled x)) blocks
+    (sound_code_blocks symbols t (λ x. HasFields last (compiled x)) h (fields_of last symbols t rise))
+    (unmapped HasCode compiled blocks codes))
+
+all_from : (bytes : List ℕ) → ((i : ℕ) → get_or bytes i 0 < 256) → OfBytes bytes
+all_from [] h = tt
+all_from (b ∷ bytes) h = (h 0, all_from bytes (λ i. h (suc i)))
+
+pub file_named : (file : Option (List ℕ)) (symbols : List Symbol) → AreSymbols file symbols → IsOfBytes file → AreNamed symbols
+file_named None symbols none bytes = subst AreNamed (sym none) (tt, tt)
+file_named (Some text) symbols are bytes = symbols_named text symbols (all_from text bytes) are
+
+pub right_by : LinesRise → RecordsAreRight
+right_by law source file symbols t a bytes codes enough judged =
+    let h = right_tree source file symbols t a in
+    let short = a.short in
+    body_good judged (program_in symbols t) enough
+    (code_blocks_right symbols t (1 + length source) judged h (omega (arith, short)) (law source a.tokens t a.lexed a.parsed) codes)
+    (data_blocks_right symbols t h (data_blocks_rise symbols t h))
+    (names_right symbols (file_named file symbols a.named bytes))
+
+pub records_right : RecordsAreRight
+records_right = right_by lines_rise

@@ -1,0 +1,834 @@
+-- The bytes of ops, and that those of a statement fit its size.
+use Rattle.std.proofs.Common.{◌≡◌, ℕ, suc, ◌+◌, ◌*◌, ◌≤◌, Bool, true, false, cond, not, ◌&&◌, List, [], ◌∷◌, ◌++◌, length, length-append, map, Option, Some, None, refl, sym, ap, subst, ◌∙◌, arith}
+use Rattle.std.specs.Prelude.{◌/◌, find, is_some, nat_eq, nat_le, if◌then◌else◌}
+use Rattle.std.specs.List.{AllByRecursion, count_by, sum_by}
+use Rattle.std.specs.Option.{IfSome}
+use Rattle.std.proofs.lemmas.List.{length-map}
+use Rattle.std.proofs.lemmas.List.Sums.{sum_by-cons}
+use Rattle.plc_base.specs.declared.blocks.BlockId.{BlockId}
+use Rattle.plc_base.specs.declared.places.Area.{Area}
+use Rattle.plc_base.specs.declared.places.Area.TheVariants as area
+use Rattle.plc_base.specs.declared.places.Place.{Place}
+use Rattle.plc_base.specs.declared.places.Width.{Width}
+use Rattle.flat_code.specs.Codes.{code_bytes}
+use Rattle.flat_code.specs.Forms.{actual, direct, payload}
+use Rattle.flat_code.specs.Instr.{Calls, Does, Passing, Returns}
+use Rattle.flat_code.specs.Ops.{OpData, op_bytes}
+use Rattle.flat_code.specs.declared.kinds.JumpWord.{JumpWord}
+use Rattle.flat_code.specs.declared.kinds.JumpWord.TheVariants as jump
+use Rattle.flat_code.specs.declared.operands.Operand.{Operand as FlatOperand}
+use Rattle.flat_code.specs.declared.operands.Operand.TheVariants as flat
+use Rattle.flat_code.specs.declared.operands.Passed.{Passed}
+use Rattle.flat_code.specs.declared.operands.Passed.TheVariants as passed
+use Rattle.flat_code.specs.declared.words.CallWord.{CallWord}
+use Rattle.flat_code.specs.declared.words.EndWord.{EndWord}
+use Rattle.flat_code.specs.declared.words.EndWord.TheVariants as ends
+use Rattle.flat_code.specs.declared.words.Word.{Word}
+use Rattle.flat_code.specs.declared.words.Word.TheVariants as word
+use Rattle.stl_ast.specs.Blocks.{has_body}
+use Rattle.stl_ast.specs.Sizes.{block_size, body_size, code_size, op_size, path_size, return_size, statement_size}
+use Rattle.stl_ast.specs.Statements.{is_empty}
+use Rattle.stl_ast.specs.declared.blocks.Block.{Block}
+use Rattle.stl_ast.specs.declared.blocks.PathStep.{PathStep}
+use Rattle.stl_ast.specs.declared.declarations.Simple.{Simple}
+use Rattle.stl_ast.specs.declared.literals.Literal.{Literal}
+use Rattle.stl_ast.specs.declared.mnemonics.Mnemonic.{Mnemonic}
+use Rattle.stl_ast.specs.declared.mnemonics.Mnemonic.TheVariants as code
+use Rattle.stl_ast.specs.declared.names.BlockName.{BlockName}
+use Rattle.stl_ast.specs.declared.operands.Letters.{Letters}
+use Rattle.stl_ast.specs.declared.operands.Numbered.{Numbered}
+use Rattle.stl_ast.specs.declared.operands.Numbered.TheVariants as numbered
+use Rattle.stl_ast.specs.declared.operands.Operand.{Operand}
+use Rattle.stl_ast.specs.declared.operands.Operand.TheVariants as operand
+use Rattle.stl_ast.specs.declared.operands.PathHead.{PathHead}
+use Rattle.stl_ast.specs.declared.operands.PathHead.TheVariants as head
+use Rattle.stl_ast.specs.declared.statements.Statement.{Statement}
+use Rattle.stl_symbols.specs.Symbol.{Symbol, symbol_named}
+use Rattle.stl_symbols.specs.declared.targets.Target.{Target}
+use Rattle.stl_symbols.specs.declared.targets.Target.TheVariants as target
+use Rattle.block_layout.specs.Offsets.{place_at, placed, width_of}
+use Rattle.block_layout.specs.declared.cells.Cell.{Cell}
+use Rattle.block_layout.specs.declared.cells.Element.{Element}
+use Rattle.block_layout.specs.declared.cells.Element.TheVariants as element
+use Rattle.block_layout.specs.declared.walks.Spot.{Spot}
+use Rattle.block_layout.specs.declared.walks.Walk.{Walk}
+use Rattle.block_layout.specs.declared.walks.Walk.TheVariants as walk
+use Rattle.stl_types.specs.Addresses.{address_in, area_of}
+use Rattle.stl_types.specs.Context.{Context, data_number, in_function}
+use Rattle.stl_types.specs.Constants.{takes_constant}
+use Rattle.stl_types.specs.Forms.{form_of}
+use Rattle.stl_types.specs.Kinds.{is_called}
+use Rattle.stl_types.specs.Operands.{operand_rule, rule_of, rule_seen, statement_rule, takes}
+use Rattle.stl_types.specs.Parameters.{callee_of}
+use Rattle.stl_types.specs.Resolved.{resolved, seen_view}
+use Rattle.stl_types.specs.Seen.{called_seen, direct_seen, opened_seen, path_seen, register_of, seen, symbol_seen, target_view}
+use Rattle.stl_types.specs.Variables.{composite, data_at, data_path, data_walked, date_or_composite, in_area, own_at, own_elementary, own_walked, parameter, parameter_at}
+use Rattle.stl_types.specs.declared.forms.Form.{Form}
+use Rattle.stl_types.specs.declared.forms.Form.TheVariants as form
+use Rattle.stl_types.specs.declared.views.Register.{Register}
+use Rattle.stl_types.specs.declared.views.Register.TheVariants as register
+use Rattle.stl_types.specs.declared.views.Seen.{Seen}
+use Rattle.stl_types.specs.declared.views.Seen.TheVariants.{Rests, Sees, Unknown}
+use Rattle.stl_types.specs.declared.views.View.{View}
+use Rattle.stl_types.specs.declared.views.View.TheVariants as view
+use Rattle.stl_codegen.specs.Compiled.{Stated, aimed, aimed_op, code_in, lines_in, ops_in, placed_ops}
+use Rattle.stl_codegen.specs.Emitted.{call_op, ending, opening, ops_of, passing, preparing}
+use Rattle.stl_codegen.specs.Generated.{returning, stated_from, statements_of}
+use Rattle.stl_codegen.specs.Instruction.{call_instr, end_instr, filler, instr_by, instruction, jump_instr, passings_to, resolved_instr, target_of, view_instr}
+use Rattle.stl_codegen.specs.Operands.{is_db, is_in_named_block, numbered_operand, opened_by, opened_by_place, operand_of, register_operand}
+use Rattle.stl_codegen.specs.Words.{call_of, end_of, jump_of, word_of}
+use Rattle.sem_kept.proofs.accepted.SizesNames.{IsApart, IsFine}
+
+-- ---- the bytes of ops
+
+abbrev pub bytes_in : List OpData → ℕ
+bytes_in ops = length (code_bytes ops)
+
+abbrev passed_size : Passed → ℕ
+passed_size (passed.Literal value) = 5
+passed_size (passed.Direct area width byte bit) = 6
+passed_size (passed.Parameter index width) = 3
+passed_size (passed.InBlock number area width byte bit) = 8
+
+-- of an op by its operand
+abbrev flat_size : FlatOperand → ℕ
+flat_size flat.Nothing = 2
+flat_size (flat.Literal value) = 6
+flat_size (flat.Direct area width byte bit) = 7
+flat_size (flat.ByMemory area width from byte) = 7
+flat_size (flat.ByRegister area width register bits) = 9
+flat_size (flat.Parameter index width) = 4
+flat_size (flat.Numbered kind number) = 5
+flat_size (flat.NumberedBy kind from byte) = 6
+flat_size (flat.Jump kind target) = 7
+flat_size (flat.OfStatus condition) = 3
+flat_size (flat.UseDb number) = 4
+flat_size (flat.Pass index passed) = 3 + passed_size passed
+flat_size (flat.Called kind number instance) = 7
+flat_size (flat.OpenBlock register number) = 5
+flat_size (flat.OpenBy register from byte) = 6
+
+pass_sized : (index : ℕ) (p : Passed)
+    → suc (suc (length (payload (flat.Pass index p)))) ≡ flat_size (flat.Pass index p)
+unfolding actual direct
+pass_sized index (passed.Literal value) = refl
+pass_sized index (passed.Direct area width byte bit) = refl
+pass_sized index (passed.Parameter index' width) = refl
+pass_sized index (passed.InBlock number area width byte bit) = refl
+
+payload_sized : (o : FlatOperand) → suc (suc (length (payload o))) ≡ flat_size o
+unfolding direct
+payload_sized flat.Nothing = refl
+payload_sized (flat.Literal value) = refl
+payload_sized (flat.Direct area width byte bit) = refl
+payload_sized (flat.ByMemory area width from byte) = refl
+payload_sized (flat.ByRegister area width register bits) = refl
+payload_sized (flat.Parameter index width) = refl
+payload_sized (flat.Numbered kind number) = refl
+payload_sized (flat.NumberedBy kind from byte) = refl
+payload_sized (flat.Jump kind target) = refl
+payload_sized (flat.OfStatus condition) = refl
+payload_sized (flat.UseDb number) = refl
+payload_sized (flat.Pass index passed) = pass_sized index passed
+payload_sized (flat.Called kind number instance) = refl
+payload_sized (flat.OpenBlock register number) = refl
+payload_sized (flat.OpenBy register from byte) = refl
+
+op_sized : (op : OpData) → length (op_bytes op) ≡ flat_size op.operand
+unfolding op_bytes
+op_sized op = payload_sized op.operand
+
+one_sized : (op : OpData) → bytes_in (op ∷ []) ≡ flat_size op.operand
+one_sized op = omega (arith, length-append (op_bytes op) [], op_sized op)
+
+pub bytes_both : (xs ys : List OpData) → bytes_in (xs ++ ys) ≡ bytes_in xs + bytes_in ys
+bytes_both [] ys = omega arith
+bytes_both (x ∷ xs) ys =
+    omega (
+      arith,
+      length-append (op_bytes x) (code_bytes (xs ++ ys)),
+      length-append (op_bytes x) (code_bytes xs),
+      bytes_both xs ys,
+    )
+
+-- targets as offsets take no other bytes
+aimed_size : (f : ℕ → ℕ) (o : FlatOperand) → flat_size (aimed f o) ≡ flat_size o
+aimed_size f (flat.Jump kind target) = refl
+aimed_size f _ = refl
+
+aimed_bytes : (f : ℕ → ℕ) (ops : List OpData) → bytes_in (map (aimed_op f) ops) ≡ bytes_in ops
+aimed_bytes f [] = refl
+aimed_bytes f (op ∷ ops) =
+    omega (
+      arith,
+      length-append (op_bytes (aimed_op f op)) (code_bytes (map (aimed_op f) ops)),
+      length-append (op_bytes op) (code_bytes ops),
+      aimed_bytes f ops,
+      op_sized (aimed_op f op),
+      op_sized op,
+      aimed_size f op.operand,
+    )
+
+pub placed_bytes : (ops : List OpData) → bytes_in (placed_ops ops) ≡ bytes_in ops
+unfolding placed_ops
+placed_bytes ops = aimed_bytes _ ops
+
+-- ---- of instructions
+
+abbrev opened_size : Option ℕ → ℕ
+opened_size None = 0
+opened_size (Some number) = 4
+
+does_sized : (use_db : Option ℕ) (w : Word) (o : FlatOperand)
+    → bytes_in (ops_of (Does use_db w o)) ≡ opened_size use_db + flat_size o
+unfolding ops_of
+does_sized None w o = omega (arith, one_sized (ending w o))
+does_sized (Some number) w o =
+    omega (
+      arith,
+      bytes_both (opening (Some number)) (ending w o ∷ []),
+      one_sized (ending w o),
+      one_sized (preparing word.UseDb (flat.UseDb number)),
+    )
+
+passed_few : (index : ℕ) (p : Passed) → flat_size (flat.Pass index p) ≤ 11
+passed_few index (passed.Literal value) = omega arith
+passed_few index (passed.Direct area width byte bit) = omega arith
+passed_few index (passed.Parameter index' width) = omega arith
+passed_few index (passed.InBlock number area width byte bit) = omega arith
+
+passing_sized : (ps : List Passing) → bytes_in (passing ps) ≤ 11 * length ps
+passing_sized [] = omega arith
+passing_sized (p ∷ ps) =
+    let op = preparing word.Pass (flat.Pass p.index p.actual) in
+    omega (
+      arith,
+      length-append (op_bytes op) (code_bytes (passing ps)),
+      op_sized op,
+      passed_few p.index p.actual,
+      passing_sized ps,
+    )
+
+calls_sized : (how : CallWord) (id : BlockId) (instance : Option ℕ) (ps : List Passing)
+    → bytes_in (ops_of (Calls how id instance ps)) ≤ 7 + 11 * length ps
+unfolding ops_of
+calls_sized how id instance ps =
+    omega (
+      arith,
+      bytes_both (passing ps) (call_op how id instance ∷ []),
+      one_sized (call_op how id instance),
+      passing_sized ps,
+    )
+
+jump_sized : (how : JumpWord) (n target : ℕ) → bytes_in (ops_of (jump_instr how n target)) ≡ 7
+unfolding ops_of
+jump_sized how n target = by how
+  where
+    by : (how : JumpWord) → bytes_in (ops_of (jump_instr how n target)) ≡ 7
+    by jump.Jl = one_sized _
+    by _ = one_sized _
+
+returns_sized : (how : EndWord) → bytes_in (ops_of (Returns how)) ≡ 2
+unfolding ops_of
+returns_sized how = one_sized _
+
+-- ---- of what operands name
+
+abbrev ViewFits : ℕ → Operand → View → Type 0
+ViewFits n o v = opened_size (opened_by v) + flat_size (operand_of o v) ≤ n
+
+abbrev SeenFits : ℕ → Operand → Seen → Type 0
+SeenFits n o (Sees v) = ViewFits n o v
+SeenFits n o _ = Unit {0}
+
+composite_fits : (n : ℕ) (o : Operand) (c : Option Cell) → 2 ≤ n
+    → SeenFits n o (Sees (composite c))
+unfolding operand_of
+composite_fits n o None h = omega (arith, h)
+composite_fits n o (Some c) h = by c.of
+  where
+    by : (e : Element) → SeenFits n o (Sees (date_or_composite e))
+    by element.DateAndTime = omega (arith, h)
+    by _ = omega (arith, h)
+
+-- any place
+place_fits : (o : Operand) (place : Place) (named : Bool)
+    → opened_size (if named then Some place.number else None) + 7 ≤ 11
+place_fits o place true = omega arith
+place_fits o place false = omega arith
+
+-- a place in no data block that is named
+none_opened : (b : Bool) (n m : ℕ) → n ≡ 0
+    → (if b && not (nat_eq n 0) then Some m else None) ≡ None
+none_opened true n m h = rw h refl
+none_opened false n m h = refl
+
+apart : (place : Place) → place.number ≡ 0 → opened_by_place place ≡ None
+apart place h = none_opened (is_db place.area) place.number place.number h
+
+apart_fits : (place : Place) → place.number ≡ 0 → opened_size (opened_by_place place) + 7 ≤ 7
+apart_fits place h = rw (apart place h) (omega arith)
+
+own_area_fits : (o : Operand) (a : Area) (bits : ℕ) (kind : Simple)
+    → SeenFits 7 o (in_area kind (placed a 0 bits (Some kind)))
+unfolding operand_of
+own_area_fits o a bits kind = by (nat_le (bits / 8) 65535)
+  where
+    by : (near : Bool) → SeenFits 7 o (in_area kind (if near then Some (place_at a 0 bits, width_of kind) else None))
+    by true = apart_fits (place_at a 0 bits) refl
+    by false = tt
+
+parameter_fits : (o : Operand) (index : ℕ) (kind : Simple) (c : Option Cell)
+    → SeenFits 7 o (parameter index kind c)
+unfolding operand_of
+parameter_fits o index kind None = tt
+parameter_fits o index kind (Some c) = omega arith
+
+own_elementary_fits : (c : Context) (o : Operand) (temporary : Bool) (spot : Spot) (kind : Simple)
+    → SeenFits 7 o (own_elementary c temporary spot kind)
+own_elementary_fits c o true spot kind = own_area_fits o area.L spot.offset kind
+own_elementary_fits c o false spot kind = by (in_function c)
+  where
+    by : (function : Bool) → SeenFits 7 o (if function then parameter_at c spot kind
+        else in_area kind (placed area.Di 0 spot.offset (Some kind)))
+    by true = parameter_fits o _ kind _
+    by false = own_area_fits o area.Di spot.offset kind
+
+own_at_fits : (c : Context) (o : Operand) (temporary : Bool) (spot : Spot) (kind : Option Simple)
+    → SeenFits 7 o (own_at c temporary spot kind)
+own_at_fits c o temporary spot None = composite_fits 7 o _ (omega arith)
+own_at_fits c o temporary spot (Some kind) = own_elementary_fits c o temporary spot kind
+
+own_fits : (c : Context) (o : Operand) (temporary : Bool) (w : Walk)
+    → SeenFits 7 o (own_walked c temporary w)
+own_fits c o temporary (walk.Reaches spot) = own_at_fits c o temporary spot _
+own_fits c o temporary walk.Unknown = tt
+own_fits c o temporary walk.Rests = tt
+
+data_area_fits : (o : Operand) (number bits : ℕ) (kind : Simple)
+    → SeenFits 11 o (in_area kind (placed area.Db number bits (Some kind)))
+unfolding operand_of
+data_area_fits o number bits kind = by (nat_le (bits / 8) 65535)
+  where
+    by : (near : Bool) → SeenFits 11 o (in_area kind (if near then Some (place_at area.Db number bits, width_of kind) else None))
+    by true =
+        place_fits o (place_at area.Db number bits) (is_in_named_block (place_at area.Db number bits))
+    by false = tt
+
+data_at_fits : (c : Context) (o : Operand) (number : ℕ) (spot : Spot) (kind : Option Simple)
+    → SeenFits 11 o (data_at c number spot kind)
+data_at_fits c o number spot None = composite_fits 11 o _ (omega arith)
+data_at_fits c o number spot (Some kind) = data_area_fits o number spot.offset kind
+
+data_walked_fits : (c : Context) (o : Operand) (number : ℕ) (w : Walk)
+    → SeenFits 11 o (data_walked c number w)
+data_walked_fits c o number (walk.Reaches spot) = data_at_fits c o number spot _
+data_walked_fits c o number walk.Unknown = tt
+data_walked_fits c o number walk.Rests = tt
+
+data_path_fits : (c : Context) (o : Operand) (steps : List PathStep) (number block : Option ℕ)
+    → SeenFits 11 o (data_path c steps number block)
+data_path_fits c o steps (Some number) (Some block) = data_walked_fits c o number _
+data_path_fits c o steps (Some number) None = tt
+data_path_fits c o steps None block = tt
+
+target_fits : (o : Operand) (t : Target) → IsApart t → SeenFits 7 o (Sees (target_view t))
+unfolding operand_of
+target_fits o (target.Variable place width) h = apart_fits place h
+target_fits o (target.Timer number) h = omega arith
+target_fits o (target.Counter number) h = omega arith
+target_fits o (target.Block id) h = omega arith
+
+symbol_fits : (o : Operand) (s : Option Symbol) → IfSome s IsFine → SeenFits 7 o (symbol_seen s)
+symbol_fits o None h = tt
+symbol_fits o (Some s) h = target_fits o s.target h.apart
+
+-- what is found has what all have
+found_has : {X : Type 0} (P : X → Type 0) (test : X → Bool) (xs : List X) → AllByRecursion P xs
+    → IfSome (find test xs) P
+found_has P test [] h = tt
+found_has {X = X} P test (x ∷ xs) h = by (test x) (found_has P test xs h.1)
+  where
+    by : (here : Bool) → IfSome (find test xs) P
+        → IfSome (if here then Some x else find test xs) P
+    by true more = h.0
+    by false more = more
+
+named_fine : (name : List ℕ) (symbols : List Symbol) → AllByRecursion IsFine symbols
+    → IfSome (symbol_named name symbols) IsFine
+unfolding symbol_named
+named_fine name symbols h = found_has IsFine _ symbols h
+
+path_fits : (c : Context) (o : Operand) (path : PathHead) (steps : List PathStep)
+    → AllByRecursion IsFine c.symbols → SeenFits (path_size path) o (path_seen c path steps)
+path_fits c o (head.Local name) steps h = own_fits c o _ _
+path_fits c o (head.InBlock name) steps h = data_path_fits c o _ _ _
+path_fits c o (head.Symbol name) steps h =
+    symbol_fits o (symbol_named name c.symbols) (named_fine name c.symbols h)
+
+direct_fits : (c : Context) (o : Operand) (name : Option BlockName) (a : Letters) (w : Width)
+    (byte bit : ℕ) → SeenFits (7 + block_size name) o (direct_seen c name a w byte bit)
+unfolding operand_of
+direct_fits c o None a w byte bit =
+    apart_fits (record { area = area_of a; number = 0; byte = byte; bit = bit }) refl
+direct_fits c o (Some name) a w byte bit = by (data_number c name)
+  where
+    by : (number : Option ℕ) → SeenFits 11 o (address_in number a w byte bit)
+    by None = tt
+    by (Some number) =
+        let place : Place = record { area = area_of a; number = number; byte = byte; bit = bit } in
+        place_fits o place (is_in_named_block place)
+
+numbered_fits : (what : Numbered) (from : Area) (byte : ℕ)
+    → flat_size (numbered_operand what from byte) ≤ 6
+numbered_fits numbered.Timer from byte = omega arith
+numbered_fits numbered.Counter from byte = omega arith
+numbered_fits numbered.Db from byte = omega arith
+numbered_fits numbered.Di from byte = omega arith
+
+register_fits : (r : Register) → flat_size (register_operand r) ≤ 6
+register_fits register.Dblg = omega arith
+register_fits register.Dbno = omega arith
+register_fits register.Dilg = omega arith
+register_fits register.Dino = omega arith
+register_fits _ = omega arith
+
+opened_fits : (o : Operand) (di : Bool) (number : Option ℕ) → SeenFits 5 o (opened_seen di number)
+unfolding operand_of
+opened_fits o di None = tt
+opened_fits o di (Some number) = omega arith
+
+called_fits : (o : Operand) (id : Option BlockId) (name : Option BlockName) (instance : Option ℕ)
+    → SeenFits 7 o (called_seen id name instance)
+unfolding operand_of
+called_fits o None name instance = tt
+called_fits o (Some id) None instance = omega arith
+called_fits o (Some id) (Some name) None = tt
+called_fits o (Some id) (Some name) (Some number) = omega arith
+
+-- the op of an operand, and the one that opens its data block
+seen_fits : (c : Context) (o : Operand) → AllByRecursion IsFine c.symbols
+    → SeenFits (op_size o) o (seen c o)
+unfolding seen operand_of
+seen_fits c operand.Nothing h = omega arith
+seen_fits c (operand.Direct name a w byte bit) h =
+    direct_fits c (operand.Direct name a w byte bit) name a w byte bit
+seen_fits c (operand.Timer number) h = omega arith
+seen_fits c (operand.Counter number) h = omega arith
+seen_fits c (operand.Named path steps) h = path_fits c (operand.Named path steps) path steps h
+seen_fits c (operand.ByMemory a w from byte) h = omega arith
+seen_fits c (operand.NumberBy what from byte) h =
+    omega (arith, numbered_fits what (area_of from) byte)
+seen_fits c (operand.ByRegister a w register bits) h = omega arith
+seen_fits c (operand.Pointer a byte bit) h = omega arith
+seen_fits c (operand.Constant value) h = omega arith
+seen_fits c (operand.Label name) h = omega arith
+seen_fits c (operand.OfStatus flag) h = omega arith
+seen_fits c (operand.Other name) h = omega (arith, register_fits (register_of name))
+seen_fits c (operand.OpenBlock di name) h =
+    opened_fits (operand.OpenBlock di name) di (data_number c name)
+seen_fits c (operand.Called name instance) h =
+    called_fits (operand.Called name instance) _ instance _
+
+-- ---- of statements
+
+path_some : (path : PathHead) → 7 ≤ path_size path
+path_some (head.Local name) = omega arith
+path_some (head.InBlock name) = omega arith
+path_some (head.Symbol name) = omega arith
+
+least_op : (o : Operand) → 2 ≤ op_size o
+least_op operand.Nothing = omega arith
+least_op (operand.Direct name a w byte bit) = omega arith
+least_op (operand.Timer number) = omega arith
+least_op (operand.Counter number) = omega arith
+least_op (operand.Named path steps) = omega (arith, path_some path)
+least_op (operand.ByMemory a w from byte) = omega arith
+least_op (operand.NumberBy what from byte) = omega arith
+least_op (operand.ByRegister a w register bits) = omega arith
+least_op (operand.Pointer a byte bit) = omega arith
+least_op (operand.Constant value) = omega arith
+least_op (operand.Label name) = omega arith
+least_op (operand.OfStatus flag) = omega arith
+least_op (operand.Other name) = omega arith
+least_op (operand.OpenBlock di name) = omega arith
+least_op (operand.Called name instance) = omega arith
+
+-- a jump has its label, a call its block: an operand of seven bytes
+abbrev IsWide : View → Type 0
+IsWide view.Label = Unit {0}
+IsWide (view.Called id instance) = Unit {0}
+IsWide _ = ⊥
+
+abbrev SeenWide : ℕ → Seen → Type 0
+SeenWide n (Sees v) = IsWide v → 7 ≤ n
+SeenWide n _ = Unit {0}
+
+any_wide : (n : ℕ) (s : Seen) → 7 ≤ n → SeenWide n s
+any_wide n (Sees v) h = λ wide. h
+any_wide n Unknown h = tt
+any_wide n Rests h = tt
+
+opened_wide : (n : ℕ) (di : Bool) (number : Option ℕ) → SeenWide n (opened_seen di number)
+opened_wide n di None = tt
+opened_wide n di (Some number) = λ wide. absurd wide
+
+seen_wide : (c : Context) (o : Operand) → SeenWide (op_size o) (seen c o)
+unfolding seen
+seen_wide c operand.Nothing = λ wide. absurd wide
+seen_wide c (operand.Direct name a w byte bit) = any_wide _ _ (omega arith)
+seen_wide c (operand.Timer number) = λ wide. absurd wide
+seen_wide c (operand.Counter number) = λ wide. absurd wide
+seen_wide c (operand.Named path steps) = any_wide _ _ (path_some path)
+seen_wide c (operand.ByMemory a w from byte) = λ wide. absurd wide
+seen_wide c (operand.NumberBy what from byte) = λ wide. absurd wide
+seen_wide c (operand.ByRegister a w register bits) = λ wide. absurd wide
+seen_wide c (operand.Pointer a byte bit) = λ wide. absurd wide
+seen_wide c (operand.Constant value) = λ wide. absurd wide
+seen_wide c (operand.Label name) = λ wide. omega arith
+seen_wide c (operand.OfStatus flag) = λ wide. absurd wide
+seen_wide c (operand.Other name) = λ wide. absurd wide
+seen_wide c (operand.OpenBlock di name) = opened_wide _ di (data_number c name)
+seen_wide c (operand.Called name instance) = any_wide _ _ (omega arith)
+
+-- a data block that is opened is there
+abbrev pub Opens : Context → Operand → Type 0
+Opens c (operand.OpenBlock di name) = is_some (data_number c name) ≡ true
+Opens c _ = Unit {0}
+
+-- what isn't seen is a path, an address in a data block or a call
+abbrev SeenOrWide : ℕ → Seen → Type 0
+SeenOrWide n (Sees v) = Unit {0}
+SeenOrWide n _ = 7 ≤ n
+
+wide_anyway : (n : ℕ) (s : Seen) → 7 ≤ n → SeenOrWide n s
+wide_anyway n (Sees v) h = tt
+wide_anyway n Unknown h = h
+wide_anyway n Rests h = h
+
+opened_seen_there : (n : ℕ) (di : Bool) (number : Option ℕ) → is_some number ≡ true
+    → SeenOrWide n (opened_seen di number)
+opened_seen_there n di None h = absurd cc
+opened_seen_there n di (Some number) h = tt
+
+seen_or_wide : (c : Context) (o : Operand) → Opens c o → SeenOrWide (op_size o) (seen c o)
+unfolding seen
+seen_or_wide c operand.Nothing h = tt
+seen_or_wide c (operand.Direct name a w byte bit) h = wide_anyway _ _ (omega arith)
+seen_or_wide c (operand.Timer number) h = tt
+seen_or_wide c (operand.Counter number) h = tt
+seen_or_wide c (operand.Named path steps) h = wide_anyway _ _ (path_some path)
+seen_or_wide c (operand.ByMemory a w from byte) h = tt
+seen_or_wide c (operand.NumberBy what from byte) h = tt
+seen_or_wide c (operand.ByRegister a w register bits) h = tt
+seen_or_wide c (operand.Pointer a byte bit) h = tt
+seen_or_wide c (operand.Constant value) h = tt
+seen_or_wide c (operand.Label name) h = tt
+seen_or_wide c (operand.OfStatus flag) h = tt
+seen_or_wide c (operand.Other name) h = tt
+seen_or_wide c (operand.OpenBlock di name) h = opened_seen_there _ di (data_number c name) h
+seen_or_wide c (operand.Called name instance) h = wide_anyway _ _ (omega arith)
+
+-- what such a form takes
+jumps_wide : (v : View) → rule_of form.Jumps v ≡ None → IsWide v
+unfolding rule_of takes
+jumps_wide view.Label h = tt
+jumps_wide (view.Called id instance) h = tt
+jumps_wide _ h = absurd cc
+
+abbrev refused_if : Bool → Option ℕ
+refused_if b = if b then Some 25 else None
+
+abbrev allowed_if : Bool → Option ℕ
+allowed_if b = if b then None else Some 25
+
+calls_called : (v : View) → rule_of form.Calls v ≡ None → is_called v ≡ true
+unfolding rule_of takes
+calls_called (view.Called id instance) h = by (is_called (view.Called id instance)) h
+  where
+    by : (b : Bool) → refused_if (not b) ≡ None → b ≡ true
+    by true h = refl
+    by false h = absurd cc
+calls_called _ h = absurd cc
+
+rule_there : (c : Context) (f : Form) (o : Operand) (v : View)
+    → ((value : Literal) → takes_constant f value ≡ false) → operand_rule c f o ≡ None
+    → seen c o ≡ Sees v → rule_of f v ≡ None
+rule_there c f (operand.Constant value) v never h e = by (takes_constant f value) (never value) h
+  where
+    by : (b : Bool) → b ≡ false → allowed_if b ≡ None → rule_of f v ≡ None
+    by true e h = absurd cc
+    by false e h = absurd cc
+rule_there c f _ v never h e = sym (ap (λ (s : Seen). rule_seen f s) e) ∙ h
+
+no_jump_constant : (value : Literal) → takes_constant form.Jumps value ≡ false
+unfolding takes_constant
+no_jump_constant value = refl
+
+no_call_constant : (value : Literal) → takes_constant form.Calls value ≡ false
+unfolding takes_constant
+no_call_constant value = refl
+
+jump_form : (m : Mnemonic) (how : JumpWord) → jump_of m ≡ Some how → form_of m ≡ form.Jumps
+unfolding form_of
+jump_form code.Ju how h = refl
+jump_form code.Jl how h = refl
+jump_form code.Jc how h = refl
+jump_form code.Jcn how h = refl
+jump_form code.Jcb how h = refl
+jump_form code.Jnb how h = refl
+jump_form code.Jbi how h = refl
+jump_form code.Jnbi how h = refl
+jump_form code.Jo how h = refl
+jump_form code.Jos how h = refl
+jump_form code.Jz how h = refl
+jump_form code.Jn how h = refl
+jump_form code.Jp how h = refl
+jump_form code.Jm how h = refl
+jump_form code.Jpz how h = refl
+jump_form code.Jmz how h = refl
+jump_form code.Juo how h = refl
+jump_form code.Loop how h = refl
+jump_form _ how h = absurd cc
+
+call_form : (m : Mnemonic) (how : CallWord) → call_of m ≡ Some how → form_of m ≡ form.Calls
+unfolding form_of
+call_form code.Call how h = refl
+call_form code.Uc how h = refl
+call_form code.Cc how h = refl
+call_form _ how h = absurd cc
+
+seen_holds : (n : ℕ) (s : Seen) (v : View) → s ≡ Sees v → SeenWide n s
+    → IsWide v → 7 ≤ n
+seen_holds n s v e h wide = subst (λ (s : Seen). SeenWide n s) e h wide
+
+view_holds : (n : ℕ) (o : Operand) (s : Seen) (v : View) → s ≡ Sees v → SeenFits n o s
+    → ViewFits n o v
+view_holds n o s v e h = subst (λ (s : Seen). SeenFits n o s) e h
+
+-- what a statement passes is no more than it has
+abbrev pub PassesFew : Context → Statement → Type 0
+PassesFew c s = length (passings_to c s (callee_of c s.operand)) ≤ length s.actuals
+
+jump_fits : (c : Context) (n : ℕ) (s : Statement) (how : JumpWord) (v : View)
+    → jump_of s.code ≡ Some how → statement_rule c s ≡ None → seen c s.operand ≡ Sees v
+    → (target : ℕ) → bytes_in (ops_of (jump_instr how n target)) ≤ op_size s.operand
+jump_fits c n s how v is rule e target =
+    let there = rule_there c form.Jumps s.operand v no_jump_constant
+    (ap (λ (f : Form). operand_rule c f s.operand) (sym (jump_form s.code how is)) ∙ rule) e in
+    let wide = seen_holds (op_size s.operand) (seen c s.operand) v e
+    (seen_wide c s.operand) (jumps_wide v there) in
+    omega (arith, jump_sized how n target, wide)
+
+called_view_fits : (c : Context) (s : Statement) (how : CallWord) (v : View)
+    → is_called v ≡ true → 7 ≤ op_size s.operand → PassesFew c s
+    → bytes_in (ops_of (call_instr c s how v)) ≤ op_size s.operand + 11 * length s.actuals
+called_view_fits c s how (view.Called id instance) h wide few =
+    omega (arith, calls_sized how id instance (passings_to c s (callee_of c s.operand)), wide, few)
+called_view_fits c s how _ h wide few = absurd cc
+
+called_wide : (v : View) → is_called v ≡ true → IsWide v
+called_wide (view.Called id instance) h = tt
+called_wide _ h = absurd cc
+
+call_fits : (c : Context) (s : Statement) (how : CallWord) (v : View)
+    → call_of s.code ≡ Some how → statement_rule c s ≡ None → seen c s.operand ≡ Sees v
+    → PassesFew c s
+    → bytes_in (ops_of (call_instr c s how v)) ≤ op_size s.operand + 11 * length s.actuals
+call_fits c s how v is rule e few =
+    let there = rule_there c form.Calls s.operand v no_call_constant
+    (ap (λ (f : Form). operand_rule c f s.operand) (sym (call_form s.code how is)) ∙ rule) e in
+    let called = calls_called v there in
+    let wide = seen_holds (op_size s.operand) (seen c s.operand) v e
+    (seen_wide c s.operand) (called_wide v called) in
+    called_view_fits c s how v called wide few
+
+end_fits : (c : Context) (s : Statement) (v : View) (how : Option EndWord)
+    → AllByRecursion IsFine c.symbols → seen c s.operand ≡ Sees v
+    → bytes_in (ops_of (end_instr s v how)) ≤ op_size s.operand
+end_fits c s v None fine e =
+    omega (
+      arith,
+      does_sized (opened_by v) (word_of s.code s.operand v) (operand_of s.operand v),
+      view_holds (op_size s.operand) s.operand (seen c s.operand) v e (seen_fits c s.operand fine),
+    )
+end_fits c s v (Some how) fine e = omega (arith, returns_sized how, least_op s.operand)
+
+view_instr_fits : (c : Context) (s : Statement) (v : View) (how : Option CallWord)
+    → call_of s.code ≡ how → AllByRecursion IsFine c.symbols → statement_rule c s ≡ None
+    → seen c s.operand ≡ Sees v → PassesFew c s
+    → bytes_in (ops_of (view_instr c s v how)) ≤ op_size s.operand + 11 * length s.actuals
+view_instr_fits c s v None is fine rule e few = omega (arith, end_fits c s v (end_of s.code) fine e)
+view_instr_fits c s v (Some how) is fine rule e few = call_fits c s how v is rule e few
+
+-- a statement that breaks no rule by its operand, and opens what is there
+pub record IsTaken (c : Context) (s : Statement) : Type 0 where
+  pub allowed : statement_rule c s ≡ None
+  pub opens : Opens c s.operand
+  pub few : PassesFew c s
+
+resolved_is : (c : Context) (s : Statement) → statement_rule c s ≡ None
+    → resolved c s ≡ seen_view (seen c s.operand)
+unfolding resolved
+resolved_is c s rule = rw rule refl
+
+filler_sized : bytes_in (ops_of filler) ≡ 6
+unfolding ops_of
+filler_sized = one_sized _
+
+-- an instruction that isn't a jump
+view_fits : (c : Context) (s : Statement) (found : Seen) → AllByRecursion IsFine c.symbols
+    → IsTaken c s → seen c s.operand ≡ found
+    → bytes_in (ops_of (resolved_instr c s (seen_view found)))
+    ≤ op_size s.operand + 11 * length s.actuals
+view_fits c s (Sees v) fine is e =
+    view_instr_fits c s v (call_of s.code) refl fine is.allowed e is.few
+view_fits c s Unknown fine is e =
+    let wide = subst (λ (s' : Seen). SeenOrWide (op_size s.operand) s') e
+    (seen_or_wide c s.operand is.opens) in
+    omega (arith, wide, filler_sized)
+view_fits c s Rests fine is e =
+    let wide = subst (λ (s' : Seen). SeenOrWide (op_size s.operand) s') e
+    (seen_or_wide c s.operand is.opens) in
+    omega (arith, wide, filler_sized)
+
+-- a jump
+jump_seen_fits : (c : Context) (n : ℕ) (s : Statement) (how : JumpWord) (found : Seen)
+    → IsTaken c s → jump_of s.code ≡ Some how → seen c s.operand ≡ found → (target : ℕ)
+    → bytes_in (ops_of (jump_instr how n target)) ≤ op_size s.operand
+jump_seen_fits c n s how (Sees v) is jumps e target =
+    jump_fits c n s how v jumps is.allowed e target
+jump_seen_fits c n s how Unknown is jumps e target =
+    let wide = subst (λ (s' : Seen). SeenOrWide (op_size s.operand) s') e
+    (seen_or_wide c s.operand is.opens) in
+    omega (arith, wide, jump_sized how n target)
+jump_seen_fits c n s how Rests is jumps e target =
+    let wide = subst (λ (s' : Seen). SeenOrWide (op_size s.operand) s') e
+    (seen_or_wide c s.operand is.opens) in
+    omega (arith, wide, jump_sized how n target)
+
+instr_fits : (c : Context) (body : List Statement) (n : ℕ) (s : Statement) (how : Option JumpWord)
+    → jump_of s.code ≡ how → AllByRecursion IsFine c.symbols → IsTaken c s
+    → bytes_in (ops_of (instr_by c body n s how)) ≤ op_size s.operand + 11 * length s.actuals
+instr_fits c body n s None jumps fine is =
+    rw (resolved_is c s is.allowed) (view_fits c s (seen c s.operand) fine is refl)
+instr_fits c body n s (Some how) jumps fine is =
+    omega (
+      arith,
+      jump_seen_fits c n s how (seen c s.operand) is jumps refl
+          (target_of body s.operand),
+    )
+
+statement_fits : (c : Context) (body : List Statement) (n : ℕ) (s : Statement)
+    → AllByRecursion IsFine c.symbols → IsTaken c s
+    → bytes_in (ops_of (instruction c body n s)) ≤ op_size s.operand + 11 * length s.actuals
+unfolding instruction
+statement_fits c body n s fine is = instr_fits c body n s (jump_of s.code) refl fine is
+
+code_sized : (m : Mnemonic) (o : Operand) (n : ℕ) → is_empty m ≡ false
+    → code_size m o n ≡ 4 + op_size o + 11 * n
+code_sized code.Empty o n h = absurd cc
+code_sized _ o n h = refl
+
+-- ---- of bodies
+
+-- the ops of statements and the entries of their lines
+abbrev pub stated_size : List Stated → ℕ
+stated_size ss = bytes_in (ops_in ss) + 4 * length ss
+
+pub body_fits : (c : Context) (body : List Statement) (n : ℕ) (ss : List Statement)
+    → AllByRecursion IsFine c.symbols → AllByRecursion (IsTaken c) ss
+    → stated_size (stated_from c body n ss) ≤ sum_by statement_size ss
+body_fits c body n [] fine h = omega arith
+body_fits c body n (s ∷ ss) fine h =
+    omega (
+      arith,
+      sum_by-cons statement_size s ss,
+      by (is_empty s.code) refl (body_fits c body n ss fine h.1)
+          (body_fits c body (suc n) ss fine h.1),
+    )
+  where
+    by : (empty : Bool) → is_empty s.code ≡ empty
+        → stated_size (stated_from c body n ss) ≤ sum_by statement_size ss
+        → stated_size (stated_from c body (suc n) ss) ≤ sum_by statement_size ss
+        → stated_size (if empty then stated_from c body n ss
+        else record { instr = instruction c body n s; line = s.line } ∷ stated_from c body (suc n) ss)
+        ≤ statement_size s + sum_by statement_size ss
+    by true e same next = omega (arith, same)
+    by false e same next =
+        let one : Stated = record { instr = instruction c body n s; line = s.line } in
+        omega (
+          arith,
+          next,
+          statement_fits c body n s fine h.0,
+          code_sized s.code s.operand (length s.actuals) e,
+          bytes_both (ops_of one.instr) (ops_in (stated_from c body (suc n) ss)),
+        )
+
+-- as many as aren't empty
+pub stated_count : (c : Context) (body : List Statement) (n : ℕ) (ss : List Statement)
+    → length (stated_from c body n ss) ≡ count_by (λ s. not (is_empty s.code)) ss
+stated_count c body n [] = refl
+stated_count c body n (s ∷ ss) =
+    by (is_empty s.code) (stated_count c body n ss) (stated_count c body (suc n) ss)
+    ∙ sym (sum_by-cons (λ (s : Statement). cond (not (is_empty s.code)) 1 0) s ss)
+  where
+    by : (empty : Bool)
+        → length (stated_from c body n ss) ≡ count_by (λ s. not (is_empty s.code)) ss
+        → length (stated_from c body (suc n) ss) ≡ count_by (λ s. not (is_empty s.code)) ss
+        → length (if empty then stated_from c body n ss
+        else record { instr = instruction c body n s; line = s.line } ∷ stated_from c body (suc n) ss)
+        ≡ cond (not empty) 1 0 + count_by (λ s. not (is_empty s.code)) ss
+    by true same next = omega (arith, same)
+    by false same next = omega (arith, next)
+
+-- with the statement that returns
+ops_both : (xs ys : List Stated) → bytes_in (ops_in (xs ++ ys)) ≡ bytes_in (ops_in xs ++ ops_in ys)
+ops_both [] ys = refl
+ops_both (x ∷ xs) ys =
+    omega (
+      arith,
+      bytes_both (ops_of x.instr) (ops_in (xs ++ ys)),
+      ops_both xs ys,
+      bytes_both (ops_in xs) (ops_in ys),
+      bytes_both (ops_of x.instr) (ops_in xs),
+      bytes_both (ops_in (x ∷ xs)) (ops_in ys),
+    )
+
+one_returns : (b : Block) → bytes_in (ops_in (returning b ∷ [])) ≡ 2
+one_returns b = omega (arith, returns_sized ends.Be, bytes_both (ops_of (Returns ends.Be)) [])
+
+pub whole_fits : (c : Context) (b : Block) → AllByRecursion IsFine c.symbols
+    → AllByRecursion (IsTaken c) b.body → has_body b.kind ≡ true
+    → bytes_in (code_in (statements_of c b)) + 4 * length (lines_in (statements_of c b))
+    ≤ body_size b
+unfolding statements_of
+whole_fits c b fine h has =
+    let ss = stated_from c b.body 0 b.body in
+    let all = ss ++ returning b ∷ [] in
+    omega (
+      arith,
+      placed_bytes (ops_in all),
+      ops_both ss (returning b ∷ []),
+      bytes_both (ops_in ss) (ops_in (returning b ∷ [])),
+      one_returns b,
+      length-map all (λ s. s.line),
+      length-append ss (returning b ∷ []),
+      body_fits c b.body 0 b.body fine h,
+      returned,
+    )
+  where
+    returned : return_size b.kind ≡ 6
+    returned = rw has refl
+
+pub whole_count : (c : Context) (b : Block)
+    → length (lines_in (statements_of c b)) ≡ count_by (λ s. not (is_empty s.code)) b.body + 1
+unfolding statements_of
+whole_count c b =
+    let ss = stated_from c b.body 0 b.body in
+    omega (
+      arith,
+      length-map (ss ++ returning b ∷ []) (λ s. s.line),
+      length-append ss (returning b ∷ []),
+      stated_count c b.body 0 b.body,
+    )

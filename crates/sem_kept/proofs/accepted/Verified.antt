@@ -1,0 +1,88 @@
+-- THE PROGRAM OF AN ACCEPTED SOURCE has an image and verifies: no field of its records has a fault, and no op of a
+-- block has one, by its operand, its jump, its brackets or its call.
+use Rattle.std.proofs.Common.{◌≡◌, ℕ, ◌+◌, ◌<◌, zero, suc, true, false, List, [], ◌∷◌, length, map, get_or, Option, Some, None, refl, arith}
+use Rattle.std.specs.List.{AllByRecursion}
+use Rattle.std.specs.Option.{IfSome}
+use Rattle.flat_code.specs.Checking.{good_blocks}
+use Rattle.flat_code.specs.Image.{record_of_block}
+use Rattle.flat_code.specs.Loading.{AreVerified, around, lens_of}
+use Rattle.flat_code.specs.Placed.{places, spots}
+use Rattle.flat_code.specs.Programs.{CodeBlock}
+use Rattle.flat_code.specs.Records.{BlockRecord}
+use Rattle.stl_ast.specs.Literals.{AreBytes}
+use Rattle.stl_codegen.specs.Compiled.{StatedBlock, code_in, compiled}
+use Rattle.stl_codegen.specs.Generated.{code_blocks_of}
+use Rattle.stl_parser.proofs.RiseLemmas.{lines_rise}
+use Rattle.block_layout.specs.Layouts.{layouts_of}
+use Rattle.sem_kept.specs.Accepted.{AcceptedVerifies, program_in}
+use Rattle.sem_kept.specs.Coded.{IsCoded}
+use Rattle.sem_kept.specs.Jumps.{AllLandRight}
+use Rattle.sem_kept.specs.Operands.{AreFine}
+use Rattle.sem_kept.specs.Records.{HasCode, IsOfBytes}
+use Rattle.sem_kept.specs.Sizes.{IsSmallBlock}
+use Rattle.sem_kept.proofs.accepted.Accepted.{right_tree}
+use Rattle.sem_kept.proofs.accepted.Coded.{are_coded}
+use Rattle.sem_kept.proofs.accepted.JumpsProgram.{fine_is_faultless, jumps_land_right}
+use Rattle.sem_kept.proofs.accepted.OperandsFine.{operands_are_fine}
+use Rattle.sem_kept.proofs.accepted.RecordBlocks.{data_blocks_rise}
+use Rattle.sem_kept.proofs.accepted.RecordData.{data_blocks_right}
+use Rattle.sem_kept.proofs.accepted.RecordNames.{names_right}
+use Rattle.sem_kept.proofs.accepted.Records.{code_blocks_right, file_named, records_right}
+use Rattle.sem_kept.proofs.accepted.Sizes.{accepted_is_small}
+use Rattle.sem_kept.proofs.accepted.SizesProgram.{small_is_program}
+
+-- ---- blocks
+
+abbrev BlockLands : StatedBlock → Type 0
+BlockLands b = AllLandRight (code_in b.statements)
+
+blocks_clean : (lens : List (ℕ × ℕ)) (all : List BlockRecord) (bs : List StatedBlock)
+    → AllByRecursion
+    (λ b. AreFine (around (Some lens) all (record_of_block b)) lens (spots b.code) (places b.code))
+    (map compiled bs)
+    → AllByRecursion BlockLands bs → AreVerified lens all (map record_of_block (map compiled bs))
+blocks_clean lens all [] fine lands = tt
+blocks_clean lens all (b ∷ bs) fine lands =
+    let a = around (Some lens) all (record_of_block (compiled b)) in (
+      fine_is_faultless a lens 0 (code_in b.statements) refl fine.0 lands.0,
+      blocks_clean lens all bs fine.1 lands.1,
+    )
+
+-- ---- the program
+
+has_code : (bs : List CodeBlock) → AllByRecursion IsCoded bs → AllByRecursion IsSmallBlock bs
+    → AllByRecursion HasCode bs
+has_code [] coded small = tt
+has_code (b ∷ bs) coded small = (
+  record { ops = coded.0.ops; ends = coded.0.right; statements = small.0.lines; size = small.0.code },
+  has_code bs coded.1 small.1,
+)
+
+below : (bytes : List ℕ) → AreBytes bytes → (i : ℕ) → get_or bytes i 0 < 256
+below [] are i = omega arith
+below (b ∷ bytes) are zero = let le = are.0 in omega arith
+below (b ∷ bytes) are (suc i) = below bytes are.1 i
+
+of_bytes : (file : Option (List ℕ)) → IfSome file AreBytes → IsOfBytes file
+of_bytes None are = tt
+of_bytes (Some bytes) are = below bytes are
+
+pub accepted_verifies : AcceptedVerifies
+accepted_verifies source file symbols t a bytes file_bytes =
+    let small = accepted_is_small source file symbols t a in
+    let p = program_in symbols t in
+    let codes = has_code p.code_blocks (are_coded source file symbols t a bytes) small.blocks in
+    let tree = right_tree source file symbols t a in
+    let short = a.short in
+    let blocks : good_blocks (0, 0) p.code_blocks ≡ true =
+    code_blocks_right symbols t (1 + length source) false tree (omega (arith, short)) (lines_rise source a.tokens t a.lexed a.parsed) codes in
+    let datas = data_blocks_right symbols t tree (data_blocks_rise symbols t tree) in
+    let names = names_right symbols (file_named file symbols a.named (of_bytes file file_bytes)) in (
+      small_is_program p small blocks datas names,
+      record {
+        right = records_right source file symbols t a (of_bytes file file_bytes) codes small.counts true;
+        blocks = blocks_clean (lens_of p.data_blocks) (map record_of_block p.code_blocks)
+            (code_blocks_of t symbols (layouts_of t symbols)) (operands_are_fine source file symbols t a bytes)
+            (jumps_land_right source file symbols t a);
+      },
+    )

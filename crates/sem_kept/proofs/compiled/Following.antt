@@ -1,0 +1,73 @@
+-- The code of a program follows the statements that it was made of.
+use Rattle.std.proofs.Common.{◌≡◌, ℕ, Bool, true, false, if◌then◌else◌, List, [], ◌∷◌, map, slice_get, Option, Some, None, option_map, option_and_then, refl, ap, ◌∙◌}
+use Rattle.std.specs.List.{AllByRecursion}
+use Rattle.plc_base.specs.declared.blocks.BlockId.{BlockId}
+use Rattle.flat_code.specs.Laws.{WordsHaveTheirCodes, JumpsHaveTheirKinds}
+use Rattle.image_file.specs.Readers.{block_of, same_id}
+use Rattle.machine.specs.Flat.{statement_at, head_of}
+use Rattle.machine.specs.Moved.{moved_fetched}
+use Rattle.stl_codegen.specs.Compiled.{Stated, StatedBlock, ops_in, offset_from, offset_of, compiled}
+use Rattle.flat_code.specs.Ops.{OpData}
+use Rattle.sem_kept.specs.Back.{aimed_statement}
+use Rattle.sem_kept.specs.Statements.{stated_at, numbered, statement_of, stated_head, position_in, position, IsCompilable, ProgramsFollow}
+use Rattle.sem_kept.proofs.compiled.Reading.{is_read_back}
+
+found_compiled : (id : BlockId) (bs : List StatedBlock) → block_of id (map compiled bs) ≡ option_map compiled (stated_at id bs)
+found_compiled id [] = refl
+found_compiled id (b ∷ bs) = by (same_id b.id id) (found_compiled id bs)
+  where
+    by : (same : Bool) → block_of id (map compiled bs) ≡ option_map compiled (stated_at id bs)
+        → (if same then Some (compiled b) else block_of id (map compiled bs)) ≡ option_map compiled (if same then Some b else stated_at id bs)
+    by true more = refl
+    by false more = more
+
+abbrev AllFound : List StatedBlock → Type 0
+AllFound bs = AllByRecursion IsCompilable bs
+
+abbrev IsCompilableFound : Option StatedBlock → Type 0
+IsCompilableFound None = Unit {0}
+IsCompilableFound (Some b) = IsCompilable b
+
+compilable_at : (id : BlockId) (bs : List StatedBlock) → AllByRecursion IsCompilable bs → IsCompilableFound (stated_at id bs)
+compilable_at id [] h = tt
+compilable_at id (b ∷ bs) h = by (same_id b.id id) (compilable_at id bs h.1)
+  where
+    by : (same : Bool) → IsCompilableFound (stated_at id bs) → IsCompilableFound (if same then Some b else stated_at id bs)
+    by true more = h.0
+    by false more = more
+
+statement_aimed :
+    (f : ℕ → ℕ) (n : ℕ) (o : Option Stated) → option_map (aimed_statement f n) o ≡ option_map (moved_fetched f) (option_map (numbered n) o)
+statement_aimed f n None = refl
+statement_aimed f n (Some s) = refl
+
+statement_follows :
+    (o : Option StatedBlock) (n : ℕ) → WordsHaveTheirCodes → JumpsHaveTheirKinds → IsCompilableFound o
+    → option_and_then (λ b. statement_at b (position_in o n)) (option_map compiled o)
+    ≡ option_map (moved_fetched (position_in o)) (option_and_then (λ b. statement_of b n) o)
+statement_follows None n words jumps h = refl
+statement_follows (Some b) n words jumps h =
+    is_read_back (compiled b) b.statements words jumps h refl refl n
+    ∙ statement_aimed (offset_of (ops_in b.statements)) n (slice_get b.statements n)
+
+head_follows : (o : Option StatedBlock) → option_map head_of (option_map compiled o) ≡ option_map stated_head o
+head_follows None = refl
+head_follows (Some b) = refl
+
+first_offset : (ops : List OpData) → offset_from 0 true ops 0 ≡ 0
+first_offset [] = refl
+first_offset (op ∷ ops) = refl
+
+first_position : (o : Option StatedBlock) → position_in o 0 ≡ 0
+unfolding offset_of
+first_position None = refl
+first_position (Some b) = first_offset (ops_in b.statements)
+
+pub programs_follow : WordsHaveTheirCodes → JumpsHaveTheirKinds → ProgramsFollow
+programs_follow words jumps blocks data_blocks names h = record {
+  start = λ id. first_position (stated_at id blocks);
+  fetch = λ id n. ap (option_and_then (λ b. statement_at b (position blocks id n))) (found_compiled id blocks)
+      ∙ statement_follows (stated_at id blocks) n words jumps (compilable_at id blocks h);
+  head = λ id. ap (option_map head_of) (found_compiled id blocks) ∙ head_follows (stated_at id blocks);
+  blocks = refl;
+}

@@ -1,0 +1,474 @@
+-- What the instruction of a statement is in every source, whatever rule it breaks.
+use Rattle.std.proofs.Common.{◌≡◌, ℕ, zero, suc, ◌-◌, ◌≤◌, Bool, true, false, if◌then◌else◌, List, [], ◌∷◌, length, map, slice_get, Option, Some, None, option_map, option_and_then, refl, sym, ap, ◌∙◌, arith}
+use Rattle.std.specs.Prelude.{not}
+use Rattle.std.specs.Option.{is_none}
+use Rattle.std.proofs.lemmas.Bool.Decides.{nat_tests}
+use Rattle.plc_base.specs.declared.blocks.BlockId.{BlockId}
+use Rattle.plc_base.specs.declared.blocks.BlockKind.{BlockKind}
+use Rattle.plc_base.specs.declared.blocks.BlockKind.TheVariants as kinds
+use Rattle.plc_base.specs.declared.places.Area.{Area}
+use Rattle.plc_base.specs.declared.places.Place.{Place}
+use Rattle.plc_base.specs.declared.places.Width.{Width}
+use Rattle.flat_code.specs.Instr.{Instr, Does, Jumps, JumpsByList, Calls, Returns}
+use Rattle.flat_code.specs.declared.kinds.JumpWord.{JumpWord}
+use Rattle.flat_code.specs.declared.kinds.JumpWord.TheVariants as jump
+use Rattle.flat_code.specs.declared.words.CallWord.{CallWord}
+use Rattle.flat_code.specs.declared.words.EndWord.{EndWord}
+use Rattle.machine.specs.Flat.{is_jl}
+use Rattle.stl_ast.specs.declared.blocks.PathStep.{PathStep}
+use Rattle.stl_ast.specs.declared.declarations.Simple.{Simple}
+use Rattle.stl_ast.specs.declared.literals.Literal.TheVariants as literal
+use Rattle.stl_ast.specs.declared.mnemonics.Mnemonic.{Mnemonic}
+use Rattle.stl_ast.specs.declared.mnemonics.Mnemonic.TheVariants as code
+use Rattle.stl_ast.specs.declared.names.BlockName.{BlockName}
+use Rattle.stl_ast.specs.declared.operands.Letters.{Letters}
+use Rattle.stl_ast.specs.declared.operands.Numbered.{Numbered}
+use Rattle.stl_ast.specs.declared.operands.Numbered.TheVariants as numbered
+use Rattle.stl_ast.specs.declared.operands.Operand.{Operand}
+use Rattle.stl_ast.specs.declared.operands.Operand.TheVariants as operand
+use Rattle.stl_ast.specs.declared.operands.PathHead.{PathHead}
+use Rattle.stl_ast.specs.declared.operands.PathHead.TheVariants as head
+use Rattle.stl_ast.specs.declared.statements.Statement.{Statement}
+use Rattle.stl_symbols.specs.Symbol.{Symbol, symbol_named}
+use Rattle.plc_base.specs.Folding.{folded}
+use Rattle.stl_symbols.specs.declared.targets.Target.{Target}
+use Rattle.stl_symbols.specs.declared.targets.Target.TheVariants as target
+use Rattle.block_layout.specs.Blocks.{is_data_block, is_function_block, is_id, is_block_number, block_place, known_block, of_kind, named_block}
+use Rattle.block_layout.specs.Paths.{cells_at, elementary_at, walked_data, walked_local, whole_at, whole_block, folded_path}
+use Rattle.block_layout.specs.Offsets.{placed}
+use Rattle.block_layout.specs.declared.blocks.BlockLayout.{BlockLayout}
+use Rattle.block_layout.specs.declared.cells.Cell.{Cell}
+use Rattle.block_layout.specs.declared.cells.Element.{Element}
+use Rattle.block_layout.specs.declared.cells.Element.TheVariants as element
+use Rattle.block_layout.specs.declared.walks.Spot.{Spot}
+use Rattle.block_layout.specs.declared.walks.Walk.{Walk}
+use Rattle.block_layout.specs.declared.walks.Walk.TheVariants as walk
+use Rattle.stl_types.specs.Addresses.{address_in}
+use Rattle.stl_types.specs.Context.{Context, ids, number_of, data_place, data_number, in_function}
+use Rattle.stl_types.specs.Forms.{form_of}
+use Rattle.stl_types.specs.Kinds.{is_callable}
+use Rattle.stl_types.specs.Operands.{takes, rule_of, rule_seen, operand_rule, statement_rule}
+use Rattle.stl_types.specs.Resolved.{seen_view, resolved}
+use Rattle.stl_types.specs.Seen.{target_view, symbol_seen, path_seen, direct_seen, opened_seen, called_seen, instance_number, whole_block as whole_called, seen}
+use Rattle.stl_types.specs.Variables.{date_or_composite, composite, in_area, parameter, parameter_index, parameter_at, is_temporary, own_elementary, own_at, own_walked, data_at, data_walked, data_path}
+use Rattle.stl_types.specs.declared.forms.Form.{Form}
+use Rattle.stl_types.specs.declared.forms.Form.TheVariants as form
+use Rattle.stl_types.specs.declared.views.Register.{Register}
+use Rattle.stl_types.specs.declared.views.Register.TheVariants as register
+use Rattle.stl_types.specs.declared.views.Seen.{Seen}
+use Rattle.stl_types.specs.declared.views.Seen.TheVariants.{Sees, Unknown, Rests}
+use Rattle.stl_types.specs.declared.views.View.{View}
+use Rattle.stl_types.specs.declared.views.View.TheVariants as view
+use Rattle.stl_codegen.specs.Instruction.{numbers_from, jump_instr, target_of, call_instr, end_instr, view_instr, resolved_instr, instr_by, instruction}
+use Rattle.stl_codegen.specs.Operands.{numbered_operand, register_operand, operand_of}
+use Rattle.stl_codegen.specs.Words.{jump_of, call_of, end_of, or_word, load_word, transfer_word, load_pointer_word, store_pointer_word, add_word, word_of}
+use Rattle.sem_kept.specs.Back.{goes_on, is_target, is_called, IsInstance}
+
+abbrev pub IsMade : (n : ℕ) → Instr → Type 0
+IsMade n (Does use_db w o) = (goes_on w ≡ true) × (is_target o ≡ false)
+IsMade n (Jumps how target) = is_jl how ≡ false
+IsMade n (JumpsByList targets otherwise) = targets ≡ numbers_from (suc n) (otherwise - suc n)
+IsMade n (Calls how block instance passings) =
+    (is_called block.kind ≡ true) × IsInstance instance
+IsMade n (Returns how) = Unit {0}
+
+-- ---- words and operands of instructions that go on
+
+or_goes_on : (v : View) → goes_on (or_word v) ≡ true
+or_goes_on view.Nothing = refl
+or_goes_on _ = refl
+
+load_goes_on : (v : View) → goes_on (load_word v) ≡ true
+load_goes_on (view.Register register.Stw) = refl
+load_goes_on (view.Register _) = refl
+load_goes_on _ = refl
+
+transfer_goes_on : (v : View) → goes_on (transfer_word v) ≡ true
+transfer_goes_on (view.Register which) = refl
+transfer_goes_on _ = refl
+
+load_pointer_goes_on : (v : View) → goes_on (load_pointer_word v) ≡ true
+load_pointer_goes_on (view.Register which) = refl
+load_pointer_goes_on _ = refl
+
+store_pointer_goes_on : (v : View) → goes_on (store_pointer_word v) ≡ true
+store_pointer_goes_on (view.Register which) = refl
+store_pointer_goes_on _ = refl
+
+add_goes_on : (o : Operand) → goes_on (add_word o) ≡ true
+add_goes_on (operand.Constant (literal.Long value)) = refl
+add_goes_on (operand.Constant _) = refl
+add_goes_on _ = refl
+
+word_goes_on : (m : Mnemonic) (o : Operand) (v : View) → goes_on (word_of m o v) ≡ true
+unfolding word_of
+word_goes_on code.O o v = or_goes_on v
+word_goes_on code.L o v = load_goes_on v
+word_goes_on code.T o v = transfer_goes_on v
+word_goes_on code.Lar1 o v = load_pointer_goes_on v
+word_goes_on code.Tar1 o v = store_pointer_goes_on v
+word_goes_on code.Add o v = add_goes_on o
+word_goes_on _ o v = refl
+
+by_number : (what : Numbered) (from : Area) (byte : ℕ)
+    → is_target (numbered_operand what from byte) ≡ false
+by_number numbered.Timer from byte = refl
+by_number numbered.Counter from byte = refl
+by_number numbered.Db from byte = refl
+by_number numbered.Di from byte = refl
+
+by_register : (which : Register) → is_target (register_operand which) ≡ false
+by_register register.Dblg = refl
+by_register register.Dbno = refl
+by_register register.Dilg = refl
+by_register register.Dino = refl
+by_register _ = refl
+
+pub no_target : (o : Operand) (v : View) → is_target (operand_of o v) ≡ false
+unfolding operand_of
+no_target o (view.NumberBy what from byte) = by_number what from byte
+no_target o (view.Register which) = by_register which
+no_target o _ = refl
+
+-- ---- what is called
+
+-- what is taken is seen, and breaks no rule
+taken : (r : Option ℕ) (x : Seen) (v : View)
+    → (if is_none r then seen_view x else None) ≡ Some v → (r ≡ None) × (x ≡ Sees v)
+taken None (Sees w) v e = (refl, cc)
+taken None Unknown v e = absurd cc
+taken None Rests v e = absurd cc
+taken (Some rule) x v e = absurd cc
+
+-- an operand that names a called block breaks the rule of what it names
+rule_none : (c : Context) (f : Form) (o : Operand) (id : BlockId) (i : Option ℕ)
+    → operand_rule c f o ≡ None → seen c o ≡ Sees (view.Called id i)
+    → rule_of f (view.Called id i) ≡ None
+unfolding seen
+rule_none c f (operand.Constant value) id i e s = absurd cc
+rule_none c f _ id i e s = ap (rule_seen f) (sym s) ∙ e
+
+callable : (k : BlockKind) → is_callable k ≡ true → is_called k ≡ true
+callable kinds.Fc e = refl
+callable kinds.Fb e = refl
+callable kinds.Sfc e = refl
+callable kinds.Ob e = absurd cc
+callable kinds.Db e = absurd cc
+callable kinds.Udt e = absurd cc
+
+function_block_called : (k : BlockKind) → is_function_block k ≡ true → is_called k ≡ true
+function_block_called kinds.Fb e = refl
+function_block_called kinds.Fc e = absurd cc
+function_block_called kinds.Sfc e = absurd cc
+function_block_called kinds.Ob e = absurd cc
+function_block_called kinds.Db e = absurd cc
+function_block_called kinds.Udt e = absurd cc
+
+called_kind : (id : BlockId) (i : Option ℕ) → rule_of form.Calls (view.Called id i) ≡ None
+    → is_called id.kind ≡ true
+unfolding rule_of takes
+called_kind id None e = by (is_callable id.kind) refl e
+  where
+    by : (t : Bool) → is_callable id.kind ≡ t
+        → ◌≡◌ {A = Option ℕ} (if not t then Some 25 else None) None → is_called id.kind ≡ true
+    by true is h = callable id.kind is
+    by false is h = absurd cc
+called_kind id (Some number) e = by (is_function_block id.kind) refl e
+  where
+    by : (t : Bool) → is_function_block id.kind ≡ t
+        → ◌≡◌ {A = Option ℕ} (if not t then Some 25 else None) None → is_called id.kind ≡ true
+    by true is h = function_block_called id.kind is
+    by false is h = absurd cc
+
+call_form : (m : Mnemonic) (how : CallWord) → call_of m ≡ Some how → form_of m ≡ form.Calls
+unfolding form_of
+call_form code.Call how e = refl
+call_form code.Uc how e = refl
+call_form code.Cc how e = refl
+call_form _ how e = absurd cc
+
+-- ---- its instance
+
+-- only an operand that calls a block names one
+abbrev names_called : Seen → Bool
+names_called (Sees (view.Called id instance)) = true
+names_called _ = false
+
+of_element : (e : Element) → names_called (Sees (date_or_composite e)) ≡ false
+of_element element.DateAndTime = refl
+of_element _ = refl
+
+of_cell : (c : Option Cell) → names_called (Sees (composite c)) ≡ false
+of_cell None = refl
+of_cell (Some c) = of_element c.of
+
+of_area : (kind : Simple) (p : Option (Place × Width)) → names_called (in_area kind p) ≡ false
+of_area kind None = refl
+of_area kind (Some p) = refl
+
+of_parameter : (index : ℕ) (kind : Simple) (c : Option Cell)
+    → names_called (parameter index kind c) ≡ false
+of_parameter index kind None = refl
+of_parameter index kind (Some c) = refl
+
+of_function : (c : Context) (function : Bool) (spot : Spot) (kind : Simple) (p : Option (Place × Width))
+    → names_called (if function then parameter_at c spot kind else in_area kind p) ≡ false
+of_function c true spot kind p =
+    of_parameter
+    (parameter_index (length (cells_at c.layouts c.block false)) spot.place
+    (slice_get c.blocks c.block))
+    kind (slice_get (cells_at c.layouts c.block false) spot.place)
+of_function c false spot kind p = of_area kind p
+
+of_elementary : (c : Context) (temporary : Bool) (spot : Spot) (kind : Simple)
+    → names_called (own_elementary c temporary spot kind) ≡ false
+of_elementary c true spot kind = of_area kind (placed _ 0 spot.offset (Some kind))
+of_elementary c false spot kind =
+    of_function c (in_function c) spot kind (placed _ 0 spot.offset (Some kind))
+
+of_own_at : (c : Context) (temporary : Bool) (spot : Spot) (k : Option Simple)
+    → names_called (own_at c temporary spot k) ≡ false
+of_own_at c temporary spot None =
+    of_cell (slice_get (cells_at c.layouts spot.block spot.temporary) spot.place)
+of_own_at c temporary spot (Some kind) = of_elementary c temporary spot kind
+
+of_own : (c : Context) (temporary : Bool) (w : Walk)
+    → names_called (own_walked c temporary w) ≡ false
+of_own c temporary (walk.Reaches spot) =
+    of_own_at c temporary spot (elementary_at c.layouts spot)
+of_own c temporary walk.Unknown = refl
+of_own c temporary walk.Rests = refl
+
+of_data_at : (c : Context) (number : ℕ) (spot : Spot) (k : Option Simple)
+    → names_called (data_at c number spot k) ≡ false
+of_data_at c number spot None =
+    of_cell (slice_get (cells_at c.layouts spot.block spot.temporary) spot.place)
+of_data_at c number spot (Some kind) = of_area kind (placed _ number spot.offset (Some kind))
+
+of_data : (c : Context) (number : ℕ) (w : Walk) → names_called (data_walked c number w) ≡ false
+of_data c number (walk.Reaches spot) = of_data_at c number spot (elementary_at c.layouts spot)
+of_data c number walk.Unknown = refl
+of_data c number walk.Rests = refl
+
+of_data_path : (c : Context) (steps : List PathStep) (number place : Option ℕ)
+    → names_called (data_path c steps number place) ≡ false
+of_data_path c steps (Some number) (Some block) =
+    of_data c number (walked_data c.layouts block steps)
+of_data_path c steps (Some number) None = refl
+of_data_path c steps None place = refl
+
+of_target : (t : Target) → names_called (Sees (target_view t)) ≡ false
+of_target (target.Variable place width) = refl
+of_target (target.Timer number) = refl
+of_target (target.Counter number) = refl
+of_target (target.Block id) = refl
+
+of_symbol : (s : Option Symbol) → names_called (symbol_seen s) ≡ false
+of_symbol None = refl
+of_symbol (Some s) = of_target s.target
+
+of_path : (c : Context) (h : PathHead) (steps : List PathStep)
+    → names_called (path_seen c h steps) ≡ false
+of_path c (head.Local name) steps =
+    of_own c (is_temporary c (folded name))
+    (walked_local c.layouts c.block (folded name) (folded_path steps))
+of_path c (head.InBlock name) steps =
+    of_data_path c (folded_path steps) (data_number c name) (data_place c name)
+of_path c (head.Symbol name) steps = of_symbol (symbol_named name c.symbols)
+
+of_address : (number : Option ℕ) (a : Letters) (width : Width) (byte bit : ℕ)
+    → names_called (address_in number a width byte bit) ≡ false
+of_address None a width byte bit = refl
+of_address (Some number) a width byte bit = refl
+
+of_direct : (c : Context) (name : Option BlockName) (a : Letters) (width : Width) (byte bit : ℕ)
+    → names_called (direct_seen c name a width byte bit) ≡ false
+of_direct c None a width byte bit = refl
+of_direct c (Some name) a width byte bit = of_address (data_number c name) a width byte bit
+
+of_opened : (di : Bool) (number : Option ℕ) → names_called (opened_seen di number) ≡ false
+of_opened di None = refl
+of_opened di (Some number) = refl
+
+-- a block that is found in its place has the kind and number that are looked for
+first_id : (id : BlockId) (l : BlockLayout) (ls : List BlockLayout) (place : ℕ) (b : BlockLayout)
+    → is_id id l.id ≡ true → Some 0 ≡ Some place → slice_get (l ∷ ls) place ≡ Some b
+    → is_id id b.id ≡ true
+first_id id l ls zero b is e g =
+    let same : l ≡ b = cc in ap (λ (x : BlockLayout). is_id id x.id) (sym same) ∙ is
+first_id id l ls (suc place) b is e g = absurd cc
+
+placed_id : (id : BlockId) (ls : List BlockLayout) (place : ℕ) (b : BlockLayout)
+    → block_place id (map (λ l. l.id) ls) ≡ Some place → slice_get ls place ≡ Some b
+    → is_id id b.id ≡ true
+placed_id id [] place b e g = absurd cc
+placed_id id (l ∷ ls) place b e g =
+    by (is_id id l.id) refl (block_place id (map (λ l. l.id) ls)) (placed_id id ls) refl place e g
+  where
+    by : (t : Bool) → is_id id l.id ≡ t → (found : Option ℕ)
+        → ((place : ℕ) (b : BlockLayout) → block_place id (map (λ l. l.id) ls) ≡ Some place
+        → slice_get ls place ≡ Some b → is_id id b.id ≡ true)
+        → block_place id (map (λ l. l.id) ls) ≡ found → (place : ℕ)
+        → (if t then Some 0 else option_map (λ k. suc k) found) ≡ Some place
+        → slice_get (l ∷ ls) place ≡ Some b → is_id id b.id ≡ true
+    by true is found more at place e g = first_id id l ls place b is e g
+    by false is None more at place e g = absurd cc
+    by false is (Some k) more at zero e g = absurd cc
+    by false is (Some k) more at (suc place) e g =
+        let same : k ≡ place = cc in more place b (at ∙ ap Some same) g
+
+whole_is : (o : Option BlockLayout) (b : BlockLayout) → whole_block o ≡ Some b → o ≡ Some b
+whole_is None b e = absurd cc
+whole_is (Some l) b e = by l.broken e
+  where
+    by : (t : Bool) → (if t then None else Some l) ≡ Some b → Some l ≡ Some b
+    by true h = absurd cc
+    by false h = h
+
+same_number : (id : BlockId) (i : Option BlockId) (number : ℕ)
+    → is_id id i ≡ true → number_of i ≡ Some number → id.number ≡ number
+same_number id None number is e = absurd cc
+same_number id (Some other) number is e =
+    let eq : other.number ≡ number = cc in
+    grind (arith, nat_tests)
+
+of_data_kind : (i : Option BlockId) (id : BlockId) → of_kind is_data_block i ≡ Some id
+    → is_data_block id.kind ≡ true
+of_data_kind None id e = absurd cc
+of_data_kind (Some other) id e = by (is_data_block other.kind) refl e
+  where
+    by : (t : Bool) → is_data_block other.kind ≡ t → (if t then Some other else None) ≡ Some id
+        → is_data_block id.kind ≡ true
+    by true is h =
+        let same : other ≡ id = cc in
+        ap (λ (x : BlockId). is_data_block x.kind) (sym same) ∙ is
+    by false is h = absurd cc
+
+least_number : (k : BlockKind) (number : ℕ) → is_data_block k ≡ true
+    → is_block_number k number ≡ true → 1 ≤ number
+least_number kinds.Db number is e = grind (arith, nat_tests)
+least_number kinds.Ob number is e = absurd cc
+least_number kinds.Fc number is e = absurd cc
+least_number kinds.Fb number is e = absurd cc
+least_number kinds.Sfc number is e = absurd cc
+least_number kinds.Udt number is e = absurd cc
+
+known_is : (id : BlockId) (is : List (Option BlockId)) (place : ℕ)
+    → known_block id is ≡ Some place
+    → (is_block_number id.kind id.number ≡ true) × (block_place id is ≡ Some place)
+known_is id is place e = by (is_block_number id.kind id.number) refl e
+  where
+    by : (t : Bool) → is_block_number id.kind id.number ≡ t
+        → (if t then block_place id is else None) ≡ Some place
+        → (is_block_number id.kind id.number ≡ true) × (block_place id is ≡ Some place)
+    by true right h = (right, h)
+    by false wrong h = absurd cc
+
+-- no data block with the number 0 is known
+known_number : (c : Context) (i : Option BlockId) (place : Option ℕ) (b : Option BlockLayout)
+    (number : ℕ)
+    → (id : Option BlockId) → of_kind is_data_block i ≡ id
+    → option_and_then (λ x. known_block x (ids c)) id ≡ place
+    → option_and_then (whole_at c.layouts) place ≡ b
+    → option_and_then (λ x. number_of x.id) b ≡ Some number → 1 ≤ number
+known_number c i None None number id is at there e = absurd cc
+known_number c i None (Some b) number id is at there e = absurd cc
+known_number c i (Some place) None number id is at there e = absurd cc
+known_number c i (Some place) (Some b) number None is at there e = absurd cc
+known_number c i (Some place) (Some b) number (Some id) is at there e =
+    let known = known_is id (ids c) place at in
+    let here : slice_get c.layouts place ≡ Some b =
+    whole_is (slice_get c.layouts place) b there in
+    let same : id.number ≡ number =
+    same_number id b.id number (placed_id id c.layouts place b known.1 here) e in
+    let least = least_number id.kind id.number (of_data_kind i id is) known.0 in
+    omega (arith, same, least)
+
+least_data_number : (c : Context) (name : BlockName) (number : ℕ)
+    → data_number c name ≡ Some number → 1 ≤ number
+least_data_number c name number e =
+    known_number c (named_block c.symbols name) (data_place c name)
+    (option_and_then (whole_at c.layouts) (data_place c name)) number
+    (of_kind is_data_block (named_block c.symbols name)) refl refl refl e
+
+called_instance : (c : Context) (b : Option BlockId) (named : Option BlockName) (id : BlockId)
+    (number : ℕ)
+    → called_seen b named (instance_number c named) ≡ Sees (view.Called id (Some number))
+    → 1 ≤ number
+called_instance c None named id number e = absurd cc
+called_instance c (Some x) None id number e = absurd cc
+called_instance c (Some x) (Some name) id number e = by (data_number c name) refl e
+  where
+    by : (i : Option ℕ) → data_number c name ≡ i
+        → called_seen (Some x) (Some name) i ≡ Sees (view.Called id (Some number)) → 1 ≤ number
+    by None is h = absurd cc
+    by (Some k) is h =
+        let same : k ≡ number = cc in least_data_number c name number (is ∙ ap Some same)
+
+not_called : (x : Seen) (id : BlockId) (i : Option ℕ) → names_called x ≡ false
+    → x ≡ Sees (view.Called id i) → ⊥
+not_called x id i other e = let h : false ≡ true = sym other ∙ ap names_called e in cc
+
+seen_instance : (c : Context) (o : Operand) (id : BlockId) (number : ℕ)
+    → seen c o ≡ Sees (view.Called id (Some number)) → 1 ≤ number
+unfolding seen
+seen_instance c (operand.Called name instance) id number e =
+    called_instance c (whole_called c (named_block c.symbols name)) instance id number e
+seen_instance c (operand.Direct name a width byte bit) id number e =
+    absurd (not_called (direct_seen c name a width byte bit) id (Some number)
+    (of_direct c name a width byte bit) e)
+seen_instance c (operand.Named h steps) id number e =
+    absurd (not_called (path_seen c h steps) id (Some number) (of_path c h steps) e)
+seen_instance c (operand.OpenBlock di name) id number e =
+    absurd (not_called (opened_seen di (data_number c name)) id (Some number)
+    (of_opened di (data_number c name)) e)
+seen_instance c _ id number e = absurd cc
+
+instance_is : (c : Context) (o : Operand) (id : BlockId) (i : Option ℕ)
+    → seen c o ≡ Sees (view.Called id i) → IsInstance i
+instance_is c o id None e = tt
+instance_is c o id (Some number) e = seen_instance c o id number e
+
+-- ---- instructions
+
+called_made : (c : Context) (n : ℕ) (s : Statement) (how : CallWord) (v : View)
+    → resolved c s ≡ Some v → call_of s.code ≡ Some how → IsMade n (call_instr c s how v)
+unfolding resolved
+called_made c n s how (view.Called id i) is e =
+    let t = taken (statement_rule c s) (seen c s.operand) (view.Called id i) is in
+    let rule : rule_of (form_of s.code) (view.Called id i) ≡ None =
+    rule_none c (form_of s.code) s.operand id i t.0 t.1 in
+    let calls_form : form_of s.code ≡ form.Calls = call_form s.code how e in (
+      called_kind id i (ap (λ (f : Form). rule_of f (view.Called id i)) (sym calls_form) ∙ rule),
+      instance_is c s.operand id i t.1,
+    )
+called_made c n s how _ is e = (refl, refl)
+
+ended_made : (n : ℕ) (s : Statement) (v : View) (e : Option EndWord)
+    → IsMade n (end_instr s v e)
+ended_made n s v None = (word_goes_on s.code s.operand v, no_target s.operand v)
+ended_made n s v (Some how) = tt
+
+seen_made : (c : Context) (n : ℕ) (s : Statement) (v : View) → resolved c s ≡ Some v
+    → (h : Option CallWord) → call_of s.code ≡ h → IsMade n (view_instr c s v h)
+seen_made c n s v is None e = ended_made n s v (end_of s.code)
+seen_made c n s v is (Some how) e = called_made c n s how v is e
+
+resolved_made : (c : Context) (n : ℕ) (s : Statement) (v : Option View) → resolved c s ≡ v
+    → IsMade n (resolved_instr c s v)
+resolved_made c n s None is = (refl, refl)
+resolved_made c n s (Some v) is = seen_made c n s v is (call_of s.code) refl
+
+jump_made : (n target : ℕ) (how : JumpWord) → IsMade n (jump_instr how n target)
+jump_made n target jump.Jl = refl
+jump_made n target _ = refl
+
+instr_made : (c : Context) (body : List Statement) (n : ℕ) (s : Statement) (j : Option JumpWord)
+    → IsMade n (instr_by c body n s j)
+instr_made c body n s None = resolved_made c n s (resolved c s) refl
+instr_made c body n s (Some how) = jump_made n (target_of body s.operand) how
+
+pub instruction_made : (c : Context) (body : List Statement) (n : ℕ) (s : Statement)
+    → IsMade n (instruction c body n s)
+unfolding instruction
+instruction_made c body n s = instr_made c body n s (jump_of s.code)

@@ -1,0 +1,2 @@
+-- Lemmas on a program that is compiled of statements.
+pub mod Keeping

@@ -1,0 +1,52 @@
+-- What the code of a block keeps by its ops: each is an op of the table, a statement has at most 64,
+-- and the last one is BE.
+use Rattle.std.specs.Prelude.{◌≡◌, ℕ, Bool, true, List, length, Option, None}
+use Rattle.std.specs.List.{AllByRecursion}
+use Rattle.flat_code.specs.Codes.{are_ops, code_bytes, code_fault, code_of}
+use Rattle.flat_code.specs.Programs.{CodeBlock}
+use Rattle.stl_ast.specs.Literals.{AreBytes}
+use Rattle.stl_ast.specs.declared.blocks.Tree.{Tree}
+use Rattle.stl_ast.specs.declared.literals.Literal.{Literal}
+use Rattle.stl_ast.specs.declared.literals.Literal.TheVariants as literal
+use Rattle.stl_ast.specs.declared.operands.Operand.{Operand}
+use Rattle.stl_ast.specs.declared.operands.Operand.TheVariants as operand
+use Rattle.stl_ast.specs.declared.statements.Statement.{Statement}
+use Rattle.stl_symbols.specs.Symbol.{Symbol}
+use Rattle.sem_kept.specs.Accepted.{IsAccepted, program_in}
+
+-- the characters of a constant are bytes
+abbrev pub HasBytes : Literal → Type 0
+HasBytes (literal.Characters bytes) = AreBytes bytes
+HasBytes _ = Unit {0}
+
+-- the characters of an operand that is a constant are bytes; other operands have none
+abbrev pub OperandHasBytes : Operand → Type 0
+OperandHasBytes (operand.Constant value) = HasBytes value
+OperandHasBytes _ = Unit {0}
+
+-- so are those of the operand of a statement, and of its actual parameters
+pub record StatementHasBytes (s : Statement) : Type 0 where
+  pub operand : OperandHasBytes s.operand
+  pub actuals : AllByRecursion (λ a. OperandHasBytes a.value) s.actuals
+
+-- so are those of each statement in the bodies of a source
+abbrev pub TreeHasBytes : Tree → Type 0
+TreeHasBytes t = AllByRecursion (λ b. AllByRecursion StatementHasBytes b.body) t.blocks
+
+-- the code of a block
+pub record IsCoded (b : CodeBlock) : Type 0 where
+  pub ops : are_ops b.code ≡ true
+  pub right : code_fault b.code ≡ None
+
+-- of an accepted source, whose elements are bytes
+abbrev pub AreCoded : Type 0
+AreCoded =
+    (source : List ℕ) (file : Option (List ℕ)) (symbols : List Symbol) (t : Tree)
+    → IsAccepted source file symbols t → AreBytes source
+    → AllByRecursion IsCoded (program_in symbols t).code_blocks
+
+-- what is coded is good as the code field of an image, whether its faults are checked or not
+abbrev pub CodedIsGood : Type 0
+CodedIsGood =
+    (judged : Bool) (b : CodeBlock) → IsCoded b
+    → (code_of judged (length (code_bytes b.code))).good b.code ≡ true

@@ -1,0 +1,32 @@
+-- The meaning of statements and that of the program that is compiled of them, along every history.
+use Rattle.std.specs.Prelude.{◌≡◌, List}
+use Rattle.std.specs.List.{AllByRecursion}
+use Rattle.flat_code.specs.Programs.{DataBlock, NameEntry}
+use Rattle.machine.specs.Code.{Code}
+use Rattle.machine.specs.Flat.{code_of}
+use Rattle.var_access.specs.declared.What.{What}
+use Rattle.controller.specs.Replay.{happens, replay}
+use Rattle.stl_codegen.specs.Compiled.{StatedBlock}
+use Rattle.sem_kept.specs.Statements.{stated_code, IsCompilable, program_with}
+
+-- of two codes the second does what the first one means: after every history the mode, memory with
+-- timers and counters, the scheduler and the diagnostics are the same, and every entry answers and
+-- shows the same
+pub record IsKept (c d : Code) : Type 0 where
+  pub world : (history : List What) → (replay d history).world ≡ (replay c history).world
+  pub mode : (history : List What) → (replay d history).mode ≡ (replay c history).mode
+  pub sched : (history : List What) → (replay d history).sched ≡ (replay c history).sched
+  pub diagnostics : (history : List What)
+      → (replay d history).diagnostics ≡ (replay c history).diagnostics
+  pub reply : (history : List What) (entry : What)
+      → (happens d (replay d history) entry).reply ≡ (happens c (replay c history) entry).reply
+  pub seen : (history : List What) (entry : What)
+      → (happens d (replay d history) entry).seen ≡ (happens c (replay c history) entry).seen
+
+-- the program that is compiled of blocks that can be compiled does what their statements mean,
+-- whatever its data blocks and its names are
+abbrev pub ProgramsAreKept : Type 0
+ProgramsAreKept =
+    (blocks : List StatedBlock) (data_blocks : List DataBlock) (names : List NameEntry)
+    → AllByRecursion IsCompilable blocks
+    → IsKept (stated_code blocks data_blocks) (code_of (program_with blocks data_blocks names))

@@ -1,0 +1,94 @@
+-- When the ops of a block have no fault by their operands, their end marks and their calls.
+use Rattle.std.specs.Prelude.{◌≡◌, ℕ, true, false, ◌&&◌, List, [], ◌∷◌, map, Option, Some, None}
+use Rattle.std.specs.List.{AllByRecursion}
+use Rattle.flat_code.specs.Blocks.{Around, Callee, callee, call_fault, is_above, is_bad_actual, is_bad_call, is_bad_place, is_in_db, is_input, lacks_own, lacks_width, mark_fault, misfits_callee, operand_fault, own_parameter, prepares, writes}
+use Rattle.flat_code.specs.Instr.{Instr, Passing, Does, Calls}
+use Rattle.flat_code.specs.OpCodes.{code_of}
+use Rattle.flat_code.specs.Ops.{OpData}
+use Rattle.flat_code.specs.Image.{record_of_block}
+use Rattle.flat_code.specs.Loading.{around, lens_of}
+use Rattle.flat_code.specs.Placed.{Placed, Spot, places, spots}
+use Rattle.flat_code.specs.Programs.{CodeBlock, Program}
+use Rattle.flat_code.specs.declared.operands.Operand.{Operand}
+use Rattle.flat_code.specs.declared.operands.Operand.TheVariants as operand
+use Rattle.flat_code.specs.declared.words.CallWord.{CallWord}
+use Rattle.flat_code.specs.declared.words.CallWord.TheVariants as calls
+use Rattle.stl_ast.specs.Literals.{AreBytes}
+use Rattle.stl_ast.specs.declared.blocks.Tree.{Tree}
+use Rattle.stl_symbols.specs.Symbol.{Symbol}
+use Rattle.stl_codegen.specs.Emitted.{called_kind, ending, instance_number, passing}
+use Rattle.stl_codegen.specs.Fitting.{IsStill}
+use Rattle.sem_kept.specs.Accepted.{IsAccepted, program_in}
+
+-- ---- what fits
+
+-- the operand of an op that goes on, with the code of the op
+abbrev pub IsRightOperand : Around → OpData → Operand → Type 0
+IsRightOperand a op (operand.Direct area w byte bit) =
+    (lacks_width op w ≡ false) × (is_bad_place a area w byte bit ≡ false)
+IsRightOperand a op (operand.ByMemory area w from byte) = lacks_width op w ≡ false
+IsRightOperand a op (operand.ByRegister area w register bits) = lacks_width op w ≡ false
+IsRightOperand a op (operand.Parameter index w) =
+    (lacks_width op w ≡ false) × (lacks_own (own_parameter a index) w ≡ false)
+    × ((writes op.code && is_input (own_parameter a index)) ≡ false)
+IsRightOperand a op (operand.Jump kind target) = ⊥
+IsRightOperand a op (operand.UseDb number) = ⊥
+IsRightOperand a op (operand.Pass index actual) = ⊥
+IsRightOperand a op (operand.Called kind number instance) = ⊥
+IsRightOperand a op _ = Unit {0}
+
+-- a data block is opened for an operand in DB alone
+abbrev pub IsOpenedFor : Operand → Option ℕ → Type 0
+IsOpenedFor o None = Unit {0}
+IsOpenedFor o (Some number) = is_in_db o ≡ true
+
+-- what a CALL passes, by rising indices behind one
+abbrev pub ArePassed : Around → Option Callee → (before : Option ℕ) → List Passing → Type 0
+ArePassed a s before [] = Unit {0}
+ArePassed a s before (p ∷ ps) =
+    (is_above p.index before ≡ true) × (is_bad_actual a p.actual ≡ false)
+    × (misfits_callee a s p.index p.actual ≡ false) × ArePassed a s (Some p.index) ps
+
+-- what is passed by CALL alone
+abbrev pub PassesAlone : CallWord → List Passing → Type 0
+PassesAlone calls.Call ps = Unit {0}
+PassesAlone _ ps = ps ≡ []
+
+-- an instruction fits what surrounds its block
+abbrev pub InstrFits : Around → List (ℕ × ℕ) → Instr → Type 0
+InstrFits a lens (Does use_db w o) =
+    (prepares (code_of w) ≡ false) × IsRightOperand a (ending w o) o × IsOpenedFor o use_db
+InstrFits a lens (Calls how block instance ps) =
+    PassesAlone how ps
+    × ArePassed a (callee a.blocks (called_kind block.kind) block.number) None ps
+    × (is_bad_call lens (callee a.blocks (called_kind block.kind) block.number)
+    (instance_number instance) (passing ps) ≡ false)
+InstrFits a lens _ = Unit {0}
+
+-- ---- ops at their places
+
+-- an op that has no fault but by a jump or a bracket
+pub record IsFine (a : Around) (lens : List (ℕ × ℕ)) (ss : List Spot) (p : Placed) : Type 0 where
+  pub operand : IsStill p.op.operand → operand_fault a ss p p.op.operand ≡ None
+  pub call : call_fault a (Some lens) p ≡ None
+  pub mark : mark_fault p.op ≡ None
+
+-- of these ops each has no fault but by a jump or a bracket
+abbrev pub AreFine : Around → List (ℕ × ℕ) → List Spot → List Placed → Type 0
+AreFine a lens ss ps = AllByRecursion (IsFine a lens ss) ps
+
+-- ---- a program
+
+-- the ops of a block among the others of its program
+abbrev pub BlockIsFine : Program → CodeBlock → Type 0
+BlockIsFine p b =
+    AreFine
+    (around (Some (lens_of p.data_blocks)) (map record_of_block p.code_blocks) (record_of_block b))
+    (lens_of p.data_blocks) (spots b.code) (places b.code)
+
+-- of an accepted source, whose elements are bytes
+abbrev pub OperandsAreFine : Type 0
+OperandsAreFine =
+    (source : List ℕ) (file : Option (List ℕ)) (symbols : List Symbol) (t : Tree)
+    → IsAccepted source file symbols t → AreBytes source
+    → AllByRecursion (BlockIsFine (program_in symbols t)) (program_in symbols t).code_blocks

@@ -1,0 +1,33 @@
+-- That a program is small enough for an image.
+use Rattle.std.specs.Prelude.{◌≡◌, ℕ, ◌≤◌, ◌<◌, true, List, [], length, Option}
+use Rattle.std.specs.List.{AllByRecursion}
+use Rattle.flat_code.specs.Checking.{good_blocks, good_counts, good_datas, good_names, image_size}
+use Rattle.flat_code.specs.Codes.{code_bytes}
+use Rattle.flat_code.specs.Image.{IsProgram}
+use Rattle.flat_code.specs.Programs.{CodeBlock, Program}
+use Rattle.stl_ast.specs.declared.blocks.Tree.{Tree}
+use Rattle.stl_symbols.specs.Symbol.{Symbol}
+use Rattle.sem_kept.specs.Accepted.{IsAccepted, program_in}
+
+-- a code block's statements and code bytes fit their fields
+pub record IsSmallBlock (b : CodeBlock) : Type 0 where
+  pub lines : length b.lines < 65536
+  pub code : length (code_bytes b.code) < 4294967296
+
+-- a program's counts and code blocks fit their fields, and its image has at most 8,388,608 bytes
+pub record IsSmall (p : Program) : Type 0 where
+  pub counts : good_counts (length p.code_blocks) (length p.data_blocks) (length p.names) ≡ true
+  pub short : image_size p ≤ 8388608
+  pub blocks : AllByRecursion IsSmallBlock p.code_blocks
+
+-- so is that of an accepted source
+abbrev pub AcceptedIsSmall : Type 0
+AcceptedIsSmall =
+    (source : List ℕ) (file : Option (List ℕ)) (symbols : List Symbol) (t : Tree)
+    → IsAccepted source file symbols t → IsSmall (program_in symbols t)
+
+-- and where its records are right too, it has an image
+abbrev pub SmallIsProgram : Type 0
+SmallIsProgram =
+    (p : Program) → IsSmall p → good_blocks (0, 0) p.code_blocks ≡ true
+    → good_datas (0, 0) p.data_blocks ≡ true → good_names [] p.names ≡ true → IsProgram p

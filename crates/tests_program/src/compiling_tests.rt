@@ -1,0 +1,121 @@
+//! Sources compiled and checked, and programs run, by the calls behind the commands.
+use crate::calls::{ONE_RUN, RUNG};
+use crate::compare::same;
+use s7_cli::{CompileFault, compiled, judged};
+use event_text::read_history;
+use plc_base::Refusal;
+use plc_io::MemSink;
+use run_text::{Line, replay_text};
+use std::alloc::Global;
+use std::process::Abort;
+use std::test::Fail;
+
+/// The most bytes of a source, and of a symbols file.
+const LIMIT: usize = 1_048_576;
+
+/// OB 1 by symbols, and their file.
+const BY_SYMBOLS: &[u8] =
+    b"ORGANIZATION_BLOCK OB 1\nBEGIN\nA \"On\";\n= \"Lamp\";\nEND_ORGANIZATION_BLOCK\n";
+
+const SYMBOLS: &[u8] = b"On,I 0.0,BOOL,\nLamp,Q 4.0,BOOL,\n";
+
+/// Runs a source with its symbols along a history.
+fn runs(
+    rt: &impl Abort,
+    out: &mut MemSink,
+    alloc: Global,
+    source: &[u8],
+    symbols: Option<&[u8]>,
+    history: &[u8],
+) -> Result<(), Fail> {
+    assert!(rt; source.len() <= LIMIT);
+    if let Some(bytes) = symbols {
+        assert!(rt; bytes.len() <= LIMIT);
+    }
+    let program = compiled(alloc, source, symbols)?;
+    let entries = read_history(alloc, history)?;
+    replay_text(alloc, program, &entries, out)?;
+    Ok(())
+}
+
+fn in_source(line: u32, rule: u16) -> Option<CompileFault> {
+    Some(CompileFault::Source {
+        refusal: Refusal { line, rule },
+    })
+}
+
+fn in_symbols(line: u32, rule: u16) -> Option<CompileFault> {
+    Some(CompileFault::Symbols {
+        refusal: Refusal { line, rule },
+    })
+}
+
+// Each source with its symbols file is compiled and accepted, or has the one refusal for both.
+#[test]
+fn accepted_or_refused(rt: HostRuntime) -> Result<(), Fail> {
+    let twice = b"On,I 0.0,BOOL,\n\non,I 0.1,BOOL,\n";
+    let table: [(&[u8], &[u8], Option<CompileFault>); 8] = [
+        (RUNG, b"", None),
+        (BY_SYMBOLS, SYMBOLS, None),
+        (b"", b"", None),
+        // The symbols come first: there is no bit 8.
+        (b"L 1;\n", b"On,I 0.8,BOOL,\n", in_symbols(1, 15)),
+        (BY_SYMBOLS, twice, in_symbols(3, 16)),
+        // A statement outside of a block, and a token behind it.
+        (b"L 1;\n", b"", in_source(1, 11)),
+        (b"L 1;\n\nA I 0.0 $;\n", b"", in_source(3, 1)),
+        // `"Lamp"` is no symbol.
+        (BY_SYMBOLS, b"On,I 0.0,BOOL,\n", in_source(4, 20)),
+    ];
+    for (source, symbols, fault) in table {
+        assert!(rt; source.len() <= LIMIT && symbols.len() <= LIMIT);
+        let accepted = judged(rt.alloc(), source, Some(symbols));
+        same(&rt, "judged", accepted.err(), fault);
+        let program = compiled(rt.alloc(), source, Some(symbols));
+        same(&rt, "compiled", program.err(), fault);
+    }
+    Ok(())
+}
+
+// In 0.0 comes on. A cycle of two statements is four steps, and the fifth shows what it wrote.
+#[test]
+fn a_source_by_symbols_is_compiled(rt: HostRuntime) -> Result<(), Fail> {
+    let mut out = MemSink::new(rt.alloc(), 64);
+    let history = b"in 0 01\nstep 5\n";
+    runs(
+        &rt,
+        &mut out,
+        rt.alloc(),
+        BY_SYMBOLS,
+        Some(SYMBOLS),
+        history,
+    )?;
+    let text = b"@6 PQ 4 = 01\nEND 6 RUN\n".as_slice();
+    same(&rt, "the run", out.taken.as_slice(), text);
+    Ok(())
+}
+
+// The interlock of docs/FORMATS.md, without symbols. The sink takes one byte of each piece.
+#[test]
+fn a_program_is_run(rt: HostRuntime) -> Result<(), Fail> {
+    let mut out = MemSink::new(rt.alloc(), 1);
+    runs(&rt, &mut out, rt.alloc(), RUNG, None, ONE_RUN)?;
+    let text = b"@7 PQ 4 = 01\nEND 7 RUN\n".as_slice();
+    same(&rt, "the run", out.taken.as_slice(), text);
+    Ok(())
+}
+
+// A number in decimal, behind what stands in the line.
+#[test]
+fn numbers_in_a_line(rt: HostRuntime) {
+    for (number, text) in [
+        (0, "n 0"),
+        (65_535, "n 65535"),
+        (u64::MAX, "n 18446744073709551615"),
+    ] {
+        let mut line = Line::new();
+        line.add(b"n ");
+        line.add_number(number);
+        same(&rt, text, line.as_slice(), text.as_bytes());
+    }
+}
