@@ -34,6 +34,12 @@ def calls_in_help(command=None):
     return [line for line in lines if command is None or line.split()[1] == command]
 
 
+def short_rule(number):
+    """What the help says of a rule, in a few words."""
+    found = re.search(rf"^ {{1,3}}{number}  (.+)$", answer_to("help"), re.MULTILINE)
+    return found[1] if found else "docs/REFUSALS.md says what it is"
+
+
 def limits():
     """The most bytes of each kind of file, by the help."""
     found = re.findall(r"too long: (\w+) \(([0-9,]+) bytes\)", answer_to("help"))

@@ -1,0 +1,171 @@
+"""All refusals of a source, one after the other: what is refused is left out, and the rest is checked again."""
+import csv
+import os
+import re
+from typing import NamedTuple
+
+from texts import programs
+from texts.clauses import block_at, clauses_of
+from texts.histories import ARRIVING
+from texts.tool import Refused, decoded
+
+REFUSED = re.compile(r"(symbols|source) refused: line (\d+) rule (\d+)\n")
+ENDS_INSIDE = 13
+INITIAL_VALUE = 41
+RULES_OF_NAMES = (20, 23, 34)
+RULES_OF_NUMBERS = (22, 44)
+NUMBERS = {
+    b"ORGANIZATION_BLOCK": (b"OB", ARRIVING),
+    b"FUNCTION": (b"FC", range(1, 2048)),
+    b"FUNCTION_BLOCK": (b"FB", range(1, 2048)),
+    b"DATA_BLOCK": (b"DB", range(1, 2048)),
+    b"TYPE": (b"UDT", range(1, 2048)),
+}
+CLOSERS = (b"", b"BEGIN ", b"END_VAR BEGIN ", b"END_STRUCT; BEGIN ", b"END_STRUCT; END_VAR BEGIN ")
+
+
+class Refusal(NamedTuple):
+    """What is refused: the symbols or the source, by line and rule. `after` is the line in which something was left out
+    that is named here, so that this refusal may only come from that, or 0."""
+
+    kind: str
+    line: int
+    rule: int
+    after: int
+
+
+class Texts(NamedTuple):
+    source: bytes
+    symbols: bytes
+
+
+def blanked(data, begin, end):
+    """The bytes with blanks in the place of a part, whose line ends stay."""
+    return data[:begin] + re.sub(rb"[^\r\n]", b" ", data[begin:end]) + data[end:]
+
+
+def replaced(data, begin, end, by):
+    """The bytes with others in the place of a part, whose line ends stay."""
+    return data[:begin] + by + re.sub(rb"[^\r\n]", b"", data[begin:end]) + data[end:]
+
+
+def line_blanked(data, line):
+    begin = sum(len(it) + 1 for it in data.split(b"\n")[: line - 1])
+    end = data.find(b"\n", begin)
+    return blanked(data, begin, end if end >= 0 else len(data))
+
+
+def line_emptied(data, line):
+    lines = data.split(b"\n")
+    lines[line - 1] = b""
+    return b"\n".join(lines)
+
+
+class Checker:
+    """Asks the program about texts, which lie in a folder of their own."""
+
+    def __init__(self, room):
+        self.paths = Texts(os.path.join(room, "source"), os.path.join(room, "symbols"))
+
+    def refusal_of(self, texts):
+        """Kind, line and rule of what the program refuses, or None where it accepts the source."""
+        for path, data in zip(self.paths, texts):
+            with open(path, "wb") as file:
+                file.write(data)
+        answer = programs.call("check", self.paths.source, "--symbols", self.paths.symbols)
+        match = REFUSED.fullmatch(answer.text)
+        if answer.status == 0:
+            return None
+        if not match:
+            raise Refused(f"the program ended with status {answer.status}: {answer.text.strip()}")
+        return match[1], int(match[2]), int(match[3])
+
+
+def ways_out(texts, kind, line, rule):
+    """Texts without what is refused, with the clause that was left out, the narrowest first."""
+    source = texts.source
+    if kind == "symbols":
+        yield texts._replace(symbols=line_emptied(texts.symbols, line)), None
+        return
+    clauses = clauses_of(source)
+    begun = [it for it in clauses if it.line == line]
+    touched = begun or [it for it in clauses if it.covers(line)]
+    if rule == ENDS_INSIDE:
+        kind_of_open = next((it.tokens[0].upper for it in reversed(clauses) if it.is_head()), b"")
+        for closer in CLOSERS:
+            yield texts._replace(source=source.rstrip() + b" " + closer + b"END_" + kind_of_open), None
+    for clause in touched:
+        for shorter in clause_without(source, clause, clauses, rule):
+            yield texts._replace(source=shorter), clause
+    without_all = source
+    for clause in touched:
+        without_all = blanked(without_all, clause.begin, clause.end)
+    yield texts._replace(source=without_all), touched[0] if touched else None
+    yield texts._replace(source=line_blanked(source, line)), None
+
+
+def clause_without(source, clause, clauses, rule):
+    """The source without a clause, or without as much of it as has to go: of a block that has a wrong number this, of any
+    other block all of it; an initial value alone; of a statement with a label all but the label."""
+    if clause.is_head():
+        if rule in RULES_OF_NUMBERS:
+            yield renumbered(source, clause, clauses)
+        own = [it for it in clauses if it.block == clause.begin]
+        yield blanked(source, clause.begin, own[-1].end)
+        return
+    values = [token for token in clause.tokens if token.text == b":="]
+    if rule == INITIAL_VALUE and values and clause.has_front():
+        yield blanked(source, values[0].begin, clause.tokens[-1].begin)
+    elif clause.has_front() and clause.is_in_body:
+        yield replaced(source, clause.tokens[2].begin, clause.end, b"NOP 0;")
+    yield blanked(source, clause.begin, clause.end)
+
+
+def renumbered(source, head, clauses):
+    """The source with a number for a block that no other has."""
+    kind, numbers = NUMBERS[head.tokens[0].upper]
+    taken = set().union(*(it.names() for it in clauses))
+    free = next((number for number in numbers if b"%s%d" % (kind, number) not in taken), numbers[-1])
+    return replaced(source, head.tokens[1].begin, head.tokens[block_at(head.tokens[1:])[1]].end, b"%s %d" % (kind, free))
+
+
+def refusals(texts, checker, most):
+    """Yields the refusals of the texts, `most` at most."""
+    left_out, found = {}, checker.refusal_of(texts)
+    for _ in range(most):
+        if found is None:
+            return
+        kind, line, rule = found
+        yield Refusal(kind, line, rule, named_before(texts.source, found, left_out))
+        for shorter, clause in ways_out(texts, kind, line, rule):
+            after = checker.refusal_of(shorter)
+            if after != found:
+                break
+        else:
+            raise Refused(f"line {line} of the {kind}: what is refused there can't be left out, so the rest isn't checked")
+        name = symbol_name(texts.symbols, line) if kind == "symbols" else clause.declares() if clause else b""
+        if name and is_left_out(clause, texts, shorter):
+            left_out.setdefault(name, line)
+        texts, found = shorter, after
+
+
+def is_left_out(clause, texts, shorter):
+    """Whether the name of a clause, or of a symbol, is no longer there."""
+    if clause is None or clause.is_head():
+        return True
+    return shorter.source[clause.begin : clause.begin + 1] != texts.source[clause.begin : clause.begin + 1]
+
+
+def symbol_name(symbols, line):
+    """The name in a line of a symbols file, as names of clauses are written."""
+    fields = next(csv.reader([decoded(symbols.split(b"\n")[line - 1])]), [""])
+    return fields[0].rstrip().upper().encode()
+
+
+def named_before(source, found, left_out):
+    """The line in which something was left out that a clause of the refused line names, or 0."""
+    kind, line, rule = found
+    if kind != "source" or rule not in RULES_OF_NAMES:
+        return 0
+    names = set().union(*(it.names() for it in clauses_of(source) if it.covers(line)))
+    return min((left_out[name] for name in names & set(left_out)), default=0)
