@@ -3,9 +3,10 @@ use Rattle.std.proofs.Common.{◌≡◌, ℕ, suc, ◌+◌, ◌*◌, ◌≤◌, 
 use Rattle.std.proofs.lemmas.Bool.{and_parts, and_from, eq-eqb, leb-true, le-leb, lt-ltb}
 use Rattle.std.proofs.lemmas.Bool.Decides.{nat_tests}
 use Rattle.std.specs.Int.{w16, to_be_bytes}
-use Rattle.std.proofs.lemmas.List.{length-map, drop_more}
+use Rattle.std.proofs.lemmas.List.{length-map}
 use Rattle.std.proofs.lemmas.List.Sums.{sum_by-cons}
 use Rattle.std.specs.List.{sum_by}
+use Rattle.plc_base.proofs.ListLemmas.{drop_next}
 use Rattle.flat_code.specs.Checking.{all_good, good_params, good_lines, good_blocks, good_datas, good_names, good_counts, good_records, makes_program, block_size, data_size, name_size, image_size}
 use Rattle.flat_code.specs.Codes.{are_ops, code_bytes, code_of, size}
 use Rattle.flat_code.specs.Faults.{fault_of, name_fault}
@@ -236,16 +237,13 @@ unmade bs xs ds ys es zs t p q r h is = is_no_program (of_parts bs ds es) (cc)
 
 -- ---- loops
 
-pub next_of : {A : Type 0} (xs : List A) (i : ℕ) (x : A) → i < length xs → x ≡ get_or xs i x → drop i xs ≡ x ∷ drop (i + 1) xs
-next_of {A = A} xs i x lt is = drop_more xs i x lt ∙ ap (λ (z : A). z ∷ drop (i + 1) xs) (sym is)
-
 -- the first one that is left takes its bytes
 pub left_sum : {A : Type 0} (size : A → ℕ) (xs : List A) (i : ℕ) (x : A) → i < length xs → x ≡ get_or xs i x → sum_by size (drop i xs) ≡ size x + sum_by size (drop (i + 1) xs)
-left_sum size xs i x lt is = ap (sum_by size) (next_of xs i x lt is) ∙ sum_by-cons size x (drop (i + 1) xs)
+left_sum size xs i x lt is = ap (sum_by size) (drop_next xs i x lt is) ∙ sum_by-cons size x (drop (i + 1) xs)
 
 pub left_code : (ops : List OpData) (i : ℕ) (op : OpData) → i < length ops → op ≡ get_or ops i op → length (code_bytes (drop i ops)) ≡ size op + length (code_bytes (drop (i + 1) ops))
 unfolding size
-left_code ops i op lt is = ap (λ (z : List OpData). length (code_bytes z)) (next_of ops i op lt is) ∙ length-append (op_bytes op) (code_bytes (drop (i + 1) ops))
+left_code ops i op lt is = ap (λ (z : List OpData). length (code_bytes z)) (drop_next ops i op lt is) ∙ length-append (op_bytes op) (code_bytes (drop (i + 1) ops))
 
 pub ops_behind : (ops : List OpData) (i : ℕ) (op : OpData) → i < length ops → op ≡ get_or ops i op → IsOp op → are_ops (drop (i + 1) ops) ≡ true → are_ops (drop i ops) ≡ true
-ops_behind ops i op lt is here h = ap are_ops (next_of ops i op lt is) ∙ and_from _ _ here h
+ops_behind ops i op lt is here h = ap are_ops (drop_next ops i op lt is) ∙ and_from _ _ here h

@@ -1,6 +1,7 @@
 -- The names of a program are in order, since no name of its image is a fault.
 use Rattle.std.proofs.Common.{◌≡◌, ℕ, Bool, true, false, ◌&&◌, List, [], ◌∷◌, length, map, refl}
 use Rattle.std.proofs.lemmas.Bool.{and_parts, and_from}
+use Rattle.plc_base.proofs.TruthLemmas.{and_first, and_second}
 use Rattle.flat_code.specs.Programs.{Program, NameEntry}
 use Rattle.flat_code.specs.Layout.{is_fine, good_many}
 use Rattle.flat_code.specs.Faults.{is_before, is_upper, unless, name_fault}
@@ -11,19 +12,13 @@ is_met : (test : Bool) (code : ℕ) → is_fine (unless test code) ≡ true → 
 is_met true code h = refl
 is_met false code h = absurd cc
 
-first : (a b : Bool) → (a && b) ≡ true → a ≡ true
-first a b h = (and_parts a b h).0
-
-second : (a b : Bool) → (a && b) ≡ true → b ≡ true
-second a b h = (and_parts a b h).1
-
 name_is_fine : (before : List ℕ) (entry : NameEntry) → (name_record before).good (name_of_entry entry) ≡ true → is_fine (name_fault before entry.name) ≡ true
 unfolding name_record raw_name name_bytes
-name_is_fine before entry h = second _ _ (first _ _ (second _ _ h))
+name_is_fine before entry h = and_second _ _ (and_first _ _ (and_second _ _ h))
 
 name_is_next : (before : List ℕ) (entry : NameEntry) → (name_record before).good (name_of_entry entry) ≡ true → (is_before before entry.name && is_upper entry.name) ≡ true
 unfolding name_fault
-name_is_next before entry h = first _ _ (is_met _ 4 (name_is_fine before entry h))
+name_is_next before entry h = and_first _ _ (is_met _ 4 (name_is_fine before entry h))
 
 good_names : (before : List ℕ) (entries : List NameEntry) → good_many name_record after_name before (length (map name_of_entry entries)) (map name_of_entry entries) ≡ true → names_rise before entries ≡ true
 good_names before [] h = refl
@@ -38,4 +33,4 @@ names_of_program p h =
     let codes = (code_blocks false r.0.0).good r.1.0 in
     let datas = (data_blocks r.0.1.0).good r.1.1.0 in
     let named = (names r.0.1.1.0).good r.1.1.1 in
-    good_names [] p.names (second datas named (second codes (datas && named) (second (counts.good r.0) (codes && (datas && named)) h.good)))
+    good_names [] p.names (and_second datas named (and_second codes (datas && named) (and_second (counts.good r.0) (codes && (datas && named)) h.good)))

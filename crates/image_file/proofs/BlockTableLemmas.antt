@@ -5,10 +5,10 @@ use Rattle.std.proofs.lemmas.List.{get_or-set_same, get_or-set_other, length-set
 use Rattle.std.proofs.lemmas.Option.{same_Some, slice_get-get_or}
 use Rattle.std.proofs.Math.ListN.{drop_of_length-le}
 use Rattle.plc_base.specs.declared.blocks.BlockId.{BlockId}
+use Rattle.plc_base.proofs.ListLemmas.{drop_next}
 use Rattle.flat_code.specs.Programs.{CodeBlock, Program}
 use Rattle.image_file.specs.Readers.{kind_order, same_id, block_of}
 use Rattle.image_file.specs.Seats.{slots, slot_of, FindsBlocks, HaveSlots}
-use Rattle.image_file.proofs.JudgeLemmas.{next_of}
 
 record HasSlot (id : BlockId) (slot : ℕ) : Type 0 where
   kind : kind_order id.kind < 3
@@ -73,7 +73,7 @@ pub finds_more : (blocks : List CodeBlock) (table : List ℕ) (i slot : ℕ) (b 
 finds_more blocks table i slot b lt is has h = record {
   size = length-set table slot i ∙ h.size;
   there = λ id s hs.
-      let cut : drop i blocks ≡ b ∷ drop (i + 1) blocks = next_of blocks i b lt is in
+      let cut : drop i blocks ≡ b ∷ drop (i + 1) blocks = drop_next blocks i b lt is in
       by id s hs (eqb s slot) refl ∙ sym (ap (block_of id) cut);
 }
   where
@@ -103,7 +103,7 @@ finds_skip blocks table i b lt is none h = record {
   size = h.size;
   there = λ id s hs.
       let differs : same_id b.id id ≡ false = not_this id s hs (same_id b.id id) refl in
-      h.there id s hs ∙ sym (ap (block_of id) (next_of blocks i b lt is) ∙ rw differs refl);
+      h.there id s hs ∙ sym (ap (block_of id) (drop_next blocks i b lt is) ∙ rw differs refl);
 }
   where
     not_this : (id : BlockId) (s : ℕ) → slot_of id ≡ Some s → (z : Bool) → same_id b.id id ≡ z → z ≡ false

@@ -1,6 +1,6 @@
 -- The image is laid out exactly.
 use Rattle.std.proofs.Common.{◌≡◌, ℕ, zero, suc, ◌+◌, ◌-◌, ◌*◌, ◌^◌, ◌<◌, ◌≤◌, Bool, true, false, cond, eqb, ltb, leb, not, ◌&&◌, ◌||◌, List, [], ◌∷◌, ◌++◌, map, length, take, drop, get_or, Option, Some, None, refl, sym, ap, subst, ◌∙◌, append_assoc, length-append, arith, inl, inr}
-use Rattle.std.proofs.lemmas.Bool.{cases_lt, eq-eqb, and_parts, and_from, eqb-true, eqb-false, leb-true, ltb-false, ltb-true, le-ltb, lt-ltb}
+use Rattle.std.proofs.lemmas.Bool.{cases_lt, eq-eqb, and_parts, and_from, eqb-true, eqb-false, leb-true, ltb-false, ltb-true, le-ltb, lt-ltb, or_from}
 use Rattle.std.proofs.lemmas.List.{append-nil, take_at, drop_at, take-append-drop, nil_from_length, get_or-drop, get_or-take, get_or_past, length-take}
 use Rattle.std.proofs.lemmas.Option.{same_Some}
 use Rattle.plc_base.specs.declared.blocks.BlockKind.{BlockKind}
@@ -672,10 +672,6 @@ front_laid =
     chain_laid version_field (λ version. front_from_zero) (field_laid u16 _ u16_exact) (λ version.
     chain_laid zero_u16 (λ zero. plain_u32) (field_laid u16 _ u16_exact) (λ zero. field_laid u32 plain u32_exact)))
 
-or_false : (a b : Bool) → a ≡ false → b ≡ false → (a || b) ≡ false
-or_false true b p q = absurd cc
-or_false false b p q = q
-
 total_good : (total : ℕ) → total ≤ 8388608 → plain_u32.good total ≡ true
 unfolding plain_u32
 total_good total le = and_from (ltb total 4294967296) true (lt-ltb total 4294967296 (omega arith)) refl
@@ -709,7 +705,7 @@ rest_of judged total cur = bind ((body judged).read (record { at = cur.at; rest 
 -- nothing is cut off, and nothing is noted
 cut_finds : (judged : Bool) (total : ℕ) (cur : Cursor) (p : Program) (end : Cursor) → 20 ≤ total → total ≤ 8388608 → Finds Program (rest_of judged total cur) p end → Finds Program (cut judged total total cur) p end
 cut_finds judged total cur p end le most h =
-    let no_cut : (ltb total 20 || ltb total total) ≡ false = or_false _ _ (le-ltb total 20 le) (le-ltb total total (omega arith)) in
+    let no_cut : (ltb total 20 || ltb total total) ≡ false = or_from _ _ (le-ltb total 20 le) (le-ltb total total (omega arith)) in
     let same : eqb total total ≡ true = eq-eqb total total refl in
     let small : ltb 8388608 total ≡ false = le-ltb 8388608 total most in
     let shape : cut judged total total cur ≡ rest_of judged total cur = rw (no_cut, small, same) refl in

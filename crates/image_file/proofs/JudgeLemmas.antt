@@ -2,6 +2,7 @@
 use Rattle.std.proofs.Common.{◌≡◌, ℕ, zero, suc, ◌+◌, ◌-◌, ◌<◌, ◌≤◌, Bool, true, false, cond, eqb, leb, ltb, ◌&&◌, ◌||◌, List, [], ◌∷◌, ◌++◌, length, take, drop, get_or, drop-cons, add-one, Option, Some, None, refl, sym, ap, subst, ◌∙◌, append_assoc, length-append, arith}
 use Rattle.std.proofs.Math.ListN.{drop_of_length-le}
 use Rattle.std.proofs.lemmas.List.{append-nil}
+use Rattle.plc_base.proofs.ListLemmas.{drop_next}
 use Rattle.flat_code.specs.declared.image_fields.OpenBracket.{OpenBracket}
 use Rattle.flat_code.specs.Ops.{OpData, op_bytes}
 use Rattle.flat_code.specs.Codes.{size, code_bytes}
@@ -11,9 +12,6 @@ use Rattle.image_file.specs.declared.faults.LoadFault.{LoadFault}
 use Rattle.image_file.specs.Least.{with_fault, with_faults}
 use Rattle.image_file.specs.Judging.{AllUpTo}
 use Rattle.image_file.proofs.RunLemmas.{with_more}
-
-pub next_of : {A : Type 0} (xs : List A) (i : ℕ) (x : A) → i < length xs → x ≡ get_or xs i x → drop i xs ≡ x ∷ drop (i + 1) xs
-next_of {A = A} xs i x lt is = rw add-one (drop-cons xs i x lt ∙ ap (λ (z : A). z ∷ drop (suc i) xs) (sym is))
 
 pub code_len : (op : OpData) (ops : List OpData) → length (code_bytes (op ∷ ops)) ≡ size op + length (code_bytes ops)
 unfolding size
@@ -65,7 +63,7 @@ pub faults_next : (around : Around) (ss : List Spot) (start at i : ℕ) (bracket
 faults_next around ss start at i brackets after before next ops op least mid end lt is m e a b =
     let p : Placed = record { at = at; brackets = brackets; before = before; op = op; rest = drop (i + 1) ops } in
     let behind = placed (at + size op) (opened at op.code brackets) (before_next op before) (drop (i + 1) ops) in
-    sym (ap (λ (z : List OpData). with_faults least (faults_over around ss start (placed at brackets before z))) (next_of ops i op lt is)
+    sym (ap (λ (z : List OpData). with_faults least (faults_over around ss start (placed at brackets before z))) (drop_next ops i op lt is)
     ∙ with_more least (op_faults around ss start p) (faults_over around ss start behind)
     ∙ ap (λ (z : Option LoadFault). with_faults z (faults_over around ss start behind)) (sym m)
     ∙ ap (λ (n : ℕ). with_faults mid (faults_over around ss start (placed n (opened at op.code brackets) (before_next op before) (drop (i + 1) ops)))) (sym e)
@@ -78,7 +76,7 @@ faults_done around ss start at i brackets before ops least le = rw (drop_of_leng
 
 pub open_next : (at i end : ℕ) (brackets after : List OpenBracket) (ops : List OpData) (op : OpData) → i < length ops → op ≡ get_or ops i op → end ≡ at + size op → after ≡ opened at op.code brackets → open_behind end after (drop (i + 1) ops) ≡ open_behind at brackets (drop i ops)
 open_next at i end brackets after ops op lt is e a =
-    sym (ap (open_behind at brackets) (next_of ops i op lt is) ∙ ap (λ (n : ℕ). open_behind n (opened at op.code brackets) (drop (i + 1) ops)) (sym e) ∙ ap (λ (z : List OpenBracket). open_behind end z (drop (i + 1) ops)) (sym a))
+    sym (ap (open_behind at brackets) (drop_next ops i op lt is) ∙ ap (λ (n : ℕ). open_behind n (opened at op.code brackets) (drop (i + 1) ops)) (sym e) ∙ ap (λ (z : List OpenBracket). open_behind end z (drop (i + 1) ops)) (sym a))
 
 pub open_done : (at i : ℕ) (brackets : List OpenBracket) (ops : List OpData) → length ops ≤ i → open_behind at brackets (drop i ops) ≡ brackets
 open_done at i brackets ops le = rw (drop_of_length-le ops {i = i} le) refl
@@ -86,17 +84,17 @@ open_done at i brackets ops le = rw (drop_of_length-le ops {i = i} le) refl
 -- the code that is left takes the op's bytes less
 pub left_next : (at i end total : ℕ) (ops : List OpData) (op : OpData) → i < length ops → op ≡ get_or ops i op → end ≡ at + size op → at + length (code_bytes (drop i ops)) ≡ total → end + length (code_bytes (drop (i + 1) ops)) ≡ total
 left_next at i end total ops op lt is e h =
-    omega (arith, h, e, ap (λ (z : List OpData). length (code_bytes z)) (next_of ops i op lt is), code_len op (drop (i + 1) ops))
+    omega (arith, h, e, ap (λ (z : List OpData). length (code_bytes z)) (drop_next ops i op lt is), code_len op (drop (i + 1) ops))
 
 pub here_fits : (at i total : ℕ) (ops : List OpData) (op : OpData) → i < length ops → op ≡ get_or ops i op → at + length (code_bytes (drop i ops)) ≡ total → at + size op ≤ total
-here_fits at i total ops op lt is h = omega (arith, h, ap (λ (z : List OpData). length (code_bytes z)) (next_of ops i op lt is), code_len op (drop (i + 1) ops))
+here_fits at i total ops op lt is h = omega (arith, h, ap (λ (z : List OpData). length (code_bytes z)) (drop_next ops i op lt is), code_len op (drop (i + 1) ops))
 
 -- ---- the statements
 
 pub spots_next : (front : List Spot) (at i end : ℕ) (begin : Bool) (brackets after : List OpenBracket) (ops : List OpData) (op : OpData) (now : List Spot) → i < length ops → op ≡ get_or ops i op → end ≡ at + size op → after ≡ opened at op.code brackets
     → now ≡ cond begin (front ++ record { at = at; codes = few brackets } ∷ []) front → now ++ spots_from end op.last after (drop (i + 1) ops) ≡ front ++ spots_from at begin brackets (drop i ops)
 spots_next front at i end begin brackets after ops op now lt is e a n =
-    rw (n, e, a, next_of ops i op lt is) (by begin)
+    rw (n, e, a, drop_next ops i op lt is) (by begin)
   where
     by : (b : Bool) → cond b (front ++ record { at = at; codes = few brackets } ∷ []) front ++ spots_from (at + size op) op.last (opened at op.code brackets) (drop (i + 1) ops) ≡ front ++ cond b (record { at = at; codes = few brackets } ∷ spots_from (at + size op) op.last (opened at op.code brackets) (drop (i + 1) ops)) (spots_from (at + size op) op.last (opened at op.code brackets) (drop (i + 1) ops))
     by true = append_assoc front (record { at = at; codes = few brackets } ∷ []) (spots_from (at + size op) op.last (opened at op.code brackets) (drop (i + 1) ops))
@@ -122,7 +120,7 @@ unfolding with_faults
 open_faults_done start i bs least le = rw (drop_of_length-le bs {i = i} le) refl
 
 pub room_here : (at i total : ℕ) (ops : List OpData) (op : OpData) → i < length ops → op ≡ get_or ops i op → at + length (code_bytes (drop i ops)) ≡ total → at + size op + length (code_bytes (drop (i + 1) ops)) ≡ total
-room_here at i total ops op lt is h = omega (arith, h, ap (λ (z : List OpData). length (code_bytes z)) (next_of ops i op lt is), code_len op (drop (i + 1) ops))
+room_here at i total ops op lt is h = omega (arith, h, ap (λ (z : List OpData). length (code_bytes z)) (drop_next ops i op lt is), code_len op (drop (i + 1) ops))
 
 pub same_place : (around : Around) (ss ss' : List Spot) (start at : ℕ) (stack stack' : List OpenBracket) (before before' : List OpData) (op : OpData) (rest rest' : List OpData) (least : Option LoadFault) → ss ≡ ss' → stack ≡ stack' → before ≡ before' → rest ≡ rest'
     → with_faults least (op_faults around ss start (record { at = at; brackets = stack; before = before; op = op; rest = rest })) ≡ with_faults least (op_faults around ss' start (record { at = at; brackets = stack'; before = before'; op = op; rest = rest' }))

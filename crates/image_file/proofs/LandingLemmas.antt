@@ -1,6 +1,6 @@
 -- Where the jumps of a program that verifies lead.
-use Rattle.std.proofs.Common.{◌≡◌, ◌⊎◌, ℕ, zero, suc, ◌+◌, ◌<◌, ◌≤◌, Bool, true, false, cond, eqb, leb, not, ◌&&◌, List, [], ◌∷◌, length, Option, Some, None, refl, sym, ap, subst, ◌∙◌, arith, inl, inr}
-use Rattle.std.proofs.lemmas.Bool.{and_parts, eqb-true, ne_eqb, le-leb, cases_lt}
+use Rattle.std.proofs.Common.{◌≡◌, ◌⊎◌, ℕ, zero, suc, ◌+◌, ◌<◌, ◌≤◌, Bool, true, false, cond, eqb, leb, ◌&&◌, List, [], ◌∷◌, length, Option, Some, None, refl, sym, ap, subst, ◌∙◌, arith, inl, inr}
+use Rattle.std.proofs.lemmas.Bool.{and_parts, eqb-true, ne_eqb, le-leb, cases_lt, not-false}
 use Rattle.std.proofs.lemmas.Option.{same_Some}
 use Rattle.flat_code.specs.declared.image_fields.OpenBracket.{OpenBracket}
 use Rattle.flat_code.specs.declared.operands.Operand.{Operand}
@@ -121,9 +121,5 @@ jump_lands p b q kind target h is =
       same = t.same ∙ sym (few_codes s.there.brackets t.others s.same);
     }
 
-not_false : (x : Bool) → not x ≡ false → x ≡ true
-not_false true e = refl
-not_false false e = absurd cc
-
 pub list_leads : (p : Program) (b : CodeBlock) (q : Placed) (target : ℕ) → IsOp p b q → q.op.operand ≡ operand.Jump 1 target → leads 255 target (q.at + size q.op) q.rest ≡ true
-list_leads p b q target h is = not_false (leads 255 target (q.at + size q.op) q.rest) (right_jump p b q 1 target h is).list
+list_leads p b q target h is = not-false (leads 255 target (q.at + size q.op) q.rest) (right_jump p b q 1 target h is).list

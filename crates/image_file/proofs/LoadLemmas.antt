@@ -4,6 +4,7 @@ use Rattle.std.proofs.Math.ListN.{drop_of_length-le}
 use Rattle.std.specs.Option.{option_map}
 use Rattle.std.proofs.lemmas.List.{append-nil}
 use Rattle.std.proofs.lemmas.Option.{same_Some}
+use Rattle.plc_base.proofs.ListLemmas.{drop_next}
 use Rattle.flat_code.specs.Programs.{CodeBlock, DataBlock, NameEntry, Program}
 use Rattle.flat_code.specs.Records.{BlockRecord, NameRecord, Records}
 use Rattle.flat_code.specs.Layout.{Note, Faulty, Whole, AllBlocks, Cursor, Read, faults_in}
@@ -21,7 +22,6 @@ use Rattle.image_file.proofs.EndLemmas.{image_ends}
 use Rattle.image_file.proofs.ImageLemmas.{program_again, program_few}
 use Rattle.image_file.proofs.RunLemmas.{with_more}
 use Rattle.image_file.proofs.WholeLemmas.{image_noted, gives_image}
-use Rattle.image_file.proofs.JudgeLemmas.{next_of}
 
 abbrev Lens : Type 0
 Lens = Option (List (ℕ × ℕ))
@@ -35,7 +35,7 @@ judged_next lens signatures all bs i s least mid lt is known m =
     let here : mid ≡ with_faults least (block_faults (around lens all s.block) s.start s.block.code) = m ∙ ap (λ (z : List Signature). with_faults least (block_faults (around_by lens z s.block) s.start s.block.code)) known in
     ap (λ (z : Option LoadFault). with_faults z (judged_blocks lens all (map started (drop (i + 1) bs)))) here
     ∙ sym (with_more least (block_faults (around lens all s.block) s.start s.block.code) (judged_blocks lens all (map started (drop (i + 1) bs))))
-    ∙ sym (ap (λ (z : List Started). with_faults least (judged_blocks lens all (map started z))) (next_of bs i s lt is))
+    ∙ sym (ap (λ (z : List Started). with_faults least (judged_blocks lens all (map started z))) (drop_next bs i s lt is))
 
 pub judged_done : (lens : Lens) (all : List BlockRecord) (bs : List Started) (i : ℕ) (least : Option LoadFault) → length bs ≤ i → least ≡ with_faults least (judged_blocks lens all (map started (drop i bs)))
 unfolding with_faults

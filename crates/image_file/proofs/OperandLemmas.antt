@@ -1,6 +1,6 @@
 -- What operands, prepared ops and calls of a program that verifies have.
 use Rattle.std.proofs.Common.{◌≡◌, ◌⊎◌, ℕ, zero, suc, ◌+◌, ◌<◌, ◌≤◌, Bool, true, false, cond, eqb, ltb, not, ◌&&◌, ◌||◌, List, [], ◌∷◌, length, map, slice_get, Option, Some, None, option_map, refl, sym, ap, subst, ◌∙◌, arith, inl, inr}
-use Rattle.std.proofs.lemmas.Bool.{and_parts, eqb-true, eq-eqb, ne_eqb, ltb-false}
+use Rattle.std.proofs.lemmas.Bool.{and_parts, eqb-true, eq-eqb, ne_eqb, ltb-false, or_parts, not-false}
 use Rattle.std.proofs.lemmas.Option.{same_Some, slice_get-map}
 use Rattle.plc_base.specs.declared.blocks.BlockId.{BlockId}
 use Rattle.plc_base.specs.declared.blocks.BlockKind.{BlockKind}
@@ -31,14 +31,6 @@ use Rattle.image_file.proofs.VerifiedLemmas.{NoFault, op_none, around_in}
 seven_none : (b : Bool) → seven_if b ≡ None → b ≡ false
 seven_none true e = absurd cc
 seven_none false e = refl
-
-or_parts : (x y : Bool) → (x || y) ≡ false → (x ≡ false) × (y ≡ false)
-or_parts true y e = absurd cc
-or_parts false y e = (refl, e)
-
-not_false : (x : Bool) → not x ≡ false → x ≡ true
-not_false true e = refl
-not_false false e = absurd cc
 
 -- ---- places and parameters
 
@@ -74,7 +66,7 @@ has_param p b index w e = by_kind (eqb (number_of_kind b.id.kind) 2) refl e
     by_param : (o : Option Param) → slice_get b.params index ≡ o → eqb (number_of_kind b.id.kind) 2 ≡ true → lacks_own (option_map record_of_param o) w ≡ false → Has b index w (option_map record_of_param o)
     by_param None is kind l = absurd cc
     by_param (Some param) is kind l =
-        let same = eqb-true (width_code param.width) (width_code w) (not_false (eqb (width_code param.width) (width_code w)) l) in
+        let same = eqb-true (width_code param.width) (width_code w) (not-false (eqb (width_code param.width) (width_code w)) l) in
         record {
           param = param;
           has = record { kind = is_function b.id.kind kind; there = is; width = sym (width_there param.width) ∙ ap width_of_number same ∙ width_there w };
@@ -94,15 +86,15 @@ fits_operand : (p : Program) (b : CodeBlock) (q : Placed) (o : Operand) → oper
 fits_operand p b q (operand.Direct a w byte bit) e =
     let s = or_parts (lacks_width q.op w) (is_bad_place (around_in p b) a w byte bit) (seven_none _ e) in
     let f = fits_place p b a w byte bit s.1 in
-    (not_false (has_width (takes_of q.op.code) w) s.0, f.0, f.1)
-fits_operand p b q (operand.ByMemory a w from byte) e = not_false (has_width (takes_of q.op.code) w) (seven_none _ e)
-fits_operand p b q (operand.ByRegister a w register bits) e = not_false (has_width (takes_of q.op.code) w) (seven_none _ e)
+    (not-false (has_width (takes_of q.op.code) w) s.0, f.0, f.1)
+fits_operand p b q (operand.ByMemory a w from byte) e = not-false (has_width (takes_of q.op.code) w) (seven_none _ e)
+fits_operand p b q (operand.ByRegister a w register bits) e = not-false (has_width (takes_of q.op.code) w) (seven_none _ e)
 fits_operand p b q (operand.Parameter index w) e =
     let own = own_parameter (around_in p b) index in
     let s = or_parts (lacks_width q.op w || lacks_own own w) (writes q.op.code && is_input own) (seven_none _ e) in
     let t = or_parts (lacks_width q.op w) (lacks_own own w) s.0 in
     let h = has_param p b index w t.1 in
-    (not_false (has_width (takes_of q.op.code) w) t.0, h.param, h.has, not_written q.op.code h.param.section (ap (λ (z : Option ParameterRecord). writes q.op.code && is_input z) (sym h.own_is) ∙ s.1))
+    (not-false (has_width (takes_of q.op.code) w) t.0, h.param, h.has, not_written q.op.code h.param.section (ap (λ (z : Option ParameterRecord). writes q.op.code && is_input z) (sym h.own_is) ∙ s.1))
 fits_operand p b q operand.Nothing e = tt
 fits_operand p b q (operand.Literal value) e = tt
 fits_operand p b q (operand.Numbered kind number) e = tt
@@ -135,11 +127,11 @@ fits_passed p b (passed.InBlock number area.L w byte bit) e = absurd cc
 fits_prepared : (p : Program) (b : CodeBlock) (q : Placed) (o : Operand) → operand_fault (around_in p b) (spots b.code) q o ≡ None → FitsPrepared b q o
 fits_prepared p b q (operand.UseDb number) e =
     let s = or_parts (not (begins q)) (not (is_in_db (last_op q).operand)) (seven_none _ e) in
-    (not_false (begins q) s.0, not_false (is_in_db (last_op q).operand) s.1)
+    (not-false (begins q) s.0, not-false (is_in_db (last_op q).operand) s.1)
 fits_prepared p b q (operand.Pass index actual) e =
     let s = or_parts (is_stray_pass q index) (is_bad_actual (around_in p b) actual) (seven_none _ e) in
     let t = or_parts (not (eqb (last_op q).code 0x78)) (not (is_above index (pass_before None q.before))) s.0 in
-    (eqb-true (last_op q).code 0x78 (not_false (eqb (last_op q).code 0x78) t.0), not_false (is_above index (pass_before None q.before)) t.1, fits_passed p b actual s.1)
+    (eqb-true (last_op q).code 0x78 (not-false (eqb (last_op q).code 0x78) t.0), not-false (is_above index (pass_before None q.before)) t.1, fits_passed p b actual s.1)
 fits_prepared p b q (operand.Direct a w byte bit) e = tt
 fits_prepared p b q (operand.ByMemory a w from byte) e = tt
 fits_prepared p b q (operand.ByRegister a w register bits) e = tt
@@ -174,7 +166,7 @@ fits_call p q kind number instance (Some s) is e =
     }
   where
     passed_all : eqb s.0 3 ≡ false → (not (eqb s.0 3) && not (are_passed 0 s.2 q.before)) ≡ false → are_passed 0 s.2 q.before ≡ true
-    passed_all f e = not_false (are_passed 0 s.2 q.before) (rw f at e)
+    passed_all f e = not-false (are_passed 0 s.2 q.before) (rw f at e)
 
 pub call_fits : (p : Program) (b : CodeBlock) (q : Placed) (kind number instance : ℕ) → IsOp p b q → q.op.operand ≡ operand.Called kind number instance → FitsCall p q kind number instance
 call_fits p b q kind number instance h is = fits_call p q kind number instance (callee (signatures p) kind number) refl (seven_none _ (among p b q (operand.Called kind number instance) h is))

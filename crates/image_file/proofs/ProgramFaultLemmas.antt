@@ -3,6 +3,7 @@ use Rattle.std.proofs.Common.{◌≡◌, ℕ, zero, suc, ◌+◌, ◌-◌, ◌<�
 use Rattle.std.proofs.lemmas.Bool.{and_parts, and_from, ne_eqb}
 use Rattle.std.proofs.Math.ListN.{drop_of_length-le}
 use Rattle.std.proofs.lemmas.List.{take-append-drop}
+use Rattle.plc_base.proofs.ListLemmas.{drop_next}
 use Rattle.flat_code.specs.declared.image_fields.Field.TheVariants.{StatementCount, Line}
 use Rattle.flat_code.specs.Ops.{OpData}
 use Rattle.flat_code.specs.Codes.{size, are_ops, code_bytes, code_fault, code_of, ends, is_nowhere, last_place, overlong, stop_at}
@@ -19,7 +20,6 @@ use Rattle.image_file.specs.Least.{with_faults, IsLeast}
 use Rattle.image_file.specs.Verifying.{line_faults, count_faults, faults_unless, faults_of_block, are_whole, lens_where, lens_judged, DecidesFor, IsFirstOf, AreClean, IsClean}
 use Rattle.image_file.proofs.CodeLemmas.{bytes-append, ends_at, last_of}
 use Rattle.image_file.proofs.ImageLemmas.{BlockParts, record_parts_of, RecordParts, records_parts}
-use Rattle.image_file.proofs.JudgeLemmas.{next_of}
 use Rattle.image_file.proofs.LeastLemmas.{kept_is_least}
 use Rattle.image_file.proofs.LoadLemmas.{none_left}
 use Rattle.image_file.proofs.RunLemmas.{with_more}
@@ -27,10 +27,10 @@ use Rattle.image_file.proofs.RunLemmas.{with_more}
 -- ---- fault 5
 
 pub overlong_here : (count at i : ℕ) (ops : List OpData) (op : OpData) → i < length ops → op ≡ get_or ops i op → count ≡ 64 → Some at ≡ overlong count at (drop i ops)
-overlong_here count at i ops op lt is full = rw (next_of ops i op lt is, full) refl
+overlong_here count at i ops op lt is full = rw (drop_next ops i op lt is, full) refl
 
 pub overlong_next : (count after at end i : ℕ) (ops : List OpData) (op : OpData) → i < length ops → op ≡ get_or ops i op → (count ≡ 64 → ⊥) → after ≡ cond op.last 0 (suc count) → end ≡ at + size op → overlong after end (drop (i + 1) ops) ≡ overlong count at (drop i ops)
-overlong_next count after at end i ops op lt is few after_is end_is = rw (next_of ops i op lt is, ne_eqb count 64 few, after_is, end_is) refl
+overlong_next count after at end i ops op lt is few after_is end_is = rw (drop_next ops i op lt is, ne_eqb count 64 few, after_is, end_is) refl
 
 pub overlong_done : (count at i : ℕ) (ops : List OpData) → length ops ≤ i → None ≡ overlong count at (drop i ops)
 overlong_done count at i ops le = rw (drop_of_length-le ops {i = i} le) refl
@@ -42,7 +42,7 @@ count_few count after false few le is = omega (arith, is, few, le)
 split_last : (ops : List OpData) (last : OpData) → 1 ≤ length ops → last ≡ get_or ops (length ops - 1) last → ops ≡ take (length ops - 1) ops ++ last ∷ []
 split_last ops last some is =
     let n = length ops - 1 in
-    sym (take-append-drop n ops) ∙ ap (λ (z : List OpData). take n ops ++ z) (next_of ops n last (omega (arith, some)) is ∙ ap (λ (z : List OpData). last ∷ z) (drop_of_length-le ops {i = n + 1} (omega (arith, some))))
+    sym (take-append-drop n ops) ∙ ap (λ (z : List OpData). take n ops ++ z) (drop_next ops n last (omega (arith, some)) is ∙ ap (λ (z : List OpData). last ∷ z) (drop_of_length-le ops {i = n + 1} (omega (arith, some))))
 
 pub front_fits : (ops : List OpData) (last : OpData) (most : ℕ) → 1 ≤ length ops → last ≡ get_or ops (length ops - 1) last → length (code_bytes ops) < most → length (code_bytes (take (length ops - 1) ops)) < most
 front_fits ops last most some is fits =
@@ -62,10 +62,10 @@ ends_badly ops last at some is end at_is =
     rw (e, place) refl
 
 pub whole_next : (i : ℕ) (bs : List CodeBlock) (b : CodeBlock) → i < length bs → b ≡ get_or bs i b → code_fault b.code ≡ None → are_whole (map record_of_block (drop (i + 1) bs)) ≡ are_whole (map record_of_block (drop i bs))
-whole_next i bs b lt is none = sym (ap (λ (z : List CodeBlock). are_whole (map record_of_block z)) (next_of bs i b lt is) ∙ ap (λ (z : Option ℕ). is_nowhere z && are_whole (map record_of_block (drop (i + 1) bs))) none)
+whole_next i bs b lt is none = sym (ap (λ (z : List CodeBlock). are_whole (map record_of_block z)) (drop_next bs i b lt is) ∙ ap (λ (z : Option ℕ). is_nowhere z && are_whole (map record_of_block (drop (i + 1) bs))) none)
 
 pub whole_not : (i at : ℕ) (bs : List CodeBlock) (b : CodeBlock) → i < length bs → b ≡ get_or bs i b → code_fault b.code ≡ Some at → false ≡ are_whole (map record_of_block (drop i bs))
-whole_not i at bs b lt is some = sym (ap (λ (z : List CodeBlock). are_whole (map record_of_block z)) (next_of bs i b lt is) ∙ ap (λ (z : Option ℕ). is_nowhere z && are_whole (map record_of_block (drop (i + 1) bs))) some)
+whole_not i at bs b lt is some = sym (ap (λ (z : List CodeBlock). are_whole (map record_of_block z)) (drop_next bs i b lt is) ∙ ap (λ (z : Option ℕ). is_nowhere z && are_whole (map record_of_block (drop (i + 1) bs))) some)
 
 -- ---- faults 9
 

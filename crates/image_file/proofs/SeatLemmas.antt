@@ -4,6 +4,7 @@ use Rattle.std.proofs.lemmas.Bool.{eqb-true, eqb-false, eq-eqb, ne_eqb, lt-ltb, 
 use Rattle.std.proofs.lemmas.List.{append-nil, get_or-set_same, get_or-set_other, length-set, length-map, take_more}
 use Rattle.std.proofs.lemmas.Option.{slice_get-get_or}
 use Rattle.std.proofs.Math.ListN.{drop_of_length-le}
+use Rattle.plc_base.proofs.ListLemmas.{drop_next}
 use Rattle.flat_code.specs.Ops.{OpData, op_bytes}
 use Rattle.flat_code.specs.Codes.{size, code_bytes}
 use Rattle.flat_code.specs.declared.image_fields.OpenBracket.{OpenBracket}
@@ -13,7 +14,7 @@ use Rattle.flat_code.specs.Programs.{CodeBlock}
 use Rattle.image_file.specs.declared.seats.Seat.{Seat}
 use Rattle.image_file.specs.declared.seats.Seating.{Seating}
 use Rattle.image_file.specs.Seats.{place_of, nowhere, entry, IsTableOf, starts_of, seats_of, op_at, line_at, FindsStatements, FindsLens, call_key, callee_of, found_callee, FindsCallees, IsSmall, AreSmall, IsSeated, AreSeated}
-use Rattle.image_file.proofs.JudgeLemmas.{next_of, code_len}
+use Rattle.image_file.proofs.JudgeLemmas.{code_len}
 
 -- a table holds the places of the starts from one on
 pub record Holds (starts : List ℕ) (len i : ℕ) (table : List ℕ) : Type 0 where
@@ -193,7 +194,7 @@ starts_next front now at i end ops op lt is e n =
     ap (λ (z : List ℕ). z ++ starts_of end (drop (i + 1) ops)) n
     ∙ append_assoc front (at ∷ []) (starts_of end (drop (i + 1) ops))
     ∙ ap (λ (z : ℕ). front ++ at ∷ starts_of z (drop (i + 1) ops)) e
-    ∙ sym (ap (λ (z : List OpData). front ++ starts_of at z) (next_of ops i op lt is))
+    ∙ sym (ap (λ (z : List OpData). front ++ starts_of at z) (drop_next ops i op lt is))
 
 pub starts_done : (front : List ℕ) (at i : ℕ) (ops : List OpData) → length ops ≤ i → front ++ starts_of at (drop i ops) ≡ front
 starts_done front at i ops le = ap (λ (z : List OpData). front ++ starts_of at z) (drop_of_length-le ops {i = i} le) ∙ append-nil front
@@ -208,7 +209,7 @@ seats_next front now at i end begins line ops op lines behind lt is e l b n =
     ∙ ap (λ (z : List ℕ). front ++ seat ∷ seats_of end op.last (drop (i + 1) ops) z) b
     ∙ ap (λ (z : Option ℕ). let s : Seat = record { next = end; line = z } in front ++ s ∷ seats_of end op.last (drop (i + 1) ops) (cond op.last (drop 1 lines) lines)) l
     ∙ ap (λ (z : ℕ). let s : Seat = record { next = z; line = cond begins (slice_get lines 0) None } in front ++ s ∷ seats_of z op.last (drop (i + 1) ops) (cond op.last (drop 1 lines) lines)) e
-    ∙ sym (ap (λ (z : List OpData). front ++ seats_of at begins z lines) (next_of ops i op lt is))
+    ∙ sym (ap (λ (z : List OpData). front ++ seats_of at begins z lines) (drop_next ops i op lt is))
 
 pub seats_done : (front : List Seat) (at i : ℕ) (begins : Bool) (ops : List OpData) (lines : List ℕ) → length ops ≤ i → front ++ seats_of at begins (drop i ops) lines ≡ front
 seats_done front at i begins ops lines le = ap (λ (z : List OpData). front ++ seats_of at begins z lines) (drop_of_length-le ops {i = i} le) ∙ append-nil front

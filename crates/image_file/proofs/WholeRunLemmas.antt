@@ -1,6 +1,6 @@
 -- One pass over an image as a whole.
 use Rattle.std.proofs.Common.{◌≡◌, ℕ, ◌+◌, ◌-◌, ◌<◌, ◌≤◌, Bool, true, false, cond, eqb, ltb, not, ◌||◌, List, [], ◌∷◌, ◌++◌, length, take, Option, Some, None, Err, Ok, refl, sym, ap, subst, ◌∙◌, arith}
-use Rattle.std.proofs.lemmas.Bool.{le-ltb, lt-ltb}
+use Rattle.std.proofs.lemmas.Bool.{le-ltb, lt-ltb, or_from}
 use Rattle.flat_code.specs.Programs.{DataBlock, Program}
 use Rattle.flat_code.specs.Records.{BlockRecord, NameRecord, Records}
 use Rattle.flat_code.specs.Layout.{Note, Faulty, Whole, AllBlocks, Cursor, Read, Layout, ended, bind, chain, many}
@@ -67,14 +67,10 @@ cut_cursor total cur = record { at = cur.at; rest = take (total - front_size) cu
 inner : ℕ → Cursor → Read Program
 inner total cur = bind ((body true).read (cut_cursor total cur)) at_end
 
-or_false : (a b : Bool) → a ≡ false → b ≡ false → (a || b) ≡ false
-or_false true b p q = absurd cc
-or_false false b p q = q
-
 cut_is : (size total : ℕ) (cur : Cursor) (log : Log) → 20 ≤ total → total ≤ size → total ≤ 8388608 → ran_read (cut true size total cur) log ≡ ran_read (inner total cur) (logged log (cond (eqb size total) [] (Faulty total 10 ∷ [])))
 unfolding inner
 cut_is size total cur log low there high =
-    let fits : (ltb total 20 || ltb size total) ≡ false = or_false (ltb total 20) (ltb size total) (le-ltb total 20 low) (le-ltb size total there) in
+    let fits : (ltb total 20 || ltb size total) ≡ false = or_from (ltb total 20) (ltb size total) (le-ltb total 20 low) (le-ltb size total there) in
     let small : ltb 8388608 total ≡ false = le-ltb 8388608 total high in
     let shape : cut true size total cur ≡ record { notes = cond (eqb size total) [] (Faulty total 10 ∷ []) ++ (inner total cur).notes; found = (inner total cur).found } = rw (fits, small) refl in
     ap (λ (r : Read Program). ran_read r log) shape ∙ noted_read (cond (eqb size total) [] (Faulty total 10 ∷ [])) (inner total cur) log
@@ -155,7 +151,7 @@ far_total size total cur log lt = bad_total size total cur log (or_right (ltb to
 
 pub great_total : (size total : ℕ) (cur : Cursor) (log : Log) → 20 ≤ total → total ≤ size → 8388608 < total → ◌≡◌ {A = Ran Program} (ran_read (cut true size total cur) log) (Stops (logged log (Faulty 8 4 ∷ [])))
 great_total size total cur log low there high =
-    let fits : (ltb total 20 || ltb size total) ≡ false = or_false (ltb total 20) (ltb size total) (le-ltb total 20 low) (le-ltb size total there) in
+    let fits : (ltb total 20 || ltb size total) ≡ false = or_from (ltb total 20) (ltb size total) (le-ltb total 20 low) (le-ltb size total there) in
     let great : ltb 8388608 total ≡ true = lt-ltb 8388608 total high in
     let shape : cut true size total cur ≡ ended 8 4 = rw (fits, great) refl in
     ap (λ (r : Read Program). ran_read r log) shape ∙ ended_read 8 4 log

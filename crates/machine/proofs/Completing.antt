@@ -1,6 +1,7 @@
 -- What was found at an offset is the statement there, with what it needs.
 use Rattle.std.proofs.Common.{◌≡◌, ℕ, Bool, true, false, is_some, if◌then◌else◌, List, Option, Some, None, refl, sym}
 use Rattle.std.specs.Option.{option_map, option_and_then}
+use Rattle.std.proofs.lemmas.Option.{same_Some}
 use Rattle.plc_base.specs.declared.BlockId.{BlockId}
 use Rattle.flat_code.specs.Instr.{Jumps, JumpsByList}
 use Rattle.flat_code.specs.Ops.{OpData}
@@ -11,7 +12,7 @@ use Rattle.machine.specs.Code.{Code}
 use Rattle.machine.specs.Flat.{Run, run_at, most_ops, most_listed, list_of, passings_of, fetched_of, statement_at, jump_instr, is_jl}
 use Rattle.machine.specs.There.{is_there, is_complete}
 use Rattle.machine.specs.Walking.{Walk, walk_with, TellsThere}
-use Rattle.machine.proofs.Fetching.{some_is, none_some}
+use Rattle.machine.proofs.Fetching.{none_some}
 
 either_jump :
     (b : Bool) (c : Code) (own : BlockId) (word : JumpWord) (list : List ℕ) (target : ℕ)
@@ -37,7 +38,7 @@ with_line :
 with_line b c own None found walk answer there h tells = cc
 with_line b c own (Some line) None walk answer there h tells = absurd (none_some walk h)
 with_line b c own (Some line) (Some r) walk answer there h tells =
-    tells_moved c own walk (walk_with None r) b.code answer (some_is walk (walk_with None r) h) tells (passings_of r.before)
+    tells_moved c own walk (walk_with None r) b.code answer (same_Some walk (walk_with None r) h) tells (passings_of r.before)
 
 pub complete_at :
     (b : CodeBlock) (at : ℕ) (c : Code) (own : BlockId) (walk : Walk) (answer : Bool)

@@ -1,6 +1,6 @@
 -- A call leaves an activation that fits: caller and called block.
 use Rattle.std.proofs.Common.{◌≡◌, ◌∙◌, ◌+◌, ◌<◌, ◌^◌, ℕ, zero, suc, Bool, true, false, cond, eqb, leb, ltb, not, ◌&&◌, ◌||◌, List, [], ◌∷◌, length, map, slice_get, Option, Some, None, refl, sym, ap, subst, arith}
-use Rattle.std.proofs.lemmas.Bool.{and_parts, eqb-true, leb-true, ltb-false, ltb-true}
+use Rattle.std.proofs.lemmas.Bool.{and_parts, eqb-true, leb-true, ltb-false, ltb-true, or_parts, not-false}
 use Rattle.std.proofs.lemmas.Option.{same_Some}
 use Rattle.std.specs.Option.{option_map}
 use Rattle.std.specs.FinMap as finmap
@@ -89,15 +89,6 @@ of_functions (q ∷ rs) (suc index) r found = of_functions rs index r found
 
 -- ---- what is passed fits
 
-or_false : (x y : Bool) → (x || y) ≡ false → (x ≡ false) × (y ≡ false)
-or_false false false e = (refl, refl)
-or_false true y e = absurd cc
-or_false false true e = absurd cc
-
-not_false : (x : Bool) → not x ≡ false → x ≡ true
-not_false true e = refl
-not_false false e = absurd cc
-
 literal_small : (p : Param) (r : ParameterRecord) (value : ℕ) → IsParam p r → literal_fits r.width value ≡ true → value < 4294967296 → value < 2 ^ bit_count p.width
 literal_small p r value is fits small = one (eqb r.width 1) refl fits
   where
@@ -132,7 +123,7 @@ own_there : (p : Program) (b : CodeBlock) (index : ℕ) (w : Width) (own : Param
 own_there p b index w own h = rw h.kind (record_at b.params index own h.there)
 
 input_kept : (x y : ℕ) (wide : Bool) → (wide || (not (eqb y 1) && eqb x 1)) ≡ false → x ≡ 1 → y ≡ 1
-input_kept x y wide h is = by (eqb y 1) refl (or_false wide (not (eqb y 1) && eqb x 1) h).1
+input_kept x y wide h is = by (eqb y 1) refl (or_parts wide (not (eqb y 1) && eqb x 1) h).1
   where
     by : (t : Bool) → eqb y 1 ≡ t → (not t && eqb x 1) ≡ false → y ≡ 1
     by true e h = eqb-true y 1 e
@@ -144,18 +135,18 @@ pub actual_fits :
     → ((value : ℕ) → actual ≡ passed.Literal value → value < 4294967296)
     → FitsActual b.id.kind b.params q actual
 actual_fits p b q r (passed.Literal value) is by_itself fits small =
-    let parts = or_false (not (eqb r.section 1)) (not (literal_fits r.width value)) fits in (
-      is.section ∙ eqb-true r.section 1 (not_false (eqb r.section 1) parts.0),
-      literal_small q r value is (not_false (literal_fits r.width value) parts.1) (small value refl),
+    let parts = or_parts (not (eqb r.section 1)) (not (literal_fits r.width value)) fits in (
+      is.section ∙ eqb-true r.section 1 (not-false (eqb r.section 1) parts.0),
+      literal_small q r value is (not-false (literal_fits r.width value) parts.1) (small value refl),
     )
 actual_fits p b q r (passed.Direct a w byte bit) is by_itself fits small =
-    sym (is.width w (eqb-true r.width (width_code w) (not_false (eqb r.width (width_code w)) fits)))
+    sym (is.width w (eqb-true r.width (width_code w) (not-false (eqb r.width (width_code w)) fits)))
 actual_fits p b q r (passed.Parameter index w) is by_itself fits small =
     let own = by_itself.0 in
     let has = by_itself.1 in
     let clear : (not (eqb r.width (width_code w)) || (not (eqb r.section 1) && eqb own.section 1)) ≡ false =
     rw (own_there p b index w own has) at fits in
-    let wide = eqb-true r.width (width_code w) (not_false (eqb r.width (width_code w)) (or_false (not (eqb r.width (width_code w))) (not (eqb r.section 1) && eqb own.section 1) clear).0) in (
+    let wide = eqb-true r.width (width_code w) (not-false (eqb r.width (width_code w)) (or_parts (not (eqb r.width (width_code w))) (not (eqb r.section 1) && eqb own.section 1) clear).0) in (
       has.kind,
       own,
       has.there,
@@ -163,7 +154,7 @@ actual_fits p b q r (passed.Parameter index w) is by_itself fits small =
       λ input. is.section ∙ input_kept own.section r.section (not (eqb r.width (width_code w))) clear input,
     )
 actual_fits p b q r (passed.InBlock number a w byte bit) is by_itself fits small =
-    sym (is.width w (eqb-true r.width (width_code w) (not_false (eqb r.width (width_code w)) fits)))
+    sym (is.width w (eqb-true r.width (width_code w) (not-false (eqb r.width (width_code w)) fits)))
 
 literal_of :
     (code index value : ℕ) (actual : Passed) → is_op code (operand.Pass index actual) ≡ true

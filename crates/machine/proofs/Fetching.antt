@@ -1,6 +1,7 @@
 -- The statement that was found along the ops is the statement at the offset.
 use Rattle.std.proofs.Common.{◌≡◌, ◌∙◌, [], if◌then◌else◌, ℕ, zero, suc, true, false, Bool, List, Option, Some, None, Result, Ok, Err, slice_get, refl, sym, ap}
 use Rattle.std.specs.Option.{option_map, option_and_then}
+use Rattle.std.proofs.lemmas.Option.{same_Some}
 use Rattle.plc_mem.specs.Areas.{Areas}
 use Rattle.frames.specs.declared.Activation.{Activation}
 use Rattle.frames.specs.declared.bindings.Binding.{Binding}
@@ -56,9 +57,6 @@ passes_op params (operand.Called kind number instance) rest bindings s m = refl
 passes_op params (operand.OpenBlock register number) rest bindings s m = refl
 passes_op params (operand.OpenBy register from byte) rest bindings s m = refl
 
-pub some_is : {A : Type 0} (x y : A) → Some x ≡ Some y → x ≡ y
-some_is x y h = cc
-
 then_along :
     (x : Result (List Binding) ℕ) (f g : List Binding → Result (List Binding) ℕ)
     → ((y : List Binding) → f y ≡ g y) → then_ok x f ≡ then_ok x g
@@ -83,7 +81,7 @@ after_op :
     ≡ bound_params params (passings_of r.before) bindings s m
 after_op most ops p None r params bindings s m along is h = cc
 after_op most ops p (Some q) r params bindings s m along is h =
-    rw (sym (some_is (with_op p.0 q) r h))
+    rw (sym (same_Some (with_op p.0 q) r h))
     (then_along (bound_by p.0.operand params bindings s m) (λ next. bound_from most ops p.1 params next s m)
     (λ next. bound_params params (passings_of q.before) next s m)
     (λ next. along p.1 q params next s m is)
@@ -96,7 +94,7 @@ by_last :
     → (if last then Ok bindings else then_ok (bound_by p.0.operand params bindings s m) (λ next. bound_from most ops p.1 params next s m))
     ≡ bound_params params (passings_of r.before) bindings s m
 by_last most ops true p r params bindings s m along h =
-    rw (sym (some_is (record { before = []; last = p.0; next = p.1 }) r h)) refl
+    rw (sym (same_Some (record { before = []; last = p.0; next = p.1 }) r h)) refl
 by_last most ops false p r params bindings s m along h =
     after_op most ops p (run_at most ops p.1) r params bindings s m along refl h
 
@@ -148,7 +146,7 @@ with_run :
 with_run b at None walk c a w is h there = absurd (none_some walk h)
 with_run b at (Some r) walk c a w is h there =
     let found = with_line b (line_placed 0 true b.code b.lines at) r c a w there in
-    rw (some_is walk (walk_with None r) h) (
+    rw (same_Some walk (walk_with None r) h) (
       passings_of r.before,
       (λ params bindings s m. run_passes most_ops b.code at r params bindings s m is),
       found.0,

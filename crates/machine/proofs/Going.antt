@@ -1,5 +1,6 @@
 -- When nothing that a statement needs is missing.
 use Rattle.std.proofs.Common.{◌≡◌, ℕ, Bool, true, false, is_some, List, Option, Some, None, Result, Ok, Err, refl, sym, if◌then◌else◌}
+use Rattle.std.proofs.lemmas.Bool.{false≢true}
 use Rattle.plc_base.specs.declared.BlockId.{BlockId}
 use Rattle.frames.specs.declared.Activation.{Activation}
 use Rattle.flat_code.specs.Instr.{Instr, Does, Jumps, JumpsByList, Calls, Returns, Passing}
@@ -12,9 +13,6 @@ use Rattle.machine.specs.Returning.{Return, GoesOn, Ends, returning}
 use Rattle.machine.specs.SystemCalls.{Given, system_call, system_function}
 use Rattle.machine.specs.Statement.{World, Step, went_on, after_call, after_system_call, after_return, block_called, system_called, called, is_system, is_called, is_ended, returned, callee_of, performed, fetched, Goes}
 use Rattle.machine.specs.There.{is_there, is_complete}
-
-no_truth : false ≡ true → ⊥
-no_truth h = cc
 
 parts_go : (e : Result Parts ℕ) (next : ℕ) (a : Activation) → Goes (went_on e next a)
 parts_go (Ok p) next a = tt
@@ -38,18 +36,18 @@ block_goes :
     → is_some h ≡ true → Goes (block_called h block instance passings next a w)
 block_goes (Some h) block instance passings next a w there =
     call_goes (call (callee_of block instance h) passings next a w.memory) next a w
-block_goes None block instance passings next a w there = absurd (no_truth there)
+block_goes None block instance passings next a w there = absurd (false≢true there)
 
 function_goes :
     (params : Option (List Param)) (number : ℕ) (passings : List Passing) (next : ℕ) (a : Activation) (w : World)
     → is_some params ≡ true → Goes (system_called params number passings next a w)
 function_goes (Some params) number passings next a w there =
     system_goes (system_call params passings (own_of a.running) w.memory) number next a
-function_goes None number passings next a w there = absurd (no_truth there)
+function_goes None number passings next a w there = absurd (false≢true there)
 
 returned_goes : (h : Option Head) (a : Activation) (w : World) → is_some h ≡ true → Goes (returned h a w)
 returned_goes (Some h) a w there = return_goes (returning h.params a w.memory) w
-returned_goes None a w there = absurd (no_truth there)
+returned_goes None a w there = absurd (false≢true there)
 
 either_goes : (b : Bool) (x y : Step) → (b ≡ true → Goes x) → (b ≡ false → Goes y) → Goes (if b then x else y)
 either_goes true x y f g = f refl
@@ -83,4 +81,4 @@ pub fetched_goes :
     (c : Code) (f : Option Fetched) (a : Activation) (w : World)
     → is_complete c f a.running.frame.block ≡ true → Goes (fetched c f a w)
 fetched_goes c (Some f) a w there = performed_goes c f.instr f.next a w there
-fetched_goes c None a w there = absurd (no_truth there)
+fetched_goes c None a w there = absurd (false≢true there)

@@ -1,7 +1,8 @@
 -- An activation that fits is ready: what its statement needs is in a program that verifies.
 use Rattle.std.proofs.Common.{◌≡◌, ◌∙◌, inl, inr, [], ◌∷◌, ℕ, zero, suc, Bool, true, false, ◌==◌, is_some, if◌then◌else◌, List, map, Option, Some, None, refl, sym, ap}
-use Rattle.std.proofs.lemmas.Bool.{eqb-true}
+use Rattle.std.proofs.lemmas.Bool.{eqb-true, true≢false}
 use Rattle.std.specs.Option.{option_map, option_and_then}
+use Rattle.std.proofs.lemmas.Option.{same_Some}
 use Rattle.plc_base.specs.declared.BlockId.{BlockId}
 use Rattle.plc_base.specs.declared.blocks.BlockKind.{BlockKind}
 use Rattle.plc_base.specs.declared.blocks.BlockKind.TheVariants as kinds
@@ -30,7 +31,7 @@ use Rattle.machine.specs.Flat.{Run, run_at, run_with, with_op, most_ops, code_of
 use Rattle.machine.specs.Statement.{World, statement, Goes}
 use Rattle.machine.specs.There.{is_callee, is_there, is_complete}
 use Rattle.machine.proofs.Completing.{jump_is_there}
-use Rattle.machine.proofs.Fetching.{some_is, none_some}
+use Rattle.machine.proofs.Fetching.{none_some}
 use Rattle.machine.proofs.Going.{fetched_goes}
 
 -- the last op of a statement stands at some offset
@@ -45,7 +46,7 @@ inner_last :
     → run_at most ops p.1 ≡ inner → option_map (with_op p.0) inner ≡ Some r → HasLast ops r
 inner_last most ops p None r along is h = absurd (none_some r (sym h))
 inner_last most ops p (Some q) r along is h =
-    rw (sym (some_is (with_op p.0 q) r h)) (along p.1 q is)
+    rw (sym (same_Some (with_op p.0 q) r h)) (along p.1 q is)
 
 last_by :
     (most : ℕ) (ops : List OpData) (at : ℕ) (last : Bool) (p : OpData × ℕ) (r : Run) → LastPlaced most ops
@@ -53,7 +54,7 @@ last_by :
     → (if last then Some (record { before = []; last = p.0; next = p.1 }) else option_map (with_op p.0) (run_at most ops p.1)) ≡ Some r
     → HasLast ops r
 last_by most ops at true p r along placed h =
-    rw (sym (some_is (record { before = []; last = p.0; next = p.1 }) r h)) (at, placed)
+    rw (sym (same_Some (record { before = []; last = p.0; next = p.1 }) r h)) (at, placed)
 last_by most ops at false p r along placed h =
     inner_last most ops p (run_at most ops p.1) r along refl h
 
@@ -115,11 +116,11 @@ by_tests :
     → (if two then Some kinds.Fc else if three then Some kinds.Fb else if five then Some kinds.Sfc else None) ≡ Some k
     → There p number k
 by_tests p kind number called k true three five law h e2 e3 e5 is =
-    rw (sym (some_is kinds.Fc k is)) (fc_there p kind number called law (eqb-true kind 2 e2) h)
+    rw (sym (same_Some kinds.Fc k is)) (fc_there p kind number called law (eqb-true kind 2 e2) h)
 by_tests p kind number called k false true five law h e2 e3 e5 is =
-    rw (sym (some_is kinds.Fb k is)) (fb_there p kind number called law (eqb-true kind 3 e3) h)
+    rw (sym (same_Some kinds.Fb k is)) (fb_there p kind number called law (eqb-true kind 3 e3) h)
 by_tests p kind number called k false false true law h e2 e3 e5 is =
-    rw (sym (some_is kinds.Sfc k is)) (sfc_there p kind number called (eqb-true kind 5 e5) h)
+    rw (sym (same_Some kinds.Sfc k is)) (sfc_there p kind number called (eqb-true kind 5 e5) h)
 by_tests p kind number called k false false false law h e2 e3 e5 is = absurd (none_some k (sym is))
 
 abbrev CallsThere : Program → CodeBlock → Operand → Type 0
@@ -267,14 +268,11 @@ frame_goes p brackets m a w verifies placed_law calls_law called_law fits =
     (at_block p own at (block_of own p.code_blocks) verifies placed_law calls_law called_law refl
     (block_there ((code_of p).head own) a.running.frame a.below m fits.block) fits.statement)
 
-true_false : true ≡ false → ⊥
-true_false h = cc
-
 innermost_fits :
     (c : Code) (brackets : OpenCodes) (m : Areas) (a : Activation) (left : Bool) → a.left ≡ left → left ≡ false
     → FramesFit c brackets m (if left then [] else a.running.frame ∷ a.below)
     → FrameFits c brackets m a.below a.running.frame
-innermost_fits c brackets m a true is e fits = absurd (true_false e)
+innermost_fits c brackets m a true is e fits = absurd (true≢false e)
 innermost_fits c brackets m a false is e fits = fits.0
 
 pub fits_goes :

@@ -1,7 +1,7 @@
 -- Where a frame stands in the code of an image: the run of its statement, the statement behind it,
 -- and the brackets that stand open there.
 use Rattle.std.proofs.Common.{◌≡◌, ◌∙◌, ◌⊎◌, inl, inr, ◌+◌, ◌-◌, ℕ, zero, suc, Bool, true, false, cond, eqb, leb, not, ◌&&◌, ◌||◌, IsSome, List, [], ◌∷◌, ◌++◌, length, map, take, reverse, get_or, append_assoc, length-append, Option, Some, None, refl, sym, ap, subst, arith}
-use Rattle.std.proofs.lemmas.Bool.{and_parts, eqb-true, leb-true}
+use Rattle.std.proofs.lemmas.Bool.{and_parts, eqb-true, leb-true, true≢false}
 use Rattle.std.proofs.lemmas.Bool.Decides.{nat_tests}
 use Rattle.std.proofs.lemmas.List.{reverse-append, map_push}
 use Rattle.std.proofs.lemmas.Option.{same_Some}
@@ -210,9 +210,6 @@ next_op l p b q op rest h is = record {
 pub last_ends : (l : ImageLaws) (p : Program) (b : CodeBlock) (q : Placed) → IsOp p b q → q.rest ≡ [] → (q.op.code ≡ 0x7B) × (q.op.last ≡ true)
 last_ends l p b q h is = let e = subst (λ (z : List OpData). Next b q z) is (l.goes_on p b q h) in (e.0, e.1)
 
-true_false : true ≡ false → ⊥
-true_false e = cc
-
 -- ---- the run of a statement is there
 
 run_there : (l : ImageLaws) (p : Program) (b : CodeBlock) (most : ℕ) (q : Placed) → IsOp p b q → most + length q.before ≡ 64 → IsSome (run_at most b.code q.at)
@@ -237,7 +234,7 @@ run_there l p b (suc most) q h e =
         → ((op : OpData) (rest : List OpData) → q.rest ≡ op ∷ rest → most + length (before_next q.op q.before) ≡ 64 → IsSome (run_at most b.code (q.at + size q.op)))
         → IsSome (cond last (Some (record { before = []; last = q.op; next = q.at + size q.op })) (option_map (with_op q.op) (run_at most b.code (q.at + size q.op))))
     by true is rest e more = refl
-    by false is [] e more = absurd (true_false (sym (last_ends l p b q h e).1 ∙ is))
+    by false is [] e more = absurd (true≢false (sym (last_ends l p b q h e).1 ∙ is))
     by false is (op ∷ rest) e more = with_first (run_at most b.code (q.at + size q.op)) (more op rest e (longer is))
 
 -- ---- where a run ends
@@ -321,7 +318,7 @@ run_is l p b (suc most) q r h e =
         → ((op : OpData) (rest : List OpData) → q.rest ≡ op ∷ rest → (s : Run) → run_at most b.code (q.at + size q.op) ≡ Some s → Ran p b (behind_op q op rest) s)
         → Ran p b q r
     by true is rest split e more = subst (λ (z : Run). Ran p b q z) (same_Some (record { before = []; last = q.op; next = q.at + size q.op }) r e) (only is)
-    by false is [] split e more = absurd (true_false (sym (last_ends l p b q h split).1 ∙ is))
+    by false is [] split e more = absurd (true≢false (sym (last_ends l p b q h split).1 ∙ is))
     by false is (op ∷ rest) split e more =
         found (run_at most b.code (q.at + size q.op)) e (λ s s_is. longer op rest s is split (more op rest split s s_is))
 

@@ -3,6 +3,7 @@ use Rattle.std.proofs.Common.{◌≡◌, ℕ, suc, ◌+◌, ◌<◌, ◌≤◌, 
 use Rattle.std.specs.Prelude.{Option, IfSome, nat_lt, ◌==◌}
 use Rattle.std.proofs.lemmas.Bool.Decides.{nat_tests}
 use Rattle.std.proofs.lemmas.List.Sums.{sum_by-append, sum_by-cons}
+use Rattle.std.proofs.lemmas.Bool.{lt-ltb}
 use Rattle.ob_sched.specs.OrganizationBlock.{class_of}
 use Rattle.plc_base.specs.declared.Mode.{Mode}
 use Rattle.ob_sched.specs.Request.{Request, queued, waiting, best_of, IsBest}
@@ -29,9 +30,6 @@ AtLeast-lower low high (x ∷ xs) le h = (≤-through low high (class_of x.0) le
     ≤-through : (a b c : ℕ) → a ≤ b → b ≤ c → a ≤ c
     ≤-through a b c h k = omega arith
 
-is_below : (a b : ℕ) → a < b → nat_lt a b ≡ true
-is_below a b h = grind (arith, nat_tests)
-
 isnt_below : (a b : ℕ) → b ≤ a → nat_lt a b ≡ false
 isnt_below a b h = grind (arith, nat_tests)
 
@@ -46,7 +44,7 @@ queued-last r (x ∷ xs) h =
 pub queued-append : (r : Request) (xs ys : List Request) → Below (class_of r.0) ys → queued r (xs ++ ys) ≡ queued r xs ++ ys
 queued-append r [] [] h = refl
 queued-append r [] (y ∷ ys) h =
-    ap (λ (b : Bool). if b then r ∷ y ∷ ys else y ∷ queued r ys) (is_below (class_of y.0) (class_of r.0) h.0)
+    ap (λ (b : Bool). if b then r ∷ y ∷ ys else y ∷ queued r ys) (lt-ltb (class_of y.0) (class_of r.0) h.0)
 queued-append r (x ∷ xs) ys h = by (nat_lt (class_of x.0) (class_of r.0)) (queued-append r xs ys h)
   where
     by : (b : Bool) → queued r (xs ++ ys) ≡ queued r xs ++ ys

@@ -2,7 +2,7 @@
 use Rattle.std.proofs.Common.{◌≡◌, ℕ, suc, ◌<◌, ◌≤◌, inl, inr, Bool, true, false, if◌then◌else◌, List, [], ◌∷◌, map, drop, insert, refl, sym, ◌∙◌, ap, subst, arith}
 use Rattle.std.specs.Prelude.{nat_lt, Some, None}
 use Rattle.std.specs.List.{list_all}
-use Rattle.std.proofs.lemmas.Bool.{and_parts, and_from}
+use Rattle.std.proofs.lemmas.Bool.{and_parts, and_from, ltb-true}
 use Rattle.std.proofs.lemmas.Bool.Decides.{nat_tests}
 use Rattle.std.proofs.lemmas.List.Sorted.{IsPermutation-insert}
 use Rattle.plc_base.specs.declared.Mode.{Mode}
@@ -58,9 +58,6 @@ place one (first ∷ rest) = if nat_lt (class_of first.request.0) (class_of one.
 
 abbrev joined : Numbered → List Numbered → List Numbered
 joined one set = insert set (place one set) one
-
-is_lower : (a b : ℕ) → nat_lt a b ≡ true → a < b
-is_lower a b e = grind (arith, nat_tests)
 
 isnt_lower : (a b : ℕ) → nat_lt a b ≡ false → b ≤ a
 isnt_lower a b e = grind (arith, nat_tests)
@@ -129,7 +126,7 @@ outranks_last : (mode : Mode) (first one : Numbered) → can_wait first.request.
 outranks_last mode first one h k early le = by (nat_lt (class_of one.request.0) (class_of first.request.0)) refl
   where
     by : (b : Bool) → nat_lt (class_of one.request.0) (class_of first.request.0) ≡ b → Outranks mode first one
-    by true e = inl (lower_in mode one.request.0 first.request.0 k h (is_lower (class_of one.request.0) (class_of first.request.0) e))
+    by true e = inl (lower_in mode one.request.0 first.request.0 k h (ltb-true (class_of one.request.0) (class_of first.request.0) e))
     by false e =
         let other = isnt_lower (class_of one.request.0) (class_of first.request.0) e in
         inr (same_in mode first.request.0 one.request.0 h k (equal (class_of first.request.0) (class_of one.request.0) other le), early)
@@ -146,7 +143,7 @@ ranked-joined mode one (first ∷ rest) all known before ranked =
     by : (b : Bool) → nat_lt (class_of first.request.0) (class_of one.request.0) ≡ b → IsRanked mode (joined one rest)
         → IsRanked mode (joined one (first ∷ rest))
     by true e more =
-        let lower = lower_in mode first.request.0 one.request.0 all.0 known (is_lower (class_of first.request.0) (class_of one.request.0) e) in
+        let lower = lower_in mode first.request.0 one.request.0 all.0 known (ltb-true (class_of first.request.0) (class_of one.request.0) e) in
         subst (IsRanked mode) (sym (joined-lower one first rest e)) ((inl lower, outranks_below mode one first rest lower ranked.0), ranked)
     by false e more =
         let le = isnt_lower (class_of first.request.0) (class_of one.request.0) e in

@@ -5,15 +5,16 @@ use Rattle.std.specs.Option.{option_and_then}
 use Rattle.std.specs.FinMap as map
 use Rattle.std.specs.FinMap.{same_map, nat_cmp-IsAntisymmetric}
 use Rattle.std.specs.Cmp.{nat_cmp_total}
-use Rattle.std.proofs.lemmas.Option.{slice_get-get_or, slice_get_past}
+use Rattle.std.proofs.lemmas.Option.{slice_get-get_or, slice_get_past, same_Some}
 use Rattle.std.proofs.lemmas.Grind.{same_number_lists}
 use Rattle.std.proofs.lemmas.Nat.Bits.{bit_at-lt, same_from_bits_below}
+use Rattle.std.proofs.lemmas.Bool.{true≢false}
 use Rattle.plc_mem.specs.Areas.{Areas, PeripheralBytes}
 use Rattle.plc_mem.specs.BitPlace.{BitPlace, Region, Inputs, Outputs, BitMemory, PeripheralInputs, PeripheralOutputs, DataBlock}
 use Rattle.plc_mem.specs.Bits.{bit_at, bit_in, bit_of, byte_at, peripheral_byte, block_byte}
 use Rattle.plc_mem.specs.Places.{SameBlocks, AreBytes, IsPeripheral, IsMemory}
 use Rattle.plc_mem.proofs.Numbers.{bit_in_some}
-use Rattle.plc_mem.proofs.Runs.{same_some, none_some, in_low, in_high, true_not_false}
+use Rattle.plc_mem.proofs.Runs.{none_some, in_low, in_high}
 
 SameBits : (xs ys : List ℕ) → Type 0
 SameBits xs ys = (i b : ℕ) → bit_in (slice_get ys i) b ≡ bit_in (slice_get xs i) b
@@ -37,8 +38,8 @@ no_longer xs ys same =
 -- truth values tell bits apart
 same_digit : (a b : ℕ) → a < 2 → b < 2 → nat_eq a 1 ≡ nat_eq b 1 → a ≡ b
 same_digit zero zero ha hb e = refl
-same_digit zero (suc zero) ha hb e = absurd (true_not_false (sym e))
-same_digit (suc zero) zero ha hb e = absurd (true_not_false e)
+same_digit zero (suc zero) ha hb e = absurd (true≢false (sym e))
+same_digit (suc zero) zero ha hb e = absurd (true≢false e)
 same_digit (suc zero) (suc zero) ha hb e = refl
 same_digit (suc (suc a)) b ha hb e = absurd (omega arith)
 same_digit zero (suc (suc b)) ha hb e = absurd (omega arith)
@@ -52,7 +53,7 @@ same_runs xs ys bx by same =
     same_number_lists ys xs size (λ i within.
     same_from_bits_below 8 (slice_index ys i) (slice_index xs i) (by i) (bx i) (λ b low.
     same_digit (number_bit (slice_index ys i) b) (number_bit (slice_index xs i) b) (bit_at-lt (slice_index ys i) b) (bit_at-lt (slice_index xs i) b)
-    (same_some _ _ (sym (standing ys i b within low) ∙ same i b ∙ standing xs i b (omega arith) low))))
+    (same_Some _ _ (sym (standing ys i b within low) ∙ same i b ∙ standing xs i b (omega arith) low))))
 
 -- ---- peripheral areas
 
@@ -98,8 +99,8 @@ block_cases :
 unfolding SameBits
 block_cases (Some xs) (Some ys) bx by loaded same = ap Some (same_runs xs ys (bx xs refl) (by ys refl) same)
 block_cases None None bx by loaded same = refl
-block_cases (Some xs) None bx by loaded same = absurd (true_not_false (sym loaded))
-block_cases None (Some ys) bx by loaded same = absurd (true_not_false loaded)
+block_cases (Some xs) None bx by loaded same = absurd (true≢false (sym loaded))
+block_cases None (Some ys) bx by loaded same = absurd (true≢false loaded)
 
 same_block :
     (m n : Areas) (k : ℕ) → IsMemory m → IsMemory n → SameBlocks m n → ((i b : ℕ) → bit_in (block_byte n.data_blocks k i) b ≡ bit_in (block_byte m.data_blocks k i) b)

@@ -6,6 +6,7 @@ use Rattle.std.specs.FinMap as map
 use Rattle.std.specs.FinMap.{get-insert, get-from_entries}
 use Rattle.std.specs.Ordering.{nat_cmp, eq_by_cmp}
 use Rattle.std.specs.Cmp.{nat_cmp_total}
+use Rattle.std.proofs.lemmas.Option.{same_Some}
 use Rattle.plc_base.specs.declared.Width.{Width}
 use Rattle.plc_base.specs.declared.Place.{Place}
 use Rattle.plc_base.specs.Changes.{ChangesOrStays}
@@ -24,7 +25,7 @@ use Rattle.plc_mem.specs.Run.{number_over, operand_bit_of}
 use Rattle.plc_mem.specs.Writing.{put, put_peripheral, put_in_block}
 use Rattle.plc_mem.proofs.OneMemory.{put_run, put_peripheral_run, put_blocks_bytes, found_block}
 use Rattle.plc_mem.proofs.Lawful.{zero_count, zero_memory}
-use Rattle.plc_mem.proofs.Runs.{none_some, same_some, chained}
+use Rattle.plc_mem.proofs.Runs.{none_some, chained}
 
 pub run_kept : (count : ℕ) (old new : List ℕ) (at bit : ℕ) (width : Width) (value : ℕ) (r : Result (Unit {0}) Missing)
     → IsRun count old → value < 2 ^ bit_count width → ChangesOrStays (put old at bit width value) old new r → IsRun count new
@@ -109,14 +110,14 @@ one_bit n x v true small e = omega (arith, pow-succ' 2 n)
 one_bit n x v false small e = omega (arith, pow-succ' 2 n)
 
 more_weight : (n : ℕ) (o : Option ℕ) (bit : Option Bool) (v : ℕ) → ((x : ℕ) → o ≡ Some x → x < 2 ^ n) → plus_weight n o bit ≡ Some v → v < 2 ^ suc n
-more_weight n (Some x) (Some one) v small e = one_bit n x v one (small x refl) (same_some _ v e)
+more_weight n (Some x) (Some one) v small e = one_bit n x v one (small x refl) (same_Some _ v e)
 more_weight n (Some x) None v small e = absurd (none_some v e)
 more_weight n None bit v small e = absurd (none_some v e)
 
 -- a sum of the weights below 2 ^ n is below it
 weights_below : (f : ℕ → Option Bool) (n v : ℕ) → weights_of f n ≡ Some v → v < 2 ^ n
 unfolding weights_of
-weights_below f zero v e = omega (arith, same_some 0 v e)
+weights_below f zero v e = omega (arith, same_Some 0 v e)
 weights_below f (suc n) v e = more_weight n (weights_of f n) (f n) v (λ x is. weights_below f n x is) e
 
 pub number_fits : (m : Areas) (place : Place) (width : Width) (v : ℕ) → number_at m place width ≡ Some v → v < 2 ^ bit_count width

@@ -8,7 +8,7 @@ use Rattle.std.specs.Cmp.{nat_cmp_total}
 use Rattle.std.specs.List.{AllByRecursion}
 use Rattle.std.specs.FinMap.{find, get-from_entries}
 use Rattle.std.proofs.lemmas.Bool.Decides.{nat_tests}
-use Rattle.std.proofs.lemmas.Bool.{ltb-true, le-leb}
+use Rattle.std.proofs.lemmas.Bool.{ltb-true, le-leb, true≢false, and_parts}
 use Rattle.std.proofs.lemmas.Option.{slice_get-get_or, slice_get_past}
 use Rattle.std.proofs.lemmas.Nat.Bits.{bit_at-zero}
 use Rattle.std.proofs.lemmas.List.{get_or-replicate, length-replicate, get_or_past}
@@ -33,10 +33,10 @@ use Rattle.plc_mem.specs.Peripherals.{with_input, outputs_cleared}
 use Rattle.plc_mem.specs.Refresh.{refreshed, IsRefreshed}
 use Rattle.plc_mem.specs.Fresh.{fresh, clear_peripheral}
 use Rattle.plc_mem.specs.Laws.{MemoryStarts, ReadsWhereEachBitExists, WritesWhereEachBitExists, NumbersAreReadBack, RefreshesBits, ClearsBits, SetsInputBits, PlacesStay}
-use Rattle.plc_mem.proofs.Numbers.{weights_none, no_byte as nothing, run_none, both_true, bit_in_some, low_number, high_number, over_none}
+use Rattle.plc_mem.proofs.Numbers.{weights_none, no_byte as nothing, run_none, bit_in_some, low_number, high_number, over_none}
 use Rattle.plc_mem.proofs.Writes.{written_is, input_written, number_of_region}
 use Rattle.plc_mem.proofs.OneMemory.{found_block, has_image, written_in_memory}
-use Rattle.plc_mem.proofs.Runs.{true_not_false, none_some, in_low, in_high, no_weight, PartPut, part_put, put_within}
+use Rattle.plc_mem.proofs.Runs.{none_some, in_low, in_high, no_weight, PartPut, part_put, put_within}
 use Rattle.plc_mem.proofs.Stored.{kept_bit}
 
 -- ---- which numbers there are
@@ -46,12 +46,12 @@ is_there (Some x) some = refl
 is_there None some = absurd (some refl)
 
 weights_need : (f : ℕ → Option Bool) (n : ℕ) → IsSome (weights_of f n) → (j : ℕ) → j < n → IsSome (f j)
-weights_need f n there j h = is_there (f j) (λ none. true_not_false (sym there ∙ ap is_some (weights_none f n j h none)))
+weights_need f n there j h = is_there (f j) (λ none. true≢false (sym there ∙ ap is_some (weights_none f n j h none)))
 
 some_weight : (j : ℕ) (n : Option ℕ) (b : Option Bool) → IsSome n → IsSome b → IsSome (plus_weight j n b)
 some_weight j (Some n) (Some b) hn hb = refl
-some_weight j None b hn hb = absurd (true_not_false (sym hn))
-some_weight j (Some n) None hn hb = absurd (true_not_false (sym hb))
+some_weight j None b hn hb = absurd (true≢false (sym hn))
+some_weight j (Some n) None hn hb = absurd (true≢false (sym hb))
 
 weights_there : (f : ℕ → Option Bool) (n : ℕ) → ((j : ℕ) → j < n → IsSome (f j)) → IsSome (weights_of f n)
 unfolding weights_of
@@ -60,7 +60,7 @@ weights_there f (suc n) all = some_weight n (weights_of f n) (f n) (weights_ther
 
 pub number_exists : (m : Areas) (region : Option Region) (place : Place) (width : Width) → IsSome (option_and_then (λ (r : Region). number_of m r place width) region) ↔ EachBitExists m region place width
 unfolding number_of
-number_exists m None place width = (λ h. true_not_false (sym h), λ h. absurd h)
+number_exists m None place width = (λ h. true≢false (sym h), λ h. absurd h)
 number_exists m (Some r) place width =
     (λ h j below. weights_need (λ (j : ℕ). bit_at m (operand_bit r place width j)) (bit_count width) h j below, λ h. weights_there (λ (j : ℕ). bit_at m (operand_bit r place width j)) (bit_count width) h)
 
@@ -275,7 +275,7 @@ number_places m region place width value is j h = weights_need (λ (j : ℕ). bi
 
 value_there : (f : Bool → Bool) (b : Bool) (o : Option Bool) → IsSome (option_map f o) → ((x : Bool) → f x ≡ b) → option_map f o ≡ Some b
 value_there f b (Some x) some is = ap Some (is x)
-value_there f b None some is = absurd (true_not_false (sym some))
+value_there f b None some is = absurd (true≢false (sym some))
 
 input_value : (byte bit value : ℕ) (x : Bool) → bit_after PeripheralInputs byte 0 Byte value (bit_place PeripheralInputs byte bit) x ≡ bit_of value bit
 input_value byte bit value x =
@@ -347,7 +347,7 @@ bit_stands bytes n b within low = ap is_some (ap (λ (o : Option ℕ). bit_in o 
 run_some : (bytes : List ℕ) (at bit : ℕ) (width : Width) → is_within bytes at bit width ≡ true → IsSome (number_over (slice_get bytes) at bit width)
 unfolding number_over
 run_some bytes at bit Bit within =
-    let tests = both_true (nat_lt at (length bytes)) (nat_lt bit 8) within in
+    let tests = and_parts (nat_lt at (length bytes)) (nat_lt bit 8) within in
     weights_there (operand_bit_of (slice_get bytes) at bit Bit) 1 (λ j h. bit_stands bytes at bit (ltb-true at (length bytes) tests.0) (ltb-true bit 8 tests.1))
 run_some bytes at bit Byte within =
     let room : at + 1 ≤ length bytes = grind (arith, nat_tests) in
@@ -450,7 +450,7 @@ writes_where_each_bit_exists m is place width value = writing_exists m place wid
 
 pub read_answers : (m : Areas) (place : Place) (width : Width) (r : Result ℕ Missing) → MatchResult r (λ n. number_at m place width ≡ Some n) (λ _. number_at m place width ≡ None) → IsOk r ↔ EachBitExists m (region_read place) place width
 read_answers m place width (Ok n) is = let exists = reads_where_each_bit_exists m place width in (λ _. exists.0 (ap is_some is), λ _. refl)
-read_answers m place width (Err _) is = let exists = reads_where_each_bit_exists m place width in (λ h. absurd (true_not_false (sym h)), λ h. absurd (true_not_false (sym (exists.1 h) ∙ ap is_some is)))
+read_answers m place width (Err _) is = let exists = reads_where_each_bit_exists m place width in (λ h. absurd (true≢false (sym h)), λ h. absurd (true≢false (sym (exists.1 h) ∙ ap is_some is)))
 
 pub write_answers :
     (m n : Areas) (place : Place) (width : Width) (value : ℕ) (r : Result (Unit {0}) Missing)
@@ -460,7 +460,7 @@ pub write_answers :
 write_answers m n place width value (Ok _) sizes is = let exists = writing_exists m place width value sizes in (λ _. exists.0 (ap is_some is), λ _. refl)
 write_answers m n place width value (Err _) sizes is =
     let exists = writing_exists m place width value sizes in
-    (λ h. absurd (true_not_false (sym h)), λ h. absurd (true_not_false (sym (exists.1 h) ∙ ap is_some is.0)))
+    (λ h. absurd (true≢false (sym h)), λ h. absurd (true≢false (sym (exists.1 h) ∙ ap is_some is.0)))
 
 pub write_bits :
     (m n : Areas) (place : Place) (width : Width) (value : ℕ) (r : Result (Unit {0}) Missing)
@@ -501,7 +501,7 @@ pub input_answers :
     → IsOk r ↔ (is_peripheral_byte at ≡ true)
 input_answers p q at value (Ok _) parts is = (λ _. byte_of_part p q at value parts (part_put p q at 0 Byte value is), λ _. refl)
 input_answers p q at value (Err _) parts is =
-    (λ h. absurd (true_not_false (sym h)), λ there. absurd (true_not_false (sym (byte_put p at value parts (part_of_byte at there)) ∙ ap is_some is.0)))
+    (λ h. absurd (true≢false (sym h)), λ there. absurd (true≢false (sym (byte_put p at value parts (part_of_byte at there)) ∙ ap is_some is.0)))
 
 -- ---- the start
 

@@ -5,7 +5,7 @@ use Rattle.std.specs.Int.{bit_at}
 use Rattle.std.specs.Option.{option_map, option_and_then}
 use Rattle.std.proofs.lemmas.Nat.{mod-pow-add}
 use Rattle.std.proofs.lemmas.Nat.Bits.{bit_at-lt, bit_at_cat_low, bit_at_cat_high}
-use Rattle.std.proofs.lemmas.Bool.{lt-ltb, ltb-true}
+use Rattle.std.proofs.lemmas.Bool.{lt-ltb, ltb-true, and_parts}
 use Rattle.std.proofs.lemmas.Option.{slice_get-get_or, slice_get_past}
 use Rattle.plc_base.specs.declared.Width.{Width}
 use Rattle.plc_base.specs.declared.Width.TheVariants.{Bit, Byte, Word, Dword}
@@ -118,10 +118,6 @@ number_at_bytes m place Byte = refl
 number_at_bytes m place Word = refl
 number_at_bytes m place Dword = refl
 
-pub both_true : (a b : Bool) → (a && b) ≡ true → (a ≡ true) × (b ≡ true)
-both_true true b e = (refl, e)
-both_true false b e = absurd (cc)
-
 pub one_false : (a b : Bool) → (a && b) ≡ false → (a ≡ false) ⊎ (b ≡ false)
 one_false true b e = inr e
 one_false false b e = inl refl
@@ -143,7 +139,7 @@ lone_bit (suc (suc b)) h = absurd (omega arith)
 pub run_number : (bytes : List ℕ) (at bit : ℕ) (width : Width) → ((i : ℕ) → slice_index bytes i < 256) → is_within bytes at bit width ≡ true → number_over (slice_get bytes) at bit width ≡ Some (number_of_bytes bytes at bit width)
 unfolding number_over weights_of
 run_number bytes at bit Bit small within =
-    let tests = both_true _ _ within in
+    let tests = and_parts _ _ within in
     let here : at < length bytes = ltb-true _ _ tests.0 in
     let low : bit < 8 = ltb-true _ _ tests.1 in
     let found : bit_in (slice_get bytes at) bit ≡ Some (bit_of (slice_index bytes at) bit) =

@@ -2,7 +2,7 @@
 use Rattle.std.proofs.Common.{◌≡◌, ◌≢◌, ℕ, zero, suc, ◌+◌, ◌-◌, ◌*◌, ◌/◌, ◌%◌, ◌^◌, ◌<◌, ◌≤◌, List, length, refl, sym, ap, ◌∙◌, subst, arith, Option, Some, None, Bool, true, false, nat_lt, slice_set, slice_index, ◌⊎◌, inl, inr, unwrap_or, cond}
 use Rattle.std.proofs.lemmas.Nat.{or_lt}
 use Rattle.std.proofs.lemmas.List.{get_or-set_same, get_or-set_other, get_or_past, length-set}
-use Rattle.std.proofs.lemmas.Bool.{ltb-true}
+use Rattle.std.proofs.lemmas.Bool.{ltb-true, and_parts}
 use Rattle.plc_base.specs.declared.Width.{Width}
 use Rattle.plc_base.specs.declared.Width.TheVariants.{Bit, Byte, Word, Dword}
 use Rattle.plc_base.specs.declared.Place.{Place}
@@ -20,12 +20,12 @@ use Rattle.plc_mem.specs.Laws.{BitsDetermineMemory, WritingGivesTheOneMemory}
 use Rattle.plc_mem.proofs.Writes.{written_is}
 use Rattle.plc_mem.proofs.Extensional.{same_memory}
 use Rattle.plc_mem.proofs.OneBit.{bit_set}
-use Rattle.plc_mem.proofs.Numbers.{both_true}
-use Rattle.plc_mem.proofs.Runs.{put_done, length-put, part_put, block_put, mapped, chained, same_some}
+use Rattle.plc_mem.proofs.Runs.{put_done, length-put, part_put, block_put, mapped, chained}
 use Rattle.std.specs.FinMap as map
 use Rattle.std.specs.FinMap.{get-insert}
 use Rattle.std.specs.Ordering.{nat_cmp, eq_by_cmp}
 use Rattle.std.specs.Cmp.{nat_cmp_total}
+use Rattle.std.proofs.lemmas.Option.{same_Some}
 
 -- ---- memory stays made of bytes
 
@@ -60,7 +60,7 @@ stored_bytes :
     → value < 2 ^ bit_count width
     → AreBytes (stored bytes at bit width value)
 stored_bytes bytes at bit Bit value all within fits =
-    let tests = both_true (nat_lt at (length bytes)) (nat_lt bit 8) within in
+    let tests = and_parts (nat_lt at (length bytes)) (nat_lt bit 8) within in
     set_bytes bytes at (with_bit (slice_index bytes at) bit value) all (with_bit_byte (slice_index bytes at) bit value (all at) (ltb-true bit 8 tests.1) fits)
 stored_bytes bytes at bit Byte value all within fits = set_bytes bytes at value all fits
 stored_bytes bytes at bit Word value all within fits =
@@ -96,7 +96,7 @@ image_run bytes at bit width value run fits None e = run
 
 pub found_block :
     (same : Bool) (bytes stored : List ℕ) (o : Option (List ℕ)) → AreBytes stored → ((s : List ℕ) → o ≡ Some s → AreBytes s) → cond same (Some stored) o ≡ Some bytes → AreBytes bytes
-found_block true bytes stored o new before e = subst AreBytes (same_some stored bytes e) new
+found_block true bytes stored o new before e = subst AreBytes (same_Some stored bytes e) new
 found_block false bytes stored o new before e = before bytes e
 
 pub put_blocks_bytes :
@@ -156,7 +156,7 @@ written_memory m n place width value is fits done =
 -- two memories that are written alike from one are the same
 same_written : (m n other : Areas) (place : Place) (width : Width) (value : ℕ) → IsMemory n → IsMemory other → IsWritten m n place width value → IsWritten m other place width value → other ≡ n
 same_written m n other place width value hn ho wn wo =
-    let region : wo.0 ≡ wn.0 = same_some wo.0 wn.0 (sym wo.1 ∙ wn.1) in
+    let region : wo.0 ≡ wn.0 = same_Some wo.0 wn.0 (sym wo.1 ∙ wn.1) in
     same_memory n other hn ho (λ k. wo.2.blocks k ∙ sym (wn.2.blocks k)) (λ q.
     wo.2.bits q
     ∙ ap (λ (r : Region). option_map (bit_after r place.byte place.bit width value q) (bit_at m q)) region

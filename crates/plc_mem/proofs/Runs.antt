@@ -7,8 +7,9 @@ use Rattle.std.specs.Ordering.{nat_cmp, eq_by_cmp, is_eq}
 use Rattle.std.specs.declared.cmp.Ordering.{Ordering}
 use Rattle.std.specs.declared.cmp.Ordering.TheVariants.{Less, Equal, Greater}
 use Rattle.std.specs.Cmp.{nat_cmp_total, tied_itself}
-use Rattle.std.proofs.lemmas.Bool.{lt-ltb, ltb-true, leb-true}
+use Rattle.std.proofs.lemmas.Bool.{lt-ltb, ltb-true, leb-true, true≢false, and_parts}
 use Rattle.std.proofs.lemmas.Bool.Decides.{nat_tests}
+use Rattle.std.proofs.lemmas.Option.{same_Some}
 use Rattle.plc_base.specs.declared.Width.{Width}
 use Rattle.plc_base.specs.declared.Width.TheVariants.{Bit, Byte, Word, Dword}
 use Rattle.plc_mem.specs.Areas.{PeripheralBytes}
@@ -17,21 +18,15 @@ use Rattle.plc_base.specs.Widths.{bit_count, byte_count}
 use Rattle.plc_mem.specs.Run.{number_over}
 use Rattle.plc_mem.specs.Writing.{is_within, stored, put, put_peripheral, put_in_block}
 use Rattle.plc_mem.specs.Written.{weight_in, value_of_bit}
-use Rattle.plc_mem.proofs.Numbers.{low_number, high_number, both_true}
+use Rattle.plc_mem.proofs.Numbers.{low_number, high_number}
 use Rattle.plc_mem.proofs.Stored.{stored_after, stored_number, length-stored, kept_bit}
-
-pub true_not_false : true ≡ false → ⊥
-true_not_false e = cc
 
 pub none_some : {A : Type 0} (x : A) → None ≡ Some x → ⊥
 none_some x e = cc
 
-pub same_some : {A : Type 0} (x y : A) → Some x ≡ Some y → x ≡ y
-same_some x y e = cc
-
 -- what stands in a mapped option
 pub mapped : {A B : Type 0} (f : A → B) (o : Option A) (y : B) → option_map f o ≡ Some y → (x : A) × (o ≡ Some x) × (f x ≡ y)
-mapped f (Some x) y e = (x, refl, same_some (f x) y e)
+mapped f (Some x) y e = (x, refl, same_Some (f x) y e)
 mapped f None y e = absurd (cc)
 
 pub chained : {A B : Type 0} (f : A → Option B) (o : Option A) (y : B) → option_and_then f o ≡ Some y → (x : A) × (o ≡ Some x) × (f x ≡ Some y)
@@ -39,7 +34,7 @@ chained f (Some x) y e = (x, refl, e)
 chained f None y e = absurd (cc)
 
 put_cases : (bytes new : List ℕ) (at bit : ℕ) (width : Width) (value : ℕ) (within : Bool) → is_within bytes at bit width ≡ within → cond within (Some (stored bytes at bit width value)) None ≡ Some new → (is_within bytes at bit width ≡ true) × (stored bytes at bit width value ≡ new)
-put_cases bytes new at bit width value true e is = (e, same_some _ new is)
+put_cases bytes new at bit width value true e is = (e, same_Some _ new is)
 put_cases bytes new at bit width value false e is = absurd (cc)
 
 -- what a write to a run was
@@ -85,7 +80,7 @@ put_within bytes new at bit Dword value done = let was = put_done bytes new at b
 outside : (at n k : ℕ) (inside : Bool) → (nat_le at n && nat_lt n (at + k)) ≡ inside → (n < at) ⊎ (at + k ≤ n) → inside ≡ false
 outside at n k false e out = refl
 outside at n k true e out =
-    let tests = both_true (nat_le at n) (nat_lt n (at + k)) e in
+    let tests = and_parts (nat_le at n) (nat_lt n (at + k)) e in
     let from : at ≤ n = leb-true at n tests.0 in
     let to : n < at + k = ltb-true n (at + k) tests.1 in
     absurd (grind arith)
@@ -270,7 +265,7 @@ tests_agree k r true true e f = refl
 tests_agree k r false false e f = refl
 tests_agree k r true false e f =
     let same : k ≡ r = grind (arith, nat_tests) in
-    absurd (true_not_false (sym (ap is_eq (tied_itself nat_cmp_total r)) ∙ ap (λ (n : ℕ). eq_by_cmp nat_cmp r n) (sym same) ∙ f))
+    absurd (true≢false (sym (ap is_eq (tied_itself nat_cmp_total r)) ∙ ap (λ (n : ℕ). eq_by_cmp nat_cmp r n) (sym same) ∙ f))
 tests_agree k r false true e f =
     let same : r ≡ k = nat_cmp-IsAntisymmetric r k (equal_is (nat_cmp r k) f) in
     absurd (grind (arith, nat_tests))

@@ -4,7 +4,7 @@ use Rattle.std.specs.Int.{bit_at}
 use Rattle.std.specs.Option.{option_map}
 use Rattle.std.proofs.lemmas.List.{length-set, get_or-set_same, get_or-set_other}
 use Rattle.std.proofs.lemmas.Option.{slice_get-get_or, slice_get_past}
-use Rattle.std.proofs.lemmas.Bool.{ltb-true, leb-true}
+use Rattle.std.proofs.lemmas.Bool.{ltb-true, leb-true, and_parts}
 use Rattle.std.proofs.lemmas.Bool.Decides.{nat_tests}
 use Rattle.std.proofs.lemmas.Nat.Bits.{bit_at_cat_low, bit_at_cat_high, bit_at_lowest}
 use Rattle.std.proofs.Math.Nat.{div-add-mod, mod-lt, mod-eq_of_lt}
@@ -16,7 +16,7 @@ use Rattle.plc_base.specs.Widths.{bit_count, byte_count}
 use Rattle.plc_mem.specs.Run.{number_over, operand_bit_of}
 use Rattle.plc_mem.specs.Writing.{is_within, stored, with_bit}
 use Rattle.plc_mem.specs.Written.{weight_in, value_of_bit}
-use Rattle.plc_mem.proofs.Numbers.{byte_bits, byte_bit, weights_value, stands, both_true, bit_in_some}
+use Rattle.plc_mem.proofs.Numbers.{byte_bits, byte_bit, weights_value, stands, bit_in_some}
 
 -- ---- one bit of a byte
 
@@ -124,7 +124,7 @@ pub stored_bits :
     → j < bit_count width
     → operand_bit_of (slice_get (stored bytes at bit width value)) at bit width j ≡ Some (bit_of value j)
 stored_bits bytes at bit Bit value within fits j h =
-    let tests = both_true _ _ within in
+    let tests = and_parts _ _ within in
     let here : at < length bytes = ltb-true at (length bytes) tests.0 in
     let low : bit < 8 = ltb-true bit 8 tests.1 in
     let first : j ≡ 0 = omega arith in
@@ -212,7 +212,7 @@ wide_after :
     → (nat_le at n && nat_lt n (at + k)) ≡ inside
     → bit_in (slice_get new n) b ≡ option_map (value_of_bit value (if◌then◌else◌ inside (Some (8 * (k - 1 - (n - at)) + b)) None)) (bit_in (slice_get old n) b)
 wide_after old new at k value room set others n b low true e =
-    let tests = both_true (nat_le at n) (nat_lt n (at + k)) e in
+    let tests = and_parts (nat_le at n) (nat_lt n (at + k)) e in
     let from : at ≤ n = leb-true at n tests.0 in
     let to : n < at + k = ltb-true n (at + k) tests.1 in
     let weight = 8 * (k - 1 - (n - at)) + b in
@@ -275,7 +275,7 @@ low_after :
     → b < 8
     → bit_in (slice_get (stored bytes at bit width value) n) b ≡ option_map (value_of_bit value (weight_in at bit width n b)) (bit_in (slice_get bytes n) b)
 low_after bytes at bit Bit value within fits n b low =
-    let tests = both_true (nat_lt at (length bytes)) (nat_lt bit 8) within in
+    let tests = and_parts (nat_lt at (length bytes)) (nat_lt bit 8) within in
     narrow_after bytes at bit value (ltb-true at (length bytes) tests.0) (ltb-true bit 8 tests.1) fits n b low (nat_eq n at) (nat_eq b bit) refl refl
 low_after bytes at bit Byte value within fits n b low =
     wide_after bytes (stored bytes at bit Byte value) at 1 value (grind (arith, nat_tests)) (stored_bits bytes at bit Byte value within fits) (stored_outside bytes at bit Byte value) n b low (nat_le at n && nat_lt n (at + 1)) refl

@@ -2,6 +2,7 @@
 use Rattle.std.proofs.Common.{◌≡◌, ◌<◌, ◌≤◌, refl, sym, ◌∙◌, ap, subst, ℕ, zero, suc, ◌+◌, ◌-◌, List, [], ◌∷◌, ◌++◌, length, take, drop, replicate, get_or, Ok, arith, append-nil, append_assoc, length-append, length-drop, length-take-le}
 use Rattle.std.proofs.Math.Seq.{take-add}
 use Rattle.std.proofs.lemmas.List.{drop-drop, drop_all, map-append, take-append-drop}
+use Rattle.plc_base.proofs.ListLemmas.{drop_next}
 use Rattle.plc_io.specs.Moments.{SinkAt}
 use Rattle.plc_io.specs.Taken.{Wrote}
 use Rattle.flat_code.specs.Programs.{Program}
@@ -19,7 +20,6 @@ use Rattle.controller.specs.Recorded.{Recorded}
 use Rattle.controller.specs.Replayed.{events, next_happens, replayed, seen}
 use Rattle.run_text.specs.Behind.{closing_of, lines_behind}
 use Rattle.run_text.specs.RunText.{closing_text, lines_from, run_text, shown_text}
-use Rattle.run_text.proofs.ListLemmas.{drop-next}
 use Rattle.run_text.proofs.WritingLemmas.{GoesOn, goes-end, goes-first, goes-next}
 
 -- the controller after the first i entries, and after one more
@@ -59,7 +59,7 @@ applied-next : (s0 s1 s2 : Recorded) (es : List Entry) (i : ℕ) (e : Entry) →
 applied-next s0 s1 s2 es i e before one within at =
     applied-more s0 s1 s2 es i 1 before
     (one ∙ ap (λ (l : List Entry). record s1 { history = s1.history ++ take 1 l; spare = s1.spare - 1 })
-    (sym (drop-next es i e within at)))
+    (sym (drop_next es i e within at)))
 
 -- the lines of a further entry and of those behind it
 pub lines-next : (old new : Recorded) (es : List Entry) (i n : ℕ) (e : Entry) (shown : Observed) → Applies old e new
@@ -67,7 +67,7 @@ pub lines-next : (old new : Recorded) (es : List Entry) (i n : ℕ) (e : Entry) 
     → i < length es → e ≡ get_or es i e
     → lines_behind old (drop i es) ≡ shown_text n shown ++ lines_behind new (drop (i + 1) es)
 lines-next old new es i n e shown one count is shows state within at =
-    ap (lines_behind old) (drop-next es i e within at)
+    ap (lines_behind old) (drop_next es i e within at)
     ∙ ap (λ (m : ℕ). shown_text m (next_happens old e).seen ++ lines_from code m (next_happens old e).state rest) (sym counted)
     ∙ ap (λ (o : Observed). shown_text n o ++ lines_from code n (next_happens old e).state rest) (sym (is ∙ shows))
     ∙ ap (λ (s : State). shown_text n shown ++ lines_from code n s rest) (sym state)

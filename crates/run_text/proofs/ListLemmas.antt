@@ -1,24 +1,18 @@
 -- The elements of a list from a place on.
-use Rattle.std.proofs.Common.{◌≡◌, sym, ◌∙◌, ap, refl, ℕ, suc, zero, ◌+◌, ◌-◌, ◌<◌, ◌≤◌, List, [], ◌∷◌, ◌++◌, length, take, drop, get_or, min, length-drop, add-one, arith, Some, None}
+use Rattle.std.proofs.Common.{◌≡◌, sym, ◌∙◌, ap, refl, ℕ, suc, zero, ◌+◌, ◌-◌, ◌<◌, ◌≤◌, List, [], ◌∷◌, ◌++◌, length, take, drop, get_or, min, length-drop, arith, Some, None}
 use Rattle.std.specs.Prelude.{slice_get}
 use Rattle.std.specs.Int.{div_ceil}
 use Rattle.std.specs.List.{flat_map, range_with_len}
 use Rattle.run_text.specs.RunText.{block_text, row_of}
-use Rattle.std.proofs.Math.Seq.{drop-cons}
 use Rattle.std.proofs.lemmas.List.{take_all}
 use Rattle.std.proofs.lemmas.Grind.{common_steps}
 use Rattle.std.proofs.lemmas.Option.{get_or_from_slice_get, slice_get_within}
-
-pub drop-next : {A : Type 0} (xs : List A) (i : ℕ) (x : A) → i < length xs → x ≡ get_or xs i x → drop i xs ≡ x ∷ drop (i + 1) xs
-drop-next {A} xs i x within is =
-    drop-cons xs i x within
-    ∙ ap (λ (n : ℕ). get_or xs i x ∷ drop n xs) (sym (add-one i))
-    ∙ ap (λ (y : A). y ∷ drop (i + 1) xs) (sym is)
+use Rattle.plc_base.proofs.ListLemmas.{drop_next}
 
 -- the texts of the elements from a place on
 pub texts-next : {A : Type 0} (f : A → List ℕ) (xs : List A) (i : ℕ) (x : A) → i < length xs → x ≡ get_or xs i x
     → flat_map f (drop i xs) ≡ f x ++ flat_map f (drop (i + 1) xs)
-texts-next {A} f xs i x within is = ap (flat_map f) (drop-next xs i x within is)
+texts-next {A} f xs i x within is = ap (flat_map f) (drop_next xs i x within is)
 
 -- numbers from one on, below another
 abbrev pub from_to : (i n : ℕ) → List ℕ

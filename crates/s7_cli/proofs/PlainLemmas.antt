@@ -1,8 +1,9 @@
 -- How clap's walk goes over words that are no options, without a hyphen at their front or behind `--`: the first is COMMAND, and all
 -- others are FILES. `behind` says whether `--` stood at the front.
-use Rattle.std.proofs.Common.{◌≡◌, Bool, true, false, not, ◌&&◌, ◌||◌, ◌==◌, List, [], ◌∷◌, ◌++◌, refl, ap, sym, ◌∙◌, codes, if◌then◌else◌, true≢false, append-nil, append_assoc}
+use Rattle.std.proofs.Common.{◌≡◌, Bool, true, false, not, ◌||◌, ◌==◌, List, [], ◌∷◌, ◌++◌, refl, ap, sym, ◌∙◌, codes, if◌then◌else◌, true≢false, append-nil, append_assoc}
 use Rattle.std.specs.Prelude.{Option, Some, None, bytes_eq, is_some}
 use Rattle.std.specs.List.{fold, list_all}
+use Rattle.std.proofs.lemmas.Bool.{and_parts}
 use Rattle.clap.specs.Lexer.{long_of, short_of}
 use Rattle.clap.specs.Kinds.{Kinds, or_else}
 use Rattle.clap.specs.Faults.{check_fault, defaults_fault, entered_fault, settle_fault, turn_fault, walk_fault}
@@ -33,10 +34,6 @@ is_value behind word = behind || is_plain_word word
 
 abbrev are_values : Bool → List Text → Bool
 are_values behind words = list_all (is_value behind) words
-
-both : (a b : Bool) → (a && b) ≡ true → (a ≡ true) × (b ≡ true)
-both true b e = (refl, e)
-both false b e = absurd (true≢false (sym e))
 
 values-behind : (words : List Text) → are_values true words ≡ true
 values-behind [] = refl
@@ -98,7 +95,7 @@ walked-all : (behind : Bool) (command file : Text) (files words : List Text) →
     → walk_on (at_files behind command (file ∷ files)) words ≡ at_files behind command (file ∷ (files ++ words))
 walked-all behind command file files [] h = ap (λ fs. at_files behind command (file ∷ fs)) (sym (append-nil files))
 walked-all behind command file files (word ∷ words) h =
-    let each = both (is_value behind word) _ h in
+    let each = and_parts (is_value behind word) _ h in
     ap (λ w. walk_on w words) (walked-further behind command file files word each.0)
     ∙ walked-all behind command file (files ++ word ∷ []) words each.1
     ∙ ap (λ fs. at_files behind command (file ∷ fs)) (append_assoc files (word ∷ []) words)
@@ -161,25 +158,25 @@ refused false asked e = refl
 asked_by-values : (behind : Bool) (words : List Text) → are_values behind words ≡ true → asked_from (at_start behind) words ≡ plain_command words
 asked_by-values behind [] h = refused (is_empty (fault_from (at_start behind) [])) _ refl
 asked_by-values behind (command ∷ []) h =
-    let first = both (is_value behind command) _ h in
+    let first = and_parts (is_value behind command) _ h in
     refused (is_empty (fault_from (at_start behind) (command ∷ []))) _ (ap (λ w. asked_by (finished the_rules w.held)) (walked-first behind command first.0))
 asked_by-values behind (command ∷ file ∷ []) h =
-    let first = both (is_value behind command) _ h in
-    let second = both (is_value behind file) _ first.1 in
+    let first = and_parts (is_value behind command) _ h in
+    let second = and_parts (is_value behind file) _ first.1 in
     asked_from-next _ _ command (file ∷ []) (no_fault-first behind command first.0) (walked-first behind command first.0)
     ∙ asked_from-next _ _ file [] (no_fault-second behind command file second.0) (walked-second behind command file second.0)
     ∙ asked_from-end _ (no_end_fault-one behind command file)
 asked_by-values behind (command ∷ file ∷ word ∷ []) h =
-    let first = both (is_value behind command) _ h in
-    let second = both (is_value behind file) _ first.1 in
-    let third = both (is_value behind word) _ second.1 in
+    let first = and_parts (is_value behind command) _ h in
+    let second = and_parts (is_value behind file) _ first.1 in
+    let third = and_parts (is_value behind word) _ second.1 in
     asked_from-next _ _ command (file ∷ word ∷ []) (no_fault-first behind command first.0) (walked-first behind command first.0)
     ∙ asked_from-next _ _ file (word ∷ []) (no_fault-second behind command file second.0) (walked-second behind command file second.0)
     ∙ asked_from-next _ _ word [] (no_fault-third behind command file word third.0) (walked-further behind command file [] word third.0)
     ∙ asked_from-end _ (no_end_fault-two behind command file word)
 asked_by-values behind (command ∷ file ∷ word ∷ more ∷ rest) h =
-    let first = both (is_value behind command) _ h in
-    let second = both (is_value behind file) _ first.1 in
+    let first = and_parts (is_value behind command) _ h in
+    let second = and_parts (is_value behind file) _ first.1 in
     refused (is_empty (fault_from (at_start behind) (command ∷ file ∷ word ∷ more ∷ rest))) _
     (ap (λ w. asked_by (finished the_rules (walk_on w (file ∷ word ∷ more ∷ rest)).held)) (walked-first behind command first.0)
     ∙ ap (λ w. asked_by (finished the_rules (walk_on w (word ∷ more ∷ rest)).held)) (walked-second behind command file second.0)

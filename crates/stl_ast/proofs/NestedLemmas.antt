@@ -1,8 +1,9 @@
 -- The nested view of declarations.
-use Rattle.std.proofs.Common.{arith, ℕ, ◌+◌, ◌<◌, ◌≤◌, ◌≡◌, Bool, true, false, List, [], ◌∷◌, ◌++◌, if◌then◌else◌, refl, sym, ◌∙◌, ap, subst}
+use Rattle.std.proofs.Common.{arith, ℕ, ◌+◌, ◌≤◌, ◌≡◌, Bool, true, false, List, [], ◌∷◌, ◌++◌, if◌then◌else◌, refl, sym, ◌∙◌, ap, subst}
 use Rattle.std.proofs.lemmas.Bool.Decides.{nat_tests}
 use Rattle.std.proofs.lemmas.List.{append_assoc}
 use Rattle.std.specs.Prelude.{nat_lt}
+use Rattle.std.proofs.lemmas.Bool.{ltb-true}
 use Rattle.stl_ast.specs.declared.declarations.Declaration.{Declaration}
 use Rattle.stl_ast.specs.declared.declarations.ElementType.{ElementType}
 use Rattle.stl_ast.specs.declared.declarations.ElementType.TheVariants.{Plain, Structure, Udt, DateAndTime}
@@ -37,9 +38,6 @@ weaker : (low high : ℕ) (cs : Components) → low ≤ high → AreFalling low 
 weaker low high none within falling = tt
 weaker low high (more d components behind) within falling = (omega (arith, falling.0, within), falling.1, falling.2, falling.3)
 
-is_deeper : (level at : ℕ) → nat_lt level at ≡ true → level < at
-is_deeper level at test = grind (arith, nat_tests)
-
 not_deeper : (level at : ℕ) → nat_lt level at ≡ false → at ≤ level
 not_deeper level at test = grind (arith, nat_tests)
 
@@ -49,7 +47,7 @@ inner_one : (level : ℕ) (d : Declaration) (components behind : Components) (de
     ((deepest : ℕ) → deepest ≤ level + 1 → AreFalling deepest behind → AreAt (level + 1) (inner level behind)) →
     AreAt (level + 1) (if deeper then more d components (inner level behind) else none)
 inner_one level d components behind true test falling rest =
-    let one : d.level ≡ level + 1 = omega (arith, is_deeper level d.level test, falling.0) in
+    let one : d.level ≡ level + 1 = omega (arith, ltb-true level d.level test, falling.0) in
     (one, falling.1, subst (λ n. AreAt (n + 1) components) one falling.2, rest d.level falling.0 falling.3)
 inner_one level d components behind false test falling rest = tt
 

@@ -4,6 +4,7 @@ use Rattle.std.proofs.Math.ListN.{drop_of_length-le}
 use Rattle.std.proofs.lemmas.List.{append-nil, drop_more}
 use Rattle.std.specs.List.{AllByRecursion, flat_map}
 use Rattle.std.specs.Option.{IfNone}
+use Rattle.plc_base.proofs.ListLemmas.{all_front, all_back}
 use Rattle.flat_code.specs.Codes.{are_ops}
 use Rattle.flat_code.specs.Ops.{OpData, is_op}
 use Rattle.stl_codegen.specs.Compiled.{aimed_op}
@@ -84,23 +85,10 @@ between_stop old now left here rest whole b split none =
     let all : whole ≡ b.done ++ (here ++ rest) = b.all ∙ ap (λ (l : List OpData). b.done ++ l) split in
     subst HasNoOp (sym all) (back_has_none b.done (here ++ rest) (front_has_none here rest none))
 
--- a part that doesn't fit
-pub front_of : {A : Type 0} (P : A → Type 0) (xs ys : List A) → AllByRecursion P (xs ++ ys) → AllByRecursion P xs
-front_of P [] ys h = tt
-front_of P (x ∷ xs) ys h = (h.0, front_of P xs ys h.1)
-
-pub back_of : {A : Type 0} (P : A → Type 0) (xs ys : List A) → AllByRecursion P (xs ++ ys) → AllByRecursion P ys
-back_of P [] ys h = h
-back_of P (x ∷ xs) ys h = back_of P xs ys h.1
-
 pub between_misfit : {A : Type 0} (P : A → Type 0) (old now left here rest whole : List A) → Between old now left whole → left ≡ here ++ rest → (AllByRecursion P here → ⊥) → AllByRecursion P whole → ⊥
 between_misfit {A = A} P old now left here rest whole b split none all =
     let parted : whole ≡ b.done ++ (here ++ rest) = b.all ∙ ap (λ (l : List A). b.done ++ l) split in
-    none (front_of P here rest (back_of P b.done (here ++ rest) (subst (AllByRecursion P) parted all)))
-
-pub all_of_both : {A : Type 0} (P : A → Type 0) (xs ys : List A) → AllByRecursion P xs → AllByRecursion P ys → AllByRecursion P (xs ++ ys)
-all_of_both P [] ys h k = k
-all_of_both P (x ∷ xs) ys h k = (h.0, all_of_both P xs ys h.1 k)
+    none (all_front P here rest (all_back P b.done (here ++ rest) (subst (AllByRecursion P) parted all)))
 
 -- what items add one behind the other
 pub flat_turn : {A B : Type 0} (f : A → List B) (xs : List A) (i : ℕ) (x : A) → i < length xs → x ≡ get_or xs i x → flat_map f (drop i xs) ≡ f x ++ flat_map f (drop (i + 1) xs)

@@ -2,7 +2,7 @@
 use Rattle.std.proofs.Common.{◌≡◌, ℕ, suc, ◌+◌, ◌<◌, ◌≤◌, min, Bool, true, false, cond, leb, List, [], ◌∷◌, ◌++◌, length, map, drop, get_or, Option, Some, None, refl, sym, ap, subst, ◌∙◌, append_assoc, length-append, add-one, arith}
 use Rattle.std.proofs.Math.ListN.{drop_of_length-le}
 use Rattle.std.proofs.lemmas.Bool.{leb-true, leb-false}
-use Rattle.std.proofs.lemmas.List.{drop_more}
+use Rattle.std.proofs.lemmas.List.{drop_more, map-append}
 use Rattle.std.specs.List.{flat_map}
 use Rattle.flat_code.specs.Codes.{are_ops}
 use Rattle.flat_code.specs.Ops.{OpData}
@@ -66,14 +66,10 @@ stated_lines c body n [] = refl
 stated_lines c body n (s ∷ ss) =
     if_lines (is_empty s.code) (stated_from c body n ss) (record { instr = instruction c body n s; line = s.line }) (stated_from c body (suc n) ss) _ (stated_lines c body n ss) (stated_lines c body (suc n) ss)
 
-map_both : {A B : Type 0} (f : A → B) (xs ys : List A) → map f (xs ++ ys) ≡ map f xs ++ map f ys
-map_both f [] ys = refl
-map_both {B = B} f (x ∷ xs) ys = ap (λ (l : List B). f x ∷ l) (map_both f xs ys)
-
 pub body_lines_are : (c : Context) (b : Block) → lines_in (statements_of c b) ≡ body_lines b
 unfolding statements_of
 body_lines_are c b =
-    map_both (λ s. s.line) (stated_from c b.body 0 b.body) (returning b ∷ [])
+    map-append (λ s. s.line) (stated_from c b.body 0 b.body) (returning b ∷ [])
     ∙ ap (λ (l : List ℕ). l ++ b.end_line ∷ []) (stated_lines c b.body 0 b.body)
 
 -- as many lines as statements
@@ -137,7 +133,7 @@ pub each_compiled_turn : (of : Context → Block → BlockLayout → List Stated
     ≡ map compiled (of (record c { block = i }) b l) ++ map compiled (each_block of (record c { block = i + 1 }) (drop (i + 1) bs) (drop (i + 1) ls))
 each_compiled_turn of c bs ls i b l in_bs in_ls is_b is_l =
     ap (λ (z : List StatedBlock). map compiled z) (each_turn of c bs ls i b l in_bs in_ls is_b is_l)
-    ∙ map_both compiled (of (record c { block = i }) b l) (each_block of (record c { block = i + 1 }) (drop (i + 1) bs) (drop (i + 1) ls))
+    ∙ map-append compiled (of (record c { block = i }) b l) (each_block of (record c { block = i + 1 }) (drop (i + 1) bs) (drop (i + 1) ls))
 
 -- the same of what goes by the layout alone
 split : {A : Type 0} (xs : List A) (i : ℕ) → i < length xs → (y : A) × (drop i xs ≡ y ∷ drop (i + 1) xs)

@@ -1,6 +1,7 @@
 -- The parameters of a block, which stand in another order in its code than in its declaration.
 use Rattle.std.proofs.Common.{◌≡◌, ◌≤◌, Bool, List, [], ◌∷◌, ◌++◌, length, take, drop, Option, Some, None, sym, ap, subst, ◌∙◌, arith}
 use Rattle.std.specs.List.{AllByRecursion, flat_map}
+use Rattle.plc_base.proofs.ListLemmas.{all_front, all_back}
 use Rattle.flat_code.specs.declared.programs.Param.{Param}
 use Rattle.stl_ast.specs.declared.blocks.Block.{Block}
 use Rattle.stl_ast.specs.declared.declarations.Simple.{Simple}
@@ -9,11 +10,10 @@ use Rattle.block_layout.specs.declared.blocks.BlockLayout.{BlockLayout}
 use Rattle.stl_codegen.specs.Fitting.{ParamFits, ParamsFit}
 use Rattle.stl_codegen.specs.Generated.{param_here, params_of}
 use Rattle.stl_codegen.specs.Instruction.{in_order, return_last}
-use Rattle.stl_codegen.proofs.AppendLemmas.{back_of, front_of}
 
 first_back : {A : Type 0} (P : A → Type 0) (xs : List A) → AllByRecursion P (drop 1 xs ++ take 1 xs) → AllByRecursion P xs
 first_back P [] h = tt
-first_back P (x ∷ xs) h = ((back_of P xs (x ∷ []) h).0, front_of P xs (x ∷ []) h)
+first_back P (x ∷ xs) h = ((all_back P xs (x ∷ []) h).0, all_front P xs (x ∷ []) h)
 
 last_back : {A : Type 0} (P : A → Type 0) (result : Option Simple) (xs : List A) → AllByRecursion P (return_last result xs) → AllByRecursion P xs
 last_back P None xs h = h

@@ -1,6 +1,7 @@
 -- Tokens that follow one another; the law of tokens.
 use Rattle.std.proofs.Common.{◌≡◌, ℕ, ◌+◌, ◌-◌, ◌<◌, ◌≤◌, ◌⊎◌, Bool, false, List, [], ◌∷◌, ◌++◌, length, take, drop, get_or, zero, suc, None, Some, inl, inr, refl, sym, ◌∙◌, ap, subst, arith}
 use Rattle.std.proofs.lemmas.List.{length-drop}
+use Rattle.std.proofs.lemmas.Option.{same_Some}
 use Rattle.stl_lexer.specs.declared.kinds.TokenKind.{TokenKind}
 use Rattle.stl_lexer.specs.declared.kinds.Token.{Token}
 use Rattle.stl_lexer.specs.declared.rules.Fault.{Fault}
@@ -74,16 +75,13 @@ breaks_not_next source from minus t line rule x b =
       | inr one ↦ none≢some one.fault (sym x.right ∙ same_fault source t.start minus t.kind one.kind (t.end - t.start) one.size x.longest one.longest ∙ one.breaks)
     ]
 
-some_same : {A : Type 0} (a b : A) → Some a ≡ Some b → a ≡ b
-some_same a b e = cc
-
 -- what is broken at a place has one line and one rule
 same_broken : (source : List ℕ) (at : ℕ) (minus : Bool) (line rule line' rule' : ℕ) → NoneBegins source at line rule ⊎ OneBreaks source at minus line rule → NoneBegins source at line' rule' ⊎ OneBreaks source at minus line' rule' → (line ≡ line') × (rule ≡ rule')
 same_broken source at minus line rule line' rule' (inl x) (inl y) = (x.line_is ∙ sym y.line_is, x.rule_is ∙ sym y.rule_is)
 same_broken source at minus line rule line' rule' (inl x) (inr y) = absurd (x.none y.kind y.size y.longest.fits)
 same_broken source at minus line rule line' rule' (inr x) (inl y) = absurd (y.none x.kind x.size x.longest.fits)
 same_broken source at minus line rule line' rule' (inr x) (inr y) =
-    let faults = some_same x.fault y.fault (sym x.breaks ∙ same_fault source at minus x.kind y.kind x.size y.size x.longest y.longest ∙ y.breaks) in
+    let faults = same_Some x.fault y.fault (sym x.breaks ∙ same_fault source at minus x.kind y.kind x.size y.size x.longest y.longest ∙ y.breaks) in
     (x.line_is ∙ ap (λ (f : Fault). line_at source (at + f.offset)) faults ∙ sym y.line_is, x.rule_is ∙ ap (λ (f : Fault). f.rule) faults ∙ sym y.rule_is)
 
 same_breaks : (source : List ℕ) (from : ℕ) (minus : Bool) (line rule line' rule' : ℕ) → Breaks source from minus line rule → Breaks source from minus line' rule' → (line ≡ line') × (rule ≡ rule')

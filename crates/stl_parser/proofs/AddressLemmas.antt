@@ -20,11 +20,13 @@ use Rattle.stl_parser.specs.declared.tables.Address.TheVariants as address
 use Rattle.stl_parser.specs.Terminals.{has_kind, is_mark, is_key}
 use Rattle.stl_parser.specs.Tables.{look_up, addresses}
 use Rattle.plc_base.specs.Decimal.{decimal_up_to}
+use Rattle.plc_base.proofs.DecimalLemmas.{decimal_range}
+use Rattle.plc_base.proofs.TruthLemmas.{and_first}
 use Rattle.stl_parser.specs.Numbers.{number_of}
 use Rattle.stl_parser.specs.Addresses.{letter_count, glued_at, separate_at, numbered_at, address_at, block_number_at, quoted_at, block_at, bit_of}
 use Rattle.stl_parser.specs.Operands.{place_bit, register_of, offset_of, register_pointer, holds_pointer, pointer_close, pointer_end, memory_pointer}
-use Rattle.stl_parser.proofs.OptionLemmas.{found, mapped, chained, either, both, passed, also, none_holds, and_left, at_most}
-use Rattle.stl_parser.proofs.RangeLemmas.{decimal_range, number_holds}
+use Rattle.stl_parser.proofs.OptionLemmas.{found, mapped, chained, either, both, passed, also, none_holds, at_most}
+use Rattle.stl_parser.proofs.RangeLemmas.{number_holds}
 use Rattle.stl_parser.proofs.LengthLemmas.{numbered_rest}
 
 glued_holds : {X : Type 0} (table : List (List ℕ × X)) (text : List ℕ) (rest : List Token) →
@@ -140,7 +142,7 @@ pointer_close_holds : (source : List ℕ) (area : Letters) (byte : ℕ) (tokens 
 unfolding pointer_close
 pointer_close_holds source area byte (close ∷ []) h =
     passed (holds_pointer area && is_mark source close mark.CloseBracket) _ IsPointerPlace
-    (λ test. (pointer_area area (and_left (holds_pointer area) _ test), h))
+    (λ test. (pointer_area area (and_first (holds_pointer area) _ test), h))
 pointer_close_holds source area byte _ h = tt
 
 pointer_end_holds : (source : List ℕ) (pointer : Bool) (a : Address) (byte : ℕ) (tokens : List Token) → IsNumber byte →

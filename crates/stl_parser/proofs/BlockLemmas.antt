@@ -3,6 +3,7 @@ use Rattle.std.proofs.Common.{arith, ℕ, zero, suc, ◌+◌, ◌≤◌, ◌<◌
 use Rattle.std.specs.Prelude.{nat_eq, nat_lt, ◌&&◌}
 use Rattle.std.specs.List.{flat_map}
 use Rattle.std.proofs.lemmas.List.{append_assoc, append-nil, map-append}
+use Rattle.std.proofs.lemmas.Option.{same_Some}
 use Rattle.plc_base.specs.declared.blocks.BlockKind.{BlockKind}
 use Rattle.plc_base.specs.declared.blocks.BlockKind.TheVariants as kinds
 use Rattle.stl_lexer.specs.Limits.{source_limit}
@@ -39,9 +40,6 @@ use Rattle.stl_parser.proofs.TreeLemmas.{flat_map_last}
 if_some : {A : Type 0} (b : Bool) (x q : A) → (if b then Some x else None) ≡ Some q → (b ≡ true) × (q ≡ x)
 if_some true x q h = (refl, cc)
 if_some false x q h = cc
-
-same_some : {A : Type 0} (x y : A) → Some x ≡ Some y → x ≡ y
-same_some x y h = cc
 
 if_none : {A : Type 0} (b : Bool) (x q : A) → (if b then None else Some x) ≡ Some q → q ≡ x
 if_none true x q h = cc
@@ -85,7 +83,7 @@ in_section k p level clause.EndSection q h =
     (sym (if_some (nat_eq level 0) (place.Between k p) q h).1) (refl, refl)
 in_section k p zero clause.EndStructure q h = cc
 in_section k p (suc level) clause.EndStructure q h =
-    subst (λ x. InsideStep (place.Section k p (suc level)) clause.EndStructure x (is_inside x)) (sym (same_some q _ (sym h))) (refl, refl, omega arith)
+    subst (λ x. InsideStep (place.Section k p (suc level)) clause.EndStructure x (is_inside x)) (sym (same_Some q _ (sym h))) (refl, refl, omega arith)
 in_section k p level _ q h = cc
 
 in_shape : (k : BlockKind) (level : ℕ) (c : Clause) (q : ClausePlace) → follow_shape k level c ≡ Some q →
@@ -95,9 +93,9 @@ in_shape k level (clause.Declares d) q h =
     subst (λ x. InsideStep (place.Shape k level) (clause.Declares d) x (is_inside x))
     (sym (if_none (is_date_and_time d.of.of) (place.Shape k (level_behind level d.of.of)) q h)) (refl, refl, omega arith)
 in_shape k zero clause.EndStructure q h =
-    subst (λ x. InsideStep (place.Shape k zero) clause.EndStructure x (is_inside x)) (sym (same_some q _ (sym h))) (refl, refl)
+    subst (λ x. InsideStep (place.Shape k zero) clause.EndStructure x (is_inside x)) (sym (same_Some q _ (sym h))) (refl, refl)
 in_shape k (suc level) clause.EndStructure q h =
-    subst (λ x. InsideStep (place.Shape k (suc level)) clause.EndStructure x (is_inside x)) (sym (same_some q _ (sym h))) (refl, refl, omega arith)
+    subst (λ x. InsideStep (place.Shape k (suc level)) clause.EndStructure x (is_inside x)) (sym (same_Some q _ (sym h))) (refl, refl, omega arith)
 in_shape k level _ q h = cc
 
 inside_follows : (p : ClausePlace) (c : Clause) (q : ClausePlace) → is_inside p ≡ true → follow p c ≡ Some q → InsideStep p c q (is_inside q)
@@ -183,9 +181,9 @@ BodyStep k c q = (q ≡ place.Body k) × (filter is_kept (c ∷ []) ≡ map clau
 
 body_follows : (k : BlockKind) (c : Clause) (q : ClausePlace) → follow_body k c ≡ Some q → BodyStep k c q
 unfolding follow_body
-body_follows k (clause.Runs s) q h = (same_some q _ (sym h), refl)
-body_follows k clause.Network q h = (same_some q _ (sym h), refl)
-body_follows k clause.Title q h = (same_some q _ (sym h), refl)
+body_follows k (clause.Runs s) q h = (same_Some q _ (sym h), refl)
+body_follows k clause.Network q h = (same_Some q _ (sym h), refl)
+body_follows k clause.Title q h = (same_Some q _ (sym h), refl)
 body_follows k (clause.Ends line e) q h =
     let s = if_some (nat_eq (block_rank e) (block_rank k)) place.Outside q h in (same_kind e k s.0, s.1)
 body_follows k _ q h = cc
@@ -207,14 +205,14 @@ TailStep k c q = IsTail k q × (filter is_kept (c ∷ []) ≡ map clause.Sets (s
 
 shaped_follows : (k : BlockKind) (c : Clause) (q : ClausePlace) → follow_shaped k c ≡ Some q → TailStep k c q
 unfolding follow_shaped
-shaped_follows kinds.Db clause.Begins q h = (subst (IsTail kinds.Db) (same_some _ q h) refl, refl)
-shaped_follows kinds.Udt (clause.Ends line kinds.Udt) q h = (refl, same_some q _ (sym h))
+shaped_follows kinds.Db clause.Begins q h = (subst (IsTail kinds.Db) (same_Some _ q h) refl, refl)
+shaped_follows kinds.Udt (clause.Ends line kinds.Udt) q h = (refl, same_Some q _ (sym h))
 shaped_follows _ _ q h = cc
 
 settings_follow : (c : Clause) (q : ClausePlace) → follow_settings c ≡ Some q → TailStep kinds.Db c q
 unfolding follow_settings
-settings_follow (clause.Sets s) q h = (subst (IsTail kinds.Db) (same_some _ q h) refl, refl)
-settings_follow (clause.Ends line kinds.Db) q h = (refl, same_some q _ (sym h))
+settings_follow (clause.Sets s) q h = (subst (IsTail kinds.Db) (same_Some _ q h) refl, refl)
+settings_follow (clause.Ends line kinds.Db) q h = (refl, same_Some q _ (sym h))
 settings_follow _ q h = cc
 
 tail_follows : (k : BlockKind) (p : ClausePlace) (c : Clause) (q : ClausePlace) → IsTail k p → follow p c ≡ Some q → TailStep k c q
@@ -240,8 +238,8 @@ tail_level k _ is = absurd is
 -- behind the head of a block
 head_follows : (k : BlockKind) (c : Clause) (q : ClausePlace) → follow_head k c ≡ Some q → opened_place k c ≡ q
 unfolding follow_head
-head_follows k clause.Note q h = same_some _ q h
-head_follows k clause.Title q h = same_some _ q h
+head_follows k clause.Note q h = same_Some _ q h
+head_follows k clause.Title q h = same_Some _ q h
 head_follows k (clause.Section line p) q h = sym (if_some (may_have k p) (place.Section k p 0) q h).1
 head_follows k clause.Begins q h = sym (if_some (has_body k) (place.Body k) q h).1
 head_follows k clause.Structure q h = sym (if_some (has_shape k) (place.Shape k 0) q h).1
@@ -290,7 +288,7 @@ between_follows : (k : BlockKind) (last : PartKind) (c : Clause) (q : ClausePlac
 unfolding follow_between
 between_follows k last (clause.Section line p) q h =
     (sym (if_some (may_have k p && nat_lt (part_rank last) (part_rank p)) (place.Section k p 0) q h).1, refl)
-between_follows k last clause.Begins q h = (same_some _ q h, refl)
+between_follows k last clause.Begins q h = (same_Some _ q h, refl)
 between_follows k last _ q h = cc
 
 pub between_step : (source : List ℕ) (k : BlockKind) (last : PartKind) (rest : List Token) (c : Clause) (behind : List Token) (q : ClausePlace) →
@@ -306,7 +304,7 @@ OutsideStep _ q = ⊥
 
 outside_follows : (c : Clause) (q : ClausePlace) → follow_outside c ≡ Some q → OutsideStep c q
 unfolding follow_outside
-outside_follows (clause.Head line k name result) q h = same_some q _ (sym h)
+outside_follows (clause.Head line k name result) q h = same_Some q _ (sym h)
 outside_follows _ q h = cc
 
 pub outside_step : (source : List ℕ) (rest : List Token) (c : Clause) (behind : List Token) (q : ClausePlace) →

@@ -3,8 +3,8 @@ use Rattle.std.proofs.Common.{arith, inl, inr, ℕ, suc, ◌+◌, ◌*◌, ◌�
 use Rattle.std.specs.Prelude.{◌&&◌, not, nat_lt, nat_eq, take, drop}
 use Rattle.std.specs.Option.{option_and_then, IfSome}
 use Rattle.std.specs.List.{position_or_len}
-use Rattle.std.proofs.lemmas.Bool.Decides.{nat_tests}
 use Rattle.std.proofs.lemmas.List.{length-drop, length-take}
+use Rattle.std.proofs.lemmas.Bool.{ltb-true}
 use Rattle.plc_base.specs.declared.blocks.BlockKind.{BlockKind}
 use Rattle.plc_base.specs.declared.blocks.BlockKind.TheVariants as kinds
 use Rattle.stl_lexer.specs.declared.kinds.Token.{Token}
@@ -234,14 +234,11 @@ inside_holds source p line tokens =
     (either (spec.statement_clause source line tokens) _ (IsInside p (length tokens)) (statement_clause_holds source p line tokens)
     (setting_clause_holds source p line (length tokens) tokens))
 
-is_below : (m n : ℕ) → nat_lt m n ≡ true → m < n
-is_below m n test = grind (arith, nat_tests)
-
 place_holds : (source : List ℕ) (tokens : List Token) → IfSome (spec.semicolon_place source tokens) (λ n. n < length tokens)
 unfolding spec.semicolon_place
 place_holds source tokens =
     let place = position_or_len (λ t. is_mark source t mark.Semicolon) tokens in
-    passed (nat_lt place (length tokens)) _ (λ n. n < length tokens) (λ test. is_below place (length tokens) test)
+    passed (nat_lt place (length tokens)) _ (λ n. n < length tokens) (λ test. ltb-true place (length tokens) test)
 
 cut_lengths : (n : ℕ) (tokens : List Token) → n < length tokens → length (take n tokens) + 1 + length (drop (n + 1) tokens) ≤ length tokens
 cut_lengths n tokens within = omega (arith, within, length-take n tokens, length-drop (n + 1) tokens)

@@ -29,11 +29,12 @@ use Rattle.stl_ast.specs.Blocks.{may_have, may_declare, has_body, has_shape, has
 use Rattle.stl_ast.specs.Operands.{IsNameOf}
 use Rattle.stl_ast.specs.Statements.{IsStatement}
 use Rattle.stl_ast.specs.WellFormed.{IsSourceKind, IsHeadName, MayReturn, AreDeclaredIn, IsSection, AreInOrder, AreSections, IsComponent, AreComponents, IsShapeOf, IsSetting, AreSettings, IsBody, IsBlock}
-use Rattle.stl_parser.proofs.OptionLemmas.{some_holds, and_left, and_right}
+use Rattle.stl_parser.proofs.OptionLemmas.{some_holds}
 use Rattle.stl_parser.proofs.ClauseLemmas.{IsBaseName, IsRight, Fits, IsReadAt, clause_holds}
 use Rattle.stl_parser.specs.Spelling.{is_kept, is_udt, is_udt_kind, nowhere, spelled_part, spelled_shape, spelled_block}
 use Rattle.stl_parser.specs.Source.{Step, step_of, judged, place_of, placed, Reads, ClausesHaveTree}
 use Rattle.std.proofs.lemmas.List.{append_assoc}
+use Rattle.plc_base.proofs.TruthLemmas.{and_first, and_second}
 use Rattle.stl_parser.proofs.TreeLemmas.{block_is_spelled}
 
 -- the END clause of a block, and the blocks behind it
@@ -376,8 +377,8 @@ from_between k p (clause.Section line q) cs h =
       s.4,
       section_spells line q s.0 s.1 cs _ s.5,
       (
-        (later (part_rank p) (part_rank q) (and_right (may_have k q) _ passed.0), s.7.0),
-        ((and_left (may_have k q) _ passed.0, s.6.0, s.6.1), s.7.1),
+        (later (part_rank p) (part_rank q) (and_second (may_have k q) _ passed.0), s.7.0),
+        ((and_first (may_have k q) _ passed.0, s.6.0, s.6.1), s.7.1),
       ),
       s.8,
       s.9,

@@ -1,4 +1,5 @@
-use Rattle.std.proofs.Common.{ℕ, ◌≡◌, true, false, List, [], ◌∷◌, Result, Ok, Err, refl, sym, ◌∙◌, ap, subst}
+use Rattle.std.proofs.Common.{ℕ, ◌≡◌, List, [], ◌∷◌, Result, Ok, Err, refl, sym, ◌∙◌, ap, subst}
+use Rattle.std.proofs.lemmas.Bool.{true≢false}
 use Rattle.stl_lexer.specs.declared.kinds.Token.{Token}
 use Rattle.stl_parser.specs.declared.clauses.Clause.{Clause}
 use Rattle.stl_parser.specs.declared.places.ClausePlace.{ClausePlace}
@@ -50,15 +51,12 @@ one_list source tokens cs ds a b =
     (reads_once source place.Outside tokens cs ds place.Outside place.Outside [] [] 10 10 a (end_is_stuck source place.Outside) b
     (end_is_stuck source place.Outside)).0
 
-true_no_false : true ≡ false → ⊥
-true_no_false same = cc
-
 no_token : {A : Type 0} (t : A) (ts : List A) → [] ≡ t ∷ ts → ⊥
 no_token t ts same = cc
 
 not_open : (source : List ℕ) (p : ClausePlace) (rest : List Token) (last line rule : ℕ) → place.Outside ≡ p → [] ≡ rest →
     Breaks source p rest last line rule → ⊥
-not_open source p [] last line rule outside none breaks = true_no_false (ap is_outside outside ∙ breaks.0)
+not_open source p [] last line rule outside none breaks = true≢false (ap is_outside outside ∙ breaks.0)
 not_open source p (t ∷ ts) last line rule outside none breaks = no_token t ts none
 
 pub list_or_violation : ExcludesViolation

@@ -4,6 +4,8 @@ use Rattle.std.specs.Prelude.{◌==◌, ◌&&◌, nat_le, nat_lt}
 use Rattle.std.specs.Char.{digit_value}
 use Rattle.std.specs.Option.{option_map, IfSome}
 use Rattle.plc_base.specs.Decimal.{decimal_up_to}
+use Rattle.plc_base.proofs.DecimalLemmas.{decimal_within}
+use Rattle.plc_base.proofs.TruthLemmas.{and_second}
 use Rattle.stl_lexer.specs.Bytes.{underscore, minus_sign, plus, two_digit, letter_b, letter_c, letter_s, letter_w}
 use Rattle.stl_lexer.specs.Limits.{greatest_long}
 use Rattle.stl_lexer.specs.Rules.{first_letter, behind_prefix, within}
@@ -22,8 +24,8 @@ use Rattle.stl_parser.specs.Terminals.{is_mark, is_key}
 use Rattle.stl_parser.specs.Numbers.{number_of, signed_at}
 use Rattle.stl_parser.specs.Values.{value_from, based_literal, based_value, long_value, long_or_count, time_value, duration}
 use Rattle.stl_parser.specs.Literals.{unquoted, characters_of, truth_of, literal_token, byte_of, last_bytes, bytes_behind, bytes_at, long_literal, literal_at, literal_of}
-use Rattle.stl_parser.proofs.OptionLemmas.{found, mapped, chained, either, both, passed, and_right, at_most, whole_holds}
-use Rattle.stl_parser.proofs.RangeLemmas.{decimal_range, negated, number_holds, FirstIsDecimal, signed_holds}
+use Rattle.stl_parser.proofs.OptionLemmas.{mapped, chained, either, both, passed, at_most, whole_holds}
+use Rattle.stl_parser.proofs.RangeLemmas.{negated, number_holds, FirstIsDecimal, signed_holds}
 
 value_range : (greatest base n : ℕ) (digits : List ℕ) → n ≤ greatest → IfSome (value_from greatest base n digits) (λ v. v ≤ greatest)
 unfolding value_from
@@ -32,7 +34,7 @@ value_range greatest base n (b ∷ bs) h =
     both (b == underscore) _ _ (λ v. v ≤ greatest) (value_range greatest base n bs h)
     (passed (nat_lt (digit_value b) base && nat_le (base * n + digit_value b) greatest) _ (λ v. v ≤ greatest)
     (λ test. value_range greatest base (base * n + digit_value b) bs
-    (at_most (base * n + digit_value b) greatest (and_right (nat_lt (digit_value b) base) _ test))))
+    (at_most (base * n + digit_value b) greatest (and_second (nat_lt (digit_value b) base) _ test))))
 
 valued : (greatest base : ℕ) (digits : List ℕ) → IfSome (value_from greatest base 0 digits) (λ v. v ≤ greatest)
 valued greatest base digits = value_range greatest base 0 digits (omega arith)
@@ -52,9 +54,6 @@ based_literal_holds letter digits =
 based_holds : (text : List ℕ) → IfSome (based_value text) IsLiteral
 unfolding based_value
 based_holds text = based_literal_holds (first_letter text) (behind_prefix text)
-
-decimal_within : (most : ℕ) (text : List ℕ) → IfSome (decimal_up_to most text) (λ v. v ≤ most)
-decimal_within most text = found (decimal_up_to most text) (λ v. v ≤ most) (decimal_range most text)
 
 long_holds : (text : List ℕ) → IfSome (long_value text) IsLong
 unfolding long_value greatest_long

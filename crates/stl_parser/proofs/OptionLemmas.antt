@@ -1,6 +1,6 @@
 -- What holds of whatever a reader finds.
 use Rattle.std.proofs.Common.{arith, ℕ, zero, suc, ◌≡◌, ◌≤◌, Bool, true, false, List, [], ◌∷◌, ◌++◌, Option, Some, None, if◌then◌else◌, refl, subst}
-use Rattle.std.specs.Prelude.{nat_le, ◌&&◌, find}
+use Rattle.std.specs.Prelude.{nat_le, find}
 use Rattle.std.specs.List.{AllByRecursion, list_all}
 use Rattle.std.specs.Str.{str_eq_ignore_ascii_case}
 use Rattle.std.proofs.lemmas.Bool.Decides.{nat_tests}
@@ -9,6 +9,7 @@ use Rattle.stl_parser.specs.Parts.{parts_from, whole}
 use Rattle.stl_parser.specs.Tables.{look_up}
 use Rattle.std.specs.Option.{option_map, option_or, option_and_then, IfSome}
 use Rattle.std.proofs.lemmas.Option.{same_Some}
+use Rattle.plc_base.proofs.TruthLemmas.{and_first, and_second}
 
 pub mapped : {A B : Type 0} (o : Option A) (f : A → B) (Q : A → Type 0) (P : B → Type 0) → IfSome o Q → ((x : A) → Q x → P (f x)) →
     IfSome (option_map f o) P
@@ -56,14 +57,6 @@ pub also : {A : Type 0} (o : Option A) (P Q : A → Type 0) → IfSome o P → (
 also None P Q h k = tt
 also (Some x) P Q h k = (h, k x refl)
 
-pub and_left : (a b : Bool) → a && b ≡ true → a ≡ true
-and_left true b h = refl
-and_left false b h = h
-
-pub and_right : (a b : Bool) → a && b ≡ true → b ≡ true
-and_right true b h = h
-and_right false b h = cc
-
 pub at_most : (m n : ℕ) → nat_le m n ≡ true → m ≤ n
 at_most m n test = grind (arith, nat_tests)
 
@@ -104,7 +97,7 @@ unfolding look_up
 entry_passes [] word test all = tt
 entry_passes (e ∷ es) word test all =
     entry_or (str_eq_ignore_ascii_case word e.0) e (find (λ f. str_eq_ignore_ascii_case word f.0) es) test
-    (and_left (test e.1) _ all) (entry_passes es word test (and_right (test e.1) _ all))
+    (and_first (test e.1) _ all) (entry_passes es word test (and_second (test e.1) _ all))
 
 -- where a test fails
 pub failed : {A : Type 0} (b : Bool) (x : Option A) (P : A → Type 0) → (b ≡ false → IfSome x P) → IfSome (if b then None else x) P

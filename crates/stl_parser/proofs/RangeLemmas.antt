@@ -1,20 +1,15 @@
 -- The ranges of the numbers that are read.
 use Rattle.std.proofs.Common.{arith, ℕ, zero, suc, ◌≡◌, ◌≤◌, ◌<◌, Bool, true, false, List, [], ◌∷◌, Some, ℤ, pos, negsuc, if◌then◌else◌}
 use Rattle.std.specs.Prelude.{◌-ℤ◌, ◌-◌, nat_lt}
-use Rattle.std.proofs.lemmas.Bool.Decides.{nat_tests}
 use Rattle.std.specs.Option.{option_map, IfSome}
 use Rattle.stl_lexer.specs.declared.kinds.Token.{Token}
 use Rattle.stl_ast.specs.Literals.{IsBetween, IsDecimal}
 use Rattle.stl_ast.specs.Operands.{IsNumber}
 use Rattle.stl_lexer.specs.declared.marks.Mark.TheVariants as mark
 use Rattle.stl_parser.specs.Terminals.{is_mark}
-use Rattle.plc_base.specs.Decimal.{decimal_up_to}
+use Rattle.plc_base.proofs.DecimalLemmas.{decimal_range}
 use Rattle.stl_parser.specs.Numbers.{number_up_to, number_of, signed_at, int_at}
 use Rattle.stl_parser.proofs.OptionLemmas.{found, mapped, either, both}
-
-pub decimal_range : (most : ℕ) (text : List ℕ) (n : ℕ) → decimal_up_to most text ≡ Some n → n ≤ most
-unfolding decimal_up_to
-decimal_range most text n found = grind (arith, nat_tests)
 
 number_within : (most : ℕ) (source : List ℕ) (t : Token) (n : ℕ) → number_up_to most source t ≡ Some n → n ≤ most
 unfolding number_up_to

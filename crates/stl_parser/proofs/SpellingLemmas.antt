@@ -3,6 +3,7 @@ use Rattle.std.proofs.Common.{ℕ, ◌≡◌, Bool, true, false, List, [], ◌�
 use Rattle.std.specs.List.{flat_map}
 use Rattle.std.specs.List.{AllByRecursion}
 use Rattle.std.proofs.lemmas.List.Elements.{recursion_from_All, filter_passes}
+use Rattle.std.proofs.lemmas.Bool.{false≢true}
 use Rattle.stl_ast.specs.declared.blocks.Block.{Block}
 use Rattle.stl_ast.specs.declared.blocks.Part.{Part}
 use Rattle.stl_ast.specs.declared.blocks.Setting.{Setting}
@@ -143,11 +144,8 @@ kept_right : (cs ds : List Clause) → AreAllKept (cs ++ ds) → AreAllKept ds
 kept_right [] ds h = h
 kept_right (c ∷ cs) ds h = kept_right cs ds h.1
 
-false_no_true : false ≡ true → ⊥
-false_no_true same = cc
-
 not_nowhere : AreAllKept nowhere → ⊥
-not_nowhere h = false_no_true h.0
+not_nowhere h = false≢true h.0
 
 -- no shape is read
 abbrev shapeless : Open → Open

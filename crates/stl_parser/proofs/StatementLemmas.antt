@@ -5,8 +5,10 @@ use Rattle.std.specs.Option.{option_map, IfSome}
 use Rattle.std.specs.List.{list_all}
 use Rattle.std.proofs.lemmas.Bool.Decides.{nat_tests}
 use Rattle.std.proofs.lemmas.List.{length-drop}
+use Rattle.std.proofs.lemmas.Bool.{not-true}
 use Rattle.plc_base.specs.declared.blocks.BlockKind.{BlockKind}
 use Rattle.plc_base.specs.declared.blocks.BlockKind.TheVariants as kinds
+use Rattle.plc_base.proofs.TruthLemmas.{and_first, and_second}
 use Rattle.stl_lexer.specs.declared.kinds.Token.{Token}
 use Rattle.stl_lexer.specs.declared.kinds.TokenKind.TheVariants as kind
 use Rattle.stl_lexer.specs.Tokens.{text_of}
@@ -32,7 +34,7 @@ use Rattle.stl_parser.specs.Literals.{unquoted}
 use Rattle.stl_parser.specs.Addresses.{block_at}
 use Rattle.stl_parser.specs.Operands.{operand_of}
 use Rattle.stl_parser.specs.Statements as spec
-use Rattle.stl_parser.proofs.OptionLemmas.{mapped, chained, either, both, passed, also, weakened, whole_holds, parts_hold, all_push, entry_passes, and_left, and_right}
+use Rattle.stl_parser.proofs.OptionLemmas.{mapped, chained, either, both, passed, also, weakened, whole_holds, parts_hold, all_push, entry_passes}
 use Rattle.stl_parser.proofs.AddressLemmas.{block_holds}
 use Rattle.stl_parser.proofs.OperandLemmas.{IsRead, operand_holds, nothing_holds}
 use Rattle.stl_parser.proofs.LengthLemmas.{block_rest}
@@ -64,10 +66,6 @@ all_go = refl
 all_open : list_all (λ e. not (is_call e.1) && not (is_empty e.1)) opening_mnemonics ≡ true
 unfolding opening_mnemonics
 all_open = refl
-
-is_false : (b : Bool) → not b ≡ true → b ≡ false
-is_false true h = cc
-is_false false h = refl
 
 no_call : (m : Mnemonic) → is_jump m ≡ true → is_call m ≡ false
 no_call mnemonic.Call h = cc
@@ -329,12 +327,12 @@ call_holds source code tokens has some =
 behind_word_holds : (source : List ℕ) (f : Form) (code : Mnemonic) (tokens : List Token) → goes_with code f ≡ true → is_empty code ≡ false →
     IfSome (spec.behind_word source f code tokens) (IsInstruction (length tokens))
 unfolding spec.behind_word
-behind_word_holds source form.Operand code tokens goes some = with_operand_holds source code tokens (is_false (is_call code) goes) some
+behind_word_holds source form.Operand code tokens goes some = with_operand_holds source code tokens (not-true (is_call code) goes) some
 behind_word_holds source form.Jump code tokens goes some = jump_holds source code tokens goes some
-behind_word_holds source form.Open code tokens goes some = open_holds source code tokens (is_false (is_call code) goes) some
+behind_word_holds source form.Open code tokens goes some = open_holds source code tokens (not-true (is_call code) goes) some
 behind_word_holds source form.BlockCall code tokens goes some =
-    block_call_holds source code tokens (and_left (is_call code) _ goes)
-    (is_false (has_actuals code) (and_right (is_call code) _ goes)) some
+    block_call_holds source code tokens (and_first (is_call code) _ goes)
+    (not-true (has_actuals code) (and_second (is_call code) _ goes)) some
 behind_word_holds source form.Call code tokens goes some = call_holds source code tokens goes some
 
 paren_holds : (source : List ℕ) (tokens : List Token) → IfSome (spec.after_paren source tokens) (λ rest. length rest < length tokens)
@@ -365,8 +363,8 @@ opening_holds source t rest =
     (entry_passes opening_mnemonics (text_of source t) (λ m. not (is_call m) && not (is_empty m)) all_open)
     (λ m h. chained (spec.after_paren source rest) _ (λ behind. length behind < length rest) (IsInstruction (length rest)) (paren_holds source rest)
     (λ behind k. weakened (spec.with_operand source m behind) (IsInstruction (length behind)) (IsInstruction (length rest))
-    (with_operand_holds source m behind (is_false (is_call m) (and_left (not (is_call m)) _ h))
-    (is_false (is_empty m) (and_right (not (is_call m)) _ h)))
+    (with_operand_holds source m behind (not-true (is_call m) (and_first (not (is_call m)) _ h))
+    (not-true (is_empty m) (and_second (not (is_call m)) _ h)))
     (λ i l. roomier (length behind) (length rest) i (omega (arith, k)) l)))
 
 closed_holds : (source : List ℕ) (t : Token) (rest : List Token) → IfSome (spec.closed_of source t rest) (IsInstruction (length rest))
@@ -374,8 +372,8 @@ unfolding spec.closed_of
 closed_holds source t rest =
     chained (look_up mnemonics (text_of source t)) _ (λ m. goes_with m.0 m.1 && not (is_empty m.0) ≡ true) (IsInstruction (length rest))
     (entry_passes mnemonics (text_of source t) (λ m. goes_with m.0 m.1 && not (is_empty m.0)) all_go)
-    (λ m h. behind_word_holds source m.1 m.0 rest (and_left (goes_with m.0 m.1) _ h)
-    (is_false (is_empty m.0) (and_right (goes_with m.0 m.1) _ h)))
+    (λ m h. behind_word_holds source m.1 m.0 rest (and_first (goes_with m.0 m.1) _ h)
+    (not-true (is_empty m.0) (and_second (goes_with m.0 m.1) _ h)))
 
 -- an instruction, with the tokens behind its word
 abbrev IsInstructionOf : List Token → BareStatement → Type 0

@@ -17,7 +17,7 @@ pub(crate) fn all_digits(bytes: &[u8]) -> bool
 }
 
 /// The number of one or more decimal digits, where it is at most `most`.
-#[tactic(auto, using(crate::proofs::RangeLemmas::decimal_range))]
+#[tactic(auto, using(plc_base::proofs::DecimalLemmas::decimal_range))]
 fn decimal_up_to(digits: &[u8], most: u32) -> Option<u16>
     requires { most ≤ 65535 }
     ensures { result ≡ decimal_up_to most digits.now }

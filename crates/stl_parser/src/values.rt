@@ -110,7 +110,7 @@ fn negated(number: u32) -> i32
 }
 
 /// A decimal number of 32 bits with a sign or none.
-#[tactic(auto, using(crate::proofs::RangeLemmas::decimal_range), unfolding(crate::specs::Values::long_value, stl_lexer::specs::Limits::greatest_long))]
+#[tactic(auto, using(plc_base::proofs::DecimalLemmas::decimal_range), unfolding(crate::specs::Values::long_value, stl_lexer::specs::Limits::greatest_long))]
 fn long(text: &[u8]) -> Option<i32>
     ensures { result ≡ long_value text.now }
 {
@@ -132,7 +132,7 @@ fn long(text: &[u8]) -> Option<i32>
 }
 
 /// `C#` or `L#` and a number.
-#[tactic(auto, using(crate::proofs::RangeLemmas::decimal_range), unfolding(crate::specs::Values::long_or_count))]
+#[tactic(auto, using(plc_base::proofs::DecimalLemmas::decimal_range), unfolding(crate::specs::Values::long_or_count))]
 pub(crate) fn long_or_count(text: &[u8]) -> Option<Literal>
     ensures { result ≡ long_or_count text.now }
 {

@@ -12,7 +12,7 @@ use Rattle.plc_base.specs.declared.places.Width.{Width}
 use Rattle.plc_base.specs.declared.places.Width.TheVariants as width
 use Rattle.plc_base.specs.declared.refusals.Refusal.{Refusal}
 use Rattle.stl_parser.proofs.OptionLemmas.{all_push, chained, found, mapped, passed}
-use Rattle.stl_parser.proofs.RangeLemmas.{decimal_range}
+use Rattle.plc_base.proofs.DecimalLemmas.{decimal_range}
 use Rattle.stl_symbols.specs.Address.{address_letters, address_of, bit_address, bit_behind, has_type, look_up, number_of, numbered, variable}
 use Rattle.stl_symbols.specs.Line.{Columns, columns}
 use Rattle.stl_symbols.specs.Symbol.{Symbol, symbol_named}

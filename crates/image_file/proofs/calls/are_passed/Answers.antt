@@ -1,4 +1,4 @@
-use Rattle.std.proofs.Common.{◌≡◌, ℕ, suc, ◌+◌, ◌<◌, Bool, true, false, ◌&&◌, not, List, ◌∷◌, length, drop, drop-cons, add-one, refl, sym, ap, ◌∙◌}
+use Rattle.std.proofs.Common.{◌≡◌, ℕ, suc, ◌+◌, ◌<◌, true, false, ◌&&◌, List, ◌∷◌, length, drop, drop-cons, add-one, refl, sym, ap, ◌∙◌}
 use Rattle.flat_code.specs.declared.image_fields.ParameterRecord.{ParameterRecord}
 use Rattle.flat_code.specs.Ops.{OpData}
 use Rattle.flat_code.specs.Blocks.{is_passed, are_passed}
@@ -9,14 +9,6 @@ none = record { section = 0; width = 0; byte = 0; bit = 0 }
 
 passed_next : (ps : List ParameterRecord) (ops : List OpData) (i : ℕ) → i < length ps → are_passed i (drop i ps) ops ≡ (is_passed i ops && are_passed (i + 1) (drop (i + 1) ps) ops)
 passed_next ps ops i lt = rw add-one (ap (λ (z : List ParameterRecord). are_passed i z ops) (drop-cons ps i none lt))
-
-not_false : (b : Bool) → not b ≡ true → b ≡ false
-not_false true h = absurd cc
-not_false false h = refl
-
-not_true : (b : Bool) → not b ≡ false → b ≡ true
-not_true true h = refl
-not_true false h = absurd cc
 
 pub returns-then-not-is_passed : goal.returns-then-not-is_passed
 returns-then-not-is_passed c =
