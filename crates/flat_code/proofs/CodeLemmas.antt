@@ -9,14 +9,14 @@ use Rattle.flat_code.specs.Words.{word_of}
 use Rattle.flat_code.specs.OpCodes.{code_of}
 use Rattle.flat_code.specs.declared.words.Word.{Word}
 use Rattle.flat_code.specs.declared.words.Word.TheVariants as word
-use Rattle.flat_code.specs.declared.words.Joined.TheVariants as joined
+use Rattle.plc_base.specs.declared.instructions.Check.TheVariants as check
 use Rattle.flat_code.specs.declared.words.Number.TheVariants as number
 use Rattle.flat_code.specs.declared.words.Adding.TheVariants as adding
-use Rattle.flat_code.specs.declared.words.Comparison.TheVariants as comparison
+use Rattle.plc_base.specs.declared.instructions.Compare.TheVariants as compare
 use Rattle.flat_code.specs.declared.words.Logic.TheVariants as logic
 use Rattle.flat_code.specs.declared.words.Shift.TheVariants as shifts
 use Rattle.flat_code.specs.declared.words.PointerWord.TheVariants as pointers
-use Rattle.flat_code.specs.declared.words.StartWord.TheVariants as starts
+use Rattle.plc_base.specs.declared.instructions.TimerKind.TheVariants as starts
 use Rattle.flat_code.specs.declared.words.CallWord.TheVariants as calls
 use Rattle.flat_code.specs.declared.words.EndWord.TheVariants as ends
 
@@ -27,23 +27,23 @@ word_again word.Nop = refl
 word_again word.UseDb = refl
 word_again word.Bld = refl
 word_again word.Pass = refl
-word_again (word.Check joined.A) = refl
-word_again (word.Check joined.An) = refl
-word_again (word.Check joined.O) = refl
-word_again (word.Check joined.On) = refl
-word_again (word.Check joined.X) = refl
-word_again (word.Check joined.Xn) = refl
+word_again (word.Check check.A) = refl
+word_again (word.Check check.An) = refl
+word_again (word.Check check.O) = refl
+word_again (word.Check check.On) = refl
+word_again (word.Check check.X) = refl
+word_again (word.Check check.Xn) = refl
 word_again word.OrBare = refl
 word_again (word.Add adding.Dword) = refl
 word_again (word.Add adding.Inc) = refl
 word_again (word.Add adding.Dec) = refl
 word_again (word.Add adding.Word) = refl
-word_again (word.Nest joined.A) = refl
-word_again (word.Nest joined.An) = refl
-word_again (word.Nest joined.O) = refl
-word_again (word.Nest joined.On) = refl
-word_again (word.Nest joined.X) = refl
-word_again (word.Nest joined.Xn) = refl
+word_again (word.Nest check.A) = refl
+word_again (word.Nest check.An) = refl
+word_again (word.Nest check.O) = refl
+word_again (word.Nest check.On) = refl
+word_again (word.Nest check.X) = refl
+word_again (word.Nest check.Xn) = refl
 word_again word.Unnest = refl
 word_again word.Load = refl
 word_again word.Transfer = refl
@@ -94,18 +94,18 @@ word_again (word.Number number.Negi) = refl
 word_again (word.Number number.Negd) = refl
 word_again (word.Number number.Rlda) = refl
 word_again (word.Number number.Rrda) = refl
-word_again (word.CompareInt comparison.Eq) = refl
-word_again (word.CompareInt comparison.Ne) = refl
-word_again (word.CompareInt comparison.Gt) = refl
-word_again (word.CompareInt comparison.Lt) = refl
-word_again (word.CompareInt comparison.Ge) = refl
-word_again (word.CompareInt comparison.Le) = refl
-word_again (word.CompareDint comparison.Eq) = refl
-word_again (word.CompareDint comparison.Ne) = refl
-word_again (word.CompareDint comparison.Gt) = refl
-word_again (word.CompareDint comparison.Lt) = refl
-word_again (word.CompareDint comparison.Ge) = refl
-word_again (word.CompareDint comparison.Le) = refl
+word_again (word.CompareInt compare.Eq) = refl
+word_again (word.CompareInt compare.Ne) = refl
+word_again (word.CompareInt compare.Gt) = refl
+word_again (word.CompareInt compare.Lt) = refl
+word_again (word.CompareInt compare.Ge) = refl
+word_again (word.CompareInt compare.Le) = refl
+word_again (word.CompareDint compare.Eq) = refl
+word_again (word.CompareDint compare.Ne) = refl
+word_again (word.CompareDint compare.Gt) = refl
+word_again (word.CompareDint compare.Lt) = refl
+word_again (word.CompareDint compare.Ge) = refl
+word_again (word.CompareDint compare.Le) = refl
 word_again (word.Logic logic.Aw) = refl
 word_again (word.Logic logic.Ow) = refl
 word_again (word.Logic logic.Xow) = refl

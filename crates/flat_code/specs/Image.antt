@@ -4,8 +4,6 @@ use Rattle.plc_base.specs.declared.blocks.BlockKind.{BlockKind}
 use Rattle.plc_base.specs.declared.blocks.BlockKind.TheVariants as kind
 use Rattle.plc_base.specs.declared.places.Area.{Area}
 use Rattle.plc_base.specs.declared.places.Area.TheVariants as area
-use Rattle.plc_base.specs.declared.places.Width.{Width}
-use Rattle.plc_base.specs.declared.places.Width.TheVariants as width
 use Rattle.flat_code.specs.declared.programs.Param.{Param}
 use Rattle.flat_code.specs.declared.image_fields.ParameterRecord.{ParameterRecord}
 use Rattle.flat_code.specs.declared.image_fields.Field.TheVariants as field_of

@@ -2,14 +2,14 @@
 use Rattle.std.specs.Prelude.{ℕ, true, false}
 use Rattle.flat_code.specs.declared.words.Word.{Word}
 use Rattle.flat_code.specs.declared.words.Word.TheVariants as word
-use Rattle.flat_code.specs.declared.words.Joined.TheVariants as joined
+use Rattle.plc_base.specs.declared.instructions.Check.TheVariants as check
 use Rattle.flat_code.specs.declared.words.Number.TheVariants as number
 use Rattle.flat_code.specs.declared.words.Adding.TheVariants as adding
-use Rattle.flat_code.specs.declared.words.Comparison.TheVariants as comparison
+use Rattle.plc_base.specs.declared.instructions.Compare.TheVariants as compare
 use Rattle.flat_code.specs.declared.words.Logic.TheVariants as logic
 use Rattle.flat_code.specs.declared.words.Shift.TheVariants as shifts
 use Rattle.flat_code.specs.declared.words.PointerWord.TheVariants as pointers
-use Rattle.flat_code.specs.declared.words.StartWord.TheVariants as starts
+use Rattle.plc_base.specs.declared.instructions.TimerKind.TheVariants as starts
 use Rattle.flat_code.specs.declared.words.CallWord.TheVariants as calls
 use Rattle.flat_code.specs.declared.words.EndWord.TheVariants as ends
 
@@ -20,23 +20,23 @@ code_of word.Nop = 0x01
 code_of word.UseDb = 0x02
 code_of word.Bld = 0x03
 code_of word.Pass = 0x04
-code_of (word.Check joined.A) = 0x10
-code_of (word.Check joined.An) = 0x11
-code_of (word.Check joined.O) = 0x12
-code_of (word.Check joined.On) = 0x13
-code_of (word.Check joined.X) = 0x14
-code_of (word.Check joined.Xn) = 0x15
+code_of (word.Check check.A) = 0x10
+code_of (word.Check check.An) = 0x11
+code_of (word.Check check.O) = 0x12
+code_of (word.Check check.On) = 0x13
+code_of (word.Check check.X) = 0x14
+code_of (word.Check check.Xn) = 0x15
 code_of word.OrBare = 0x16
 code_of (word.Add adding.Dword) = 0x17
 code_of (word.Add adding.Inc) = 0x3E
 code_of (word.Add adding.Dec) = 0x3F
 code_of (word.Add adding.Word) = 0x40
-code_of (word.Nest joined.A) = 0x18
-code_of (word.Nest joined.An) = 0x19
-code_of (word.Nest joined.O) = 0x1A
-code_of (word.Nest joined.On) = 0x1B
-code_of (word.Nest joined.X) = 0x1C
-code_of (word.Nest joined.Xn) = 0x1D
+code_of (word.Nest check.A) = 0x18
+code_of (word.Nest check.An) = 0x19
+code_of (word.Nest check.O) = 0x1A
+code_of (word.Nest check.On) = 0x1B
+code_of (word.Nest check.X) = 0x1C
+code_of (word.Nest check.Xn) = 0x1D
 code_of word.Unnest = 0x1E
 code_of word.Load = 0x20
 code_of word.Transfer = 0x21
@@ -87,18 +87,18 @@ code_of (word.Number number.Negi) = 0x5D
 code_of (word.Number number.Negd) = 0x5E
 code_of (word.Number number.Rlda) = 0x6D
 code_of (word.Number number.Rrda) = 0x6E
-code_of (word.CompareInt comparison.Eq) = 0x4A
-code_of (word.CompareInt comparison.Ne) = 0x4B
-code_of (word.CompareInt comparison.Gt) = 0x4C
-code_of (word.CompareInt comparison.Lt) = 0x4D
-code_of (word.CompareInt comparison.Ge) = 0x4E
-code_of (word.CompareInt comparison.Le) = 0x4F
-code_of (word.CompareDint comparison.Eq) = 0x50
-code_of (word.CompareDint comparison.Ne) = 0x51
-code_of (word.CompareDint comparison.Gt) = 0x52
-code_of (word.CompareDint comparison.Lt) = 0x53
-code_of (word.CompareDint comparison.Ge) = 0x54
-code_of (word.CompareDint comparison.Le) = 0x55
+code_of (word.CompareInt compare.Eq) = 0x4A
+code_of (word.CompareInt compare.Ne) = 0x4B
+code_of (word.CompareInt compare.Gt) = 0x4C
+code_of (word.CompareInt compare.Lt) = 0x4D
+code_of (word.CompareInt compare.Ge) = 0x4E
+code_of (word.CompareInt compare.Le) = 0x4F
+code_of (word.CompareDint compare.Eq) = 0x50
+code_of (word.CompareDint compare.Ne) = 0x51
+code_of (word.CompareDint compare.Gt) = 0x52
+code_of (word.CompareDint compare.Lt) = 0x53
+code_of (word.CompareDint compare.Ge) = 0x54
+code_of (word.CompareDint compare.Le) = 0x55
 code_of (word.Logic logic.Aw) = 0x5F
 code_of (word.Logic logic.Ow) = 0x60
 code_of (word.Logic logic.Xow) = 0x61

@@ -31,6 +31,5 @@ pub use programs::{CodeBlock, DataBlock, Param, Program};
 pub use record_numbers::{area_number, kind_number, width_number, width_of_number};
 pub use table::{Takes, taken_by, taken_by_word};
 pub use words::{
-    Adding, CallWord, Comparison, EndWord, Joined, Logic, Number, PointerWord, Shift, StartWord,
-    WORDS, Word, word_of,
+    Adding, CallWord, EndWord, Logic, Number, PointerWord, Shift, WORDS, Word, word_of,
 };

@@ -1,10 +1,8 @@
 ghost use Rattle.std.specs.Prelude.{◌≡◌, ◌<◌};
 ghost use Rattle.flat_code.specs.OpCodes.{code_of};
 
-use crate::words::{
-    Adding, CallWord, Comparison, EndWord, Joined, Logic, Number, PointerWord, Shift, StartWord,
-    Word,
-};
+use crate::words::{Adding, CallWord, EndWord, Logic, Number, PointerWord, Shift, Word};
+use plc_base::{Check, Compare, TimerKind};
 
 impl Word {
     /// The op code of the word, below 128; 0 of `NoWord`.
@@ -19,12 +17,12 @@ impl Word {
             Word::Bld => 0x03,
             Word::Pass => 0x04,
             Word::Check(which) => match which {
-                Joined::A => 0x10,
-                Joined::An => 0x11,
-                Joined::O => 0x12,
-                Joined::On => 0x13,
-                Joined::X => 0x14,
-                Joined::Xn => 0x15,
+                Check::A => 0x10,
+                Check::An => 0x11,
+                Check::O => 0x12,
+                Check::On => 0x13,
+                Check::X => 0x14,
+                Check::Xn => 0x15,
             },
             Word::OrBare => 0x16,
             Word::Add(which) => match which {
@@ -34,12 +32,12 @@ impl Word {
                 Adding::Word => 0x40,
             },
             Word::Nest(which) => match which {
-                Joined::A => 0x18,
-                Joined::An => 0x19,
-                Joined::O => 0x1A,
-                Joined::On => 0x1B,
-                Joined::X => 0x1C,
-                Joined::Xn => 0x1D,
+                Check::A => 0x18,
+                Check::An => 0x19,
+                Check::O => 0x1A,
+                Check::On => 0x1B,
+                Check::X => 0x1C,
+                Check::Xn => 0x1D,
             },
             Word::Unnest => 0x1E,
             Word::Load => 0x20,
@@ -96,20 +94,20 @@ impl Word {
                 Number::Rrda => 0x6E,
             },
             Word::CompareInt(which) => match which {
-                Comparison::Eq => 0x4A,
-                Comparison::Ne => 0x4B,
-                Comparison::Gt => 0x4C,
-                Comparison::Lt => 0x4D,
-                Comparison::Ge => 0x4E,
-                Comparison::Le => 0x4F,
+                Compare::Eq => 0x4A,
+                Compare::Ne => 0x4B,
+                Compare::Gt => 0x4C,
+                Compare::Lt => 0x4D,
+                Compare::Ge => 0x4E,
+                Compare::Le => 0x4F,
             },
             Word::CompareDint(which) => match which {
-                Comparison::Eq => 0x50,
-                Comparison::Ne => 0x51,
-                Comparison::Gt => 0x52,
-                Comparison::Lt => 0x53,
-                Comparison::Ge => 0x54,
-                Comparison::Le => 0x55,
+                Compare::Eq => 0x50,
+                Compare::Ne => 0x51,
+                Compare::Gt => 0x52,
+                Compare::Lt => 0x53,
+                Compare::Ge => 0x54,
+                Compare::Le => 0x55,
             },
             Word::Logic(which) => match which {
                 Logic::Aw => 0x5F,
@@ -131,11 +129,11 @@ impl Word {
             },
             Word::Jump => 0x6F,
             Word::Start(which) => match which {
-                StartWord::Sp => 0x70,
-                StartWord::Se => 0x71,
-                StartWord::Sd => 0x72,
-                StartWord::Ss => 0x73,
-                StartWord::Sf => 0x74,
+                TimerKind::Sp => 0x70,
+                TimerKind::Se => 0x71,
+                TimerKind::Sd => 0x72,
+                TimerKind::Ss => 0x73,
+                TimerKind::Sf => 0x74,
             },
             Word::Free => 0x75,
             Word::CountUp => 0x76,
