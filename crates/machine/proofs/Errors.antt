@@ -24,14 +24,14 @@ use Rattle.flat_code.specs.declared.words.Number.{Number}
 use Rattle.flat_code.specs.declared.words.Number.TheVariants as number_word
 use Rattle.flat_code.specs.declared.words.PointerWord.{PointerWord}
 use Rattle.flat_code.specs.declared.words.PointerWord.TheVariants as pointers
-use Rattle.flat_code.specs.declared.words.StartWord.{StartWord}
+use Rattle.plc_base.specs.declared.TimerKind.{TimerKind}
 use Rattle.flat_code.specs.declared.words.Word.{Word}
 use Rattle.flat_code.specs.declared.words.Word.TheVariants as word
 use Rattle.flat_code.specs.Table.{admits, takes_of_word, takes_timer, takes_counter}
 use Rattle.machine.specs.declared.places.Access.{Access}
 use Rattle.machine.specs.declared.places.Access.TheVariants.{Reading, Writing}
 use Rattle.machine.specs.declared.places.Bound.{Bound}
-use Rattle.machine.specs.BitLogic.{check_of, checking, put_bit, bit_number, with_regs, bit_before, assigned, assigned_at, bit_set, set_at, edge, edge_at}
+use Rattle.machine.specs.BitLogic.{checking, put_bit, bit_number, with_regs, bit_before, assigned, assigned_at, bit_set, set_at, edge, edge_at}
 use Rattle.machine.specs.DataBlocks.{is_loaded, opened_if, opening, loading_open_block}
 use Rattle.machine.specs.Does.{on_regs, on_own, on_scene, on_timers, on_counters, kind_named, set_of, reset_of, free_of, does}
 use Rattle.machine.specs.Lasting.{is_error_code}
@@ -328,7 +328,7 @@ numbered_told : {A : Type 0} (code : ℕ) (o : Operand) (s : Own) (m : Areas) (f
 numbered_told code o s m f some has =
     then_told (number_named o s m) (λ number. faulty code (f number)) (named_number_told o s m has) (λ number. faulty_told code (f number) some)
 
-starting_told : (how : StartWord) (o : Operand) (s : Own) (m : Areas) (t : List Timer) → IsNumbered o → IfTold (starting how o s m t)
+starting_told : (how : TimerKind) (o : Operand) (s : Own) (m : Areas) (t : List Timer) → IsNumbered o → IfTold (starting how o s m t)
 unfolding starting
 starting_told how o s m t has = numbered_told 0x26 o s m _ refl has
 
@@ -522,7 +522,7 @@ nest_done : (p : Parts) (with : _) → (length p.own.inner.brackets ≡ 7 → �
 unfolding nesting
 nest_done p with room = by (length p.own.inner.brackets == 7) refl
   where
-    by : (t : Bool) → (length p.own.inner.brackets == 7) ≡ t → IfTold (cond t (Err no_operand) (Ok (with_brackets (entry_of (check_of with) p.own.regs ∷ p.own.inner.brackets) (record p.own { regs = begun p.own.regs }))))
+    by : (t : Bool) → (length p.own.inner.brackets == 7) ≡ t → IfTold (cond t (Err no_operand) (Ok (with_brackets (entry_of with p.own.regs ∷ p.own.inner.brackets) (record p.own { regs = begun p.own.regs }))))
     by true e = absurd (room (eqb-true (length p.own.inner.brackets) 7 e))
     by false e = tt
 

@@ -10,7 +10,7 @@ use Rattle.plc_base.specs.declared.blocks.BlockKind.TheVariants as kinds
 use Rattle.plc_mem.specs.Areas.{Areas}
 use Rattle.status_word.specs.Brackets.{entry_of, begun}
 use Rattle.status_word.specs.declared.Bracket.{Bracket}
-use Rattle.status_word.specs.declared.Check.{Check}
+use Rattle.plc_base.specs.declared.Check.{Check}
 use Rattle.frames.specs.declared.Activation.{Activation}
 use Rattle.frames.specs.declared.bindings.Binding.{Binding}
 use Rattle.frames.specs.declared.bindings.Binding.TheVariants as binding
@@ -27,7 +27,6 @@ use Rattle.flat_code.specs.declared.words.EndWord.{EndWord}
 use Rattle.flat_code.specs.declared.words.EndWord.TheVariants as ends
 use Rattle.flat_code.specs.declared.table.Takes.{Takes}
 use Rattle.flat_code.specs.declared.table.Takes.TheVariants as takes
-use Rattle.flat_code.specs.declared.words.Joined.{Joined}
 use Rattle.flat_code.specs.declared.words.TheConstants.{WORDS}
 use Rattle.flat_code.specs.declared.words.Word.{Word}
 use Rattle.flat_code.specs.declared.words.Word.TheVariants as word
@@ -46,7 +45,6 @@ use Rattle.flat_code.specs.Table.{admits, is_jump, takes_of, takes_of_word}
 use Rattle.flat_code.specs.Words.{word_of}
 use Rattle.image_file.specs.Readers.{kind_order, same_id, block_of}
 use Rattle.image_file.specs.Verified.{FitsCall, FitsOperand, FitsPrepared, signatures}
-use Rattle.machine.specs.BitLogic.{check_of}
 use Rattle.machine.specs.DataBlocks.{is_loaded}
 use Rattle.machine.specs.Does.{on_own, does, with_db, does_with}
 use Rattle.machine.specs.Entering.{going_on}
@@ -704,7 +702,7 @@ as_many l p a w at =
     ∙ ap length same ∙ length-map own (λ (b : Bracket). b.code)
 
 nest_room :
-    (l : ImageLaws) (p : Program) (a : Activation) (w : World) (at : At p a w) (with : Joined)
+    (l : ImageLaws) (p : Program) (a : Activation) (w : World) (at : At p a w) (with : Check)
     → word_of at.here.run.last.code ≡ word.Nest with → length a.running.frame.brackets ≡ 7 → ⊥
 unfolding word_of
 nest_room l p a w at with is full =
@@ -824,12 +822,12 @@ quiet_erring : (v : Word) (r : Result Parts ℕ) → ((codes : List Check) → c
 quiet_erring v (Ok q) quiet told = tt
 quiet_erring v (Err code) quiet told = record { quiet = quiet; told = told }
 
-nest_erring : (with : Joined) (o : Operand) (q : Parts) → (length q.own.inner.brackets ≡ 7 → ⊥) → IfErring (word.Nest with) (does (word.Nest with) o q)
+nest_erring : (with : Check) (o : Operand) (q : Parts) → (length q.own.inner.brackets ≡ 7 → ⊥) → IfErring (word.Nest with) (does (word.Nest with) o q)
 unfolding does nesting
 nest_erring with o q room = by (eqb (length q.own.inner.brackets) 7) refl
   where
     by : (t : Bool) → eqb (length q.own.inner.brackets) 7 ≡ t
-        → IfErring (word.Nest with) (on_own q (cond t (Err no_operand) (Ok (with_brackets (entry_of (check_of with) q.own.regs ∷ q.own.inner.brackets) (record q.own { regs = begun q.own.regs })))))
+        → IfErring (word.Nest with) (on_own q (cond t (Err no_operand) (Ok (with_brackets (entry_of with q.own.regs ∷ q.own.inner.brackets) (record q.own { regs = begun q.own.regs })))))
     by true e = absurd (room (eqb-true (length q.own.inner.brackets) 7 e))
     by false e = tt
 

@@ -8,7 +8,7 @@ use Rattle.plc_mem.specs.Writing.{put, written}
 use Rattle.plc_mem.proofs.Runs.{length-put, mapped, chained}
 use Rattle.status_word.specs.Brackets.{entry_of, begun}
 use Rattle.status_word.specs.declared.Bracket.{Bracket}
-use Rattle.status_word.specs.declared.Check.{Check}
+use Rattle.plc_base.specs.declared.Check.{Check}
 use Rattle.status_word.specs.declared.Regs.{Regs}
 use Rattle.timers_counters.specs.Timer.{Timer}
 use Rattle.timers_counters.specs.Counter.{Counter}
@@ -16,7 +16,6 @@ use Rattle.frames.specs.FrameData.{FrameData}
 use Rattle.frames.specs.Locals.{LocalData, local_written, lies_within}
 use Rattle.flat_code.specs.declared.operands.Operand.{Operand}
 use Rattle.flat_code.specs.declared.operands.Operand.TheVariants as operand
-use Rattle.flat_code.specs.declared.words.Joined.{Joined}
 use Rattle.flat_code.specs.declared.words.PointerWord.{PointerWord}
 use Rattle.flat_code.specs.declared.words.PointerWord.TheVariants as pointers
 use Rattle.flat_code.specs.declared.words.Word.{Word}
@@ -26,7 +25,7 @@ use Rattle.machine.specs.declared.places.Bound.{Bound}
 use Rattle.machine.specs.Parts.{Own, Scene, Parts, then_ok}
 use Rattle.machine.specs.Places.{located, absent, is_local, pointer, no_operand}
 use Rattle.machine.specs.Values.{is_timer, with_locals, stored_at, write}
-use Rattle.machine.specs.BitLogic.{check_of, put_bit, bit_number, with_regs, bit_before, assigned, assigned_at, bit_set, set_at, edge, edge_at}
+use Rattle.machine.specs.BitLogic.{put_bit, bit_number, with_regs, bit_before, assigned, assigned_at, bit_set, set_at, edge, edge_at}
 use Rattle.machine.specs.Nesting.{with_brackets, nesting, unnesting, unnested}
 use Rattle.machine.specs.Loads.{transferred, transferring}
 use Rattle.machine.specs.Timing.{timer_reset, counter_reset, timer_freed, counter_freed}
@@ -181,7 +180,7 @@ pointed_keeps pointers.AddAr2 o s m = regs_keep _ s m
 
 -- the open brackets after an instruction
 abbrev pub codes_after : Word → List Check → List Check
-codes_after (word.Nest with) codes = check_of with ∷ codes
+codes_after (word.Nest with) codes = with ∷ codes
 codes_after word.Unnest [] = []
 codes_after word.Unnest (code ∷ codes) = codes
 codes_after _ codes = codes
@@ -275,13 +274,13 @@ scene_kept w p (Err e) quiet kept = tt
 -- ---- brackets
 
 nesting_keeps :
-    (with : Joined) (p : Parts) → IfDone (Keeps (word.Nest with) p) (on_own p (nesting with p.own))
+    (with : Check) (p : Parts) → IfDone (Keeps (word.Nest with) p) (on_own p (nesting with p.own))
 unfolding nesting
 nesting_keeps with p = by (length p.own.inner.brackets == 7)
   where
     by : (full : Bool)
         → IfDone (Keeps (word.Nest with) p) (on_own p (if full then Err no_operand
-        else Ok (with_brackets (entry_of (check_of with) p.own.regs ∷ p.own.inner.brackets) (record p.own { regs = begun p.own.regs }))))
+        else Ok (with_brackets (entry_of with p.own.regs ∷ p.own.inner.brackets) (record p.own { regs = begun p.own.regs }))))
     by true = tt
     by false = record {
       memory = same_sizes p.memory;

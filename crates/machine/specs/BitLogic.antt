@@ -1,17 +1,14 @@
 -- Bit logic with an operand: A AN O ON X XN, =, S, R, FP, FN.
 -- Siemens, Statement List (STL): Bit Logic Instructions.
 use Rattle.std.specs.Prelude.{ℕ, ◌==◌, Bool, if◌then◌else◌, List, Result, Ok, ok_or}
+use Rattle.plc_base.specs.declared.Check.{Check}
 use Rattle.plc_mem.specs.Areas.{Areas}
-use Rattle.status_word.specs.declared.Check.{Check}
-use Rattle.status_word.specs.declared.Check.TheVariants as check
 use Rattle.status_word.specs.declared.Regs.{Regs}
 use Rattle.status_word.specs.Check.{checked}
 use Rattle.status_word.specs.Store.{stored}
 use Rattle.status_word.specs.Edge.{edged}
 use Rattle.timers_counters.specs.Timer.{Timer}
 use Rattle.timers_counters.specs.Counter.{Counter}
-use Rattle.flat_code.specs.declared.words.Joined.{Joined}
-use Rattle.flat_code.specs.declared.words.Joined.TheVariants as joined
 use Rattle.flat_code.specs.declared.operands.Operand.{Operand}
 use Rattle.machine.specs.declared.places.Access.TheVariants.{Writing}
 use Rattle.machine.specs.declared.places.Bound.{Bound}
@@ -19,19 +16,10 @@ use Rattle.machine.specs.Parts.{Own, Scene, then_ok}
 use Rattle.machine.specs.Places.{located, number_in, absent}
 use Rattle.machine.specs.Values.{tested, write}
 
--- the check of the status word that a word of bit logic is
-abbrev pub check_of : Joined → Check
-check_of joined.A = check.A
-check_of joined.An = check.An
-check_of joined.O = check.O
-check_of joined.On = check.On
-check_of joined.X = check.X
-check_of joined.Xn = check.Xn
-
 -- A AN O ON X XN
-unfoldable pub checking : Joined → Operand → Own → Areas → List Timer → List Counter → Result Regs ℕ
+unfoldable pub checking : Check → Operand → Own → Areas → List Timer → List Counter → Result Regs ℕ
 checking with o s m t n =
-    then_ok (tested o s m t n) (λ bit. Ok (checked (check_of with) bit s.regs))
+    then_ok (tested o s m t n) (λ bit. Ok (checked with bit s.regs))
 
 -- the number of a bit operand: 1 where the bit is true, else 0
 abbrev pub bit_number : Bool → ℕ

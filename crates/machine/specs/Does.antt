@@ -16,7 +16,7 @@ use Rattle.machine.specs.Values.{is_timer}
 use Rattle.machine.specs.BitLogic.{checking, assigned, bit_set, edge}
 use Rattle.machine.specs.Nesting.{nesting, unnesting}
 use Rattle.machine.specs.Loads.{loading, loading_bcd, transferring, status_loaded, status_transferred}
-use Rattle.machine.specs.Numbers.{counted, with_constant, compare_of, combined, shifted}
+use Rattle.machine.specs.Numbers.{counted, with_constant, combined, shifted}
 use Rattle.machine.specs.Timing.{string_ended, starting, timer_reset, timer_freed, counting_up, counting_down, counter_set, counter_reset, counter_freed}
 use Rattle.machine.specs.Pointers.{pointed}
 use Rattle.machine.specs.DataBlocks.{is_loaded, opened, opening, exchanged, loading_open_block}
@@ -98,8 +98,8 @@ does word.LoadOpenBlock o p = on_regs p (loading_open_block o p.own p.memory)
 does (word.Pointer what) o p = on_scene p (pointed what o p.own p.memory)
 does (word.Number what) o p = on_regs p (counted what p.own.regs)
 does (word.Add what) o p = on_regs p (Ok (with_constant what o p.own.regs))
-does (word.CompareInt how) o p = on_regs p (Ok (compared 16 (compare_of how) p.own.regs))
-does (word.CompareDint how) o p = on_regs p (Ok (compared 32 (compare_of how) p.own.regs))
+does (word.CompareInt how) o p = on_regs p (Ok (compared 16 how p.own.regs))
+does (word.CompareDint how) o p = on_regs p (Ok (compared 32 how p.own.regs))
 does (word.Logic what) o p = on_regs p (Ok (combined what o p.own.regs))
 does (word.Shift what) o p = on_regs p (Ok (shifted what o p.own.regs))
 does (word.Start how) o p = on_timers p (starting how o p.own p.memory p.timers)

@@ -1,10 +1,9 @@
 -- A( AN( O( ON( X( XN( and ), over the open brackets of the innermost frame.
 -- Siemens, Statement List (STL): Bit Logic Instructions, "Nesting Open" and "Nesting Closed".
 use Rattle.std.specs.Prelude.{ℕ, ◌==◌, length, if◌then◌else◌, List, [], ◌∷◌, Result, Ok, Err}
+use Rattle.plc_base.specs.declared.Check.{Check}
 use Rattle.status_word.specs.Brackets.{entry_of, begun, closed}
 use Rattle.status_word.specs.declared.Bracket.{Bracket}
-use Rattle.flat_code.specs.declared.words.Joined.{Joined}
-use Rattle.machine.specs.BitLogic.{check_of}
 use Rattle.machine.specs.Parts.{Own}
 use Rattle.machine.specs.Places.{no_operand}
 
@@ -13,10 +12,10 @@ abbrev pub with_brackets : List Bracket → Own → Own
 with_brackets brackets s = record s { inner = record s.inner { brackets = brackets } }
 
 -- A( to XN(; an eighth bracket stands in no program that is loaded
-unfoldable pub nesting : Joined → Own → Result Own ℕ
+unfoldable pub nesting : Check → Own → Result Own ℕ
 nesting with s =
     if length s.inner.brackets == 7 then Err no_operand
-    else Ok (with_brackets (entry_of (check_of with) s.regs ∷ s.inner.brackets)
+    else Ok (with_brackets (entry_of with s.regs ∷ s.inner.brackets)
     (record s { regs = begun s.regs }))
 
 -- ); nor does one without an open bracket

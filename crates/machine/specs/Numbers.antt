@@ -8,14 +8,10 @@ use Rattle.flat_code.specs.declared.words.Number.{Number}
 use Rattle.flat_code.specs.declared.words.Number.TheVariants as number
 use Rattle.flat_code.specs.declared.words.Adding.{Adding}
 use Rattle.flat_code.specs.declared.words.Adding.TheVariants as adding
-use Rattle.flat_code.specs.declared.words.Comparison.{Comparison}
-use Rattle.flat_code.specs.declared.words.Comparison.TheVariants as comparison
 use Rattle.flat_code.specs.declared.words.Logic.{Logic}
 use Rattle.flat_code.specs.declared.words.Logic.TheVariants as logic
 use Rattle.flat_code.specs.declared.words.Shift.{Shift}
 use Rattle.flat_code.specs.declared.words.Shift.TheVariants as shift
-use Rattle.alu.specs.declared.Compare.{Compare}
-use Rattle.alu.specs.declared.Compare.TheVariants as compare
 use Rattle.alu.specs.Accumulators.{toggled, pushed, popped, with_word_reversed, with_bytes_reversed, increased, decreased}
 use Rattle.alu.specs.Sums.{added, subtracted, negated}
 use Rattle.alu.specs.Products.{multiplied}
@@ -73,15 +69,6 @@ with_constant adding.Inc o r = increased 8 (literal 8 o) r
 with_constant adding.Dec o r = decreased 8 (literal 8 o) r
 with_constant adding.Word o r = increased 16 (literal 16 o) r
 with_constant adding.Dword o r = increased 32 (literal 32 o) r
-
--- the relation that ==, <>, >, <, >= or <= asks for, of accumulator 2 to accumulator 1
-abbrev pub compare_of : Comparison → Compare
-compare_of comparison.Eq = compare.Eq
-compare_of comparison.Ne = compare.Ne
-compare_of comparison.Gt = compare.Gt
-compare_of comparison.Lt = compare.Lt
-compare_of comparison.Ge = compare.Ge
-compare_of comparison.Le = compare.Le
 
 -- AW OW XOW AD OD XOD, with a constant or accumulator 2
 unfoldable pub combined : Logic → Operand → Regs → Regs

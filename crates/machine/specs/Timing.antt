@@ -1,28 +1,17 @@
 -- Timers and counters: SP SE SD SS SF, CU, CD, S of a counter, R and FR of both.
 -- Siemens, Statement List (STL): Timer Instructions, Counter Instructions.
 use Rattle.std.specs.Prelude.{◌≡◌, ℕ, ◌%◌, ◌^◌, false, List, Result, Ok, Err}
+use Rattle.plc_base.specs.declared.TimerKind.{TimerKind}
 use Rattle.plc_mem.specs.Areas.{Areas}
 use Rattle.status_word.specs.declared.Regs.{Regs}
-use Rattle.timers_counters.specs.declared.kinds.TimerKind.{TimerKind}
-use Rattle.timers_counters.specs.declared.kinds.TimerKind.TheVariants as kind
 use Rattle.timers_counters.specs.Numbered.{change, change_always}
 use Rattle.timers_counters.specs.Timer.{Timer, started, reset_timer, freed_timer}
 use Rattle.timers_counters.specs.Counter.{Counter, counted_up, counted_down, set_to, reset_counter, freed_counter}
-use Rattle.flat_code.specs.declared.words.StartWord.{StartWord}
-use Rattle.flat_code.specs.declared.words.StartWord.TheVariants as start
 use Rattle.frames.specs.declared.running.Running.{Running}
 use Rattle.flat_code.specs.declared.operands.Operand.{Operand}
 use Rattle.machine.specs.Parts.{Own, then_ok}
 use Rattle.machine.specs.Outcomes.{Answer}
 use Rattle.machine.specs.Values.{faulty, number_named}
-
--- the kind of timer that a start instruction starts
-abbrev pub kind_of : StartWord → TimerKind
-kind_of start.Sp = kind.Sp
-kind_of start.Se = kind.Se
-kind_of start.Sd = kind.Sd
-kind_of start.Ss = kind.Ss
-kind_of start.Sf = kind.Sf
 
 -- the instructions on timers and counters end the logic string: OR 0, /FC 0
 abbrev pub string_ended : Regs → Regs
@@ -33,10 +22,10 @@ abbrev pub word_of : Own → ℕ
 word_of s = s.regs.a1 % 2 ^ 16
 
 -- SP SE SD SS SF: the timers afterwards; 26 where there is none of the number, 21 for a bad digit
-unfoldable pub starting : StartWord → Operand → Own → Areas → List Timer → Result (List Timer) ℕ
+unfoldable pub starting : TimerKind → Operand → Own → Areas → List Timer → Result (List Timer) ℕ
 starting how o s m t =
     then_ok (number_named o s m) (λ number.
-    faulty 0x26 (change (started (kind_of how) s.regs.status.rlo (word_of s)) t number))
+    faulty 0x26 (change (started how s.regs.status.rlo (word_of s)) t number))
 
 -- R of a timer
 unfoldable pub timer_reset : Operand → Own → Areas → List Timer → Result (List Timer) ℕ

@@ -2,35 +2,22 @@
 ghost use Rattle.std.specs.Prelude.{◌≡◌, ◌<◌};
 ghost use Rattle.machine.specs.Parts.{own_of, then_ok};
 ghost use Rattle.machine.specs.Outcomes.{Acts, Checks};
-ghost use Rattle.machine.specs.BitLogic.{check_of as check_of_word, checking, put_bit as put_bit_of, bit_before as bit_before_of, bit_after as bit_after_of, bit_number as number_of_bit, assigned, assigned_at, set_at as set_at_of, bit_set as bit_set_of, edge as edge_of};
+ghost use Rattle.machine.specs.BitLogic.{checking, put_bit as put_bit_of, bit_before as bit_before_of, bit_after as bit_after_of, bit_number as number_of_bit, assigned, assigned_at, set_at as set_at_of, bit_set as bit_set_of, edge as edge_of};
 
 use crate::places::{Access, Bound, located, number_at, placed};
 use crate::values::{tested, write};
-use flat_code::{Joined, Operand};
+use flat_code::Operand;
 use frames::Running;
-use plc_base::{Area, Width};
+use plc_base::{Area, Check, Width};
 use plc_mem::Memory;
-use status_word::{Check, Regs};
+use status_word::Regs;
 use timers_counters::{Counters, Timers};
-
-pub(crate) fn check_of(with: Joined) -> Check
-    ensures { result ≡ check_of_word with }
-{
-    match with {
-        Joined::A => Check::A,
-        Joined::An => Check::An,
-        Joined::O => Check::O,
-        Joined::On => Check::On,
-        Joined::X => Check::X,
-        Joined::Xn => Check::Xn,
-    }
-}
 
 /// A, AN, O, ON, X, XN.
 #[tactic(auto, unfolding(crate::specs::BitLogic::checking))]
 #[inline(always)]
 pub(crate) fn check(
-    with: Joined,
+    with: Check,
     operand: &Operand,
     s: &mut Running,
     m: &Memory,
@@ -41,7 +28,7 @@ pub(crate) fn check(
         s.old s.new result }
 {
     let bit = tested(operand, s, m, t, n)?;
-    s.regs.check(check_of(with), bit);
+    s.regs.check(with, bit);
     Ok(())
 }
 

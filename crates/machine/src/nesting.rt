@@ -3,17 +3,16 @@ ghost use Rattle.machine.specs.Parts.{own_of};
 ghost use Rattle.machine.specs.Outcomes.{Turns};
 ghost use Rattle.machine.specs.Nesting.{nesting, unnesting};
 
-use crate::bit_logic::check_of;
-use flat_code::Joined;
 use frames::Running;
+use plc_base::Check;
 
 /// A(, AN(, O(, ON(, X(, XN(.
 #[tactic(auto, unfolding(crate::specs::Nesting::nesting))]
 #[inline(never)]
-pub(crate) fn nest(with: Joined, s: &mut Running) -> Result<(), u8>
+pub(crate) fn nest(with: Check, s: &mut Running) -> Result<(), u8>
     ensures { Turns (nesting with (own_of s.old)) s.old s.new result }
 {
-    if s.frame.brackets.begin(&mut s.regs, check_of(with)) {
+    if s.frame.brackets.begin(&mut s.regs, with) {
         Ok(())
     } else {
         Err(0)

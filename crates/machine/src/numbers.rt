@@ -1,10 +1,9 @@
 //! Instructions on the accumulators.
 ghost use Rattle.std.specs.Prelude.{◌≡◌, ◌<◌, ◌^◌, ◌%◌, Ok, Err};
 ghost use Rattle.machine.specs.Outcomes.{Changes};
-ghost use Rattle.machine.specs.Numbers.{counted, constant, literal as literal_of, with_constant, compare_of as compare_of_word, combined, shifted};
+ghost use Rattle.machine.specs.Numbers.{counted, constant, literal as literal_of, with_constant, combined, shifted};
 
-use alu::Compare;
-use flat_code::{Adding, Comparison, Logic, Number, Operand, Shift};
+use flat_code::{Adding, Logic, Number, Operand, Shift};
 use status_word::Regs;
 
 /// An instruction on the accumulators without operand.
@@ -188,20 +187,6 @@ pub(crate) fn add(what: Adding, operand: &Operand, r: &mut Regs)
         Adding::Dec => alu::dec(r, literal8(operand)),
         Adding::Word => alu::add_const(r, literal16(operand)),
         Adding::Dword => alu::add_const_wide(r, literal(operand)),
-    }
-}
-
-/// What a comparison asks.
-pub(crate) fn compare_of(how: Comparison) -> Compare
-    ensures { result ≡ compare_of_word how }
-{
-    match how {
-        Comparison::Eq => Compare::Eq,
-        Comparison::Ne => Compare::Ne,
-        Comparison::Gt => Compare::Gt,
-        Comparison::Lt => Compare::Lt,
-        Comparison::Ge => Compare::Ge,
-        Comparison::Le => Compare::Le,
     }
 }
 

@@ -1,26 +1,15 @@
 //! Timers and counters: SP SE SD SS SF, CU, CD, S of a counter, R and FR of both.
 ghost use Rattle.std.specs.Prelude.{◌≡◌};
 ghost use Rattle.machine.specs.Parts.{own_of};
-ghost use Rattle.machine.specs.Timing.{kind_of as kind_of_word, word_of as word_of_own, string_ended, starting, timer_reset, timer_freed, counting_up, counting_down, counter_set, counter_reset, counter_freed, Times};
+ghost use Rattle.machine.specs.Timing.{word_of as word_of_own, string_ended, starting, timer_reset, timer_freed, counting_up, counting_down, counter_set, counter_reset, counter_freed, Times};
 
 use crate::values::{fault_code, number_named};
-use flat_code::{Operand, StartWord};
+use flat_code::Operand;
 use frames::Running;
+use plc_base::TimerKind;
 use plc_mem::Memory;
 use status_word::Regs;
-use timers_counters::{Counters, TimerKind, Timers};
-
-fn kind_of(how: StartWord) -> TimerKind
-    ensures { result ≡ kind_of_word how }
-{
-    match how {
-        StartWord::Sp => TimerKind::Sp,
-        StartWord::Se => TimerKind::Se,
-        StartWord::Sd => TimerKind::Sd,
-        StartWord::Ss => TimerKind::Ss,
-        StartWord::Sf => TimerKind::Sf,
-    }
-}
+use timers_counters::{Counters, Timers};
 
 /// OR 0, /FC 0.
 fn end_string(r: &mut Regs)
@@ -40,7 +29,7 @@ fn word_of(s: &Running) -> u16
 #[tactic(auto, unfolding(crate::specs::Timing::starting))]
 #[inline(never)]
 pub(crate) fn start(
-    how: StartWord,
+    how: TimerKind,
     operand: &Operand,
     s: &mut Running,
     m: &Memory,
@@ -50,7 +39,7 @@ pub(crate) fn start(
         s.old s.new t.old t.new result }
 {
     let number = number_named(operand, s, m)?;
-    match t.start(number, kind_of(how), s.regs.status.rlo, word_of(s)) {
+    match t.start(number, how, s.regs.status.rlo, word_of(s)) {
         Ok(()) => {
             end_string(&mut s.regs);
             Ok(())

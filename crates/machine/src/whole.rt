@@ -8,7 +8,7 @@ use crate::bit_logic::{assign, check, edge, set_bit};
 use crate::data_blocks::{exchange, is_loaded, load_open_block, open};
 use crate::loads::{load, load_bcd, load_status, transfer, transfer_status};
 use crate::nesting::{nest, unnest};
-use crate::numbers::{add, combine, compare_of, number, shift};
+use crate::numbers::{add, combine, number, shift};
 use crate::pointers::point;
 use crate::timing::{
     count_down, count_up, free_counter, free_timer, reset_counter, reset_timer, set_counter, start,
@@ -153,11 +153,11 @@ pub(crate) fn does(
             Ok(())
         }
         Word::CompareInt(how) => {
-            alu::compare_i(&mut s.regs, compare_of(how));
+            alu::compare_i(&mut s.regs, how);
             Ok(())
         }
         Word::CompareDint(how) => {
-            alu::compare_d(&mut s.regs, compare_of(how));
+            alu::compare_d(&mut s.regs, how);
             Ok(())
         }
         Word::Logic(what) => {

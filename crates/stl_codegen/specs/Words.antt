@@ -5,15 +5,15 @@ use Rattle.flat_code.specs.declared.kinds.JumpWord.TheVariants as jump
 use Rattle.flat_code.specs.declared.words.Adding.TheVariants as adding
 use Rattle.flat_code.specs.declared.words.CallWord.{CallWord}
 use Rattle.flat_code.specs.declared.words.CallWord.TheVariants as calls
-use Rattle.flat_code.specs.declared.words.Comparison.TheVariants as comparison
+use Rattle.plc_base.specs.declared.Compare.TheVariants as compare
 use Rattle.flat_code.specs.declared.words.EndWord.{EndWord}
 use Rattle.flat_code.specs.declared.words.EndWord.TheVariants as ends
-use Rattle.flat_code.specs.declared.words.Joined.TheVariants as joined
+use Rattle.plc_base.specs.declared.Check.TheVariants as check
 use Rattle.flat_code.specs.declared.words.Logic.TheVariants as logic
 use Rattle.flat_code.specs.declared.words.Number.TheVariants as number
 use Rattle.flat_code.specs.declared.words.PointerWord.TheVariants as pointers
 use Rattle.flat_code.specs.declared.words.Shift.TheVariants as shifts
-use Rattle.flat_code.specs.declared.words.StartWord.TheVariants as starts
+use Rattle.plc_base.specs.declared.TimerKind.TheVariants as starts
 use Rattle.flat_code.specs.declared.words.Word.{Word}
 use Rattle.flat_code.specs.declared.words.Word.TheVariants as word
 use Rattle.stl_ast.specs.declared.literals.Literal.TheVariants as literal
@@ -65,7 +65,7 @@ end_of _ = None
 -- O without operand is AND before OR
 abbrev pub or_word : View → Word
 or_word view.Nothing = word.OrBare
-or_word _ = word.Check joined.O
+or_word _ = word.Check check.O
 
 -- L and T of the status word, L of the number or the length of an open data block
 abbrev pub load_word : View → Word
@@ -98,18 +98,18 @@ add_word _ = word.Add adding.Word
 unfoldable pub word_of : Mnemonic → Operand → View → Word
 word_of code.Nop o v = word.Nop
 word_of code.Bld o v = word.Bld
-word_of code.A o v = word.Check joined.A
-word_of code.An o v = word.Check joined.An
+word_of code.A o v = word.Check check.A
+word_of code.An o v = word.Check check.An
 word_of code.O o v = or_word v
-word_of code.On o v = word.Check joined.On
-word_of code.X o v = word.Check joined.X
-word_of code.Xn o v = word.Check joined.Xn
-word_of code.AOpen o v = word.Nest joined.A
-word_of code.AnOpen o v = word.Nest joined.An
-word_of code.OOpen o v = word.Nest joined.O
-word_of code.OnOpen o v = word.Nest joined.On
-word_of code.XOpen o v = word.Nest joined.X
-word_of code.XnOpen o v = word.Nest joined.Xn
+word_of code.On o v = word.Check check.On
+word_of code.X o v = word.Check check.X
+word_of code.Xn o v = word.Check check.Xn
+word_of code.AOpen o v = word.Nest check.A
+word_of code.AnOpen o v = word.Nest check.An
+word_of code.OOpen o v = word.Nest check.O
+word_of code.OnOpen o v = word.Nest check.On
+word_of code.XOpen o v = word.Nest check.X
+word_of code.XnOpen o v = word.Nest check.Xn
 word_of code.Close o v = word.Unnest
 word_of code.L o v = load_word v
 word_of code.T o v = transfer_word v
@@ -147,18 +147,18 @@ word_of code.SubD o v = word.Number number.SubD
 word_of code.MulD o v = word.Number number.MulD
 word_of code.DivD o v = word.Number number.DivD
 word_of code.Mod o v = word.Number number.Mod
-word_of code.EqI o v = word.CompareInt comparison.Eq
-word_of code.NeI o v = word.CompareInt comparison.Ne
-word_of code.GtI o v = word.CompareInt comparison.Gt
-word_of code.LtI o v = word.CompareInt comparison.Lt
-word_of code.GeI o v = word.CompareInt comparison.Ge
-word_of code.LeI o v = word.CompareInt comparison.Le
-word_of code.EqD o v = word.CompareDint comparison.Eq
-word_of code.NeD o v = word.CompareDint comparison.Ne
-word_of code.GtD o v = word.CompareDint comparison.Gt
-word_of code.LtD o v = word.CompareDint comparison.Lt
-word_of code.GeD o v = word.CompareDint comparison.Ge
-word_of code.LeD o v = word.CompareDint comparison.Le
+word_of code.EqI o v = word.CompareInt compare.Eq
+word_of code.NeI o v = word.CompareInt compare.Ne
+word_of code.GtI o v = word.CompareInt compare.Gt
+word_of code.LtI o v = word.CompareInt compare.Lt
+word_of code.GeI o v = word.CompareInt compare.Ge
+word_of code.LeI o v = word.CompareInt compare.Le
+word_of code.EqD o v = word.CompareDint compare.Eq
+word_of code.NeD o v = word.CompareDint compare.Ne
+word_of code.GtD o v = word.CompareDint compare.Gt
+word_of code.LtD o v = word.CompareDint compare.Lt
+word_of code.GeD o v = word.CompareDint compare.Ge
+word_of code.LeD o v = word.CompareDint compare.Le
 word_of code.Bti o v = word.Number number.Bti
 word_of code.Itb o v = word.Number number.Itb
 word_of code.Btd o v = word.Number number.Btd

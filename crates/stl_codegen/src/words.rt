@@ -12,10 +12,8 @@ ghost use Rattle.stl_codegen.specs.Words.{
   word_of,
 };
 
-use flat_code::{
-    Adding, CallWord, Comparison, EndWord, Joined, JumpWord, Logic, Number, PointerWord, Shift,
-    StartWord, Word,
-};
+use flat_code::{Adding, CallWord, EndWord, JumpWord, Logic, Number, PointerWord, Shift, Word};
+use plc_base::{Check, Compare, TimerKind};
 use stl_ast::{Literal, Mnemonic, Operand};
 use stl_types::{Register, View};
 
@@ -76,7 +74,7 @@ fn or_word(view: View) -> Word
 {
     match view {
         View::Nothing => Word::OrBare,
-        _ => Word::Check(Joined::O),
+        _ => Word::Check(Check::O),
     }
 }
 
@@ -141,18 +139,18 @@ pub(crate) fn word_of(code: Mnemonic, operand: &Operand, view: View) -> Word
     match code {
         Mnemonic::Nop => Word::Nop,
         Mnemonic::Bld => Word::Bld,
-        Mnemonic::A => Word::Check(Joined::A),
-        Mnemonic::An => Word::Check(Joined::An),
+        Mnemonic::A => Word::Check(Check::A),
+        Mnemonic::An => Word::Check(Check::An),
         Mnemonic::O => or_word(view),
-        Mnemonic::On => Word::Check(Joined::On),
-        Mnemonic::X => Word::Check(Joined::X),
-        Mnemonic::Xn => Word::Check(Joined::Xn),
-        Mnemonic::AOpen => Word::Nest(Joined::A),
-        Mnemonic::AnOpen => Word::Nest(Joined::An),
-        Mnemonic::OOpen => Word::Nest(Joined::O),
-        Mnemonic::OnOpen => Word::Nest(Joined::On),
-        Mnemonic::XOpen => Word::Nest(Joined::X),
-        Mnemonic::XnOpen => Word::Nest(Joined::Xn),
+        Mnemonic::On => Word::Check(Check::On),
+        Mnemonic::X => Word::Check(Check::X),
+        Mnemonic::Xn => Word::Check(Check::Xn),
+        Mnemonic::AOpen => Word::Nest(Check::A),
+        Mnemonic::AnOpen => Word::Nest(Check::An),
+        Mnemonic::OOpen => Word::Nest(Check::O),
+        Mnemonic::OnOpen => Word::Nest(Check::On),
+        Mnemonic::XOpen => Word::Nest(Check::X),
+        Mnemonic::XnOpen => Word::Nest(Check::Xn),
         Mnemonic::Close => Word::Unnest,
         Mnemonic::L => load_word(view),
         Mnemonic::T => transfer_word(view),
@@ -190,18 +188,18 @@ pub(crate) fn word_of(code: Mnemonic, operand: &Operand, view: View) -> Word
         Mnemonic::MulD => Word::Number(Number::MulD),
         Mnemonic::DivD => Word::Number(Number::DivD),
         Mnemonic::Mod => Word::Number(Number::Mod),
-        Mnemonic::EqI => Word::CompareInt(Comparison::Eq),
-        Mnemonic::NeI => Word::CompareInt(Comparison::Ne),
-        Mnemonic::GtI => Word::CompareInt(Comparison::Gt),
-        Mnemonic::LtI => Word::CompareInt(Comparison::Lt),
-        Mnemonic::GeI => Word::CompareInt(Comparison::Ge),
-        Mnemonic::LeI => Word::CompareInt(Comparison::Le),
-        Mnemonic::EqD => Word::CompareDint(Comparison::Eq),
-        Mnemonic::NeD => Word::CompareDint(Comparison::Ne),
-        Mnemonic::GtD => Word::CompareDint(Comparison::Gt),
-        Mnemonic::LtD => Word::CompareDint(Comparison::Lt),
-        Mnemonic::GeD => Word::CompareDint(Comparison::Ge),
-        Mnemonic::LeD => Word::CompareDint(Comparison::Le),
+        Mnemonic::EqI => Word::CompareInt(Compare::Eq),
+        Mnemonic::NeI => Word::CompareInt(Compare::Ne),
+        Mnemonic::GtI => Word::CompareInt(Compare::Gt),
+        Mnemonic::LtI => Word::CompareInt(Compare::Lt),
+        Mnemonic::GeI => Word::CompareInt(Compare::Ge),
+        Mnemonic::LeI => Word::CompareInt(Compare::Le),
+        Mnemonic::EqD => Word::CompareDint(Compare::Eq),
+        Mnemonic::NeD => Word::CompareDint(Compare::Ne),
+        Mnemonic::GtD => Word::CompareDint(Compare::Gt),
+        Mnemonic::LtD => Word::CompareDint(Compare::Lt),
+        Mnemonic::GeD => Word::CompareDint(Compare::Ge),
+        Mnemonic::LeD => Word::CompareDint(Compare::Le),
         Mnemonic::Bti => Word::Number(Number::Bti),
         Mnemonic::Itb => Word::Number(Number::Itb),
         Mnemonic::Btd => Word::Number(Number::Btd),
@@ -227,11 +225,11 @@ pub(crate) fn word_of(code: Mnemonic, operand: &Operand, view: View) -> Word
         Mnemonic::Rrd => Word::Shift(Shift::Rrd),
         Mnemonic::Rlda => Word::Number(Number::Rlda),
         Mnemonic::Rrda => Word::Number(Number::Rrda),
-        Mnemonic::Sp => Word::Start(StartWord::Sp),
-        Mnemonic::Se => Word::Start(StartWord::Se),
-        Mnemonic::Sd => Word::Start(StartWord::Sd),
-        Mnemonic::Ss => Word::Start(StartWord::Ss),
-        Mnemonic::Sf => Word::Start(StartWord::Sf),
+        Mnemonic::Sp => Word::Start(TimerKind::Sp),
+        Mnemonic::Se => Word::Start(TimerKind::Se),
+        Mnemonic::Sd => Word::Start(TimerKind::Sd),
+        Mnemonic::Ss => Word::Start(TimerKind::Ss),
+        Mnemonic::Sf => Word::Start(TimerKind::Sf),
         Mnemonic::Fr => Word::Free,
         Mnemonic::Cu => Word::CountUp,
         Mnemonic::Cd => Word::CountDown,

@@ -5,10 +5,10 @@ ghost use Rattle.std.specs.Prelude.{◌<◌};
 
 use crate::compare::same;
 use flat_code::{
-    Adding, CallWord, Comparison, EndWord, Joined, Logic, Number, Operand, Passed, PointerWord,
-    Shift, StartWord, Takes, Word, taken_by, word_of,
+    Adding, CallWord, EndWord, Logic, Number, Operand, Passed, PointerWord, Shift, Takes, Word,
+    taken_by, word_of,
 };
-use plc_base::{Area, Width};
+use plc_base::{Area, Check, Compare, TimerKind, Width};
 use std::alloc::{AllocError, Global};
 use std::test::*;
 
@@ -145,25 +145,25 @@ const LIST: &str = "\
 7F CDB 00
 ";
 
-fn check_name(with: Joined) -> &'static str {
+fn check_name(with: Check) -> &'static str {
     match with {
-        Joined::A => "A",
-        Joined::An => "AN",
-        Joined::O => "O",
-        Joined::On => "ON",
-        Joined::X => "X",
-        Joined::Xn => "XN",
+        Check::A => "A",
+        Check::An => "AN",
+        Check::O => "O",
+        Check::On => "ON",
+        Check::X => "X",
+        Check::Xn => "XN",
     }
 }
 
-fn nest_name(with: Joined) -> &'static str {
+fn nest_name(with: Check) -> &'static str {
     match with {
-        Joined::A => "A(",
-        Joined::An => "AN(",
-        Joined::O => "O(",
-        Joined::On => "ON(",
-        Joined::X => "X(",
-        Joined::Xn => "XN(",
+        Check::A => "A(",
+        Check::An => "AN(",
+        Check::O => "O(",
+        Check::On => "ON(",
+        Check::X => "X(",
+        Check::Xn => "XN(",
     }
 }
 
@@ -205,14 +205,14 @@ fn adding_name(what: Adding) -> &'static str {
     }
 }
 
-fn comparison_name(how: Comparison) -> &'static str {
+fn comparison_name(how: Compare) -> &'static str {
     match how {
-        Comparison::Eq => "==",
-        Comparison::Ne => "<>",
-        Comparison::Gt => ">",
-        Comparison::Lt => "<",
-        Comparison::Ge => ">=",
-        Comparison::Le => "<=",
+        Compare::Eq => "==",
+        Compare::Ne => "<>",
+        Compare::Gt => ">",
+        Compare::Lt => "<",
+        Compare::Ge => ">=",
+        Compare::Le => "<=",
     }
 }
 
@@ -254,13 +254,13 @@ fn pointer_name(what: PointerWord) -> &'static str {
     }
 }
 
-fn start_name(kind: StartWord) -> &'static str {
+fn start_name(kind: TimerKind) -> &'static str {
     match kind {
-        StartWord::Sp => "SP",
-        StartWord::Se => "SE",
-        StartWord::Sd => "SD",
-        StartWord::Ss => "SS",
-        StartWord::Sf => "SF",
+        TimerKind::Sp => "SP",
+        TimerKind::Se => "SE",
+        TimerKind::Sd => "SD",
+        TimerKind::Ss => "SS",
+        TimerKind::Sf => "SF",
     }
 }
 

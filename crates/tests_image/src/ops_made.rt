@@ -4,10 +4,10 @@
 use crate::building::put_hex;
 use crate::compare::same;
 use flat_code::{
-    Adding, CallWord, EndWord, Joined, Logic, Number, Op, Operand, Passed, PointerWord, Shift,
-    StartWord, Word, encode_op,
+    Adding, CallWord, EndWord, Logic, Number, Op, Operand, Passed, PointerWord, Shift, Word,
+    encode_op,
 };
-use plc_base::{Area, Width};
+use plc_base::{Area, Check, TimerKind, Width};
 use std::alloc::Global;
 use std::process::Abort;
 use std::test::Fail;
@@ -157,7 +157,7 @@ fn plain_ops(rt: HostRuntime) -> Result<(), Fail> {
         ),
         (Word::Bld, literal(255), 6, "03 01 000000FF"),
         (
-            Word::Check(Joined::Xn),
+            Word::Check(Check::Xn),
             Operand::OfStatus { condition: 10 },
             3,
             "15 09 0A",
@@ -180,7 +180,7 @@ fn ops_at_places(rt: HostRuntime) -> Result<(), Fail> {
             "21 02 84 03 0002 00",
         ),
         (
-            Word::Check(Joined::A),
+            Word::Check(Check::A),
             direct(Area::P, Width::Dword, 0xFFFF, 7),
             7,
             "10 02 80 04 FFFF 07",
@@ -218,7 +218,7 @@ fn ops_at_places(rt: HostRuntime) -> Result<(), Fail> {
 fn ops_with_numbers(rt: HostRuntime) -> Result<(), Fail> {
     let rows: [Row; 9] = [
         (
-            Word::Start(StartWord::Sp),
+            Word::Start(TimerKind::Sp),
             numbered(1, 0x1FF),
             5,
             "70 06 01 01FF",
@@ -324,8 +324,8 @@ fn more_operands_that_a_word_lacks(rt: HostRuntime) {
         (Word::Set, numbered(1, 0)),
         (Word::Transfer, numbered(1, 0)),
         (Word::CountDown, numbered(1, 0)),
-        (Word::Start(StartWord::Sf), numbered(2, 0)),
-        (Word::Start(StartWord::Sf), numbered_by(2, Area::M, 0)),
+        (Word::Start(TimerKind::Sf), numbered(2, 0)),
+        (Word::Start(TimerKind::Sf), numbered_by(2, Area::M, 0)),
         (Word::Call(CallWord::Cc), jump(0, 0)),
         (Word::Jump, called(2, 1, 0)),
         (Word::UseDb, open(1, 1)),
@@ -345,7 +345,7 @@ fn do_not_fit(rt: &impl Abort, rows: &[(Word, Operand)]) {
 
 #[test]
 fn operands_beyond_their_form(rt: HostRuntime) {
-    let check = Word::Check(Joined::A);
+    let check = Word::Check(Check::A);
     let rows = [
         (check, direct(Area::M, Width::Bit, 0, 8)),
         (check, by_memory(Area::P, Width::Bit, Area::M, 0)),

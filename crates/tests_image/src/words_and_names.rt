@@ -2,9 +2,10 @@
 
 use crate::compare::same;
 use flat_code::{
-    Adding, Logic, Operand, PointerWord, Shift, StartWord, Word, ends_blank, is_name_before,
-    is_upper_case, taken_by_word,
+    Adding, Logic, Operand, PointerWord, Shift, Word, ends_blank, is_name_before, is_upper_case,
+    taken_by_word,
 };
+use plc_base::TimerKind;
 
 fn literal(value: u32) -> Operand {
     Operand::Literal { value }
@@ -29,7 +30,7 @@ fn operands_of_words(rt: HostRuntime) {
         (Word::Pointer(PointerWord::Tar2), none, literal(8)),
         (Word::Set, counter, timer),
         (Word::Reset, timer, none),
-        (Word::Start(StartWord::Sp), timer, counter),
+        (Word::Start(TimerKind::Sp), timer, counter),
         (Word::CountUp, counter, timer),
         (Word::Jump, jump, none),
         (Word::SetRlo, none, literal(0)),

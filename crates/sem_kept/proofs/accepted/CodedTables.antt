@@ -11,14 +11,14 @@ use Rattle.flat_code.specs.declared.operands.Operand.{Operand as FlatOperand}
 use Rattle.flat_code.specs.declared.table.Takes.TheVariants as takes
 use Rattle.flat_code.specs.declared.words.Adding.TheVariants as adding
 use Rattle.flat_code.specs.declared.words.CallWord.TheVariants as calls
-use Rattle.flat_code.specs.declared.words.Comparison.TheVariants as comparison
+use Rattle.plc_base.specs.declared.Compare.TheVariants as compare
 use Rattle.flat_code.specs.declared.words.EndWord.TheVariants as ends
-use Rattle.flat_code.specs.declared.words.Joined.TheVariants as joined
+use Rattle.plc_base.specs.declared.Check.TheVariants as check
 use Rattle.flat_code.specs.declared.words.Logic.TheVariants as logic
 use Rattle.flat_code.specs.declared.words.Number.TheVariants as number
 use Rattle.flat_code.specs.declared.words.PointerWord.TheVariants as pointers
 use Rattle.flat_code.specs.declared.words.Shift.TheVariants as shifts
-use Rattle.flat_code.specs.declared.words.StartWord.TheVariants as starts
+use Rattle.plc_base.specs.declared.TimerKind.TheVariants as starts
 use Rattle.flat_code.specs.declared.words.Word.{Word}
 use Rattle.flat_code.specs.declared.words.Word.TheVariants as word
 use Rattle.stl_ast.specs.Statements.{is_empty}
@@ -38,14 +38,14 @@ use Rattle.stl_codegen.specs.Words.{jump_of, call_of, end_of, or_word, load_word
 -- ---- words and operands are ops
 
 code_below : (w : Word) → ltb (code_of w) 128 ≡ true
-code_below (word.Check joined.A) = refl
-code_below (word.Nest joined.A) = refl
+code_below (word.Check check.A) = refl
+code_below (word.Nest check.A) = refl
 code_below (word.Edge true) = refl
 code_below (word.Pointer pointers.Lar1) = refl
 code_below (word.Number number.Tak) = refl
 code_below (word.Add adding.Inc) = refl
-code_below (word.CompareInt comparison.Eq) = refl
-code_below (word.CompareDint comparison.Eq) = refl
+code_below (word.CompareInt compare.Eq) = refl
+code_below (word.CompareDint compare.Eq) = refl
 code_below (word.Logic logic.Aw) = refl
 code_below (word.Shift shifts.Ssi) = refl
 code_below (word.Start starts.Sp) = refl
