@@ -4,8 +4,8 @@ use Rattle.std.specs.Int.{div_ceil}
 use Rattle.plc_base.specs.S5Time.{unit_of, base_of_s5time, s5time_of_units, ms_of}
 use Rattle.plc_base.specs.declared.s5times.TimeBase.{TimeBase}
 use Rattle.plc_base.specs.declared.s5times.TimeBase.TheVariants.{TenMs}
-use Rattle.timers_counters.specs.declared.kinds.TimerKind.{TimerKind}
-use Rattle.timers_counters.specs.declared.kinds.TimerKind.TheVariants.{Sp, Se, Sd, Ss, Sf}
+use Rattle.plc_base.specs.declared.instructions.TimerKind.{TimerKind}
+use Rattle.plc_base.specs.declared.instructions.TimerKind.TheVariants.{Sp, Se, Sd, Ss, Sf}
 
 -- the kind of the instruction that started it, the time base, the milliseconds left, whether it
 -- runs, its output, and the edge bits of the start instructions and of FR

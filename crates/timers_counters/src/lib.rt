@@ -4,11 +4,10 @@
 mod counter_table;
 mod counting;
 mod faults;
-mod kinds;
 mod timer_table;
 mod timing;
 
 pub use counter_table::Counters;
 pub use faults::TimerFault;
-pub use kinds::TimerKind;
+pub use plc_base::TimerKind;
 pub use timer_table::Timers;

@@ -6,10 +6,9 @@ ghost use Rattle.timers_counters.specs.Timer.{timer_at_rest, started, reset_time
 ghost use Rattle.timers_counters.specs.declared.faults.TimerFault.TheVariants.{NoNumber};
 
 use crate::faults::TimerFault;
-use crate::kinds::TimerKind;
 use crate::timing::Timer;
 use arrayvec::ArrayVec;
-use plc_base::Profile;
+use plc_base::{Profile, TimerKind};
 use std::marker::Model;
 
 /// How many timers there are at most.

@@ -3,8 +3,7 @@ ghost use Rattle.std.specs.Fn.{iterate};
 ghost use Rattle.plc_base.specs.Changes.{ChangesOrStays};
 ghost use Rattle.timers_counters.specs.Timer.{timer_at_rest, output_at_end, run, ended, stopped, acted, started, reset_timer, freed_timer, one_ms, units_left, time_left};
 
-use crate::kinds::TimerKind;
-use plc_base::{BadBcd, MOST_UNITS, TimeBase, ms_of_s5time};
+use plc_base::{BadBcd, MOST_UNITS, TimeBase, TimerKind, ms_of_s5time};
 use std::marker::Model;
 
 /// One timer.
