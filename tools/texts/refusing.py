@@ -10,7 +10,8 @@ from texts.histories import ARRIVING
 from texts.tool import Refused, decoded
 
 REFUSED = re.compile(r"(symbols|source) refused: line (\d+) rule (\d+)\n")
-ENDS_INSIDE = 13
+NO_END, ENDS_INSIDE = 2, 13
+RULES_OF_CLAUSES = (10, 11, 12, 13)
 INITIAL_VALUE = 41
 RULES_OF_NAMES = (20, 23, 34)
 RULES_OF_NUMBERS = (22, 44)
@@ -81,19 +82,19 @@ class Checker:
         return match[1], int(match[2]), int(match[3])
 
 
-def ways_out(texts, kind, line, rule):
+def ways_out(texts, clauses, kind, line, rule):
     """Texts without what is refused, with the clause that was left out, the narrowest first."""
     source = texts.source
     if kind == "symbols":
         yield texts._replace(symbols=line_emptied(texts.symbols, line)), None
         return
-    clauses = clauses_of(source)
-    begun = [it for it in clauses if it.line == line]
-    touched = begun or [it for it in clauses if it.covers(line)]
+    touched = [it for it in clauses if it.line == line] or [it for it in clauses if it.covers(line)]
     if rule == ENDS_INSIDE:
         kind_of_open = next((it.tokens[0].upper for it in reversed(clauses) if it.is_head()), b"")
         for closer in CLOSERS:
             yield texts._replace(source=source.rstrip() + b" " + closer + b"END_" + kind_of_open), None
+    if rule == NO_END:
+        yield texts._replace(source=line_blanked(source, line)), None
     for clause in touched:
         for shorter in clause_without(source, clause, clauses, rule):
             yield texts._replace(source=shorter), clause
@@ -135,18 +136,31 @@ def refusals(texts, checker, most):
     for _ in range(most):
         if found is None:
             return
-        kind, line, rule = found
-        yield Refusal(kind, line, rule, named_before(texts.source, found, left_out))
-        for shorter, clause in ways_out(texts, kind, line, rule):
-            after = checker.refusal_of(shorter)
-            if after != found:
-                break
-        else:
-            raise Refused(f"line {line} of the {kind}: what is refused there can't be left out, so the rest isn't checked")
+        kind, line, _ = found
+        clauses = clauses_of(texts.source) if kind == "source" else []
+        yield Refusal(*found, named_before(clauses, found, left_out))
+        shorter, clause, after = way_out(texts, clauses, found, checker)
         name = symbol_name(texts.symbols, line) if kind == "symbols" else clause.declares() if clause else b""
         if name and is_left_out(clause, texts, shorter):
             left_out.setdefault(name, line)
         texts, found = shorter, after
+
+
+def way_out(texts, clauses, found, checker):
+    """The texts without what is refused, the clause that was left out, and what is refused then: the first way by which
+    the line keeps the rules of clauses, or else the first by which anything changes."""
+    kind, line, _ = found
+    second_best = None
+    for shorter, clause in ways_out(texts, clauses, *found):
+        after = checker.refusal_of(shorter)
+        if after == found:
+            continue
+        if after is None or after[:2] != (kind, line) or after[2] not in RULES_OF_CLAUSES:
+            return shorter, clause, after
+        second_best = second_best or (shorter, clause, after)
+    if second_best:
+        return second_best
+    raise Refused(f"line {line} of the {kind}: what is refused there can't be left out, so the rest isn't checked")
 
 
 def is_left_out(clause, texts, shorter):
@@ -162,10 +176,10 @@ def symbol_name(symbols, line):
     return fields[0].rstrip().upper().encode()
 
 
-def named_before(source, found, left_out):
+def named_before(clauses, found, left_out):
     """The line in which something was left out that a clause of the refused line names, or 0."""
-    kind, line, rule = found
-    if kind != "source" or rule not in RULES_OF_NAMES:
+    _, line, rule = found
+    if rule not in RULES_OF_NAMES:
         return 0
-    names = set().union(*(it.names() for it in clauses_of(source) if it.covers(line)))
+    names = set().union(*(it.names() for it in clauses if it.covers(line)))
     return min((left_out[name] for name in names & set(left_out)), default=0)

@@ -1,0 +1,42 @@
+"""How the words of a call are read, by docs/REFUSALS.md, "Statuses"."""
+import unittest
+
+from texts.words import question_of, read_call
+
+
+class Words(unittest.TestCase):
+    def expect(self, words, command, files, symbols=None):
+        call = read_call(words)
+        self.assertEqual(call.command, command)
+        self.assertEqual([(file.index, file.path) for file in call.files], files)
+        self.assertEqual(call.symbols and (call.symbols.index, call.symbols.before, call.symbols.path), symbols)
+
+    def test_files_behind_the_command(self):
+        self.expect(["go", "a", "b"], "go", [(1, "a"), (2, "b")])
+        self.expect([], None, [])
+
+    def test_symbols_anywhere(self):
+        self.expect(["--symbols", "s", "check", "a"], "check", [(3, "a")], (1, "", "s"))
+        self.expect(["go", "a", "--symbols=s=t", "b"], "go", [(1, "a"), (3, "b")], (2, "--symbols=", "s=t"))
+
+    def test_behind_two_hyphens_all_is_plain(self):
+        self.expect(["go", "a", "--", "-b"], "go", [(1, "a"), (3, "-b")])
+        self.expect(["--", "check", "--symbols"], "check", [(2, "--symbols")])
+
+    def test_a_hyphen_alone_is_a_file(self):
+        self.expect(["check", "-"], "check", [(1, "-")])
+
+    def test_other_options_are_no_files(self):
+        self.expect(["check", "-x", "a", "--steps", "5"], "check", [(2, "a")])
+
+    def test_questions(self):
+        self.assertEqual([question_of([word]) for word in ("--help", "-h", "--version", "-V")], ["help", "help", "version", "version"])
+        self.assertIsNone(question_of(["-V", "go"]))
+        self.assertIsNone(question_of([]))
+
+    def test_inputs_in_the_order_of_reading(self):
+        self.assertEqual(list(read_call(["go", "a", "b", "--symbols", "s"]).inputs().items()), [("source", "a"), ("symbols", "s"), ("history", "b")])
+
+
+if __name__ == "__main__":
+    unittest.main()
