@@ -1,6 +1,7 @@
 -- An organization block begins with an activation that fits, and calls of frames and memory keep one.
 use Rattle.std.proofs.Common.{◌≡◌, ◌∙◌, ◌<◌, ◌≤◌, ℕ, IsSome, List, [], ◌∷◌, Option, Some, None, refl, sym, ap, arith}
 use Rattle.std.specs.Option.{option_map}
+use Rattle.plc_base.specs.declared.Profile.{Profile}
 use Rattle.plc_base.specs.declared.Width.TheVariants as widths
 use Rattle.plc_base.specs.declared.BlockId.{BlockId}
 use Rattle.plc_base.specs.declared.blocks.BlockKind.TheVariants as kinds
@@ -50,10 +51,10 @@ no_params :
 no_params ps m is = rw is tt
 
 pub ob_begins :
-    (l : ImageLaws) (p : Program) (m : Areas) (class ob : ℕ) (h : Head) → Verifies p → IsMemoryOf (code_of p) m
+    (l : ImageLaws) (f : Profile) (p : Program) (m : Areas) (class ob : ℕ) (h : Head) → Verifies p → IsMemoryOf (code_of p) m
     → (code_of p).head (record { kind = kinds.Ob; number = ob }) ≡ Some h
-    → FitsProgram p m (begun class ob (first_frame ob h.local_len))
-ob_begins l p m class ob h verifies memory found =
+    → FitsProgram p m (begun f class ob (first_frame ob h.local_len))
+ob_begins l profile p m class ob h verifies memory found =
     let block : BlockId = record { kind = kinds.Ob; number = ob } in
     let f = first_frame ob h.local_len in
     let one = block_found p block h (block_of block p.code_blocks) refl found in
@@ -63,7 +64,7 @@ ob_begins l p m class ob h verifies memory found =
     let params : h.params ≡ [] = ap (λ (x : Head). x.params) (sym one.2) ∙ right.0 in
     record {
       memory = memory;
-      fits = fits_of (code_of p) (open_codes p) m (begun class ob f) (record {
+      fits = fits_of (code_of p) (open_codes p) m (begun profile class ob f) (record {
         left = refl;
         frame = record {
           statement = let s = statement_there l p block 0 [] entry in some_there ((code_of p).fetch block 0) _ s.fetched;
@@ -90,10 +91,10 @@ local_room l p ob h verifies found =
 
 -- it has room for its start information
 pub start_written :
-    (l : ImageLaws) (p : Program) (class ob byte value : ℕ) (h : Head) → Verifies p
+    (l : ImageLaws) (f : Profile) (p : Program) (class ob byte value : ℕ) (h : Head) → Verifies p
     → (code_of p).head (record { kind = kinds.Ob; number = ob }) ≡ Some h → byte < 20
-    → IsSome (with_local_byte 0 byte value (begun class ob (first_frame ob h.local_len)))
-start_written l p class ob byte value h verifies found less =
+    → IsSome (with_local_byte 0 byte value (begun f class ob (first_frame ob h.local_len)))
+start_written l profile p class ob byte value h verifies found less =
     let block : BlockId = record { kind = kinds.Ob; number = ob } in
     let f = first_frame ob h.local_len in
     let one = block_found p block h (block_of block p.code_blocks) refl found in
@@ -161,8 +162,8 @@ result_fits l p m n a b to value verifies h gives =
 
 -- ---- memory
 
-pub memory_begins : (p : Program) → IsMemoryOf (code_of p) (fresh (code_of p).blocks)
-memory_begins p = same_sizes (fresh (code_of p).blocks)
+pub memory_begins : (f : Profile) (p : Program) → IsMemoryOf (code_of p) (fresh f (code_of p).blocks)
+memory_begins f p = record { profile = f; sizes = same_sizes (fresh f (code_of p).blocks) }
 
 pub input_sizes : (m n : Areas) (byte value : ℕ) → with_input m byte value ≡ Some n → SameSizes m n
 unfolding with_input
@@ -172,10 +173,10 @@ pub cleared_sizes : (p : Program) (m : Areas) → IsMemoryOf (code_of p) m → S
 unfolding outputs_cleared fresh
 cleared_sizes p m is =
     changed m m.inputs m.outputs m.bit_memory m.peripheral_inputs _ refl refl refl (same_parts m.peripheral_inputs)
-    (record { low = sym is.peripheral_outputs.low; high = sym is.peripheral_outputs.high })
+    (record { low = sym is.sizes.peripheral_outputs.low; high = sym is.sizes.peripheral_outputs.high })
 
 pub refreshed_sizes : (p : Program) (m : Areas) → IsMemoryOf (code_of p) m → SameSizes m (refreshed m)
 unfolding refreshed fresh
 refreshed_sizes p m is =
-    changed m m.peripheral_inputs.low m.outputs m.bit_memory m.peripheral_inputs _ (is.peripheral_inputs.low ∙ sym is.inputs) refl refl
-    (same_parts m.peripheral_inputs) (record { low = is.outputs ∙ sym is.peripheral_outputs.low; high = refl })
+    changed m m.peripheral_inputs.low m.outputs m.bit_memory m.peripheral_inputs _ (is.sizes.peripheral_inputs.low ∙ sym is.sizes.inputs) refl refl
+    (same_parts m.peripheral_inputs) (record { low = is.sizes.outputs ∙ sym is.sizes.peripheral_outputs.low; high = refl })

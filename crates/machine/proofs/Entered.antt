@@ -11,6 +11,7 @@ use Rattle.std.specs.Cmp.{nat_cmp_total}
 use Rattle.plc_base.specs.declared.Width.{Width}
 use Rattle.plc_base.specs.declared.Width.TheVariants as widths
 use Rattle.plc_base.specs.Widths.{bit_count}
+use Rattle.plc_base.specs.declared.Profile.{Profile}
 use Rattle.plc_mem.specs.Areas.{Areas}
 use Rattle.plc_mem.specs.Fresh.{fresh}
 use Rattle.plc_mem.proofs.Runs.{tests_agree}
@@ -243,18 +244,18 @@ find_len (d ∷ ds) number =
     by true false e f same more = let s : true ≡ false = sym e ∙ same ∙ f in absurd cc
     by false true e f same more = let s : false ≡ true = sym e ∙ same ∙ f in absurd cc
 
-fresh_len : (ds : List DataBlock) (number : ℕ) → len_in (fresh (numbered_bytes ds)) number ≡ data_len number (lens_of ds)
+fresh_len : (f : Profile) (ds : List DataBlock) (number : ℕ) → len_in (fresh f (numbered_bytes ds)) number ≡ data_len number (lens_of ds)
 unfolding fresh
-fresh_len ds number = ap (λ (o : Option (List ℕ)). option_map length o) (get-from_entries nat_cmp_total (numbered_bytes ds) number) ∙ find_len ds number
+fresh_len f ds number = ap (λ (o : Option (List ℕ)). option_map length o) (get-from_entries nat_cmp_total (numbered_bytes ds) number) ∙ find_len ds number
 
 long_by : (needed : ℕ) (o : Option (List ℕ)) (len : Option ℕ) → option_map length o ≡ len → is_short needed len ≡ false → IsLong needed o
 long_by needed None len is h = absurd (let e : is_short needed None ≡ false = rw (sym is) at h in cc)
 long_by needed (Some bytes) len is h = ltb-false (length bytes) needed (rw (sym is) at h)
 
 pub instance_long :
-    (p : Program) (m : Areas) (number needed : ℕ) → SameSizes (fresh (numbered_bytes p.data_blocks)) m
+    (f : Profile) (p : Program) (m : Areas) (number needed : ℕ) → SameSizes (fresh f (numbered_bytes p.data_blocks)) m
     → is_short needed (data_len number (lens_of p.data_blocks)) ≡ false
     → IsLong needed (finmap.get m.data_blocks number)
-instance_long p m number needed sizes h =
+instance_long f p m number needed sizes h =
     long_by needed (finmap.get m.data_blocks number) (data_len number (lens_of p.data_blocks))
-    (sizes.data_blocks number ∙ fresh_len p.data_blocks number) h
+    (sizes.data_blocks number ∙ fresh_len f p.data_blocks number) h

@@ -480,7 +480,7 @@ has_instance p m b called instance is memory h = by (eqb instance 0) (rw is at h
     by : (t : Bool) → cond t (not (nothing (map record_of_param b.params))) (is_short b.instance_len (data_len instance (lens_of p.data_blocks))) ≡ false
         → HasInstance kinds.Fb (head_of b) m (cond t None (Some instance))
     by true e = no_params b.params e
-    by false e = instance_long p m instance b.instance_len memory e
+    by false e = instance_long memory.profile p m instance b.instance_len memory.sizes e
 
 call_function :
     (l : ImageLaws) (p : Program) (a : Activation) (w : World) (at : At p a w) (how : CallWord) (number instance : ℕ)

@@ -1,7 +1,6 @@
 -- After a call of a statement the activation fits again, and is ready before it.
 use Rattle.std.proofs.Common.{◌≡◌}
 use Rattle.plc_mem.specs.Areas.{Areas}
-use Rattle.plc_mem.specs.Fresh.{fresh}
 use Rattle.frames.specs.Activations.{frames_of}
 use Rattle.frames.specs.declared.Activation.{Activation}
 use Rattle.flat_code.specs.Loading.{Verifies}
@@ -16,7 +15,7 @@ use Rattle.machine.specs.Statement.{World, Step, Went, Ended, SyncError, SysCall
 use Rattle.machine.proofs.FrameBytes.{depth_is}
 use Rattle.machine.proofs.Instructions.{statement_lasts}
 use Rattle.machine.proofs.Ready.{fits_goes}
-use Rattle.machine.proofs.Sizes.{same_sizes, sizes_then}
+use Rattle.machine.proofs.Sizes.{same_sizes, memory_stays}
 
 pub ready_is : (l : ImageLaws) (p : Program) (m : Areas) (a : Activation) → Verifies p → FitsProgram p m a → IsReady p a
 ready_is l p m a verifies h = record {
@@ -35,7 +34,7 @@ step_leaves :
 step_leaves p (Went a world) old new w after outcome.Went h lasts comes =
     rw (comes.0, comes.1) (record { sizes = lasts.sizes; leaves = lasts.fits })
 step_leaves p (Ended regs world) old new w after outcome.Ended h lasts comes =
-    rw comes.1 (record { sizes = lasts; leaves = sizes_then (fresh (code_of p).blocks) w.memory world.memory h.memory lasts })
+    rw comes.1 (record { sizes = lasts; leaves = memory_stays (code_of p) w.memory world.memory h.memory lasts })
 step_leaves p (SyncError code a) old new w after (outcome.SyncError answer) h lasts comes =
     rw (comes.0, comes.1, comes.2) (record { sizes = same_sizes w.memory; leaves = lasts })
 step_leaves p (SysCall number given a) old new w after (outcome.SysCall function inputs result) h lasts comes =

@@ -2,7 +2,6 @@
 use Rattle.std.proofs.Common.{◌≡◌, ◌∙◌, ℕ, Bool, true, false, if◌then◌else◌, IsSome, List, [], ◌∷◌, length, Option, Some, None, refl, sym, ap, subst}
 use Rattle.plc_base.specs.declared.BlockId.{BlockId}
 use Rattle.plc_mem.specs.Areas.{Areas}
-use Rattle.plc_mem.specs.Fresh.{fresh}
 use Rattle.status_word.specs.declared.Check.{Check}
 use Rattle.frames.specs.Activations.{frames_of}
 use Rattle.frames.specs.declared.Activation.{Activation}
@@ -17,7 +16,7 @@ use Rattle.machine.specs.ImageLaws.{ImageLaws}
 use Rattle.machine.specs.Lasting.{FitsProgram}
 use Rattle.machine.specs.OpenBrackets.{open_codes}
 use Rattle.machine.proofs.FrameBytes.{locals_kept, locals_moved}
-use Rattle.machine.proofs.Sizes.{sizes_then}
+use Rattle.machine.proofs.Sizes.{memory_stays}
 use Rattle.machine.proofs.Standing.{Stood, statement_there, opens_there}
 use Rattle.machine.proofs.Staying.{frames_still}
 
@@ -115,7 +114,7 @@ activation_follows l p m n a s sizes h follows starts len =
     let was = stands_of c brackets m a h.fits in
     let all = frames_still c brackets m n (a.running.frame ∷ a.below) sizes (was.frame, was.below) in
     record {
-      memory = sizes_then (fresh c.blocks) m n h.memory sizes;
+      memory = memory_stays c m n h.memory sizes;
       fits = fits_of c brackets n (record a { running = s }) (record {
         left = was.left;
         frame = frame_follows l p n a.below a.running.frame s.frame follows all.0;

@@ -1,7 +1,6 @@
 -- What copying parameters keeps, and that the caller fits after a return.
 use Rattle.std.proofs.Common.{◌≡◌, ◌∙◌, ◌+◌, ◌%◌, ◌^◌, if◌then◌else◌, ℕ, Bool, true, false, List, [], ◌∷◌, slice_get, unwrap_or, Option, Some, None, Result, Ok, Err, refl}
 use Rattle.plc_base.specs.Widths.{bit_count}
-use Rattle.plc_mem.specs.Fresh.{fresh}
 use Rattle.frames.specs.declared.Activation.{Activation}
 use Rattle.frames.specs.declared.bindings.Binding.{Binding}
 use Rattle.frames.specs.declared.bindings.Binding.TheVariants as binding
@@ -23,7 +22,7 @@ use Rattle.machine.specs.Statement.{World, after_return, returned}
 use Rattle.machine.proofs.FrameBytes.{locals_kept, locals_closed}
 use Rattle.machine.proofs.Keeping.{IfDone, KeepsScene, same_scene, write_keeps}
 use Rattle.machine.proofs.Moving.{stands_of, fits_of}
-use Rattle.machine.proofs.Sizes.{sizes_then}
+use Rattle.machine.proofs.Sizes.{sizes_then, memory_stays}
 use Rattle.machine.proofs.Staying.{frames_still}
 
 -- ---- copies
@@ -101,7 +100,7 @@ stage_lasts p a w c (caller ∷ rest) is kept h =
     record {
       sizes = kept.memory;
       fits = record {
-        memory = sizes_then (fresh code.blocks) w.memory c.memory h.memory kept.memory;
+        memory = memory_stays code w.memory c.memory h.memory kept.memory;
         fits = fits_of code brackets c.memory
             (left_to caller rest (record a { running = with_own a.running c.own }))
             (record { left = was.left; frame = frames.0; below = frames.1; locals = locals });

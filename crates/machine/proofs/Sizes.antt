@@ -14,11 +14,13 @@ use Rattle.plc_base.specs.declared.Place.{Place}
 use Rattle.plc_mem.specs.Areas.{Areas, PeripheralBytes}
 use Rattle.plc_mem.specs.BitPlace.{BitPlace, Region, Inputs, Outputs, BitMemory, PeripheralInputs, PeripheralOutputs, DataBlock}
 use Rattle.plc_mem.specs.Bits.{bit_at, bit_in, bit_of, byte_at, peripheral_byte}
+use Rattle.plc_mem.specs.Fresh.{fresh}
 use Rattle.plc_mem.specs.Number.{number_at, EachBitExists, region_read, region_written, operand_bit}
 use Rattle.plc_mem.specs.Writing.{put, put_peripheral, put_in_block, written, written_in}
 use Rattle.plc_mem.proofs.Lawful.{reads_where_each_bit_exists}
 use Rattle.plc_mem.proofs.Runs.{PartPut, part_put, block_put, length-put, chained, mapped, in_low, in_high}
-use Rattle.machine.specs.Fitting.{SameParts, SameSizes, len_in}
+use Rattle.machine.specs.Code.{Code}
+use Rattle.machine.specs.Fitting.{IsMemoryOf, SameParts, SameSizes, len_in}
 
 pub same_parts : (p : PeripheralBytes) → SameParts p p
 same_parts p = record { low = refl; high = refl }
@@ -46,6 +48,12 @@ sizes_then m n o first second = record {
   peripheral_outputs =
       parts_then m.peripheral_outputs n.peripheral_outputs o.peripheral_outputs first.peripheral_outputs second.peripheral_outputs;
   data_blocks = λ number. second.data_blocks number ∙ first.data_blocks number;
+}
+
+pub memory_stays : (code : Code) (m n : Areas) → IsMemoryOf code m → SameSizes m n → IsMemoryOf code n
+memory_stays code m n is same = record {
+  profile = is.profile;
+  sizes = sizes_then (fresh is.profile code.blocks) m n is.sizes same;
 }
 
 -- ---- places

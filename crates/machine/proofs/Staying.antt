@@ -7,7 +7,6 @@ use Rattle.plc_base.specs.declared.Area.TheVariants as areas
 use Rattle.plc_base.specs.declared.blocks.BlockKind.{BlockKind}
 use Rattle.plc_base.specs.declared.blocks.BlockKind.TheVariants as kinds
 use Rattle.plc_mem.specs.Areas.{Areas}
-use Rattle.plc_mem.specs.Fresh.{fresh}
 use Rattle.frames.specs.Activations.{frames_of}
 use Rattle.frames.specs.declared.Activation.{Activation}
 use Rattle.frames.specs.declared.bindings.Binding.{Binding}
@@ -20,7 +19,7 @@ use Rattle.machine.specs.Code.{Code, Head}
 use Rattle.machine.specs.Fitting.{OpenCodes, ExistsIn, IsBound, AreBound, IsOpen, IsLong, HasInstance, FitsBlock, FrameFits, FramesFit, Fits, SameSizes}
 use Rattle.machine.specs.Flat.{code_of}
 use Rattle.machine.specs.Lasting.{FitsProgram}
-use Rattle.machine.proofs.Sizes.{sizes_then, numbers_there}
+use Rattle.machine.proofs.Sizes.{numbers_there, memory_stays}
 
 pub exists_still :
     (area : Area) (at : Bound) (below : List Frame) (m n : Areas) → SameSizes m n → ExistsIn area at below m
@@ -129,6 +128,6 @@ fits_still c brackets m n a same fits = record {
 pub program_fits_still :
     (p : Program) (m n : Areas) (a : Activation) → SameSizes m n → FitsProgram p m a → FitsProgram p n a
 program_fits_still p m n a same h = record {
-  memory = sizes_then (fresh (code_of p).blocks) m n h.memory same;
+  memory = memory_stays (code_of p) m n h.memory same;
   fits = fits_still (code_of p) _ m n a same h.fits;
 }

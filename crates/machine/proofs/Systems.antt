@@ -61,10 +61,10 @@ of_program : (p : Program) (m : Areas) → IsMemoryOf (code_of p) m → Written 
 unfolding fresh
 of_program p m is = record {
   outputs = record {
-    low = is.peripheral_outputs.low ∙ sym is.peripheral_inputs.low;
-    high = is.peripheral_outputs.high ∙ sym is.peripheral_inputs.high;
+    low = is.sizes.peripheral_outputs.low ∙ sym is.sizes.peripheral_inputs.low;
+    high = is.sizes.peripheral_outputs.high ∙ sym is.sizes.peripheral_inputs.high;
   };
-  image = record { image = is.outputs; outputs_low = is.peripheral_outputs.low };
+  image = record { image = is.sizes.outputs; outputs_low = is.sizes.peripheral_outputs.low };
 }
 
 both_parts :

@@ -32,7 +32,8 @@ abbrev pub di_of : (instance di : Option ℕ) → Option ℕ
 di_of None di = di
 di_of (Some instance) di = Some instance
 
--- the frame of the called block: it begins with the caller's data blocks and no open bracket
+-- the frame of the called block: it begins with the caller's data blocks, no open bracket, and its own
+-- relay, which is inactive
 abbrev pub fresh : Callee → List Binding → Frame → Frame
 fresh called bindings caller =
     record (frame_begun called.block called.local_len) {

@@ -8,6 +8,7 @@ use Rattle.plc_base.specs.declared.Area.TheVariants as areas
 use Rattle.plc_base.specs.declared.blocks.BlockKind.{BlockKind}
 use Rattle.plc_base.specs.declared.blocks.BlockKind.TheVariants as kinds
 use Rattle.plc_base.specs.declared.BlockId.{BlockId}
+use Rattle.plc_base.specs.declared.Profile.{Profile}
 use Rattle.plc_base.specs.declared.Width.{Width}
 use Rattle.plc_base.specs.declared.Width.TheVariants as widths
 use Rattle.plc_base.specs.Widths.{bit_count, byte_count}
@@ -156,6 +157,7 @@ pub record SameSizes (m n : Areas) : Type 0 where
   pub peripheral_outputs : SameParts m.peripheral_outputs n.peripheral_outputs
   pub data_blocks : (number : ℕ) → len_in n number ≡ len_in m number
 
--- a memory of a program: its areas, and the program's data blocks with their lengths
-abbrev pub IsMemoryOf : Code → Areas → Type 0
-IsMemoryOf code m = SameSizes (fresh code.blocks) m
+-- a memory of a program: the areas of some profile, and the program's data blocks with their lengths
+pub record IsMemoryOf (code : Code) (m : Areas) : Type 0 where
+  pub profile : Profile
+  pub sizes : SameSizes (fresh profile code.blocks) m

@@ -5,7 +5,7 @@ ghost use Rattle.machine.specs.Entering.{at_block as at_block_of, di_of as di_of
 
 use crate::copies::params_in;
 use flat_code::Param;
-use frames::{Activation, Bindings, Frame, FrameFault};
+use frames::{Activation, Bindings, Frame, FrameFault, Relay};
 use plc_base::BlockId;
 use plc_mem::Memory;
 use status_word::{Brackets, Regs};
@@ -63,13 +63,14 @@ fn begin(called: &Callee<'_>, bindings: &Bindings, frame: &mut Frame)
     frame.di = di_of(called.instance, frame.di);
     frame.instance = called.instance;
     frame.brackets = Brackets::new();
+    frame.relay = Relay::off();
     frame.bindings.copy_from(bindings);
 }
 
 // The caller goes on behind the call, and the called block runs; it has room.
 fn enter(called: &Callee<'_>, bindings: &Bindings, next: u32, a: &mut Activation)
     requires depth { length a.old.running.locals.starts ≡ length (frames_of a.old) }
-    requires few { length (frames_of a.old) < 16 }
+    requires few { length (frames_of a.old) < 24 }
     requires room { refused called.now.local_len a.old ≡ None }
     ensures { a.new ≡ entered (fresh_of called.now bindings.now a.old.running.frame)
         (caller_at next a.old) }

@@ -2,6 +2,7 @@
 ghost use Rattle.std.specs.Prelude.{◌≡◌, ◌≤◌, ◌<◌, ℕ, true, Some, IsSome};
 ghost use Rattle.plc_base.specs.declared.blocks.BlockKind.TheVariants as kinds;
 ghost use Rattle.plc_base.specs.declared.places.Place.{Place};
+ghost use Rattle.plc_base.specs.declared.profiles.Profile.{Profile};
 ghost use Rattle.plc_base.specs.declared.places.Width.{Width};
 ghost use Rattle.plc_mem.specs.Areas.{Areas};
 ghost use Rattle.plc_mem.specs.Fresh.{fresh};
@@ -80,14 +81,14 @@ pub fn what_fits_stays()
 /// Of a program that verifies an organization block begins with an activation that fits, and has
 /// room for its start information in its first 20 local bytes.
 pub fn blocks_begin()
-    ensures fits { (p : Program) (m : Areas) (class ob : ℕ) (h : Head)
+    ensures fits { (f : Profile) (p : Program) (m : Areas) (class ob : ℕ) (h : Head)
         → Verifies p → IsMemoryOf (code_of p) m → (code_of p).head (ob_block ob) ≡ Some h
-        → FitsProgram p m (begun class ob (first_frame ob h.local_len)) }
+        → FitsProgram p m (begun f class ob (first_frame ob h.local_len)) }
     ensures room { (p : Program) (ob : ℕ) (h : Head)
         → Verifies p → (code_of p).head (ob_block ob) ≡ Some h → h.local_len ≤ 1024 }
-    ensures start { (p : Program) (class ob byte value : ℕ) (h : Head)
+    ensures start { (f : Profile) (p : Program) (class ob byte value : ℕ) (h : Head)
         → Verifies p → (code_of p).head (ob_block ob) ≡ Some h → byte < 20
-        → IsSome (with_local_byte 0 byte value (begun class ob (first_frame ob h.local_len))) }
+        → IsSome (with_local_byte 0 byte value (begun f class ob (first_frame ob h.local_len))) }
 {
     what_verifying_gives();
 }
@@ -113,7 +114,8 @@ pub fn results_fit()
 
 /// Memory begins as one of the program, and no call of it changes a size.
 pub fn memory_is_kept()
-    ensures begins { (p : Program) → IsMemoryOf (code_of p) (fresh (code_of p).blocks) }
+    ensures begins { (f : Profile) (p : Program)
+        → IsMemoryOf (code_of p) (fresh f (code_of p).blocks) }
     ensures writes { (m n : Areas) (place : Place) (width : Width) (value : ℕ)
         → written m place width value ≡ Some n → SameSizes m n }
     ensures inputs { (m n : Areas) (byte value : ℕ)
