@@ -1,5 +1,6 @@
 -- Nothing changes the count of entries but that an entry is counted.
 use Rattle.std.proofs.Common.{◌≡◌, ℕ, ◌+◌, Bool, true, false, List, [], ◌∷◌, length, Option, Some, None, refl, ◌∙◌, arith, if◌then◌else◌}
+use Rattle.plc_base.specs.StopCauses as causes
 use Rattle.plc_base.specs.declared.Spot.{Spot}
 use Rattle.frames.specs.declared.Activation.{Activation}
 use Rattle.frames.specs.declared.bindings.Binding.{Binding}
@@ -16,7 +17,7 @@ use Rattle.var_access.specs.declared.What.{What}
 use Rattle.var_access.specs.declared.What.TheVariants as what
 use Rattle.controller.specs.Beginning.{ob_in, begun_above}
 use Rattle.controller.specs.CyclePoint.{cycle_point, cycle_info, cycle_passed}
-use Rattle.controller.specs.Errors.{failed, error_answered, error_in, is_synchronous, cause_inside}
+use Rattle.controller.specs.Errors.{failed, error_answered, error_in, is_synchronous}
 use Rattle.controller.specs.Event.{counted, effect, state_after}
 use Rattle.controller.specs.Replay.{happens, run_from, replay, CountsEntries, CountsHistory}
 use Rattle.controller.specs.Requests.{stopped_if, course_taken, arrived}
@@ -74,7 +75,7 @@ failed_counts : (code : Code) (error : ℕ) (at : Option Spot) (a : Activation)
     (below : List Activation) (s : State) → (failed code error at a below s).entries ≡ s.entries
 unfolding failed
 failed_counts code error at a below s =
-    if_counts (is_synchronous a.ob) (halted_at at cause_inside (diagnosed 4 error s))
+    if_counts (is_synchronous a.ob) (halted_at at causes.in_error_ob (diagnosed 4 error s))
     (error_answered (error_in code error at a) error at a below (diagnosed 4 error s))
     s.entries refl
     (answered_counts (error_in code error at a) error at a below (diagnosed 4 error s))

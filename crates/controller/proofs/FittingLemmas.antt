@@ -3,6 +3,7 @@ use Rattle.std.proofs.Common.{◌≡◌, ℕ, ◌+◌, ◌≤◌, Bool, true, fa
 use Rattle.std.specs.Prelude.{◌==◌, not, nat_le, ◌&&◌, ◌-◌, min, is_some, unwrap_or, length, replicate, take}
 use Rattle.std.specs.Option.{option_map}
 use Rattle.std.proofs.lemmas.List.{length-take, length-replicate}
+use Rattle.plc_base.specs.StopCauses as causes
 use Rattle.plc_base.specs.declared.Mode.{Mode}
 use Rattle.plc_base.specs.declared.Mode.TheVariants.{Run, Startup, Stop}
 use Rattle.plc_base.specs.declared.Spot.{Spot}
@@ -39,7 +40,7 @@ use Rattle.var_access.specs.declared.What.TheVariants as what
 use Rattle.controller.specs.Beginning.{ob_block, ob_frame, told_from, ob_begun, ob_in, begun_above}
 use Rattle.controller.specs.CyclePoint.{cycle_point, cycle_passed, cycle_info}
 use Rattle.var_access.specs.Entry.{IsInRange}
-use Rattle.controller.specs.Errors.{is_synchronous, cause_inside, cause_without, failure, copied_from, error_in, error_answered, failed}
+use Rattle.controller.specs.Errors.{is_synchronous, cause_without, failure, copied_from, error_in, error_answered, failed}
 use Rattle.controller.specs.Event.{counted, effect, state_after}
 use Rattle.controller.specs.Fitting.{AllFit, AreInRange, EntriesKeepFit, FitIsReady, HistoriesAreFit, IsFit, IsSchedule, RestartKeepsFit, StartIsFit}
 use Rattle.controller.specs.MachineLaws.{MachineLaws}
@@ -242,9 +243,9 @@ failed_fits l p error at a below s verifies all standing fit = by (is_synchronou
     recorded = diagnosed_fit p 4 error s fit
 
     by : (test : Bool) → is_synchronous a.ob ≡ test
-        → IsFit p (if test then halted_at at cause_inside (diagnosed 4 error s)
+        → IsFit p (if test then halted_at at causes.in_error_ob (diagnosed 4 error s)
         else error_answered (error_in (code_of p) error at a) error at a below (diagnosed 4 error s))
-    by true is = halts l p at cause_inside (diagnosed 4 error s) recorded
+    by true is = halts l p at causes.in_error_ob (diagnosed 4 error s) recorded
     by false is =
         answers l p (error_in (code_of p) error at a) error at a below (diagnosed 4 error s) is
         (copied_fits l p s.world.memory a _

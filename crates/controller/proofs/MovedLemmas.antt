@@ -1,6 +1,7 @@
 -- Entries do the same at other positions.
 use Rattle.std.proofs.Common.{◌≡◌, ℕ, zero, suc, ◌+◌, Bool, true, false, if◌then◌else◌, ◌==◌, ◌&&◌, not, nat_le, ◌-◌, List, [], ◌∷◌, ◌++◌, length, map, reverse, filter, Option, Some, None, is_some, option_map, unwrap_or, refl, sym, ap, ◌∙◌}
 use Rattle.std.proofs.lemmas.List.{reverse-append}
+use Rattle.plc_base.specs.StopCauses as causes
 use Rattle.plc_base.specs.declared.BlockId.{BlockId}
 use Rattle.plc_base.specs.declared.Spot.{Spot}
 use Rattle.plc_base.specs.declared.modes.Mode.{Mode}
@@ -30,7 +31,7 @@ use Rattle.var_access.specs.declared.What.{What}
 use Rattle.var_access.specs.declared.What.TheVariants as what
 use Rattle.controller.specs.Beginning.{ob_block, ob_frame, told_from, ob_begun, ob_in, begun_above}
 use Rattle.controller.specs.CyclePoint.{cycle_point, cycle_info, cycle_passed}
-use Rattle.controller.specs.Errors.{copied_from, error_in, error_answered, failed, failure, is_synchronous, cause_inside}
+use Rattle.controller.specs.Errors.{copied_from, error_in, error_answered, failed, failure, is_synchronous}
 use Rattle.controller.specs.Event.{counted, effect, state_after}
 use Rattle.controller.specs.Moved.{moved_state, moved_happened, EntriesMove, HistoriesMove}
 use Rattle.controller.specs.Replay.{happens, run_from, replay, happened_to}
@@ -287,7 +288,7 @@ failed_moves :
     → failed d error at (moved f a) (map (moved f) below) (moved_state f s) ≡ moved_state f (failed c error at a below s)
 unfolding failed
 failed_moves f c d error at a below s follows =
-    either (moved_state f) (is_synchronous a.ob) (halted_at at cause_inside (diagnosed 4 error s)) _
+    either (moved_state f) (is_synchronous a.ob) (halted_at at causes.in_error_ob (diagnosed 4 error s)) _
     (error_answered (error_in c error at a) error at a below (diagnosed 4 error s)) _ refl
     (ap (λ (o : Option Activation). error_answered o error at (moved f a) (map (moved f) below) (moved_state f (diagnosed 4 error s)))
     (error_moves f c d error at a follows)

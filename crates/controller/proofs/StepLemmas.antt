@@ -2,6 +2,7 @@
 use Rattle.std.proofs.Common.{◌≡◌, ℕ, Bool, true, false, List, [], ◌∷◌, Option, Some, None, IsTrue, refl, sym, ap, ◌∙◌, subst, arith, if◌then◌else◌}
 use Rattle.std.specs.Prelude.{◌==◌}
 use Rattle.std.proofs.lemmas.Bool.Decides.{nat_tests}
+use Rattle.plc_base.specs.StopCauses as causes
 use Rattle.plc_base.specs.declared.Mode.{Mode}
 use Rattle.plc_base.specs.declared.Mode.TheVariants.{Run, Startup, Stop}
 use Rattle.plc_base.specs.declared.Spot.{Spot}
@@ -13,7 +14,7 @@ use Rattle.machine.specs.declared.outcomes.Outcome.{Outcome}
 use Rattle.machine.specs.declared.outcomes.Outcome.TheVariants as outcome
 use Rattle.ob_sched.specs.OrganizationBlock.{can_wait, is_error}
 use Rattle.controller.specs.CyclePoint.{cycle_point}
-use Rattle.controller.specs.Errors.{failed, error_answered, error_in, is_synchronous, cause_inside}
+use Rattle.controller.specs.Errors.{failed, error_answered, error_in, is_synchronous}
 use Rattle.controller.specs.Leaves.{Steps, StepsTo, stand_of, mode_after, finished}
 use Rattle.controller.specs.Ready.{HasStatement, IsReady}
 use Rattle.controller.specs.Serving.{Served, Returns, Passes, Stops as Halts, after_service, served}
@@ -58,9 +59,9 @@ answered_from (Some fresh) error at a below acts s = refl
 
 failed_by : (test : Bool) (code : Code) (error : ℕ) (at : Option Spot) (a : Activation)
     (below acts : List Activation) (s : State)
-    → (if test then halted_at at cause_inside (diagnosed 4 error s)
+    → (if test then halted_at at causes.in_error_ob (diagnosed 4 error s)
     else error_answered (error_in code error at a) error at a below (diagnosed 4 error s))
-    ≡ (if test then halted_at at cause_inside (diagnosed 4 error (record s { activations = acts }))
+    ≡ (if test then halted_at at causes.in_error_ob (diagnosed 4 error (record s { activations = acts }))
     else error_answered (error_in code error at a) error at a below
     (diagnosed 4 error (record s { activations = acts })))
 failed_by true code error at a below acts s = refl

@@ -1,9 +1,10 @@
 -- Synchronous errors.
 use Rattle.std.specs.Prelude.{ℕ, ◌==◌, Bool, ◌||◌, List, ◌∷◌, Option, Some, None, if◌then◌else◌}
 use Rattle.std.specs.Option.{option_map}
+use Rattle.plc_base.specs.Kinds.{kind_number}
+use Rattle.plc_base.specs.StopCauses as causes
 use Rattle.plc_base.specs.declared.Spot.{Spot}
 use Rattle.frames.specs.declared.Activation.{Activation}
-use Rattle.flat_code.specs.Image.{number_of_kind}
 use Rattle.machine.specs.Code.{Code}
 use Rattle.machine.specs.Entering.{at_block}
 use Rattle.ob_sched.specs.StartInformation.{ob_of_error, start_info}
@@ -17,19 +18,15 @@ use Rattle.controller.specs.Stopping.{halted_at}
 abbrev pub is_synchronous : ℕ → Bool
 is_synchronous ob = ob == 121 || ob == 122
 
--- the stop cause where the OB of the error isn't loaded: 3 for OB 121, 4 for OB 122
+-- the stop cause where the OB of the error isn't loaded
 abbrev pub cause_without : (ob : ℕ) → ℕ
-cause_without ob = if ob == 122 then 4 else 3
-
--- the stop cause of an error in an activation of OB 121 or OB 122
-abbrev pub cause_inside : ℕ
-cause_inside = 5
+cause_without ob = if ob == 122 then causes.no_ob_122 else causes.no_ob_121
 
 -- a synchronous error with its code, the kind and number of the block that failed, and the line of
 -- its statement; these three are 0 where no spot is known
 abbrev pub failure : (error : ℕ) → Option Spot → StartEvent
 failure error None = Synchronous error 0 0 0
-failure error (Some at) = Synchronous error (number_of_kind at.block.kind) at.block.number at.line
+failure error (Some at) = Synchronous error (kind_number at.block.kind) at.block.number at.line
 
 -- an organization block of a synchronous error begins with copies of the registers, but with OS 0, OR 0,
 -- STA 1 and /FC 0, and with the delay count of the activation in which the error came
@@ -60,5 +57,5 @@ unfoldable pub failed :
     Code → (error : ℕ) → (at : Option Spot) → (a : Activation) (below : List Activation)
     → State → State
 failed code error at a below s =
-    if is_synchronous a.ob then halted_at at cause_inside (diagnosed 4 error s)
+    if is_synchronous a.ob then halted_at at causes.in_error_ob (diagnosed 4 error s)
     else error_answered (error_in code error at a) error at a below (diagnosed 4 error s)

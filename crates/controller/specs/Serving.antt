@@ -1,5 +1,6 @@
 -- Calls of system functions, which do their work in the same statement.
 use Rattle.std.specs.Prelude.{ℕ, ◌==◌, List, ◌∷◌, slice_index_or, Option, Some, None, if◌then◌else◌}
+use Rattle.plc_base.specs.StopCauses as causes
 use Rattle.plc_base.specs.declared.Spot.{Spot}
 use Rattle.plc_mem.specs.Areas.{Areas}
 use Rattle.frames.specs.declared.Activation.{Activation}
@@ -37,7 +38,7 @@ served number inputs s a =
     else if number == 41 then Returns (dis_airt s a)
     else if number == 42 then Returns (en_airt s a)
     else if number == 43 then Passes (retriggered s) (passed a)
-    else if number == 46 then Stops 1
+    else if number == 46 then Stops causes.by_program
     else Returns (time_tck s a)
 
 -- RET_VAL goes where it is bound; where it isn't, nothing changes

@@ -7,23 +7,13 @@ ghost use Rattle.ob_sched.specs.StartInformation.{IsEvent, ob_of, ob_of_error};
 ghost use Rattle.controller.specs.Leaves.{error_left};
 ghost use Rattle.controller.specs.Stack.{IsStanding};
 ghost use Rattle.controller.specs.Views.{state_of};
-ghost use Rattle.flat_code.specs.Image.{number_of_kind};
 
 use crate::activations::Stand;
 use crate::cpus::Cpu;
 use crate::spots::spot_at;
 use image_file::Loaded;
 use ob_sched::StartEvent;
-use plc_base::{BlockKind, Spot};
-
-/// Stop cause: no OB 121.
-const NO_OB_121: u8 = 3;
-
-/// Stop cause: no OB 122.
-const NO_OB_122: u8 = 4;
-
-/// Stop cause: a synchronous error in OB 121 or 122.
-const ERROR_INSIDE: u8 = 5;
+use plc_base::{Spot, stop_causes};
 
 /// Record of diagnostics: a synchronous error, with its code.
 const SYNCHRONOUS_ERROR: u16 = 4;
@@ -37,19 +27,10 @@ fn is_synchronous(ob: u16) -> bool
 fn cause_without(ob: u16) -> u8
     ensures { result ≡ cause_of_missing ob }
 {
-    if ob == 122 { NO_OB_122 } else { NO_OB_121 }
-}
-
-// The number of a block's kind in the start information.
-fn kind_number(kind: BlockKind) -> u8
-    ensures { result ≡ number_of_kind kind }
-{
-    match kind {
-        BlockKind::Ob => 1,
-        BlockKind::Fc => 2,
-        BlockKind::Fb => 3,
-        BlockKind::Sfc => 5,
-        _ => 0,
+    if ob == 122 {
+        stop_causes::NO_OB_122
+    } else {
+        stop_causes::NO_OB_121
     }
 }
 
@@ -68,7 +49,7 @@ pub(crate) fn failure(code: u8, at: Option<Spot>) -> StartEvent
         },
         Some(at) => StartEvent::Synchronous {
             code,
-            kind: kind_number(at.block.kind),
+            kind: at.block.kind.number(),
             number: at.block.number,
             line: at.line,
         },
@@ -94,7 +75,7 @@ impl Cpu {
         let at = spot_at(program, stand.block, stand.at);
         self.diagnose(SYNCHRONOUS_ERROR, u16::from(code));
         if is_inside {
-            self.halt_at(at, ERROR_INSIDE);
+            self.halt_at(at, stop_causes::IN_ERROR_OB);
         } else if !self.activations.begin_error(program, code, at) {
             self.halt_at(at, cause_without(failure(code, at).ob()));
         }

@@ -1,5 +1,6 @@
 -- CALL: what each parameter of the called block stands for, fixed when it is called.
 use Rattle.std.specs.Prelude.{ℕ, ◌==◌, List, [], ◌∷◌, length, replicate, slice_get, Option, Some, None, Result, Ok, Err, if◌then◌else◌}
+use Rattle.plc_base.specs.ErrorCodes as errors
 use Rattle.plc_base.specs.declared.Area.TheVariants as areas
 use Rattle.plc_mem.specs.Areas.{Areas}
 use Rattle.frames.specs.Bound.{set_at}
@@ -44,7 +45,7 @@ bound_actual access (passed.Parameter index width) s m =
     passed_on (slice_get s.inner.bindings index)
 bound_actual access (passed.InBlock number area width byte bit) s m =
     if is_loaded number m then bound_place access (bound_at areas.Db number byte bit width 0) s m
-    else Err 0x3A
+    else Err errors.no_data_block
 
 -- for a parameter of the called block; one that it lacks is passed in no program that is loaded
 abbrev pub bound_for : Option Param → Passed → Own → Areas → Result Binding ℕ

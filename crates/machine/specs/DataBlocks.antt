@@ -2,6 +2,7 @@
 -- Siemens, Statement List (STL): Data Block Instructions.
 use Rattle.std.specs.Prelude.{ℕ, ◌==◌, ◌%◌, ◌^◌, Bool, is_some, length, List, Option, Some, None, unwrap_or, Result, Ok, Err, if◌then◌else◌}
 use Rattle.std.specs.FinMap as map
+use Rattle.plc_base.specs.ErrorCodes as errors
 use Rattle.plc_base.specs.declared.Width.TheVariants as widths
 use Rattle.plc_mem.specs.Areas.{Areas}
 use Rattle.status_word.specs.declared.Regs.{Regs}
@@ -24,7 +25,7 @@ opened register number s =
 
 -- 3A: the data block isn't loaded
 abbrev pub opened_if : Bool → (register number : ℕ) → Own → Result Own ℕ
-opened_if loaded register number s = if loaded then Ok (opened register number s) else Err 0x3A
+opened_if loaded register number s = if loaded then Ok (opened register number s) else Err errors.no_data_block
 
 -- OPN of a number, or of the number in a word of memory
 unfoldable pub opening : Operand → Own → Areas → Result Own ℕ

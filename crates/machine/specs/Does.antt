@@ -1,5 +1,6 @@
 -- What an instruction does that touches no position, by its word and its operand.
 use Rattle.std.specs.Prelude.{ℕ, true, false, List, Option, Some, None, if◌then◌else◌, Result, Ok, Err}
+use Rattle.plc_base.specs.ErrorCodes as errors
 use Rattle.status_word.specs.declared.Regs.{Regs}
 use Rattle.status_word.specs.BareOr.{or_bare}
 use Rattle.status_word.specs.SetClear.{set, clr, negated, saved}
@@ -124,4 +125,4 @@ with_db number p = record p { own = opened 1 number p.own }
 unfoldable pub does_with : Option ℕ → Word → Operand → Parts → Result Parts ℕ
 does_with None w o p = does w o p
 does_with (Some number) w o p =
-    if is_loaded number p.memory then does w o (with_db number p) else Err 0x3A
+    if is_loaded number p.memory then does w o (with_db number p) else Err errors.no_data_block

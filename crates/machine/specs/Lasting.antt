@@ -1,5 +1,7 @@
 -- What comes of a statement of an activation that fits: it fits again, whatever the statement does.
 use Rattle.std.specs.Prelude.{◌≡◌, ◌⊎◌, ℕ, ◌<◌, ◌^◌, ◌==◌, nat_le, Bool, true, false, ◌&&◌, ◌||◌, if◌then◌else◌, List, [], ◌∷◌, length, Option, Some, None, IsSome}
+use Rattle.plc_base.specs.ErrorCodes as errors
+use Rattle.plc_base.specs.StopCauses as causes
 use Rattle.plc_base.specs.declared.BlockId.{BlockId}
 use Rattle.plc_base.specs.declared.blocks.BlockKind.TheVariants as kinds
 use Rattle.plc_base.specs.declared.Width.{Width}
@@ -75,7 +77,9 @@ TakesInputs (Some params) inputs = FitWidths (input_widths params) inputs
 
 -- the codes of synchronous errors: 21 to 3A (OB 121), 42 and 43 (OB 122)
 abbrev pub is_error_code : (code : ℕ) → Bool
-is_error_code code = nat_le 0x21 code && nat_le code 0x3A || nat_le 0x42 code && nat_le code 0x43
+is_error_code code =
+    nat_le errors.bad_bcd code && nat_le code errors.no_data_block
+    || nat_le errors.no_peripheral code && nat_le code errors.no_peripheral_to_write
 
 -- what comes of a statement of an activation that fits: it fits again
 abbrev pub Lasts : Program → World → Step → Type 0
@@ -85,7 +89,7 @@ Lasts p w (SyncError code a) = (is_error_code code ≡ true) × FitsProgram p w.
 Lasts p w (SysCall number given a) =
     TakesInputs (system_function number) given.inputs × TakesResult given.result a w.memory
     × FitsProgram p w.memory a
-Lasts p w (Stop cause) = (cause ≡ 6) ⊎ (cause ≡ 7)
+Lasts p w (Stop cause) = (cause ≡ causes.block_depth) ⊎ (cause ≡ causes.local_data)
 Lasts p w Stuck = ⊥
 
 -- the same of what a call of a statement answers and leaves
@@ -95,7 +99,8 @@ Leaves p m a outcome.Ended = IsMemoryOf (code_of p) m
 Leaves p m a (outcome.SyncError code) = (is_error_code code ≡ true) × FitsProgram p m a
 Leaves p m a (outcome.SysCall number inputs result) =
     TakesInputs (system_function number) inputs × TakesResult result a m × FitsProgram p m a
-Leaves p m a (outcome.Stop cause) = ((cause ≡ 6) ⊎ (cause ≡ 7)) × FitsProgram p m a
+Leaves p m a (outcome.Stop cause) =
+    ((cause ≡ causes.block_depth) ⊎ (cause ≡ causes.local_data)) × FitsProgram p m a
 
 -- what a call leaves. No area and no data block becomes longer or shorter, so activations that wait
 -- fit as before

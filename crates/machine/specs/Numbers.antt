@@ -1,6 +1,7 @@
 -- Instructions on the accumulators: accumulator and number instructions, additions of constants,
 -- comparisons, word logic, shifts. The definitions of what they compute stand in alu.
 use Rattle.std.specs.Prelude.{ℕ, ◌%◌, ◌^◌, Option, Some, None, Result, Ok, ok_or}
+use Rattle.plc_base.specs.ErrorCodes as errors
 use Rattle.status_word.specs.declared.Regs.{Regs}
 use Rattle.flat_code.specs.declared.operands.Operand.{Operand}
 use Rattle.flat_code.specs.declared.operands.Operand.TheVariants as operand
@@ -23,7 +24,7 @@ use Rattle.alu.specs.Rotations.{rotated_left, rotated_right, rotated_left_throug
 
 -- 21: a digit or the sign isn't one of BCD
 abbrev pub from_bcd : Option Regs → Result Regs ℕ
-from_bcd found = ok_or found 0x21
+from_bcd found = ok_or found errors.bad_bcd
 
 -- instructions without operand
 unfoldable pub counted : Number → Regs → Result Regs ℕ

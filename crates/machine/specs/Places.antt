@@ -6,6 +6,7 @@ use Rattle.plc_base.specs.declared.Area.TheVariants as areas
 use Rattle.plc_base.specs.declared.Width.{Width}
 use Rattle.plc_base.specs.declared.Width.TheVariants as widths
 use Rattle.plc_base.specs.declared.Place.{Place}
+use Rattle.plc_base.specs.ErrorCodes as errors
 use Rattle.plc_base.specs.Pointer.{place_of}
 use Rattle.plc_mem.specs.Areas.{Areas}
 use Rattle.plc_mem.specs.Number.{number_at}
@@ -43,15 +44,15 @@ in_register None error byte bit width = Err error
 
 -- a place of an area: 32 where no DB is open, 33 where no DI is
 unfoldable pub in_area : Area → (byte bit : ℕ) → Width → Own → Result Bound ℕ
-in_area areas.Db byte bit width s = in_register s.inner.db 0x32 byte bit width
-in_area areas.Di byte bit width s = in_register s.inner.di 0x33 byte bit width
+in_area areas.Db byte bit width s = in_register s.inner.db errors.no_db_open byte bit width
+in_area areas.Di byte bit width s = in_register s.inner.di errors.no_di_open byte bit width
 in_area areas.L byte bit width s = Ok (bound_at areas.L 0 byte bit width (innermost s))
 in_area area byte bit width s = Ok (bound_at area 0 byte bit width 0)
 
 -- a place that doesn't exist: 22 reading, 23 writing; in the peripheral area 42 and 43
 abbrev pub absent : Access → Area → ℕ
-absent access areas.P = error_of access 0x42
-absent access _ = error_of access 0x22
+absent access areas.P = error_of access errors.no_peripheral
+absent access _ = error_of access errors.no_place
 
 -- L: local bytes, which belong to a frame and are no part of memory
 abbrev pub is_local : Area → Bool
@@ -94,7 +95,7 @@ at_pointer area width n s = in_area area (n / 2 ^ 3 % 2 ^ 16) (n % 2 ^ 3) width 
 -- the place of a pointer within an area: 28 and 29 where it isn't aligned
 unfoldable pub by_pointer : Access → Area → Width → ℕ → Own → Result Bound ℕ
 by_pointer access area width n s =
-    if is_aligned width n then at_pointer area width n s else Err (error_of access 0x28)
+    if is_aligned width n then at_pointer area width n s else Err (error_of access errors.unaligned)
 
 -- P: read as peripheral inputs, written as peripheral outputs
 abbrev pub is_peripheral : Area → Bool
@@ -104,12 +105,12 @@ is_peripheral _ = false
 -- a place of an area that is named: 24 and 25 for a bit in the peripheral area
 abbrev pub placed : Access → Area → (byte bit : ℕ) → Width → Own → Result Bound ℕ
 placed access area byte bit width s =
-    if is_peripheral area && is_bit width then Err (error_of access 0x24)
+    if is_peripheral area && is_bit width then Err (error_of access errors.bad_area)
     else in_area area byte bit width s
 
 -- 24 and 25, too, where the pointer names no area
 abbrev pub in_named : Access → Option Place → Width → ℕ → Own → Result Bound ℕ
-in_named access None width n s = Err (error_of access 0x24)
+in_named access None width n s = Err (error_of access errors.bad_area)
 in_named access (Some named) width n s =
     placed access named.area (n / 2 ^ 3 % 2 ^ 16) (n % 2 ^ 3) width s
 
@@ -117,7 +118,7 @@ in_named access (Some named) width n s =
 unfoldable pub by_crossing : Access → Width → (address n : ℕ) → Own → Result Bound ℕ
 by_crossing access width address n s =
     if is_aligned width n then in_named access (place_of address) width n s
-    else Err (error_of access 0x28)
+    else Err (error_of access errors.unaligned)
 
 -- what address register 1 or 2 holds
 abbrev pub address : ℕ → Own → ℕ

@@ -1,5 +1,6 @@
 -- One statement of an activation: what comes of it. This is the only place where positions move.
 use Rattle.std.specs.Prelude.{◌≡◌, ℕ, Bool, true, false, List, Option, Some, None, Result, Ok, Err, if◌then◌else◌}
+use Rattle.plc_base.specs.StopCauses as causes
 use Rattle.plc_base.specs.declared.blocks.BlockKind.{BlockKind}
 use Rattle.plc_base.specs.declared.blocks.BlockKind.TheVariants as kinds
 use Rattle.plc_base.specs.declared.BlockId.{BlockId}
@@ -48,10 +49,10 @@ pub data Step : Type 0 where
   -- a block, position or parameter is missing: never in a program that verifies
   Stuck : Step
 
--- causes of STOP: 6 block depth, 7 local data
+-- causes of STOP: block depth, local data
 abbrev pub cause_of : FrameFault → ℕ
-cause_of Depth = 6
-cause_of LocalFull = 7
+cause_of Depth = causes.block_depth
+cause_of LocalFull = causes.local_data
 
 -- the running block goes on at a position, its registers as they are
 abbrev pub moved_on : (at : ℕ) → Activation → Activation

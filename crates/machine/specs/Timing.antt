@@ -1,6 +1,7 @@
 -- Timers and counters: SP SE SD SS SF, CU, CD, S of a counter, R and FR of both.
 -- Siemens, Statement List (STL): Timer Instructions, Counter Instructions.
 use Rattle.std.specs.Prelude.{◌≡◌, ℕ, ◌%◌, ◌^◌, false, List, Result, Ok, Err}
+use Rattle.plc_base.specs.ErrorCodes as errors
 use Rattle.plc_base.specs.declared.TimerKind.{TimerKind}
 use Rattle.plc_mem.specs.Areas.{Areas}
 use Rattle.status_word.specs.declared.Regs.{Regs}
@@ -25,49 +26,49 @@ word_of s = s.regs.a1 % 2 ^ 16
 unfoldable pub starting : TimerKind → Operand → Own → Areas → List Timer → Result (List Timer) ℕ
 starting how o s m t =
     then_ok (number_named o s m) (λ number.
-    faulty 0x26 (change (started how s.regs.status.rlo (word_of s)) t number))
+    faulty errors.no_timer (change (started how s.regs.status.rlo (word_of s)) t number))
 
 -- R of a timer
 unfoldable pub timer_reset : Operand → Own → Areas → List Timer → Result (List Timer) ℕ
 timer_reset o s m t =
     then_ok (number_named o s m) (λ number.
-    faulty 0x26 (change_always (reset_timer s.regs.status.rlo) t number))
+    faulty errors.no_timer (change_always (reset_timer s.regs.status.rlo) t number))
 
 -- FR of a timer
 unfoldable pub timer_freed : Operand → Own → Areas → List Timer → Result (List Timer) ℕ
 timer_freed o s m t =
     then_ok (number_named o s m) (λ number.
-    faulty 0x26 (change_always (freed_timer s.regs.status.rlo) t number))
+    faulty errors.no_timer (change_always (freed_timer s.regs.status.rlo) t number))
 
 -- CU, and CD: the counters afterwards; 27 where there is none of the number
 unfoldable pub counting_up : Operand → Own → Areas → List Counter → Result (List Counter) ℕ
 counting_up o s m n =
     then_ok (number_named o s m) (λ number.
-    faulty 0x27 (change_always (counted_up s.regs.status.rlo) n number))
+    faulty errors.no_counter (change_always (counted_up s.regs.status.rlo) n number))
 
 -- CD takes one away on a rising RLO, 0 stays 0
 unfoldable pub counting_down : Operand → Own → Areas → List Counter → Result (List Counter) ℕ
 counting_down o s m n =
     then_ok (number_named o s m) (λ number.
-    faulty 0x27 (change_always (counted_down s.regs.status.rlo) n number))
+    faulty errors.no_counter (change_always (counted_down s.regs.status.rlo) n number))
 
 -- S of a counter: 21 for a bad digit
 unfoldable pub counter_set : Operand → Own → Areas → List Counter → Result (List Counter) ℕ
 counter_set o s m n =
     then_ok (number_named o s m) (λ number.
-    faulty 0x27 (change (set_to s.regs.status.rlo (word_of s)) n number))
+    faulty errors.no_counter (change (set_to s.regs.status.rlo (word_of s)) n number))
 
 -- R of a counter
 unfoldable pub counter_reset : Operand → Own → Areas → List Counter → Result (List Counter) ℕ
 counter_reset o s m n =
     then_ok (number_named o s m) (λ number.
-    faulty 0x27 (change_always (reset_counter s.regs.status.rlo) n number))
+    faulty errors.no_counter (change_always (reset_counter s.regs.status.rlo) n number))
 
 -- FR of a counter
 unfoldable pub counter_freed : Operand → Own → Areas → List Counter → Result (List Counter) ℕ
 counter_freed o s m n =
     then_ok (number_named o s m) (λ number.
-    faulty 0x27 (change_always (freed_counter s.regs.status.rlo) n number))
+    faulty errors.no_counter (change_always (freed_counter s.regs.status.rlo) n number))
 
 -- an effect on timers or counters: the logic string ends; after an error all is as it was
 abbrev pub Times :

@@ -1,6 +1,7 @@
 -- What an operand reads as, and what writing to a place makes of local bytes and memory.
 use Rattle.std.specs.Prelude.{ℕ, ◌==◌, Bool, List, slice_get, Option, Some, Result, Ok, Err, if◌then◌else◌, ok_or}
 use Rattle.std.specs.Option.{option_map}
+use Rattle.plc_base.specs.ErrorCodes as errors
 use Rattle.plc_base.specs.declared.Width.TheVariants as widths
 use Rattle.plc_mem.specs.Areas.{Areas}
 use Rattle.plc_mem.specs.Writing.{written}
@@ -40,7 +41,7 @@ number o s m = then_ok (located Reading o s m) (λ at. read at s m)
 abbrev pub faulty : {A : Type 0} → ℕ → Result A TimerFault → Result A ℕ
 faulty code (Ok x) = Ok x
 faulty code (Err NoNumber) = Err code
-faulty code (Err BadBcd) = Err 0x21
+faulty code (Err BadBcd) = Err errors.bad_bcd
 
 -- timers (kind 1) have the error 26, counters (kind 2) 27
 abbrev pub is_timer : ℕ → Bool
@@ -49,20 +50,20 @@ is_timer kind = kind == 1
 -- of a timer its output, of a counter whether its value is above 0
 unfoldable pub bit_of_numbered : (kind number : ℕ) → List Timer → List Counter → Result Bool ℕ
 bit_of_numbered kind number t n =
-    if is_timer kind then faulty 0x26 (reading (λ (timer : Timer). timer.output) t number)
-    else faulty 0x27 (reading is_counting n number)
+    if is_timer kind then faulty errors.no_timer (reading (λ (timer : Timer). timer.output) t number)
+    else faulty errors.no_counter (reading is_counting n number)
 
 -- of a timer the time left in units of its base, of a counter its value
 unfoldable pub value_of_numbered : (kind number : ℕ) → List Timer → List Counter → Result ℕ ℕ
 value_of_numbered kind number t n =
-    if is_timer kind then faulty 0x26 (reading units_left t number)
-    else faulty 0x27 (reading (λ (counter : Counter). counter.value) n number)
+    if is_timer kind then faulty errors.no_timer (reading units_left t number)
+    else faulty errors.no_counter (reading (λ (counter : Counter). counter.value) n number)
 
 -- the same in BCD
 unfoldable pub bcd_of_numbered : (kind number : ℕ) → List Timer → List Counter → Result ℕ ℕ
 bcd_of_numbered kind number t n =
-    if is_timer kind then faulty 0x26 (reading time_left t number)
-    else faulty 0x27 (reading count_bcd n number)
+    if is_timer kind then faulty errors.no_timer (reading time_left t number)
+    else faulty errors.no_counter (reading count_bcd n number)
 
 -- the number of a timer or counter: its own, or the word at a place
 unfoldable pub number_named : Operand → Own → Areas → Result ℕ ℕ

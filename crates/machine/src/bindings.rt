@@ -7,7 +7,7 @@ use crate::data_blocks::is_loaded;
 use crate::places::{Access, Bound, number_at, placed};
 use flat_code::{Param, Passed};
 use frames::{Binding, Bindings, Running};
-use plc_base::{Area, Place};
+use plc_base::{Area, Place, error_codes};
 use plc_mem::Memory;
 
 fn access_of(param: &Param) -> Access
@@ -67,7 +67,7 @@ fn bound_actual(access: Access, actual: Passed, s: &Running, m: &Memory) -> Resu
             ..
         } => {
             if !is_loaded(number, m) {
-                return Err(0x3A);
+                return Err(error_codes::NO_DATA_BLOCK);
             }
             let at = Bound {
                 place: Place {

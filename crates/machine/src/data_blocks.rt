@@ -9,6 +9,7 @@ use crate::loads::put_loaded;
 use crate::places::number_from;
 use flat_code::Operand;
 use frames::{Frame, Running};
+use plc_base::error_codes;
 use plc_mem::Memory;
 
 /// Whether a data block is loaded.
@@ -24,7 +25,7 @@ fn open_if_loaded(register: u8, number: u16, s: &mut Running, m: &Memory) -> Res
         s.old s.new result }
 {
     if !is_loaded(number, m) {
-        return Err(0x3A);
+        return Err(error_codes::NO_DATA_BLOCK);
     }
     if register == 1 {
         s.frame.db = Some(number);

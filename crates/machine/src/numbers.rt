@@ -4,6 +4,7 @@ ghost use Rattle.machine.specs.Outcomes.{Changes};
 ghost use Rattle.machine.specs.Numbers.{counted, constant, literal as literal_of, with_constant, combined, shifted};
 
 use flat_code::{Adding, Logic, Number, Operand, Shift};
+use plc_base::error_codes;
 use status_word::Regs;
 
 /// An instruction on the accumulators without operand.
@@ -71,7 +72,7 @@ pub(crate) fn number(what: Number, r: &mut Regs) -> Result<(), u8>
         }
         Number::Bti => match alu::bti(r) {
             Ok(()) => Ok(()),
-            Err(_) => Err(0x21),
+            Err(_) => Err(error_codes::BAD_BCD),
         },
         Number::Itb => {
             alu::itb(r);
@@ -79,7 +80,7 @@ pub(crate) fn number(what: Number, r: &mut Regs) -> Result<(), u8>
         }
         Number::Btd => match alu::btd(r) {
             Ok(()) => Ok(()),
-            Err(_) => Err(0x21),
+            Err(_) => Err(error_codes::BAD_BCD),
         },
         Number::Dtb => {
             alu::dtb(r);

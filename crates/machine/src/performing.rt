@@ -19,6 +19,7 @@ use crate::system_calls::{inputs_of, result_of};
 use crate::whole::does_with;
 use flat_code::{JumpWord, Operand, Param, Word};
 use frames::{Activation, Bindings, FrameFault};
+use plc_base::stop_causes;
 use plc_mem::Memory;
 use timers_counters::{Counters, Timers};
 
@@ -102,8 +103,8 @@ fn cause_of(fault: FrameFault) -> u8
     ensures { result ≡ cause_of_fault fault }
 {
     match fault {
-        FrameFault::Depth => 6,
-        FrameFault::LocalFull => 7,
+        FrameFault::Depth => stop_causes::BLOCK_DEPTH,
+        FrameFault::LocalFull => stop_causes::LOCAL_DATA,
     }
 }
 

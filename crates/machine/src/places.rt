@@ -6,7 +6,7 @@ ghost use Rattle.machine.specs.Places.{error_of, innermost as innermost_of, in_r
 
 use flat_code::Operand;
 use frames::{Binding, Locals, Running};
-use plc_base::{Area, Place, Width, place_of_pointer};
+use plc_base::{Area, Place, Width, error_codes, place_of_pointer};
 use plc_mem::Memory;
 
 /// Whether a place is to be read or written.
@@ -42,8 +42,8 @@ impl Access {
         ensures { result ≡ absent_of self area }
     {
         match area {
-            Area::P => self.error(0x42),
-            _ => self.error(0x22),
+            Area::P => self.error(error_codes::NO_PERIPHERAL),
+            _ => self.error(error_codes::NO_PLACE),
         }
     }
 }
@@ -95,8 +95,8 @@ pub(crate) fn in_area(
     ensures wide { IfOk result (λ at. at.width ≡ width) }
 {
     match area {
-        Area::Db => in_register(s.frame.db, 0x32, byte, bit, width),
-        Area::Di => in_register(s.frame.di, 0x33, byte, bit, width),
+        Area::Db => in_register(s.frame.db, error_codes::NO_DB_OPEN, byte, bit, width),
+        Area::Di => in_register(s.frame.di, error_codes::NO_DI_OPEN, byte, bit, width),
         Area::L => Ok(Bound {
             place: Place {
                 area,
@@ -133,7 +133,7 @@ pub(crate) fn placed(
     ensures { result ≡ placed_of access area byte bit width (own_of s.now) }
 {
     match (area, width) {
-        (Area::P, Width::Bit) => Err(access.error(0x24)),
+        (Area::P, Width::Bit) => Err(access.error(error_codes::BAD_AREA)),
         _ => in_area(area, byte, bit, width, s),
     }
 }
@@ -217,7 +217,7 @@ fn by_pointer(access: Access, area: Area, width: Width, n: u32, s: &Running) -> 
     ensures { result ≡ by_pointer_of access area width n (own_of s.now) }
 {
     if !is_aligned(width, n) {
-        return Err(access.error(0x28));
+        return Err(access.error(error_codes::UNALIGNED));
     }
     at_pointer(area, width, n, s)
 }
@@ -241,11 +241,11 @@ fn by_crossing(access: Access, width: Width, address: u32, n: u32, s: &Running) 
     ensures { result ≡ by_crossing_of access width address n (own_of s.now) }
 {
     if !is_aligned(width, n) {
-        return Err(access.error(0x28));
+        return Err(access.error(error_codes::UNALIGNED));
     }
     match place_of_pointer(address) {
         Ok(place) => in_named(access, place.area, width, n, s),
-        Err(_) => Err(access.error(0x24)),
+        Err(_) => Err(access.error(error_codes::BAD_AREA)),
     }
 }
 

@@ -6,7 +6,7 @@ ghost use Rattle.machine.specs.Timing.{word_of as word_of_own, string_ended, sta
 use crate::values::{fault_code, number_named};
 use flat_code::Operand;
 use frames::Running;
-use plc_base::TimerKind;
+use plc_base::{TimerKind, error_codes};
 use plc_mem::Memory;
 use status_word::Regs;
 use timers_counters::{Counters, Timers};
@@ -44,7 +44,7 @@ pub(crate) fn start(
             end_string(&mut s.regs);
             Ok(())
         }
-        Err(fault) => Err(fault_code(fault, 0x26)),
+        Err(fault) => Err(fault_code(fault, error_codes::NO_TIMER)),
     }
 }
 
@@ -65,7 +65,7 @@ pub(crate) fn reset_timer(
             end_string(&mut s.regs);
             Ok(())
         }
-        Err(fault) => Err(fault_code(fault, 0x26)),
+        Err(fault) => Err(fault_code(fault, error_codes::NO_TIMER)),
     }
 }
 
@@ -86,7 +86,7 @@ pub(crate) fn free_timer(
             end_string(&mut s.regs);
             Ok(())
         }
-        Err(fault) => Err(fault_code(fault, 0x26)),
+        Err(fault) => Err(fault_code(fault, error_codes::NO_TIMER)),
     }
 }
 
@@ -107,7 +107,7 @@ pub(crate) fn count_up(
             end_string(&mut s.regs);
             Ok(())
         }
-        Err(fault) => Err(fault_code(fault, 0x27)),
+        Err(fault) => Err(fault_code(fault, error_codes::NO_COUNTER)),
     }
 }
 
@@ -128,7 +128,7 @@ pub(crate) fn count_down(
             end_string(&mut s.regs);
             Ok(())
         }
-        Err(fault) => Err(fault_code(fault, 0x27)),
+        Err(fault) => Err(fault_code(fault, error_codes::NO_COUNTER)),
     }
 }
 
@@ -149,7 +149,7 @@ pub(crate) fn set_counter(
             end_string(&mut s.regs);
             Ok(())
         }
-        Err(fault) => Err(fault_code(fault, 0x27)),
+        Err(fault) => Err(fault_code(fault, error_codes::NO_COUNTER)),
     }
 }
 
@@ -170,7 +170,7 @@ pub(crate) fn reset_counter(
             end_string(&mut s.regs);
             Ok(())
         }
-        Err(fault) => Err(fault_code(fault, 0x27)),
+        Err(fault) => Err(fault_code(fault, error_codes::NO_COUNTER)),
     }
 }
 
@@ -191,6 +191,6 @@ pub(crate) fn free_counter(
             end_string(&mut s.regs);
             Ok(())
         }
-        Err(fault) => Err(fault_code(fault, 0x27)),
+        Err(fault) => Err(fault_code(fault, error_codes::NO_COUNTER)),
     }
 }

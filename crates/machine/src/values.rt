@@ -9,7 +9,7 @@ ghost use Rattle.machine.specs.Values.{number_of_binding as number_of_binding_of
 use crate::places::{Access, Bound, located, number_from, placed, read};
 use flat_code::{CONDITIONS, Operand};
 use frames::{Binding, Running};
-use plc_base::{Area, Flag, Width};
+use plc_base::{Area, Flag, Width, error_codes};
 use plc_mem::Memory;
 use timers_counters::{Counters, TimerFault, Timers};
 
@@ -76,7 +76,7 @@ pub(crate) fn fault_code(fault: TimerFault, code: u8) -> u8
 {
     match fault {
         TimerFault::NoNumber => code,
-        TimerFault::BadBcd => 0x21,
+        TimerFault::BadBcd => error_codes::BAD_BCD,
     }
 }
 
@@ -103,9 +103,9 @@ fn bit_of_numbered(kind: u8, number: u16, t: &Timers, n: &Counters) -> Result<bo
     ensures { result ≡ bit_of_numbered_of kind number t.now n.now }
 {
     if kind == 1 {
-        bit_or(t.output(number), 0x26)
+        bit_or(t.output(number), error_codes::NO_TIMER)
     } else {
-        bit_or(n.output(number), 0x27)
+        bit_or(n.output(number), error_codes::NO_COUNTER)
     }
 }
 
@@ -114,9 +114,9 @@ fn value_of_numbered(kind: u8, number: u16, t: &Timers, n: &Counters) -> Result<
     ensures { result ≡ value_of_numbered_of kind number t.now n.now }
 {
     if kind == 1 {
-        number_or(t.value(number), 0x26)
+        number_or(t.value(number), error_codes::NO_TIMER)
     } else {
-        number_or(n.value(number), 0x27)
+        number_or(n.value(number), error_codes::NO_COUNTER)
     }
 }
 
@@ -125,9 +125,9 @@ fn bcd_of_numbered(kind: u8, number: u16, t: &Timers, n: &Counters) -> Result<u3
     ensures { result ≡ bcd_of_numbered_of kind number t.now n.now }
 {
     if kind == 1 {
-        number_or(t.bcd(number), 0x26)
+        number_or(t.bcd(number), error_codes::NO_TIMER)
     } else {
-        number_or(n.bcd(number), 0x27)
+        number_or(n.bcd(number), error_codes::NO_COUNTER)
     }
 }
 

@@ -15,6 +15,7 @@ use crate::timing::{
 };
 use flat_code::{Operand, Word};
 use frames::Running;
+use plc_base::error_codes;
 use plc_mem::Memory;
 use timers_counters::{Counters, Timers};
 
@@ -227,7 +228,7 @@ pub(crate) fn does_with(
         None => does(word, operand, s, m, t, n),
         Some(number) => {
             if !is_loaded(number, m) {
-                return Err(0x3A);
+                return Err(error_codes::NO_DATA_BLOCK);
             }
             does_opened(number, word, operand, s, m, t, n)
         }

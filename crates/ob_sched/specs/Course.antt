@@ -1,5 +1,6 @@
 -- What requests lead to: records of diagnostics, error OBs and a stop cause.
 use Rattle.std.specs.Prelude.{ℕ, List, [], ◌∷◌, ◌++◌, Some, length, drop, nat_lt, if◌then◌else◌}
+use Rattle.plc_base.specs.StopCauses as causes
 use Rattle.plc_base.specs.declared.Mode.{Mode}
 use Rattle.ob_sched.specs.OrganizationBlock.{class_in, is_hardware}
 use Rattle.ob_sched.specs.Scheduler.{Scheduler, arrival, arrived}
@@ -52,13 +53,14 @@ error_requested mode ob cause event c =
     (record c { sched = arrived ob (start_info event (class_in mode ob)) c.sched })
 
 -- a time error is recorded by code 1 with the OB that it concerns, and requests OB 80; without OB 80
--- the stop cause is 9
+-- the controller stops
 unfoldable pub time_error : Mode → StartEvent → ℕ → Course → Course
-time_error mode event ob c = error_requested mode 80 9 event (recorded 1 ob c)
+time_error mode event ob c = error_requested mode 80 causes.no_ob_80 event (recorded 1 ob c)
 
--- an OB that isn't loaded is recorded by code 3, and requests OB 85; without OB 85 the stop cause is 8
+-- an OB that isn't loaded is recorded by code 3, and requests OB 85; without OB 85 the controller
+-- stops
 unfoldable pub not_loaded : Mode → ℕ → Course → Course
-not_loaded mode ob c = error_requested mode 85 8 (OfNotLoaded ob) (recorded 3 ob c)
+not_loaded mode ob c = error_requested mode 85 causes.no_ob_85 (OfNotLoaded ob) (recorded 3 ob c)
 
 -- a queue that is full: that of a hardware interrupt has a start code of its own
 abbrev pub lost_event : ℕ → StartEvent

@@ -2,6 +2,7 @@
 use Rattle.std.specs.Prelude.{ℕ, ◌+◌, ◌-◌, ◌%◌, ◌^◌, Bool, true, false, not, ◌||◌, ◌==◌, nat_le, nat_lt, List, [], ◌∷◌, Option, Some, None, is_some, map, if◌then◌else◌}
 use Rattle.std.specs.Fn.{iterate}
 use Rattle.std.specs.List.{list_any}
+use Rattle.plc_base.specs.StopCauses as causes
 use Rattle.plc_base.specs.declared.Mode.{Mode}
 use Rattle.plc_base.specs.declared.Mode.TheVariants.{Run, Startup, Stop}
 use Rattle.ob_sched.specs.OrganizationBlock.{class_in, period_of}
@@ -88,12 +89,12 @@ with_cycle counter exceeded c =
     record c { sched = record c.sched { cycle = record { counter = counter; exceeded = exceeded } } }
 
 -- one millisecond of the cycle counter: at 151 ms it begins anew. The first time in a cycle this is
--- a time error of OB 1, the second time it is stop cause 10
+-- a time error of OB 1, the second time the controller stops
 unfoldable pub cycle_counted : Mode → Course → Course
 cycle_counted mode c =
     let counter : ℕ = c.sched.cycle.counter + 1 in
     if nat_lt counter 151 then with_cycle counter c.sched.cycle.exceeded c
-    else if c.sched.cycle.exceeded then stopped_by 10 (with_cycle 0 true c)
+    else if c.sched.cycle.exceeded then stopped_by causes.cycle_time_twice (with_cycle 0 true c)
     else time_error mode CycleTime 1 (with_cycle 0 true c)
 
 -- the millisecond is counted, and the clock

@@ -1,13 +1,15 @@
 -- The start information of an organization block: its first 20 local bytes.
 use Rattle.std.specs.Prelude.{ℕ, ◌+◌, ◌-◌, ◌/◌, ◌%◌, ◌||◌, ◌==◌, nat_lt, IsTrue, List, [], ◌∷◌, ◌++◌, replicate, if◌then◌else◌}
+use Rattle.plc_base.specs.ErrorCodes as errors
 use Rattle.ob_sched.specs.OrganizationBlock.{is_error, is_time_of_day, is_delay, is_cyclic, is_hardware}
 use Rattle.ob_sched.specs.declared.start_infos.StartInfo.{StartInfo}
 use Rattle.ob_sched.specs.declared.start_infos.StartEvent.{StartEvent}
 use Rattle.ob_sched.specs.declared.start_infos.StartEvent.TheVariants.{Cycle, Startup, Arrival, Delay, Period, CycleTime, Missed, QueueFull, NotLoaded, Synchronous}
 
--- the OB of a synchronous error: an access error to peripherals, 16#42 or 16#43, is one of OB 122
+-- the OB of a synchronous error: an access error to peripherals is one of OB 122
 abbrev pub ob_of_error : ℕ → ℕ
-ob_of_error code = if code == 0x42 || code == 0x43 then 122 else 121
+ob_of_error code =
+    if code == errors.no_peripheral || code == errors.no_peripheral_to_write then 122 else 121
 
 -- the OB that an event starts
 abbrev pub ob_of : StartEvent → ℕ

@@ -9,13 +9,7 @@ use crate::passed::Passed;
 use crate::requests::Arrived;
 use crate::sched::Sched;
 use crate::start_infos::{StartEvent, StartInfo};
-use plc_base::Mode;
-
-/// Stop cause: an organization block that isn't loaded, without OB 85.
-const NO_OB_85: u8 = 8;
-
-/// Stop cause: a time error without OB 80.
-const NO_OB_80: u8 = 9;
+use plc_base::{Mode, stop_causes};
 
 /// Record of diagnostics: a time error, with the organization block that it concerns.
 const TIME_ERROR: u16 = 1;
@@ -70,7 +64,7 @@ impl Sched {
             ≡ time_error mode event ob (course_of self.old passed.old) }
     {
         passed.record(TIME_ERROR, ob);
-        self.request_error(mode, 80, NO_OB_80, event, passed);
+        self.request_error(mode, 80, stop_causes::NO_OB_80, event, passed);
     }
 
     /// An organization block isn't loaded: this is recorded, and requests OB 85.
@@ -80,7 +74,13 @@ impl Sched {
             ≡ not_loaded mode ob (course_of self.old passed.old) }
     {
         passed.record(NOT_LOADED, ob);
-        self.request_error(mode, 85, NO_OB_85, StartEvent::NotLoaded { ob }, passed);
+        self.request_error(
+            mode,
+            85,
+            stop_causes::NO_OB_85,
+            StartEvent::NotLoaded { ob },
+            passed,
+        );
     }
 
     /// A request in an operating mode, with all that follows where it isn't queued: one of an

@@ -3,6 +3,7 @@ ghost use Rattle.ob_sched.specs.OrganizationBlock.{is_interrupt};
 ghost use Rattle.ob_sched.specs.StartInformation.{IsEvent, ob_of, ob_of_error, event_class, interrupt_code, start_code, kind_of, number_of, value_of, start_info};
 
 use crate::organization_blocks::is_error;
+use plc_base::error_codes;
 
 /// The start information of an organization block: its first 20 local bytes.
 #[derive(Clone, Copy, Debug, Default, PartialEq, Eq)]
@@ -60,7 +61,7 @@ pub enum StartEvent {
 fn ob_of_error(code: u8) -> u16
     ensures { result ≡ ob_of_error code }
 {
-    if code == 0x42 || code == 0x43 {
+    if code == error_codes::NO_PERIPHERAL || code == error_codes::NO_PERIPHERAL_TO_WRITE {
         122
     } else {
         121

@@ -11,10 +11,7 @@ use crate::organization_blocks::class_in;
 use crate::passed::Passed;
 use crate::sched::Sched;
 use crate::start_infos::{StartEvent, StartInfo};
-use plc_base::Mode;
-
-/// Stop cause: the cycle time was exceeded twice in a cycle.
-const CYCLE_TIME_TWICE: u8 = 10;
+use plc_base::{Mode, stop_causes};
 
 impl Sched {
     /// A delay has ended: its organization block is requested.
@@ -59,7 +56,7 @@ impl Sched {
         let was_exceeded = self.cycle.was_exceeded();
         self.cycle.exceed();
         if was_exceeded {
-            passed.halt(CYCLE_TIME_TWICE);
+            passed.halt(stop_causes::CYCLE_TIME_TWICE);
         } else {
             self.time_error(mode, StartEvent::CycleTime, 1, passed);
         }

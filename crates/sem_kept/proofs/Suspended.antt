@@ -2,6 +2,7 @@
 use Rattle.std.proofs.Common.{◌≡◌, refl, sym, ◌∙◌, ap, subst, ℕ, zero, suc, ◌+◌, ◌-◌, ◌<◌, ◌≤◌, List, [], ◌∷◌, ◌++◌, length, take, Option, Some, None, Bool, true, false, cond, if◌then◌else◌, nat_eq, get_or, arith}
 use Rattle.std.proofs.lemmas.Bool.{ne_eqb}
 use Rattle.std.proofs.lemmas.List.{take_more}
+use Rattle.plc_base.specs.StopCauses as causes
 use Rattle.plc_base.specs.declared.Spot.{Spot}
 use Rattle.frames.specs.declared.Activation.{Activation}
 use Rattle.frames.specs.declared.bindings.Binding.{Binding}
@@ -18,7 +19,7 @@ use Rattle.ob_sched.specs.declared.requests.Pending.{Pending}
 use Rattle.var_access.specs.declared.What.{What}
 use Rattle.var_access.specs.declared.What.TheVariants as entry
 use Rattle.controller.specs.Beginning.{ob_in, begun_above}
-use Rattle.controller.specs.Errors.{is_synchronous, cause_inside, error_in, error_answered, failed}
+use Rattle.controller.specs.Errors.{is_synchronous, error_in, error_answered, failed}
 use Rattle.controller.specs.Event.{counted, effect, state_after}
 use Rattle.controller.specs.Replay.{happens, replay, ContinuesReplay}
 use Rattle.controller.specs.Requests.{stopped_if, course_taken, arrived}
@@ -133,7 +134,7 @@ unfolding failed
 failed_keeps code old error at a below s place there on = by (is_synchronous a.ob) on
   where
     stops : State
-    stops = halted_at at cause_inside (diagnosed 4 error s)
+    stops = halted_at at causes.in_error_ob (diagnosed 4 error s)
 
     answered : State
     answered = error_answered (error_in code error at a) error at a below (diagnosed 4 error s)

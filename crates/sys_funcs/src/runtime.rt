@@ -1,4 +1,5 @@
 ghost use Rattle.std.specs.Prelude.{◌≡◌, true};
+ghost use Rattle.plc_base.specs.StopCauses.{by_program};
 ghost use Rattle.ob_sched.specs.Scheduler.{retriggered};
 ghost use Rattle.ob_sched.specs.Views.{scheduler_of};
 ghost use Rattle.sys_funcs.specs.Functions.{time_tck as tells};
@@ -7,9 +8,7 @@ ghost use Rattle.sys_funcs.specs.Returned.{LeavesReturned, passed};
 use crate::returns::set_br;
 use frames::Activation;
 use ob_sched::Sched;
-
-/// The stop cause of STP.
-const STOPPED_BY_PROGRAM: u8 = 1;
+use plc_base::stop_causes;
 
 /// SFC 43 RE_TRIGR: the cycle counter begins anew; the mark of an exceeded cycle time stays.
 pub fn re_trigr(s: &mut Sched, a: &mut Activation)
@@ -20,15 +19,15 @@ pub fn re_trigr(s: &mut Sched, a: &mut Activation)
     set_br(a, true);
 }
 
-/// SFC 46 STP: the stop cause, 1.
+/// SFC 46 STP: the stop cause.
 pub fn stp(s: &mut Sched, a: &mut Activation) -> u8
-    ensures cause { result ≡ 1 }
+    ensures cause { result ≡ by_program }
     ensures sched { scheduler_of s.new ≡ scheduler_of s.old }
     ensures activation { a.new ≡ passed a.old }
 {
     let _ = s;
     set_br(a, true);
-    STOPPED_BY_PROGRAM
+    stop_causes::BY_PROGRAM
 }
 
 /// SFC 64 TIME_TCK: the clock in milliseconds, below 2^31.
