@@ -3,6 +3,7 @@ use Rattle.std.proofs.Common.{◌≡◌, ℕ, ◌+◌, ◌<◌, ◌≤◌, List,
 use Rattle.std.specs.Prelude.{map, reverse, min, slice_get, IfSome}
 use Rattle.std.specs.Option.{option_map}
 use Rattle.std.proofs.lemmas.List.{length-reverse, length-take-le, take_more_set, take_more, reverse-append, reverse-reverse}
+use Rattle.plc_base.specs.declared.Profile.{Profile}
 use Rattle.frames.specs.Activations.{begun, frame_begun}
 use Rattle.frames.specs.declared.Activation.{Activation}
 use Rattle.machine.specs.Code.{Head}
@@ -50,27 +51,27 @@ running_last n all a h here =
     ∙ reverse-append (take n all) (a ∷ [])
 
 -- an organization block of a program as it begins
-pub block_begins : (found : Option Head) (class ob : ℕ) (info : StartInfo) (n : ℕ)
+pub block_begins : (profile : Profile) (found : Option Head) (class ob : ℕ) (info : StartInfo) (n : ℕ)
     (old : List Activation) → Some n ≡ option_map (λ (head : Head). min head.local_len 1024) found
-    → Begins (option_map (ob_begun class ob info) found) old
-    (told_from 0 info.bytes (begun class ob (frame_begun (ob_block ob) n)) ∷ old) true
+    → Begins (option_map (ob_begun profile class ob info) found) old
+    (told_from 0 info.bytes (begun profile class ob (frame_begun (ob_block ob) n)) ∷ old) true
 unfolding ob_begun
-block_begins None class ob info n old h = absurd cc
-block_begins (Some head) class ob info n old h = search (rules, h)
+block_begins profile None class ob info n old h = absurd cc
+block_begins profile (Some head) class ob info n old h = search (rules, h)
 
-pub block_missing : (found : Option Head) (class ob : ℕ) (info : StartInfo) (old : List Activation)
+pub block_missing : (profile : Profile) (found : Option Head) (class ob : ℕ) (info : StartInfo) (old : List Activation)
     → None ≡ option_map (λ (head : Head). min head.local_len 1024) found
-    → Begins (option_map (ob_begun class ob info) found) old old false
-block_missing None class ob info old h = refl
-block_missing (Some head) class ob info old h = absurd cc
+    → Begins (option_map (ob_begun profile class ob info) found) old old false
+block_missing profile None class ob info old h = refl
+block_missing profile (Some head) class ob info old h = absurd cc
 
 -- its class and its number
-pub block_is : (found : Option Head) (class ob : ℕ) (info : StartInfo)
-    → IfSome (option_map (ob_begun class ob info) found)
+pub block_is : (profile : Profile) (found : Option Head) (class ob : ℕ) (info : StartInfo)
+    → IfSome (option_map (ob_begun profile class ob info) found)
     (λ (a : Activation). (a.class ≡ class) × (a.ob ≡ ob))
 unfolding ob_begun
-block_is None class ob info = tt
-block_is (Some head) class ob info = (
-  told_class info.bytes 0 (begun class ob (ob_frame ob head)),
-  told_ob info.bytes 0 (begun class ob (ob_frame ob head)),
+block_is profile None class ob info = tt
+block_is profile (Some head) class ob info = (
+  told_class info.bytes 0 (begun profile class ob (ob_frame ob head)),
+  told_ob info.bytes 0 (begun profile class ob (ob_frame ob head)),
 )

@@ -1,6 +1,7 @@
 -- Nothing changes the count of entries but that an entry is counted.
 use Rattle.std.proofs.Common.{◌≡◌, ℕ, ◌+◌, Bool, true, false, List, [], ◌∷◌, length, Option, Some, None, refl, ◌∙◌, arith, if◌then◌else◌}
 use Rattle.plc_base.specs.StopCauses as causes
+use Rattle.plc_base.specs.declared.Profile.{Profile}
 use Rattle.plc_base.specs.declared.Spot.{Spot}
 use Rattle.frames.specs.declared.Activation.{Activation}
 use Rattle.frames.specs.declared.bindings.Binding.{Binding}
@@ -53,7 +54,7 @@ best_counts : (code : Code) (best : Option Pending) (s : State)
 best_counts code None s = refl
 best_counts code (Some best) s =
     if_counts (may_start best.class s.activations) (request_started code best s) s s.entries
-    (begun_counts (ob_in code best.class best.ob best.info) (request_taken s)) refl
+    (begun_counts (ob_in s.profile code best.class best.ob best.info) (request_taken s)) refl
 
 settled_counts : (code : Code) (s : State) → (settled code s).entries ≡ s.entries
 unfolding settled
@@ -64,7 +65,7 @@ settled_counts code s =
 cycle_counts : (code : Code) (s : State) → (cycle_point code s).entries ≡ s.entries
 unfolding cycle_point
 cycle_counts code s =
-    begun_counts (ob_in code (class_in s.mode 1) 1 (cycle_info s)) (cycle_passed s)
+    begun_counts (ob_in s.profile code (class_in s.mode 1) 1 (cycle_info s)) (cycle_passed s)
 
 answered_counts : (fresh : Option Activation) (error : ℕ) (at : Option Spot) (a : Activation)
     (below : List Activation) (s : State) → (error_answered fresh error at a below s).entries ≡ s.entries
@@ -168,11 +169,11 @@ started_counts : (begun : Option Activation) (s : State) → (started_up begun s
 started_counts None s = refl
 started_counts (Some a) s = refl
 
-start_counts : (code : Code) → (start code).entries ≡ 0
+start_counts : (profile : Profile) (code : Code) → (start profile code).entries ≡ 0
 unfolding start
-start_counts code = started_counts (startup_ob code) (before_start code)
+start_counts profile code = started_counts (startup_ob profile code) (before_start profile code)
 
 pub counts_history : CountsHistory
 unfolding replay
-counts_history code history =
-    omega (arith, run_counts code (start code) history, start_counts code)
+counts_history profile code history =
+    omega (arith, run_counts code (start profile code) history, start_counts profile code)

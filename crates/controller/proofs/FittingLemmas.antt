@@ -4,6 +4,9 @@ use Rattle.std.specs.Prelude.{◌==◌, not, nat_le, ◌&&◌, ◌-◌, min, is_
 use Rattle.std.specs.Option.{option_map}
 use Rattle.std.proofs.lemmas.List.{length-take, length-replicate}
 use Rattle.plc_base.specs.StopCauses as causes
+use Rattle.plc_base.specs.declared.Profile.{Profile}
+use Rattle.plc_base.specs.declared.Profile.TheVariants.{Small, Large}
+use Rattle.plc_base.specs.Profiles.{bit_memory_size}
 use Rattle.plc_base.specs.declared.Mode.{Mode}
 use Rattle.plc_base.specs.declared.Mode.TheVariants.{Run, Startup, Stop}
 use Rattle.plc_base.specs.declared.Spot.{Spot}
@@ -66,7 +69,10 @@ use Rattle.controller.proofs.StepLemmas.{ended_by, same_stack}
 
 memory_stays : (p : Program) (m n : Areas) → SameSizes m n → IsMemoryOf (code_of p) m
     → IsMemoryOf (code_of p) n
-memory_stays p m n same is = sizes_then (fresh (code_of p).blocks) m n is same
+memory_stays p m n same is = record {
+  profile = is.profile;
+  sizes = sizes_then (fresh is.profile (code_of p).blocks) m n is.sizes same;
+}
 
 all_stay : (l : MachineLaws) (p : Program) (m n : Areas) (activations : List Activation) → SameSizes m n
     → AllFit p m activations → AllFit p n activations
@@ -115,46 +121,46 @@ told_fits l p m (value ∷ rest) byte a fit =
 uncut : (n : ℕ) → n ≤ 1024 → min n 1024 ≡ n
 uncut n few = omega arith
 
-begun_fits : (l : MachineLaws) (p : Program) (m : Areas) (class ob : ℕ) (info : StartInfo) (h : Head)
+begun_fits : (profile : Profile) (l : MachineLaws) (p : Program) (m : Areas) (class ob : ℕ) (info : StartInfo) (h : Head)
     → Verifies p → IsMemoryOf (code_of p) m → (code_of p).head (ob_block ob) ≡ Some h
-    → FitsProgram p m (ob_begun class ob info h)
+    → FitsProgram p m (ob_begun profile class ob info h)
 unfolding ob_begun
-begun_fits l p m class ob info h verifies memory found =
-    told_fits l p m info.bytes 0 (begun class ob (ob_frame ob h))
-    (subst (λ (n : ℕ). FitsProgram p m (begun class ob (first_frame ob n)))
+begun_fits profile l p m class ob info h verifies memory found =
+    told_fits l p m info.bytes 0 (begun profile class ob (ob_frame ob h))
+    (subst (λ (n : ℕ). FitsProgram p m (begun profile class ob (first_frame ob n)))
     (sym (uncut h.local_len (l.room p ob h verifies found)))
-    (l.begins p m class ob h verifies memory found))
+    (l.begins profile p m class ob h verifies memory found))
 
-ob_fits_by : (l : MachineLaws) (p : Program) (m : Areas) (class ob : ℕ) (info : StartInfo)
+ob_fits_by : (profile : Profile) (l : MachineLaws) (p : Program) (m : Areas) (class ob : ℕ) (info : StartInfo)
     (found : Option Head) → Verifies p → IsMemoryOf (code_of p) m
     → (code_of p).head (ob_block ob) ≡ found
-    → FitsIf p m (option_map (ob_begun class ob info) found)
+    → FitsIf p m (option_map (ob_begun profile class ob info) found)
 unfolding FitsIf
-ob_fits_by l p m class ob info None verifies memory is = tt
-ob_fits_by l p m class ob info (Some h) verifies memory is =
-    begun_fits l p m class ob info h verifies memory is
+ob_fits_by profile l p m class ob info None verifies memory is = tt
+ob_fits_by profile l p m class ob info (Some h) verifies memory is =
+    begun_fits profile l p m class ob info h verifies memory is
 
-ob_fits : (l : MachineLaws) (p : Program) (m : Areas) (class ob : ℕ) (info : StartInfo) → Verifies p
-    → IsMemoryOf (code_of p) m → FitsIf p m (ob_in (code_of p) class ob info)
-ob_fits l p m class ob info verifies memory =
-    ob_fits_by l p m class ob info ((code_of p).head (ob_block ob)) verifies memory refl
+ob_fits : (profile : Profile) (l : MachineLaws) (p : Program) (m : Areas) (class ob : ℕ) (info : StartInfo) → Verifies p
+    → IsMemoryOf (code_of p) m → FitsIf p m (ob_in profile (code_of p) class ob info)
+ob_fits profile l p m class ob info verifies memory =
+    ob_fits_by profile l p m class ob info ((code_of p).head (ob_block ob)) verifies memory refl
 
 -- its class and its number
 IsOf : (class ob : ℕ) → Option Activation → Type 0
 IsOf class ob None = Unit {0}
 IsOf class ob (Some a) = (a.class ≡ class) × (a.ob ≡ ob)
 
-ob_is_by : (class ob : ℕ) (info : StartInfo) (found : Option Head)
-    → IsOf class ob (option_map (ob_begun class ob info) found)
+ob_is_by : (profile : Profile) (class ob : ℕ) (info : StartInfo) (found : Option Head)
+    → IsOf class ob (option_map (ob_begun profile class ob info) found)
 unfolding IsOf ob_begun
-ob_is_by class ob info None = tt
-ob_is_by class ob info (Some h) = (
-  told_class info.bytes 0 (begun class ob (ob_frame ob h)),
-  told_ob info.bytes 0 (begun class ob (ob_frame ob h)),
+ob_is_by profile class ob info None = tt
+ob_is_by profile class ob info (Some h) = (
+  told_class info.bytes 0 (begun profile class ob (ob_frame ob h)),
+  told_ob info.bytes 0 (begun profile class ob (ob_frame ob h)),
 )
 
-ob_is : (code : Code) (class ob : ℕ) (info : StartInfo) → IsOf class ob (ob_in code class ob info)
-ob_is code class ob info = ob_is_by class ob info (code.head (ob_block ob))
+ob_is : (profile : Profile) (code : Code) (class ob : ℕ) (info : StartInfo) → IsOf class ob (ob_in profile code class ob info)
+ob_is profile code class ob info = ob_is_by profile class ob info (code.head (ob_block ob))
 
 begins_above : (p : Program) (class ob : ℕ) (one : Option Activation) (s : State)
     → FitsIf p s.world.memory one → IsOf class ob one → MayBegin s.mode class ob s.activations
@@ -249,10 +255,10 @@ failed_fits l p error at a below s verifies all standing fit = by (is_synchronou
     by false is =
         answers l p (error_in (code_of p) error at a) error at a below (diagnosed 4 error s) is
         (copied_fits l p s.world.memory a _
-        (ob_fits l p s.world.memory a.class (ob_of_error error)
+        (ob_fits a.profile l p s.world.memory a.class (ob_of_error error)
         (start_info (failure error at) a.class) verifies fit.memory))
         (copied_is a.class (ob_of_error error) a _
-        (ob_is (code_of p) a.class (ob_of_error error) (start_info (failure error at) a.class)))
+        (ob_is a.profile (code_of p) a.class (ob_of_error error) (start_info (failure error at) a.class)))
         all standing recorded
 
 -- ---- system functions
@@ -476,9 +482,9 @@ unfolding cycle_point
 cycle_fits l p s verifies idle running fit =
     let next : IsFit p (cycle_passed s) = passed_fits l p s fit in
     begins_above p (class_in s.mode 1) 1
-    (ob_in (code_of p) (class_in s.mode 1) 1 (cycle_info s)) (cycle_passed s)
-    (ob_fits l p (refreshed s.world.memory) (class_in s.mode 1) 1 (cycle_info s) verifies next.memory)
-    (ob_is (code_of p) (class_in s.mode 1) 1 (cycle_info s))
+    (ob_in s.profile (code_of p) (class_in s.mode 1) 1 (cycle_info s)) (cycle_passed s)
+    (ob_fits s.profile l p (refreshed s.world.memory) (class_in s.mode 1) 1 (cycle_info s) verifies next.memory)
+    (ob_is s.profile (code_of p) (class_in s.mode 1) 1 (cycle_info s))
     (cycle_may_begin s.mode s.activations idle running fit.standing) next
 
 stepped_on_fits : (l : MachineLaws) (p : Program) (activations : List Activation) (s : State)
@@ -579,10 +585,10 @@ request_fits : (l : MachineLaws) (p : Program) (best : Pending) (s : State) → 
     → MayBegin s.mode best.class best.ob s.activations → IsFit p s
     → IsFit p (request_started (code_of p) best s)
 request_fits l p best s verifies may fit =
-    begins_above p best.class best.ob (ob_in (code_of p) best.class best.ob best.info)
+    begins_above p best.class best.ob (ob_in s.profile (code_of p) best.class best.ob best.info)
     (request_taken s)
-    (ob_fits l p s.world.memory best.class best.ob best.info verifies fit.memory)
-    (ob_is (code_of p) best.class best.ob best.info) may
+    (ob_fits s.profile l p s.world.memory best.class best.ob best.info verifies fit.memory)
+    (ob_is s.profile (code_of p) best.class best.ob best.info) may
     (other_sched p s (started s.sched) (started_schedule s.sched fit.sched) fit)
 
 best_fits : (l : MachineLaws) (p : Program) (best : Option Pending) (s : State) → Verifies p
@@ -638,28 +644,37 @@ started_up_fits p (Some a) s one is idle fit = record {
   sched = fit.sched;
 }
 
-before_fits : (l : MachineLaws) (p : Program) → IsFit p (before_start (code_of p))
-before_fits l p = record {
-  memory = l.first p;
+before_fits : (profile : Profile) (l : MachineLaws) (p : Program) → IsFit p (before_start profile (code_of p))
+before_fits profile l p = record {
+  memory = l.first profile p;
   activations = tt;
   standing = record { stack = tt; startup = tt };
   sched = rest_schedule (loaded_obs (code_of p));
 }
 
 -- a restart changes no size
-bits_length : (bits : List ℕ) → length bits ≡ 256 → length (bits_retained bits) ≡ 256
-bits_length bits is =
-    let cut : List ℕ = replicate 240 0 in
-    let count : length cut ≡ 240 = length-replicate {A = ℕ} 240 0 in
-    omega (arith, length-append (take 16 bits) cut, length-take 16 bits, count, is)
+bits_length : (m : Profile) (bits : List ℕ) → length bits ≡ bit_memory_size m
+    → length (bits_retained bits) ≡ length bits
+bits_length m bits is =
+    let cut : List ℕ = replicate (length bits - 16) 0 in
+    let count : length cut ≡ length bits - 16 = length-replicate {A = ℕ} (length bits - 16) 0 in
+    omega (arith, length-append (take 16 bits) cut, length-take 16 bits, count, some m bits is)
+  where
+    some : (m : Profile) (bits : List ℕ) → length bits ≡ bit_memory_size m → 16 ≤ length bits
+    some Small bits is = omega (arith, is)
+    some Large bits is = omega (arith, is)
+
+first_bits : (profile : Profile) (blocks : List (ℕ × List ℕ)) → length (fresh profile blocks).bit_memory ≡ bit_memory_size profile
+unfolding fresh
+first_bits profile blocks = length-replicate {A = ℕ} (bit_memory_size profile) 0
 
 cleared_sizes : (p : Program) (m : Areas) → IsMemoryOf (code_of p) m
     → SameSizes m (memory_cleared m)
 unfolding fresh
 cleared_sizes p m is = record {
-  inputs = sym is.inputs;
-  outputs = sym is.outputs;
-  bit_memory = bits_length m.bit_memory is.bit_memory ∙ sym is.bit_memory;
+  inputs = sym is.sizes.inputs;
+  outputs = sym is.sizes.outputs;
+  bit_memory = bits_length is.profile m.bit_memory (is.sizes.bit_memory ∙ first_bits is.profile (code_of p).blocks);
   peripheral_inputs = same_parts m.peripheral_inputs;
   peripheral_outputs = same_parts m.peripheral_outputs;
   data_blocks = λ number. refl;
@@ -692,11 +707,11 @@ ready l p s verifies fit = by s.activations fit.activations
 
 pub start_fits : MachineLaws → StartIsFit
 unfolding start
-start_fits l p verifies =
-    let fit : IsFit p (before_start (code_of p)) = before_fits l p in
-    started_up_fits p (startup_ob (code_of p)) (before_start (code_of p))
-    (ob_fits l p (before_start (code_of p)).world.memory 27 100 startup_info verifies fit.memory)
-    (ob_is (code_of p) 27 100 startup_info) refl fit
+start_fits l profile p verifies =
+    let fit : IsFit p (before_start profile (code_of p)) = before_fits profile l p in
+    started_up_fits p (startup_ob profile (code_of p)) (before_start profile (code_of p))
+    (ob_fits profile l p (before_start profile (code_of p)).world.memory 27 100 startup_info verifies fit.memory)
+    (ob_is profile (code_of p) 27 100 startup_info) refl fit
 
 pub entries_keep : MachineLaws → EntriesKeepFit
 unfolding happens
@@ -711,8 +726,8 @@ run_fits l p s (e ∷ rest) verifies range fit =
 
 pub histories_fit : MachineLaws → HistoriesAreFit
 unfolding replay
-histories_fit l p history verifies range =
-    run_fits l p (start (code_of p)) history verifies range (start_fits l p verifies)
+histories_fit l profile p history verifies range =
+    run_fits l p (start profile (code_of p)) history verifies range (start_fits l profile p verifies)
 
 stop_idle : (mode : Mode) (activations : List Activation) → is_stop mode ≡ true
     → IsStack mode activations → activations ≡ []
@@ -726,7 +741,7 @@ unfolding restarted
 restart_keeps l p s verifies stop fit =
     let next : IsFit p (cleared (diagnosed 6 0 s)) =
     cleared_fits l p (diagnosed 6 0 s) (diagnosed_fit p 6 0 s fit) in
-    started_up_fits p (startup_ob (code_of p)) (cleared (diagnosed 6 0 s))
-    (ob_fits l p (memory_cleared s.world.memory) 27 100 startup_info verifies next.memory)
-    (ob_is (code_of p) 27 100 startup_info)
+    started_up_fits p (startup_ob s.profile (code_of p)) (cleared (diagnosed 6 0 s))
+    (ob_fits s.profile l p (memory_cleared s.world.memory) 27 100 startup_info verifies next.memory)
+    (ob_is s.profile (code_of p) 27 100 startup_info)
     (stop_idle s.mode s.activations stop fit.standing.stack) next

@@ -2,6 +2,7 @@
 use Rattle.std.proofs.Common.{◌≡◌, ℕ, zero, suc, ◌+◌, Bool, true, false, if◌then◌else◌, ◌==◌, ◌&&◌, not, nat_le, ◌-◌, List, [], ◌∷◌, ◌++◌, length, map, reverse, filter, Option, Some, None, is_some, option_map, unwrap_or, refl, sym, ap, ◌∙◌}
 use Rattle.std.proofs.lemmas.List.{reverse-append}
 use Rattle.plc_base.specs.StopCauses as causes
+use Rattle.plc_base.specs.declared.Profile.{Profile}
 use Rattle.plc_base.specs.declared.BlockId.{BlockId}
 use Rattle.plc_base.specs.declared.Spot.{Spot}
 use Rattle.plc_base.specs.declared.modes.Mode.{Mode}
@@ -66,31 +67,31 @@ told_moves f byte (value ∷ rest) a =
     ∙ told_moves f (byte + 1) rest (unwrap_or (with_local_byte 0 byte value a) a)
 
 begun_moves :
-    (f : Positions) (class ob : ℕ) (head : Head) → f (ob_block ob) 0 ≡ 0
-    → begun class ob (ob_frame ob head) ≡ moved f (begun class ob (ob_frame ob head))
-begun_moves f class ob head start =
-    ap (λ (at : ℕ). begun class ob (record (ob_frame ob head) { at = at })) (sym start)
+    (profile : Profile) (f : Positions) (class ob : ℕ) (head : Head) → f (ob_block ob) 0 ≡ 0
+    → begun profile class ob (ob_frame ob head) ≡ moved f (begun profile class ob (ob_frame ob head))
+begun_moves profile f class ob head start =
+    ap (λ (at : ℕ). begun profile class ob (record (ob_frame ob head) { at = at })) (sym start)
 
 ob_moves :
-    (f : Positions) (class ob : ℕ) (info : StartInfo) (head : Head) → f (ob_block ob) 0 ≡ 0
-    → ob_begun class ob info head ≡ moved f (ob_begun class ob info head)
+    (profile : Profile) (f : Positions) (class ob : ℕ) (info : StartInfo) (head : Head) → f (ob_block ob) 0 ≡ 0
+    → ob_begun profile class ob info head ≡ moved f (ob_begun profile class ob info head)
 unfolding ob_begun
-ob_moves f class ob info head start =
-    ap (told_from 0 info.bytes) (begun_moves f class ob head start)
-    ∙ told_moves f 0 info.bytes (begun class ob (ob_frame ob head))
+ob_moves profile f class ob info head start =
+    ap (told_from 0 info.bytes) (begun_moves profile f class ob head start)
+    ∙ told_moves f 0 info.bytes (begun profile class ob (ob_frame ob head))
 
 head_moves :
-    (f : Positions) (class ob : ℕ) (info : StartInfo) (o : Option Head) → f (ob_block ob) 0 ≡ 0
-    → option_map (ob_begun class ob info) o ≡ option_map (moved f) (option_map (ob_begun class ob info) o)
-head_moves f class ob info None start = refl
-head_moves f class ob info (Some head) start = ap (λ (a : Activation). Some a) (ob_moves f class ob info head start)
+    (profile : Profile) (f : Positions) (class ob : ℕ) (info : StartInfo) (o : Option Head) → f (ob_block ob) 0 ≡ 0
+    → option_map (ob_begun profile class ob info) o ≡ option_map (moved f) (option_map (ob_begun profile class ob info) o)
+head_moves profile f class ob info None start = refl
+head_moves profile f class ob info (Some head) start = ap (λ (a : Activation). Some a) (ob_moves profile f class ob info head start)
 
 ob_in_moves :
-    (f : Positions) (c d : Code) (class ob : ℕ) (info : StartInfo) → Follows f c d
-    → ob_in d class ob info ≡ option_map (moved f) (ob_in c class ob info)
-ob_in_moves f c d class ob info follows =
-    ap (option_map (ob_begun class ob info)) (follows.head (ob_block ob))
-    ∙ head_moves f class ob info (c.head (ob_block ob)) (follows.start (ob_block ob))
+    (profile : Profile) (f : Positions) (c d : Code) (class ob : ℕ) (info : StartInfo) → Follows f c d
+    → ob_in profile d class ob info ≡ option_map (moved f) (ob_in profile c class ob info)
+ob_in_moves profile f c d class ob info follows =
+    ap (option_map (ob_begun profile class ob info)) (follows.head (ob_block ob))
+    ∙ head_moves profile f class ob info (c.head (ob_block ob)) (follows.start (ob_block ob))
 
 above_moves :
     (f : Positions) (o : Option Activation) (s : State)
@@ -274,8 +275,8 @@ error_moves :
     (f : Positions) (c d : Code) (error : ℕ) (at : Option Spot) (a : Activation) → Follows f c d
     → error_in d error at (moved f a) ≡ option_map (moved f) (error_in c error at a)
 error_moves f c d error at a follows =
-    ap (option_map (copied_from (moved f a))) (ob_in_moves f c d a.class (ob_of_error error) (start_info (failure error at) a.class) follows)
-    ∙ copied_moves f a (ob_in c a.class (ob_of_error error) (start_info (failure error at) a.class))
+    ap (option_map (copied_from (moved f a))) (ob_in_moves a.profile f c d a.class (ob_of_error error) (start_info (failure error at) a.class) follows)
+    ∙ copied_moves f a (ob_in a.profile c a.class (ob_of_error error) (start_info (failure error at) a.class))
 
 answered_moves :
     (f : Positions) (o : Option Activation) (error : ℕ) (at : Option Spot) (a : Activation) (below : List Activation) (s : State)
@@ -313,8 +314,8 @@ cycle_moves :
     (f : Positions) (c d : Code) (s : State) → Follows f c d → cycle_point d (moved_state f s) ≡ moved_state f (cycle_point c s)
 unfolding cycle_point
 cycle_moves f c d s follows =
-    ap (λ (o : Option Activation). begun_above o (moved_state f (cycle_passed s))) (ob_in_moves f c d _ 1 (cycle_info s) follows)
-    ∙ above_moves f (ob_in c _ 1 (cycle_info s)) (cycle_passed s)
+    ap (λ (o : Option Activation). begun_above o (moved_state f (cycle_passed s))) (ob_in_moves s.profile f c d _ 1 (cycle_info s) follows)
+    ∙ above_moves f (ob_in s.profile c _ 1 (cycle_info s)) (cycle_passed s)
 
 stepped_on_moves :
     (f : Positions) (c d : Code) (activations : List Activation) (s : State) → StatementsMove → Follows f c d
@@ -379,8 +380,8 @@ best_moves f c d None s follows = refl
 best_moves f c d (Some best) s follows =
     ap (λ (b : Bool). if b then request_started d best (moved_state f s) else moved_state f s) (may_start_same f best.class s.activations)
     ∙ either (moved_state f) (may_start best.class s.activations) (request_started c best s) _ s _
-    (ap (λ (o : Option Activation). begun_above o (moved_state f (request_taken s))) (ob_in_moves f c d best.class best.ob best.info follows)
-    ∙ above_moves f (ob_in c best.class best.ob best.info) (request_taken s)) refl
+    (ap (λ (o : Option Activation). begun_above o (moved_state f (request_taken s))) (ob_in_moves s.profile f c d best.class best.ob best.info follows)
+    ∙ above_moves f (ob_in s.profile c best.class best.ob best.info) (request_taken s)) refl
 
 settled_moves :
     (f : Positions) (c d : Code) (s : State) → Follows f c d → settled d (moved_state f s) ≡ moved_state f (settled c s)
@@ -425,21 +426,21 @@ obs_same : (f : Positions) (c d : Code) (obs : List ℕ) → Follows f c d → f
 obs_same f c d [] follows = refl
 obs_same f c d (ob ∷ obs) follows = rw (follows.head (ob_block ob)) (rw (obs_same f c d obs follows) refl)
 
-before_moves : (f : Positions) (c d : Code) → Follows f c d → before_start d ≡ moved_state f (before_start c)
-before_moves f c d follows = rw (follows.blocks) (rw (obs_same f c d all_obs follows) refl)
+before_moves : (profile : Profile) (f : Positions) (c d : Code) → Follows f c d → before_start profile d ≡ moved_state f (before_start profile c)
+before_moves profile f c d follows = rw (follows.blocks) (rw (obs_same f c d all_obs follows) refl)
 
 started_moves : (f : Positions) (o : Option Activation) (s : State) → started_up (option_map (moved f) o) (moved_state f s) ≡ moved_state f (started_up o s)
 started_moves f None s = refl
 started_moves f (Some a) s = refl
 
-start_moves : (f : Positions) (c d : Code) → Follows f c d → start d ≡ moved_state f (start c)
+start_moves : (profile : Profile) (f : Positions) (c d : Code) → Follows f c d → start profile d ≡ moved_state f (start profile c)
 unfolding start
-start_moves f c d follows =
-    ap (started_up (startup_ob d)) (before_moves f c d follows)
-    ∙ ap (λ (o : Option Activation). started_up o (moved_state f (before_start c))) (ob_in_moves f c d 27 100 startup_info follows)
-    ∙ started_moves f (startup_ob c) (before_start c)
+start_moves profile f c d follows =
+    ap (started_up (startup_ob profile d)) (before_moves profile f c d follows)
+    ∙ ap (λ (o : Option Activation). started_up o (moved_state f (before_start profile c))) (ob_in_moves profile f c d 27 100 startup_info follows)
+    ∙ started_moves f (startup_ob profile c) (before_start profile c)
 
 pub histories_move : StatementsMove → HistoriesMove
 unfolding replay
-histories_move statements f c d history follows =
-    ap (λ (s : State). run_from d s history) (start_moves f c d follows) ∙ run_moves f c d (start c) history statements follows
+histories_move statements profile f c d history follows =
+    ap (λ (s : State). run_from d s history) (start_moves profile f c d follows) ∙ run_moves f c d (start profile c) history statements follows

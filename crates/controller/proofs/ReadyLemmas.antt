@@ -1,6 +1,7 @@
 -- Where a statement can go it is there, and so is its line.
 use Rattle.std.proofs.Common.{◌≡◌, ℕ, true, Option, Some, None, IsSome, refl}
 use Rattle.std.specs.Option.{option_map, option_and_then}
+use Rattle.plc_base.specs.declared.Profile.TheVariants.{Small}
 use Rattle.plc_base.specs.declared.BlockId.{BlockId}
 use Rattle.plc_base.specs.declared.Spot.{Spot}
 use Rattle.frames.specs.declared.Activation.{Activation}
@@ -64,4 +65,4 @@ spot_read p block at there = block_spot block at (block_of block p.code_blocks) 
 pub can_go_there : (code : Code) (a : Activation) → CanGo code a
     → HasStatement code a.running.frame.block a.running.frame.at
 can_go_there code a can =
-    statement_there code a (world_at_rest code) (can.there (world_at_rest code))
+    statement_there code a (world_at_rest Small code) (can.there (world_at_rest Small code))

@@ -15,10 +15,10 @@ run_more code s (first ∷ rest) back = run_more code (happens code s first).sta
 
 pub by_more : ContinuesByMore
 unfolding replay
-by_more code history more = run_more code (start code) history more
+by_more profile code history more = run_more code (start profile code) history more
 
 pub continues : ContinuesReplay
-continues code history what = by_more code history (what ∷ [])
+continues profile code history what = by_more profile code history (what ∷ [])
 
 seen_more : (code : Code) (s : State) (seen : Observed) (front back : List What)
     → seen_from code s seen (front ++ back)
@@ -29,7 +29,7 @@ seen_more code s seen (first ∷ rest) back =
 
 pub seen_by_more : SeenByMore
 unfolding replay last_seen
-seen_by_more code history more = seen_more code (start code) nothing_shown history more
+seen_by_more profile code history more = seen_more code (start profile code) nothing_shown history more
 
 pub seen_continues : ContinuesSeen
-seen_continues code history what = seen_by_more code history (what ∷ [])
+seen_continues profile code history what = seen_by_more profile code history (what ∷ [])

@@ -2,6 +2,7 @@
 use Rattle.std.proofs.Common.{◌≡◌, ℕ, ◌<◌, Bool, true, false, ◌||◌, IsTrue, List, [], ◌∷◌, length, Some, refl, sym, ap, ◌∙◌, subst, rules, arith, if◌then◌else◌}
 use Rattle.std.specs.Prelude.{◌==◌}
 use Rattle.std.proofs.lemmas.Bool.Decides.{nat_tests}
+use Rattle.plc_base.specs.declared.Profile.TheVariants.{Small}
 use Rattle.plc_base.specs.declared.Mode.{Mode}
 use Rattle.plc_base.specs.declared.Mode.TheVariants.{Run, Startup, Stop}
 use Rattle.frames.specs.Activations.{begun}
@@ -23,7 +24,7 @@ some_head : Head
 some_head = record { local_len = 0; instance_len = 0; params = [] }
 
 abbrev some_of : (class ob : ℕ) → Activation
-some_of class ob = begun class ob (ob_frame ob some_head)
+some_of class ob = begun Small class ob (ob_frame ob some_head)
 
 pub not_empty : (mode : Mode) (a : Activation) (below : List Activation)
     → RunsInStartup mode (a ∷ below)

@@ -1,6 +1,7 @@
 -- Organization blocks as they begin.
 use Rattle.std.specs.Prelude.{ℕ, ◌+◌, min, List, [], ◌∷◌, Option, Some, None, unwrap_or}
 use Rattle.std.specs.Option.{option_map}
+use Rattle.plc_base.specs.declared.Profile.{Profile}
 use Rattle.plc_base.specs.declared.blocks.BlockKind.TheVariants.{Ob}
 use Rattle.plc_base.specs.declared.BlockId.{BlockId}
 use Rattle.frames.specs.Activations.{begun, frame_begun, with_local_byte}
@@ -27,12 +28,12 @@ told_from byte (value ∷ rest) a =
 
 -- an organization block as it begins, with its start information in its first 20 local bytes: all
 -- registers and the status word 0, nothing delayed
-unfoldable pub ob_begun : (class ob : ℕ) → StartInfo → Head → Activation
-ob_begun class ob info head = told_from 0 info.bytes (begun class ob (ob_frame ob head))
+unfoldable pub ob_begun : Profile → (class ob : ℕ) → StartInfo → Head → Activation
+ob_begun profile class ob info head = told_from 0 info.bytes (begun profile class ob (ob_frame ob head))
 
 -- an organization block of a program as it begins; none where it isn't loaded
-abbrev pub ob_in : Code → (class ob : ℕ) → StartInfo → Option Activation
-ob_in code class ob info = option_map (ob_begun class ob info) (code.head (ob_block ob))
+abbrev pub ob_in : Profile → Code → (class ob : ℕ) → StartInfo → Option Activation
+ob_in profile code class ob info = option_map (ob_begun profile class ob info) (code.head (ob_block ob))
 
 -- it begins above those that stand; without it all stays
 abbrev pub begun_above : Option Activation → State → State

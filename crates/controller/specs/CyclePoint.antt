@@ -33,4 +33,4 @@ cycle_info s = start_info (Cycle s.first_cycle) (class_in s.mode 1)
 -- then OB 1 begins, if it is loaded
 unfoldable pub cycle_point : Code → State → State
 cycle_point code s =
-    begun_above (ob_in code (class_in s.mode 1) 1 (cycle_info s)) (cycle_passed s)
+    begun_above (ob_in s.profile code (class_in s.mode 1) 1 (cycle_info s)) (cycle_passed s)

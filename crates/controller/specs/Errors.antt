@@ -41,7 +41,7 @@ copied_from a fresh =
 abbrev pub error_in : Code → (error : ℕ) → (at : Option Spot) → Activation → Option Activation
 error_in code error at a =
     option_map (copied_from a)
-    (ob_in code a.class (ob_of_error error) (start_info (failure error at) a.class))
+    (ob_in a.profile code a.class (ob_of_error error) (start_info (failure error at) a.class))
 
 -- it starts at once, and the activation in which the error came stands below it; without it the
 -- controller stops

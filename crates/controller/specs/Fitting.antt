@@ -2,6 +2,7 @@
 -- can do so after each further entry.
 use Rattle.std.specs.Prelude.{◌≡◌, true, List, [], ◌∷◌, length}
 use Rattle.std.specs.List.{list_all}
+use Rattle.plc_base.specs.declared.Profile.{Profile}
 use Rattle.plc_mem.specs.Areas.{Areas}
 use Rattle.frames.specs.declared.Activation.{Activation}
 use Rattle.flat_code.specs.Loading.{Verifies}
@@ -52,7 +53,7 @@ FitIsReady =
 
 -- the first start is fit
 abbrev pub StartIsFit : Type 0
-StartIsFit = (p : Program) → Verifies p → IsFit p (start (code_of p))
+StartIsFit = (profile : Profile) (p : Program) → Verifies p → IsFit p (start profile (code_of p))
 
 -- each valid entry keeps a state fit
 abbrev pub EntriesKeepFit : Type 0
@@ -63,8 +64,8 @@ EntriesKeepFit =
 -- so the state after each valid history is fit
 abbrev pub HistoriesAreFit : Type 0
 HistoriesAreFit =
-    (p : Program) (history : List What)
-    → Verifies p → AreInRange history → IsFit p (replay (code_of p) history)
+    (profile : Profile) (p : Program) (history : List What)
+    → Verifies p → AreInRange history → IsFit p (replay profile (code_of p) history)
 
 -- a warm restart out of STOP keeps a state fit
 abbrev pub RestartKeepsFit : Type 0

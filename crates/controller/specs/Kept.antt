@@ -10,17 +10,18 @@ use Rattle.controller.specs.Views.{state_of}
 use Rattle.controller.specs.Replayed.{events}
 use Rattle.controller.specs.declared.controllers.Controller.TheInside.{Inside}
 
--- the program verifies; the state is the replay of the history, and fits the program; what the last
--- entry showed is kept with what the next one is compared with; the numbers of data blocks are the
--- program's, in its order; and there is room for as many further entries as are said, with the
--- history's fewer than 2^64
+-- the program verifies; the state is the replay of the history at the profile, and fits the program;
+-- what the last entry showed is kept with what the next one is compared with; the numbers of data
+-- blocks are the program's, in its order; and there is room for as many further entries as are said,
+-- with the history's fewer than 2^64
 pub record IsReplay (a : Inside) : Type 0 where
   pub verifies : Verifies a.program.program
-  pub state : state_of a.cpu ≡ replay (code_of a.program.program) (events a.history.items)
+  pub state : state_of a.cpu ≡ replay a.profile (code_of a.program.program) (events a.history.items)
   pub fit : IsFit a.program.program (state_of a.cpu)
   pub observer :
       a.observer
-      ≡ watched (state_of a.cpu) (last_seen (code_of a.program.program) (events a.history.items))
+      ≡ watched (state_of a.cpu)
+      (last_seen a.profile (code_of a.program.program) (events a.history.items))
   pub numbers :
       a.numbers.items
       ≡ numbers_of (code_of a.program.program).blocks

@@ -1,5 +1,6 @@
 -- What the machine gives the laws of histories: its laws of activations that fit, together.
 use Rattle.std.specs.Prelude.{◌≡◌, ℕ, ◌≤◌, Some}
+use Rattle.plc_base.specs.declared.Profile.{Profile}
 use Rattle.plc_mem.specs.Areas.{Areas}
 use Rattle.plc_mem.specs.Fresh.{fresh}
 use Rattle.plc_mem.specs.Peripherals.{with_input, outputs_cleared}
@@ -25,9 +26,9 @@ pub record MachineLaws : Type 0 where
       → Verifies p → FitsProgram p w.memory a → Lasts p w (statement (code_of p) a w)
   pub stays : (p : Program) (m n : Areas) (a : Activation)
       → SameSizes m n → FitsProgram p m a → FitsProgram p n a
-  pub begins : (p : Program) (m : Areas) (class ob : ℕ) (h : Head)
+  pub begins : (profile : Profile) (p : Program) (m : Areas) (class ob : ℕ) (h : Head)
       → Verifies p → IsMemoryOf (code_of p) m → (code_of p).head (ob_block ob) ≡ Some h
-      → FitsProgram p m (begun class ob (first_frame ob h.local_len))
+      → FitsProgram p m (begun profile class ob (first_frame ob h.local_len))
   pub room : (p : Program) (ob : ℕ) (h : Head)
       → Verifies p → (code_of p).head (ob_block ob) ≡ Some h → h.local_len ≤ 1024
   pub registers : (p : Program) (m : Areas) (a : Activation) (r : Regs)
@@ -39,7 +40,7 @@ pub record MachineLaws : Type 0 where
       → with_local_byte frame byte value a ≡ Some b → FitsProgram p m a → FitsProgram p m b
   pub result : (p : Program) (m n : Areas) (a b : Activation) (to : Binding) (value : ℕ)
       → Verifies p → FitsProgram p m a → GivesResult to value a b m n → GoesOn p m n b
-  pub first : (p : Program) → IsMemoryOf (code_of p) (fresh (code_of p).blocks)
+  pub first : (profile : Profile) (p : Program) → IsMemoryOf (code_of p) (fresh profile (code_of p).blocks)
   pub inputs : (m n : Areas) (byte value : ℕ)
       → with_input m byte value ≡ Some n → SameSizes m n
   pub clears : (p : Program) (m : Areas)

@@ -1,5 +1,6 @@
 -- The same program at other positions: a run in one code, and in a code that follows it.
 use Rattle.std.specs.Prelude.{◌≡◌, ℕ, List, map}
+use Rattle.plc_base.specs.declared.Profile.{Profile}
 use Rattle.plc_base.specs.declared.BlockId.{BlockId}
 use Rattle.machine.specs.Code.{Code}
 use Rattle.machine.specs.Moved.{Follows, moved}
@@ -25,5 +26,5 @@ EntriesMove =
 -- and so does a whole history: mode, memory, scheduler and diagnostics are the same after it
 abbrev pub HistoriesMove : Type 0
 HistoriesMove =
-    (f : BlockId → ℕ → ℕ) (c d : Code) (history : List What) → Follows f c d
-    → replay d history ≡ moved_state f (replay c history)
+    (profile : Profile) (f : BlockId → ℕ → ℕ) (c d : Code) (history : List What) → Follows f c d
+    → replay profile d history ≡ moved_state f (replay profile c history)

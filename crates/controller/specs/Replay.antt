@@ -1,5 +1,6 @@
 -- What an entry does, answers and shows, and what a history of entries comes to, over any program.
 use Rattle.std.specs.Prelude.{◌≡◌, ◌+◌, List, [], ◌∷◌, ◌++◌, length}
+use Rattle.plc_base.specs.declared.Profile.{Profile}
 use Rattle.machine.specs.Code.{Code}
 use Rattle.var_access.specs.declared.Reply.{Reply}
 use Rattle.var_access.specs.declared.Reply.TheVariants.{Done}
@@ -34,8 +35,8 @@ run_from code s [] = s
 run_from code s (what ∷ rest) = run_from code (happens code s what).state rest
 
 -- replay: a whole history, from the start on
-unfoldable pub replay : Code → List What → State
-replay code history = run_from code (start code) history
+unfoldable pub replay : Profile → Code → List What → State
+replay profile code history = run_from code (start profile code) history
 
 -- what the last of these entries showed, from a state on; what was seen before where there is none
 abbrev pub seen_from : Code → State → (seen : Observed) → List What → Observed
@@ -44,33 +45,33 @@ seen_from code s seen (what ∷ rest) =
     seen_from code (happens code s what).state (happens code s what).seen rest
 
 -- what the last entry of a history showed; before the first entry nothing is shown
-unfoldable pub last_seen : Code → List What → Observed
-last_seen code history = seen_from code (start code) nothing_shown history
+unfoldable pub last_seen : Profile → Code → List What → Observed
+last_seen profile code history = seen_from code (start profile code) nothing_shown history
 
 -- a history with one entry more: that entry happens in the state after the others
 abbrev pub ContinuesReplay : Type 0
 ContinuesReplay =
-    (code : Code) (history : List What) (what : What)
-    → replay code (history ++ what ∷ []) ≡ (happens code (replay code history) what).state
+    (profile : Profile) (code : Code) (history : List What) (what : What)
+    → replay profile code (history ++ what ∷ []) ≡ (happens code (replay profile code history) what).state
 
 -- and what it shows is what was seen last
 abbrev pub ContinuesSeen : Type 0
 ContinuesSeen =
-    (code : Code) (history : List What) (what : What)
-    → last_seen code (history ++ what ∷ []) ≡ (happens code (replay code history) what).seen
+    (profile : Profile) (code : Code) (history : List What) (what : What)
+    → last_seen profile code (history ++ what ∷ []) ≡ (happens code (replay profile code history) what).seen
 
 -- a history with further entries: they are made from the state after the others on
 abbrev pub ContinuesByMore : Type 0
 ContinuesByMore =
-    (code : Code) (history more : List What)
-    → replay code (history ++ more) ≡ run_from code (replay code history) more
+    (profile : Profile) (code : Code) (history more : List What)
+    → replay profile code (history ++ more) ≡ run_from code (replay profile code history) more
 
 -- and the last of them shows what was seen last
 abbrev pub SeenByMore : Type 0
 SeenByMore =
-    (code : Code) (history more : List What)
-    → last_seen code (history ++ more)
-    ≡ seen_from code (replay code history) (last_seen code history) more
+    (profile : Profile) (code : Code) (history more : List What)
+    → last_seen profile code (history ++ more)
+    ≡ seen_from code (replay profile code history) (last_seen profile code history) more
 
 -- each entry is counted
 abbrev pub CountsEntries : Type 0
@@ -81,4 +82,4 @@ CountsEntries =
 -- so the count is that of the history
 abbrev pub CountsHistory : Type 0
 CountsHistory =
-    (code : Code) (history : List What) → (replay code history).entries ≡ length history
+    (profile : Profile) (code : Code) (history : List What) → (replay profile code history).entries ≡ length history

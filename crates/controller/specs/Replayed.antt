@@ -15,7 +15,7 @@ events history = map (λ (e : Entry). e.what) history
 
 -- the state of the CPU after all entries
 abbrev pub replayed : Recorded → State
-replayed r = replay (code_of r.program) (events r.history)
+replayed r = replay r.profile (code_of r.program) (events r.history)
 
 -- what a further entry does then
 abbrev pub next_happens : Recorded → Entry → Happened
@@ -23,7 +23,7 @@ next_happens r e = happens (code_of r.program) (replayed r) e.what
 
 -- what the last entry showed; nothing before the first one
 abbrev pub seen : Recorded → Observed
-seen r = last_seen (code_of r.program) (events r.history)
+seen r = last_seen r.profile (code_of r.program) (events r.history)
 
 -- the loaded data blocks by rising number, with their bytes after all entries
 abbrev pub data_blocks : Recorded → List (ℕ × List ℕ)

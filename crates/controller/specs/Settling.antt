@@ -22,7 +22,7 @@ request_taken s = record s { sched = started s.sched }
 -- information; if it isn't loaded, none begins
 abbrev pub request_started : Code → Pending → State → State
 request_started code best s =
-    begun_above (ob_in code best.class best.ob best.info) (request_taken s)
+    begun_above (ob_in s.profile code best.class best.ob best.info) (request_taken s)
 
 -- the best request, if one is pending, is started where it may; else it stays pending
 abbrev pub best_started : Code → Option Pending → State → State

@@ -1,11 +1,13 @@
 -- The start of the CPU: the first one, and a warm restart.
-use Rattle.std.specs.Prelude.{ℕ, true, List, [], ◌∷◌, ◌++◌, filter, take, replicate, is_some, Option, Some, None}
+use Rattle.std.specs.Prelude.{length, ◌-◌, ℕ, true, List, [], ◌∷◌, ◌++◌, filter, take, replicate, is_some, Option, Some, None}
+use Rattle.plc_base.specs.declared.Profile.{Profile}
+use Rattle.plc_base.specs.Profiles.{timer_count, counter_count}
 use Rattle.plc_base.specs.declared.Mode.TheVariants.{Run, Startup}
-use Rattle.plc_base.specs.AreaBytes.{image_size}
-use Rattle.plc_mem.specs.Areas.{Areas}
 use Rattle.plc_mem.specs.Fresh.{fresh}
+use Rattle.plc_mem.specs.Restart.{memory_cleared}
 use Rattle.timers_counters.specs.Timer.{timer_at_rest}
-use Rattle.timers_counters.specs.Counter.{Counter, counter_at_rest}
+use Rattle.timers_counters.specs.Counter.{counter_at_rest}
+use Rattle.timers_counters.specs.Restart.{counters_retained}
 use Rattle.frames.specs.declared.Activation.{Activation}
 use Rattle.machine.specs.Code.{Code}
 use Rattle.machine.specs.Statement.{World}
@@ -29,17 +31,18 @@ abbrev pub loaded_obs : Code → List ℕ
 loaded_obs code = filter (λ ob. is_some (code.head (ob_block ob))) all_obs
 
 -- data blocks have their first bytes, all other memory is 0, timers and counters are at rest
-abbrev pub world_at_rest : Code → World
-world_at_rest code = record {
-  memory = fresh code.blocks;
-  timers = replicate 128 timer_at_rest;
-  counters = replicate 64 counter_at_rest;
+abbrev pub world_at_rest : Profile → Code → World
+world_at_rest profile code = record {
+  memory = fresh profile code.blocks;
+  timers = replicate (timer_count profile) timer_at_rest;
+  counters = replicate (counter_count profile) counter_at_rest;
 }
 
 -- before the first start: RUN, nothing runs, nothing is pending, and no entry or record was made
-abbrev pub before_start : Code → State
-before_start code = record {
-  world = world_at_rest code;
+abbrev pub before_start : Profile → Code → State
+before_start profile code = record {
+  profile = profile;
+  world = world_at_rest profile code;
   mode = Run;
   activations = [];
   sched = at_rest (loaded_obs code);
@@ -53,8 +56,8 @@ abbrev pub startup_info : StartInfo
 startup_info = start_info OfStartup 27
 
 -- OB 100 as it begins; none where it isn't loaded
-abbrev pub startup_ob : Code → Option Activation
-startup_ob code = ob_in code 27 100 startup_info
+abbrev pub startup_ob : Profile → Code → Option Activation
+startup_ob profile code = ob_in profile code 27 100 startup_info
 
 -- with OB 100 the mode is STARTUP, and it begins; else RUN begins
 abbrev pub started_up : Option Activation → State → State
@@ -62,31 +65,14 @@ started_up None s = run_starts s
 started_up (Some a) s = begun_above (Some a) (record s { mode = Startup })
 
 -- the first start
-unfoldable pub start : Code → State
-start code = started_up (startup_ob code) (before_start code)
-
--- bytes 0 to 15 of bit memory are retained, bytes 16 to 255 become 0
-abbrev pub bits_retained : List ℕ → List ℕ
-bits_retained bytes = take 16 bytes ++ replicate 240 0
-
--- C 0 to C 7 are retained, C 8 to C 63 are at rest again
-abbrev pub counters_retained : List Counter → List Counter
-counters_retained counters = take 8 counters ++ replicate 56 counter_at_rest
-
--- the process images are cleared, and bit memory but for what is retained; data blocks and the
--- peripheral inputs and outputs stay
-abbrev pub memory_cleared : Areas → Areas
-memory_cleared m = record m {
-  inputs = replicate image_size 0;
-  outputs = replicate image_size 0;
-  bit_memory = bits_retained m.bit_memory;
-}
+unfoldable pub start : Profile → Code → State
+start profile code = started_up (startup_ob profile code) (before_start profile code)
 
 -- of memory and counters what is retained stays, and all timers are at rest again
 abbrev pub world_cleared : World → World
 world_cleared w = record w {
   memory = memory_cleared w.memory;
-  timers = replicate 128 timer_at_rest;
+  timers = replicate (length w.timers) timer_at_rest;
   counters = counters_retained w.counters;
 }
 
@@ -103,4 +89,4 @@ cleared s =
 -- a warm restart out of STOP, recorded by code 6: what isn't retained is cleared, and OB 100 or RUN
 -- begins
 unfoldable pub restarted : Code → State → State
-restarted code s = started_up (startup_ob code) (cleared (diagnosed 6 0 s))
+restarted code s = started_up (startup_ob s.profile code) (cleared (diagnosed 6 0 s))

@@ -1,5 +1,6 @@
 -- The state of the CPU between two entries of its history.
 use Rattle.std.specs.Prelude.{ℕ, Bool, true, false, List, [], ◌∷◌, ◌++◌, length, drop, nat_lt, if◌then◌else◌}
+use Rattle.plc_base.specs.declared.Profile.{Profile}
 use Rattle.plc_base.specs.declared.Mode.{Mode}
 use Rattle.plc_base.specs.declared.Mode.TheVariants.{Run, Startup, Stop}
 use Rattle.frames.specs.declared.Activation.{Activation}
@@ -7,10 +8,11 @@ use Rattle.machine.specs.Statement.{World}
 use Rattle.ob_sched.specs.Scheduler.{Scheduler}
 use Rattle.controller.specs.declared.diagnostics.DiagRecord.{DiagRecord}
 
--- memory, timers and counters; the operating mode; the activations, the running one first, each of the
+-- the profile; memory, timers and counters; the operating mode; the activations, the running one first, each of the
 -- others interrupted by the one before it; the scheduler; whether the first cycle after a start is still
 -- to come; the last 100 records of diagnostics; and how many entries there were
 pub record State : Type 0 where
+  pub profile : Profile
   pub world : World
   pub mode : Mode
   pub activations : List Activation

@@ -14,6 +14,7 @@ activations_of standing all = reverse (take standing all)
 -- the state of the CPU that the fields of the code stand for
 abbrev pub state_of : Cpu → State
 state_of p = record {
+  profile = p.profile;
   world = world p.memory p.timers p.counters;
   mode = p.mode;
   activations = p.activations;

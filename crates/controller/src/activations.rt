@@ -23,7 +23,7 @@ use frames::{Activation, Binding, Frame};
 use image_file::Loaded;
 use machine::{Inputs, Outcome, give_result, quiet_statements, statement};
 use ob_sched::{Sched, StartInfo};
-use plc_base::{BlockId, NoMemory, Spot};
+use plc_base::{BlockId, NoMemory, Profile, Spot};
 use plc_mem::Memory;
 use status_word::Regs;
 use std::alloc::Global;
@@ -109,7 +109,7 @@ fn add_place(all: &mut Vec<Activation>)
 {
     let mut frame = Frame::default();
     frame.begin(ob_block(0), 0);
-    let pushed = all.push(Activation::new(0, 0, frame));
+    let pushed = all.push(Activation::new(0, 0, frame, Profile::Small));
     prove!(pushed.is_ok());
 }
 
@@ -132,6 +132,7 @@ fn make_place(all: &mut Vec<Activation>, place: usize)
 fn begin_in(
     all: &mut [Activation],
     place: usize,
+    profile: Profile,
     class: u8,
     ob: u16,
     local_len: u16,
@@ -140,10 +141,10 @@ fn begin_in(
     requires place { place < length all.old }
     requires local { local_len ≤ 1024 }
     ensures { all.new ≡ set all.old place (told_from 0 info.now.bytes
-        (begun class ob (frame_begun (block_of_ob ob) local_len))) }
+        (begun profile class ob (frame_begun (block_of_ob ob) local_len))) }
 {
     let a = &mut all[place];
-    a.restart(class, ob, ob_block(ob), local_len);
+    a.restart(class, ob, ob_block(ob), local_len, profile);
     tell(a, &info.bytes);
 }
 
@@ -204,16 +205,17 @@ impl Activations {
 
     // An organization block begins above those that stand.
     #[tactic(auto, using(crate::proofs::ActiveLemmas::standing_count, crate::proofs::ActiveLemmas::one_begun))]
-    fn push(&mut self, class: u8, ob: u16, local_len: u16, info: &StartInfo)
+    fn push(&mut self, profile: Profile, class: u8, ob: u16, local_len: u16, info: &StartInfo)
         requires room { length self.old < 48 }
         requires local { local_len ≤ 1024 }
         ensures { self.new ≡ told_from 0 info.now.bytes
-            (begun class ob (frame_begun (block_of_ob ob) local_len)) ∷ self.old }
+            (begun profile class ob (frame_begun (block_of_ob ob) local_len)) ∷ self.old }
     {
         make_place(&mut self.all, self.standing);
         begin_in(
             self.all.as_mut_slice(),
             self.standing,
+            profile,
             class,
             ob,
             local_len,
@@ -225,17 +227,24 @@ impl Activations {
     /// An organization block begins above those that stand, with its start information; false where it
     /// isn't loaded.
     #[tactic(auto, using(crate::proofs::ActiveLemmas::block_begins, crate::proofs::ActiveLemmas::block_missing, crate::proofs::ActiveLemmas::block_is))]
-    pub(crate) fn begin(&mut self, program: &Loaded, class: u8, ob: u16, info: &StartInfo) -> bool
+    pub(crate) fn begin(
+        &mut self,
+        program: &Loaded,
+        profile: Profile,
+        class: u8,
+        ob: u16,
+        info: &StartInfo,
+    ) -> bool
         requires { length self.old < 48 }
-        ensures begins { Begins (ob_in (code_of program.now.program) class ob info.now)
+        ensures begins { Begins (ob_in profile (code_of program.now.program) class ob info.now)
             self.old self.new result }
-        ensures is { IfSome (ob_in (code_of program.now.program) class ob info.now)
+        ensures is { IfSome (ob_in profile (code_of program.now.program) class ob info.now)
             (λ a. (a.class ≡ class) × (a.ob ≡ ob)) }
     {
         match local_len_of(program, ob) {
             None => false,
             Some(local_len) => {
-                self.push(class, ob, local_len, info);
+                self.push(profile, class, ob, local_len, info);
                 true
             }
         }
@@ -267,9 +276,15 @@ impl Activations {
             return false;
         };
         let event = failure(code, at);
-        let (class, delay) = (running.class, running.delay);
+        let (profile, class, delay) = (running.profile, running.class, running.delay);
         let regs = at_begin(&running.running.regs);
-        let begins = self.begin(program, class, event.ob(), &StartInfo::new(event, class));
+        let begins = self.begin(
+            program,
+            profile,
+            class,
+            event.ob(),
+            &StartInfo::new(event, class),
+        );
         if begins {
             self.hand_on(delay, regs);
         }

@@ -1,6 +1,7 @@
 ghost use Rattle.std.specs.Prelude.{◌≡◌, ◌+◌, ◌-◌, ◌^◌, ◌<◌, ◌≤◌, ◌↔◌, [], ◌∷◌, ◌++◌, length, max, take, slice_get, is_some, replicate, false, Some, IfOk, OnOk, OnErr, IsNone, IsTrue};
 ghost use Rattle.std.specs.Option.{option_copied, option_map};
 ghost use Rattle.std.specs.FinMap as finmap;
+ghost use Rattle.plc_base.specs.declared.Profile.TheVariants.{Small};
 ghost use Rattle.image_file.specs.Readers.{bytes_of};
 ghost use Rattle.machine.specs.Flat.{code_of};
 ghost use Rattle.controller.specs.Quiet.{ShowNothing, steps_quietly};
@@ -14,17 +15,17 @@ use crate::cpus::Cpu;
 use crate::observing::{Observed, Observer};
 use crate::starting::data_numbers;
 use image_file::Loaded;
-use plc_base::{Mode, NoMemory};
+use plc_base::{Mode, NoMemory, Profile};
 use std::alloc::Global;
 use std::marker::Model;
 use var_access::{Entry, Reply, What};
 
-/// A controller: a program, and the history of all entries so far, from which its state follows.
-/// A contract sees the program, the history, and `spare`, for how many further entries there is
-/// room.
+/// A controller: a program, its profile, and the history of all entries so far, from which its state
+/// follows. A contract sees these three, and `spare`, for how many further entries there is room.
 #[derive(Drop)]
 pub struct Controller {
     program: Loaded,
+    profile: Profile,
     cpu: Cpu,
     history: Vec<Entry>,
     spare: u64,
@@ -42,6 +43,7 @@ impl Model for Controller {
 
     ghost view = { λ a. record {
       program = a.program.program;
+      profile = a.profile;
       history = a.history.items;
       spare = a.spare;
     } };
@@ -108,7 +110,8 @@ pub fn leading_steps(entries: &[Entry]) -> usize
 }
 
 impl Controller {
-    /// A controller at its first start, with an empty history and room for no entry.
+    /// A controller at its first start, with the sizes of the small profile, an empty history and room
+    /// for no entry.
     ///
     /// # Errors
     ///
@@ -116,17 +119,19 @@ impl Controller {
     pub fn new(alloc: Global, program: Loaded) -> Result<Controller, NoMemory>
         ensures { IfOk result (λ c. c ≡ record {
           program = program.program;
+          profile = Small;
           history = [];
           spare = 0;
         }) }
     {
         program.law_of_verifying();
         crate::laws::what_runs_goes_on();
-        let cpu = Cpu::start(alloc, &program)?;
+        let cpu = Cpu::start(alloc, &program, Profile::Small)?;
         let numbers = data_numbers(alloc, &program)?;
         let observer = Observer::new(&cpu);
         Ok(Controller {
             program,
+            profile: Profile::Small,
             cpu,
             history: Vec::new(alloc),
             spare: 0,

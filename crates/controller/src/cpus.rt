@@ -6,13 +6,15 @@ ghost use Rattle.controller.specs.Views.{state_of};
 use crate::activations::Activations;
 use crate::diagnostics::Diagnostics;
 use ob_sched::Sched;
-use plc_base::Mode;
+use plc_base::{Mode, Profile};
 use plc_mem::Memory;
 use timers_counters::{Counters, Timers};
 
 /// The CPU between two entries of its history. A contract sees its state (`state_of`).
 #[derive(Drop)]
 pub struct Cpu {
+    /// The sizes of memory, timers, counters and activations.
+    pub(crate) profile: Profile,
     pub(crate) memory: Memory,
     pub(crate) timers: Timers,
     pub(crate) counters: Counters,

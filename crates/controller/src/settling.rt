@@ -25,10 +25,12 @@ impl Cpu {
         requires stack { IsStanding self.old.mode self.old.activations }
         requires above { MayBegin self.old.mode class ob self.old.activations }
         ensures state { state_of self.new
-            ≡ begun_above (ob_in (code_of program.now.program) class ob info) (state_of self.old) }
+            ≡ begun_above (ob_in self.old.profile (code_of program.now.program) class ob info)
+            (state_of self.old) }
         ensures stack { IsStanding self.new.mode self.new.activations }
     {
-        self.activations.begin(program, class, ob, &info);
+        self.activations
+            .begin(program, self.profile, class, ob, &info);
     }
 
     // A request leaves those that are pending, and its organization block begins.

@@ -10,11 +10,11 @@ ghost use Rattle.controller.specs.Views.{state_of};
 
 use crate::activations::Activations;
 use crate::beginning::ob_block;
-use crate::diagnostics::Diagnostics;
 use crate::cpus::Cpu;
+use crate::diagnostics::Diagnostics;
 use image_file::Loaded;
 use ob_sched::{Sched, StartEvent, StartInfo};
-use plc_base::{BlockId, BlockKind, Mode, NoMemory};
+use plc_base::{BlockId, BlockKind, Mode, NoMemory, Profile};
 use plc_mem::Memory;
 use std::alloc::Global;
 use timers_counters::{Counters, Timers};
@@ -100,13 +100,13 @@ fn read_blocks(
 
 // Memory with copies of the program's data blocks, in which all else is 0.
 #[tactic(auto, using(crate::proofs::StartLemmas::blocks_read, crate::proofs::StartLemmas::blocks_differ))]
-fn memory_of(alloc: Global, program: &Loaded) -> Result<Memory, NoMemory>
-    ensures { IfOk result (λ m. m ≡ fresh (code_of program.now.program).blocks) }
+fn memory_of(alloc: Global, program: &Loaded, profile: Profile) -> Result<Memory, NoMemory>
+    ensures { IfOk result (λ m. m ≡ fresh profile (code_of program.now.program).blocks) }
 {
     program.law_of_verifying();
     let numbers = data_numbers(alloc, program)?;
     let blocks = read_blocks(alloc, program, numbers.as_slice())?;
-    let memory = Memory::new(alloc, blocks.as_slice())?;
+    let memory = Memory::new(alloc, blocks.as_slice(), profile)?;
     Ok(memory)
 }
 
@@ -115,12 +115,13 @@ impl Cpu {
     fn start_up(&mut self, program: &Loaded)
         requires { self.old.activations ≡ [] }
         ensures { state_of self.new
-            ≡ started_up (startup_ob (code_of program.now.program)) (state_of self.old) }
+            ≡ started_up (startup_ob self.old.profile (code_of program.now.program))
+            (state_of self.old) }
     {
         let info = StartInfo::new(StartEvent::Startup, STARTUP_CLASS);
         if self
             .activations
-            .begin(program, STARTUP_CLASS, STARTUP_OB, &info)
+            .begin(program, self.profile, STARTUP_CLASS, STARTUP_OB, &info)
         {
             self.mode = Mode::Startup;
         } else {
@@ -128,7 +129,7 @@ impl Cpu {
         }
     }
 
-    /// The first start of a program: data blocks as loaded, all other memory 0, and with OB 100
+    /// The first start of a program at a profile: data blocks as loaded, all other memory 0, and with OB 100
     /// STARTUP, else RUN. The room for all activations is taken here, and no other call takes
     /// memory.
     ///
@@ -136,14 +137,15 @@ impl Cpu {
     ///
     /// `NoMemory` for want of memory.
     #[tactic(auto, unfolding(crate::specs::Start::start))]
-    pub fn start(alloc: Global, program: &Loaded) -> Result<Cpu, NoMemory>
-        ensures { IfOk result (λ p. state_of p ≡ start (code_of program.now.program)) }
+    pub fn start(alloc: Global, program: &Loaded, profile: Profile) -> Result<Cpu, NoMemory>
+        ensures { IfOk result (λ p. state_of p ≡ start profile (code_of program.now.program)) }
     {
         let obs = loaded_obs(alloc, program)?;
-        let mut parts = Cpu {
-            memory: memory_of(alloc, program)?,
-            timers: Timers::new(),
-            counters: Counters::new(),
+        let mut cpu = Cpu {
+            profile,
+            memory: memory_of(alloc, program, profile)?,
+            timers: Timers::new(profile),
+            counters: Counters::new(profile),
             mode: Mode::Run,
             activations: Activations::new(alloc)?,
             sched: Sched::new(alloc, obs.as_slice())?,
@@ -151,7 +153,7 @@ impl Cpu {
             diagnostics: Diagnostics::new(),
             entries: 0,
         };
-        parts.start_up(program);
-        Ok(parts)
+        cpu.start_up(program);
+        Ok(cpu)
     }
 }

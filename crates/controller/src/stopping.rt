@@ -6,8 +6,8 @@ ghost use Rattle.controller.specs.State.{is_stop as is_stop_of, diagnosed, each_
 ghost use Rattle.controller.specs.Stopping.{halted, halted_at};
 ghost use Rattle.controller.specs.Views.{state_of};
 
-use crate::diagnostics::DiagRecord;
 use crate::cpus::Cpu;
+use crate::diagnostics::DiagRecord;
 use image_file::Loaded;
 use plc_base::{Mode, Spot};
 

@@ -1,6 +1,7 @@
 -- Entries one after another that show nothing.
 use Rattle.std.proofs.Common.{◌≡◌, ◌≤◌, ℕ, zero, suc, List, [], ◌∷◌, ◌++◌, length, take, replicate, refl, sym, ap, subst, ◌∙◌, arith}
 use Rattle.std.proofs.lemmas.List.{map-append, take-map, take-replicate}
+use Rattle.plc_base.specs.declared.Profile.{Profile}
 use Rattle.flat_code.specs.Loading.{Verifies}
 use Rattle.flat_code.specs.Programs.{Program}
 use Rattle.machine.specs.Code.{Code}
@@ -18,11 +19,11 @@ use Rattle.controller.specs.Replayed.{events}
 
 -- ---- entries behind others
 
-pub replay-more : ContinuesByMore → (code : Code) (history more : List Entry)
-    → replay code (events (history ++ more)) ≡ run_from code (replay code (events history)) (events more)
-replay-more continues code history more =
-    ap (λ (es : List What). replay code es) (map-append (λ (e : Entry). e.what) history more)
-    ∙ continues code (events history) (events more)
+pub replay-more : ContinuesByMore → (profile : Profile) (code : Code) (history more : List Entry)
+    → replay profile code (events (history ++ more)) ≡ run_from code (replay profile code (events history)) (events more)
+replay-more continues profile code history more =
+    ap (λ (es : List What). replay profile code es) (map-append (λ (e : Entry). e.what) history more)
+    ∙ continues profile code (events history) (events more)
 
 -- ---- what is seen after them
 
@@ -62,31 +63,31 @@ pub fits-behind : (p : Program) (s t : State) (n : ℕ) → EntriesKeepFit → V
     → t ≡ run_from (code_of p) s (replicate n Step) → IsFit p t
 fits-behind p s t n keeps h fit after = subst (IsFit p) (sym after) (fits-steps p s n keeps h fit)
 
-pub quiet-behind : (code : Code) (history more : List Entry) (s : State) (n : ℕ) → s ≡ replay code (events history)
+pub quiet-behind : (profile : Profile) (code : Code) (history more : List Entry) (s : State) (n : ℕ) → s ≡ replay profile code (events history)
     → events more ≡ replicate n Step → ShowNothing code s (replicate n Step)
-    → ShowNothing code (replay code (events history)) (events more)
-quiet-behind code history more s n before steps quiet =
-    subst (λ (whats : List What). ShowNothing code (replay code (events history)) whats) (sym steps)
+    → ShowNothing code (replay profile code (events history)) (events more)
+quiet-behind profile code history more s n before steps quiet =
+    subst (λ (whats : List What). ShowNothing code (replay profile code (events history)) whats) (sym steps)
     (subst (λ (u : State). ShowNothing code u (replicate n Step)) before quiet)
 
-pub state-behind : ContinuesByMore → (code : Code) (history more : List Entry) (s t : State) (n : ℕ) → s ≡ replay code (events history)
+pub state-behind : ContinuesByMore → (profile : Profile) (code : Code) (history more : List Entry) (s t : State) (n : ℕ) → s ≡ replay profile code (events history)
     → events more ≡ replicate n Step → t ≡ run_from code s (replicate n Step)
-    → t ≡ replay code (events (history ++ more))
-state-behind continues code history more s t n before steps after =
+    → t ≡ replay profile code (events (history ++ more))
+state-behind continues profile code history more s t n before steps after =
     after
     ∙ ap (λ (u : State). run_from code u (replicate n Step)) before
-    ∙ ap (λ (whats : List What). run_from code (replay code (events history)) whats) (sym steps)
-    ∙ sym (replay-more continues code history more)
+    ∙ ap (λ (whats : List What). run_from code (replay profile code (events history)) whats) (sym steps)
+    ∙ sym (replay-more continues profile code history more)
 
-pub seen-behind : SeenByMore → (code : Code) (history more : List Entry) (s : State) (n : ℕ) → s ≡ replay code (events history)
+pub seen-behind : SeenByMore → (profile : Profile) (code : Code) (history more : List Entry) (s : State) (n : ℕ) → s ≡ replay profile code (events history)
     → events more ≡ replicate n Step → ShowNothing code s (replicate n Step) → 1 ≤ n
-    → nothing_shown ≡ last_seen code (events (history ++ more))
-seen-behind continues code history more s n before steps quiet some = sym (
-    ap (λ (es : List What). last_seen code es) (map-append (λ (e : Entry). e.what) history more)
-    ∙ continues code (events history) (events more)
-    ∙ ap (λ (u : State). seen_from code u (last_seen code (events history)) (events more)) (sym before)
-    ∙ ap (λ (whats : List What). seen_from code s (last_seen code (events history)) whats) steps
-    ∙ none-now code s (last_seen code (events history)) n quiet some)
+    → nothing_shown ≡ last_seen profile code (events (history ++ more))
+seen-behind continues profile code history more s n before steps quiet some = sym (
+    ap (λ (es : List What). last_seen profile code es) (map-append (λ (e : Entry). e.what) history more)
+    ∙ continues profile code (events history) (events more)
+    ∙ ap (λ (u : State). seen_from code u (last_seen profile code (events history)) (events more)) (sym before)
+    ∙ ap (λ (whats : List What). seen_from code s (last_seen profile code (events history)) whats) steps
+    ∙ none-now code s (last_seen profile code (events history)) n quiet some)
 
 -- outputs and mode are as before
 pub observer-behind : (s t : State) (w w' : Watched) (seen : Observed) → w ≡ watched s seen

@@ -1,5 +1,6 @@
 -- One more entry at the end of a history.
 use Rattle.std.proofs.Common.{◌≡◌, List, [], ◌∷◌, ◌++◌, refl, sym, ap, subst, ◌∙◌}
+use Rattle.plc_base.specs.declared.Profile.{Profile}
 use Rattle.flat_code.specs.Loading.{Verifies}
 use Rattle.flat_code.specs.Programs.{Program}
 use Rattle.machine.specs.Code.{Code}
@@ -17,16 +18,16 @@ use Rattle.controller.specs.Replayed.{events}
 
 -- ---- at the start
 
-pub starts : (code : Code) → start code ≡ replay code []
+pub starts : (profile : Profile) (code : Code) → start profile code ≡ replay profile code []
 unfolding replay
-starts code = refl
+starts profile code = refl
 
-pub none_seen : (code : Code) → nothing_shown ≡ last_seen code []
+pub none_seen : (profile : Profile) (code : Code) → nothing_shown ≡ last_seen profile code []
 unfolding last_seen
-none_seen code = refl
+none_seen profile code = refl
 
-pub start_fits : (p : Program) (s : State) → StartIsFit → Verifies p → s ≡ start (code_of p) → IsFit p s
-start_fits p s fits h is = subst (IsFit p) (sym is) (fits p h)
+pub start_fits : (profile : Profile) (p : Program) (s : State) → StartIsFit → Verifies p → s ≡ start profile (code_of p) → IsFit p s
+start_fits profile p s fits h is = subst (IsFit p) (sym is) (fits profile p h)
 
 -- ---- an entry more
 
@@ -34,22 +35,22 @@ events_next : (history : List Entry) (e : Entry) → events (history ++ e ∷ []
 events_next [] e = refl
 events_next (first ∷ rest) e = ap (λ (more : List What). first.what ∷ more) (events_next rest e)
 
-pub state_next : (code : Code) (history : List Entry) (e : Entry) (s t : State) → ContinuesReplay
-    → s ≡ replay code (events history) → t ≡ (happens code s e.what).state
-    → t ≡ replay code (events (history ++ e ∷ []))
-state_next code history e s t continues before after =
+pub state_next : (profile : Profile) (code : Code) (history : List Entry) (e : Entry) (s t : State) → ContinuesReplay
+    → s ≡ replay profile code (events history) → t ≡ (happens code s e.what).state
+    → t ≡ replay profile code (events (history ++ e ∷ []))
+state_next profile code history e s t continues before after =
     after
     ∙ ap (λ (u : State). (happens code u e.what).state) before
-    ∙ sym (continues code (events history) e.what)
-    ∙ ap (λ (es : List What). replay code es) (sym (events_next history e))
+    ∙ sym (continues profile code (events history) e.what)
+    ∙ ap (λ (es : List What). replay profile code es) (sym (events_next history e))
 
-pub seen_next : (code : Code) (history : List Entry) (e : Entry) (s : State) → ContinuesSeen
-    → s ≡ replay code (events history)
-    → (happens code s e.what).seen ≡ last_seen code (events (history ++ e ∷ []))
-seen_next code history e s continues before =
+pub seen_next : (profile : Profile) (code : Code) (history : List Entry) (e : Entry) (s : State) → ContinuesSeen
+    → s ≡ replay profile code (events history)
+    → (happens code s e.what).seen ≡ last_seen profile code (events (history ++ e ∷ []))
+seen_next profile code history e s continues before =
     ap (λ (u : State). (happens code u e.what).seen) before
-    ∙ sym (continues code (events history) e.what)
-    ∙ ap (λ (es : List What). last_seen code es) (sym (events_next history e))
+    ∙ sym (continues profile code (events history) e.what)
+    ∙ ap (λ (es : List What). last_seen profile code es) (sym (events_next history e))
 
 -- what it shows is what the outputs and the mode were compared for
 seen_is : (code : Code) (s : State) (what : What)

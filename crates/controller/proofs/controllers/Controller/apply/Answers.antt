@@ -1,4 +1,5 @@
 use Rattle.std.proofs.Common.{rules, ◌≡◌, ◌++◌, ◌∷◌, [], List, ap, sym, ◌∙◌}
+use Rattle.plc_base.specs.declared.Profile.{Profile}
 use Rattle.flat_code.specs.Programs.{Program}
 use Rattle.machine.specs.Code.{Code}
 use Rattle.machine.specs.Flat.{code_of}
@@ -20,19 +21,20 @@ happen-reply-requires-clause-ready c =
 pub invariant_of-self : goal.invariant_of-self
 invariant_of-self c =
     let p : Program = c.self.inside.program.program in
+    let profile : Profile = c.self.inside.profile in
     let code : Code = code_of p in
     let history : List Entry = c.self.inside.history.items in
     let s : State = state_of c.self.inside.cpu in
     let t : State = state_of c.happen-reply.new.self in
     let items : c.push_reserved.new.self.items ≡ history ++ c.args.e ∷ [] = search rules in
-    let seen : (happens code s c.args.e.what).seen ≡ last_seen code (events c.push_reserved.new.self.items) =
-    seen_next code history c.args.e s c.continues_replay.ensures.seen c.self.invariant.state
-    ∙ ap (λ (es : List Entry). last_seen code (events es)) (sym items) in
+    let seen : (happens code s c.args.e.what).seen ≡ last_seen profile code (events c.push_reserved.new.self.items) =
+    seen_next profile code history c.args.e s c.continues_replay.ensures.seen c.self.invariant.state
+    ∙ ap (λ (es : List Entry). last_seen profile code (events es)) (sym items) in
     record {
       verifies = c.self.invariant.verifies;
       state =
-          state_next code history c.args.e s t c.continues_replay.ensures.state c.self.invariant.state c.happen-reply.ensures.state
-          ∙ ap (λ (es : List Entry). replay code (events es)) (sym items);
+          state_next profile code history c.args.e s t c.continues_replay.ensures.state c.self.invariant.state c.happen-reply.ensures.state
+          ∙ ap (λ (es : List Entry). replay profile code (events es)) (sym items);
       fit =
           fits_next p s t c.args.e.what c.what_runs_goes_on.ensures.entry c.self.invariant.verifies c.requires.valid.1
           c.self.invariant.fit c.happen-reply.ensures.state;

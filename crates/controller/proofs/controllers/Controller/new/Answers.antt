@@ -1,4 +1,5 @@
 use Rattle.std.proofs.Common.{rules, ◌≡◌, List, [], ap, sym, ◌∙◌}
+use Rattle.plc_base.specs.declared.Profile.TheVariants.{Small}
 use Rattle.flat_code.specs.Programs.{Program}
 use Rattle.machine.specs.Code.{Code}
 use Rattle.machine.specs.Flat.{code_of}
@@ -18,14 +19,14 @@ invariant_of-result c =
     let p : Program = c.args.program.program in
     let code : Code = code_of p in
     let s : State = state_of c.in_ok-cpu.cpu in
-    let started : s ≡ start code = c.in_ok-cpu.ensures in
+    let started : s ≡ start Small code = c.in_ok-cpu.ensures in
     let items : c.new.result.items ≡ [] = c.new.ensures.items in
-    let seen : nothing_shown ≡ last_seen code (events c.new.result.items) =
-    none_seen code ∙ ap (λ (es : List Entry). last_seen code (events es)) (sym items) in
+    let seen : nothing_shown ≡ last_seen Small code (events c.new.result.items) =
+    none_seen Small code ∙ ap (λ (es : List Entry). last_seen Small code (events es)) (sym items) in
     record {
       verifies = c.law_of_verifying.ensures;
-      state = started ∙ starts code ∙ ap (λ (es : List Entry). replay code (events es)) (sym items);
-      fit = start_fits p s c.what_runs_goes_on.ensures.start c.law_of_verifying.ensures started;
+      state = started ∙ starts Small code ∙ ap (λ (es : List Entry). replay Small code (events es)) (sym items);
+      fit = start_fits Small p s c.what_runs_goes_on.ensures.start c.law_of_verifying.ensures started;
       observer = c.new-observer.ensures ∙ ap (λ (o : Observed). watched s o) seen;
       numbers = c.in_ok-numbers.ensures;
       room = search rules;
