@@ -3,12 +3,13 @@ import os
 import re
 import shutil
 import subprocess
+import sys
 import time
 
 from tests.calling import TOP, ToolTest
 
 COPIED = ["s7", "build", "tools", "docs/REFUSALS.md", "docs/FORMATS.md", "crates.txt", "crates/s7_cli/src/help.rt", "crates/s7/src/main.rt"]
-COMMANDS = "awk bash cat chmod cp dirname env find grep mkdir mktemp python3 readlink rm sleep touch wc".split()
+COMMANDS = "awk bash cat chmod cp dirname env find grep mkdir mktemp readlink rm sleep touch wc".split()
 
 # says what it got, and answers what the files beside it say
 RT = """\
@@ -29,6 +30,7 @@ exit "$(cat "$here/status")"
 BUILDING_RT = """\
 #!/usr/bin/env bash
 echo 'logic=proved crate'
+sleep 1
 mkdir -p out && printf '#!/bin/sh\\necho built\\n' > out/s7 && chmod +x out/s7
 """
 PROGRAM = """\
@@ -55,6 +57,7 @@ class ScriptTest(ToolTest):
         self.bin.mkdir()
         for name in COMMANDS:
             (self.bin / name).symlink_to(shutil.which(name))
+        (self.bin / "python3").symlink_to(sys.executable)
         self.write("source", "A I 0.0;\n")
         self.write("history", "step\n")
         self.write("symbols", "Go,I 0.0,BOOL,\n")
@@ -265,7 +268,7 @@ class Build(ScriptTest):
         self.assertEqual((answer.returncode, answer.stdout), (0, ""))
         said = answer.stderr.splitlines()
         self.assertIn("87 minutes", said[0])
-        self.assertRegex(answer.stderr, r"\rbuild: crate \d+ of \d+, 0 minutes so far ")
+        self.assertRegex(answer.stderr, r"\nbuild: crate \d+ of \d+, 0 minutes so far ")
         self.assertIn("proved and built", said[-1])
         self.assertEqual(self.s7("go").stdout, "built\n")
         self.assertIn("up to date", self.run_script(self.top / "build").stderr)

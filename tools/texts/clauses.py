@@ -21,6 +21,7 @@ HEADS = {b"ORGANIZATION_BLOCK", b"FUNCTION", b"FUNCTION_BLOCK", b"DATA_BLOCK", b
 ENDS = {b"END_" + head for head in HEADS}
 SECTIONS = {b"VAR", b"VAR_INPUT", b"VAR_OUTPUT", b"VAR_IN_OUT", b"VAR_TEMP"}
 ALONE = ENDS | SECTIONS | {b"END_VAR", b"BEGIN", b"NETWORK", b"STRUCT", b"END_STRUCT"}
+CUTTING = HEADS | ALONE - {b"STRUCT"}
 HEAD_LENGTHS = {b"VERSION": 5, b"AUTHOR": 3, b"FAMILY": 3, b"NAME": 3, b"KNOW_HOW_PROTECT": 1, b"CODE_VERSION1": 1}
 LONGEST_FRONT = 6
 KIND = re.compile(rb"OB|FC|FB|DB|SFC|UDT")
@@ -140,5 +141,10 @@ def length_of(tokens, at, head_kind):
         return with_mark(HEAD_LENGTHS[first], b";")
     if head_kind == b"DATA_BLOCK" and block_at(front)[0]:
         return block_at(front)[1]
-    ends = (end for end in range(at, len(tokens)) if tokens[end].text == b";" or tokens[end].upper == b"STRUCT")
-    return next(ends, len(tokens) - 1) + 1 - at
+    # a clause goes on over keywords, where its end is missing; then it's cut in front of the first one
+    for end in range(at, len(tokens)):
+        if tokens[end].text == b";" or tokens[end].upper == b"STRUCT":
+            return end + 1 - at
+        if end > at and tokens[end].upper in CUTTING:
+            return end - at
+    return len(tokens) - at

@@ -7,7 +7,7 @@ import textwrap
 from texts import documents
 from texts.histories import read_history
 from texts.places import read_by_place
-from texts.tool import decoded
+from texts.tool import decoded, on_one_line
 from texts.words import read_call
 
 WIDTH = 110
@@ -77,7 +77,7 @@ def said_of_line(path, kind, number):
 
 
 def quoted(line):
-    return ["    " + decoded(line).strip("\r")] if line.strip() else []
+    return ["    " + on_one_line(decoded(line).rstrip())] if line.strip() else []
 
 
 def of_image(call, text):

@@ -10,10 +10,11 @@ from texts.histories import ARRIVING
 from texts.tool import Refused, decoded
 
 REFUSED = re.compile(r"(symbols|source) refused: line (\d+) rule (\d+)\n")
-NO_END, ENDS_INSIDE = 2, 13
+NO_TOKEN, NO_END, ENDS_INSIDE = 1, 2, 13
 RULES_OF_CLAUSES = (10, 11, 12, 13)
 INITIAL_VALUE = 41
 RULES_OF_NAMES = (20, 23, 34)
+MARKS = b":= : ; , . ( ) [ ] = + - < > * /".split()
 RULES_OF_NUMBERS = (22, 44)
 NUMBERS = {
     b"ORGANIZATION_BLOCK": (b"OB", ARRIVING),
@@ -84,25 +85,34 @@ class Checker:
 
 def ways_out(texts, clauses, kind, line, rule):
     """Texts without what is refused, with the clause that was left out, the narrowest first."""
-    source = texts.source
     if kind == "symbols":
         yield texts._replace(symbols=line_emptied(texts.symbols, line)), None
         return
     touched = [it for it in clauses if it.line == line] or [it for it in clauses if it.covers(line)]
-    if rule == ENDS_INSIDE:
-        kind_of_open = next((it.tokens[0].upper for it in reversed(clauses) if it.is_head()), b"")
-        for closer in CLOSERS:
-            yield texts._replace(source=source.rstrip() + b" " + closer + b"END_" + kind_of_open), None
+    for source, clause in sources_without(texts.source, touched, clauses, line, rule):
+        yield texts._replace(source=source), clause
+
+
+def sources_without(source, touched, clauses, line, rule):
+    first = touched[0] if touched else None
+    if rule == NO_TOKEN:
+        for token in (token for clause in touched for token in clause.tokens):
+            if token.line == line and token.kind == "mark" and token.text not in MARKS:
+                yield blanked(source, token.begin, token.end), None
     if rule == NO_END:
-        yield texts._replace(source=line_blanked(source, line)), None
+        yield line_blanked(source, line), first
+    if rule == ENDS_INSIDE:
+        open_kind = next((it.tokens[0].upper for it in reversed(clauses) if it.is_head()), b"")
+        for closer in CLOSERS:
+            yield source.rstrip() + b" " + closer + b"END_" + open_kind, None
     for clause in touched:
         for shorter in clause_without(source, clause, clauses, rule):
-            yield texts._replace(source=shorter), clause
+            yield shorter, clause
     without_all = source
     for clause in touched:
         without_all = blanked(without_all, clause.begin, clause.end)
-    yield texts._replace(source=without_all), touched[0] if touched else None
-    yield texts._replace(source=line_blanked(source, line)), None
+    yield without_all, first
+    yield line_blanked(source, line), first
 
 
 def clause_without(source, clause, clauses, rule):
@@ -148,14 +158,15 @@ def refusals(texts, checker, most):
 
 def way_out(texts, clauses, found, checker):
     """The texts without what is refused, the clause that was left out, and what is refused then: the first way by which
-    the line keeps the rules of clauses, or else the first by which anything changes."""
+    the clause there, and the next one, keep the rules of clauses, or else the first by which anything changes."""
     kind, line, _ = found
+    near = (line, next((it.line for it in clauses if it.line > line), line))
     second_best = None
     for shorter, clause in ways_out(texts, clauses, *found):
         after = checker.refusal_of(shorter)
         if after == found:
             continue
-        if after is None or after[:2] != (kind, line) or after[2] not in RULES_OF_CLAUSES:
+        if after is None or after[0] != kind or after[1] not in near or after[2] not in RULES_OF_CLAUSES:
             return shorter, clause, after
         second_best = second_best or (shorter, clause, after)
     if second_best:

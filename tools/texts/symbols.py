@@ -3,7 +3,7 @@ import csv
 from typing import NamedTuple
 
 from texts.operands import Operand, operand_of
-from texts.tool import Refused, lines_of, read_text
+from texts.tool import Refused, lines_of, on_one_line, read_text
 
 BYTE_ORDER_MARK = "\ufeff"
 
@@ -16,7 +16,7 @@ class Signal(NamedTuple):
     type_name: str = ""
 
     def __str__(self):
-        return f'{self.operand} "{self.name}"' if self.name else str(self.operand)
+        return f'{self.operand} "{on_one_line(self.name)}"' if self.name else str(self.operand)
 
     def shown(self, value):
         return self.operand.shown(value, self.type_name)

@@ -37,6 +37,12 @@ def decoded(data):
         return data.decode("cp1252", errors="replace")
 
 
+def on_one_line(text, most=200):
+    """A text as a terminal can show it: without what isn't printable, and not longer than so many characters."""
+    printable = "".join(char if char.isprintable() else " " for char in text)
+    return printable if len(printable) <= most else printable[: most - 1] + "…"
+
+
 def read_bytes(path):
     """The bytes of a file, or of standard input where the path is `-`."""
     try:
