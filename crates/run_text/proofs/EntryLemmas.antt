@@ -2,6 +2,7 @@
 use Rattle.std.proofs.Common.{◌≡◌, ◌<◌, ◌≤◌, refl, sym, ◌∙◌, ap, subst, ℕ, zero, suc, ◌+◌, ◌-◌, List, [], ◌∷◌, ◌++◌, length, take, drop, replicate, get_or, Ok, arith, append-nil, append_assoc, length-append, length-drop, length-take-le}
 use Rattle.std.proofs.Math.Seq.{take-add}
 use Rattle.std.proofs.lemmas.List.{drop-drop, drop_all, map-append, take-append-drop}
+use Rattle.plc_base.specs.declared.Profile.TheVariants.{Small}
 use Rattle.plc_base.proofs.ListLemmas.{drop_next}
 use Rattle.plc_io.specs.Moments.{SinkAt}
 use Rattle.plc_io.specs.Taken.{Wrote}
@@ -189,8 +190,8 @@ lines-written continues old new es rest i k is more =
     state : replayed new ≡ run_from (code_of old.program) (replayed old) (events front)
     state =
         ap replayed more
-        ∙ ap (λ (es : List What). replay (code_of old.program) es) (map-append (λ (e : Entry). e.what) old.history front)
-        ∙ continues (code_of old.program) (events old.history) (events front)
+        ∙ ap (λ (es : List What). replay old.profile (code_of old.program) es) (map-append (λ (e : Entry). e.what) old.history front)
+        ∙ continues old.profile (code_of old.program) (events old.history) (events front)
 
 -- the rest of some steps are steps
 pub steps-behind : (es rest : List Entry) (i : ℕ) → events es ≡ replicate (length es) Step → rest ≡ drop i es
@@ -279,21 +280,21 @@ follows-end s0 s1 es i a b u so_far past =
 
 -- a controller as it begins, with room for all entries
 abbrev pub Begins : Program → List Entry → Recorded → Type 0
-Begins program es s = s ≡ record { program = program; history = []; spare = length es }
+Begins program es s = s ≡ record { program = program; profile = Small; history = []; spare = length es }
 
 pub run-splits : (program : Program) (s s' : Recorded) (es : List Entry) → Begins program es s → HasRun s es s'
-    → run_text (code_of program) es ≡ lines_behind s es ++ closing_of s'
+    → run_text Small (code_of program) es ≡ lines_behind s es ++ closing_of s'
 unfolding run_text replay
 run-splits program s s' es begins has_run =
-    ap (λ (r : Recorded). lines_behind r es ++ closing_text (length es) (replay (code_of program) (events es))) (sym begins)
+    ap (λ (r : Recorded). lines_behind r es ++ closing_text (length es) (replay Small (code_of program) (events es))) (sym begins)
     ∙ ap (λ (r : Recorded). lines_behind s es ++ closing_of r) (sym ended)
   where
-    ended : s' ≡ record { program = program; history = es; spare = s.spare - length es }
+    ended : s' ≡ record { program = program; profile = Small; history = es; spare = s.spare - length es }
     ended = has_run ∙ ap (λ (r : Recorded). record r { history = r.history ++ es; spare = s.spare - length es }) begins
 
 -- its lines stand before something, whatever is left
 pub cut-run : (program : Program) (s : Recorded) (es : List Entry) → Begins program es s
-    → run_text (code_of program) es ≡ lines_behind s es ++ closing_text (length es) (replay (code_of program) (events es))
+    → run_text Small (code_of program) es ≡ lines_behind s es ++ closing_text (length es) (replay Small (code_of program) (events es))
 unfolding run_text replay
 cut-run program s es begins =
-    ap (λ (r : Recorded). lines_behind r es ++ closing_text (length es) (replay (code_of program) (events es))) (sym begins)
+    ap (λ (r : Recorded). lines_behind r es ++ closing_text (length es) (replay Small (code_of program) (events es))) (sym begins)

@@ -5,6 +5,7 @@ use Rattle.std.specs.FinMap as finmap
 use Rattle.std.specs.Int.{div_ceil}
 use Rattle.std.specs.List.{flat_map, range_with_len}
 use Rattle.plc_base.specs.declared.Mode.{Mode}
+use Rattle.plc_base.specs.declared.Profile.{Profile}
 use Rattle.var_access.specs.declared.Entry.{Entry}
 use Rattle.machine.specs.Code.{Code}
 use Rattle.machine.specs.Statement.{World}
@@ -52,8 +53,8 @@ blocks_text world = flat_map block_text (finmap.entries world.memory.data_blocks
 abbrev pub closing_text : ℕ → State → List ℕ
 closing_text n s = end_text n s.mode ++ blocks_text s.world
 
--- the text of a program's run along a history
-unfoldable pub run_text : Code → List Entry → List ℕ
-run_text code entries =
-    lines_from code 0 (start code) entries
-    ++ closing_text (length entries) (replay code (events entries))
+-- the text of a program's run along a history, at a profile
+unfoldable pub run_text : Profile → Code → List Entry → List ℕ
+run_text profile code entries =
+    lines_from code 0 (start profile code) entries
+    ++ closing_text (length entries) (replay profile code (events entries))

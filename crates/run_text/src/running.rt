@@ -1,5 +1,6 @@
 ghost use Rattle.std.specs.Prelude.{◌≡◌, ◌*◌, ◌≤◌, ◌-◌, [], ◌∷◌, ◌++◌, length, take, drop, replicate, All, IfOk, IfErr, OnOk};
 ghost use Rattle.std.specs.List.{flat_map};
+ghost use Rattle.plc_base.specs.declared.Profile.TheVariants.{Small};
 ghost use Rattle.plc_io.specs.Taken.{Wrote};
 ghost use Rattle.plc_io.specs.declared.faults.IoFault.TheVariants.{NoMemory};
 ghost use Rattle.var_access.specs.Entry.{IsValid};
@@ -177,6 +178,7 @@ fn write_closing<K: Sink>(out: &mut K, controller: &Controller) -> Result<(), Io
 fn started(alloc: Global, program: Loaded, entries: u64) -> Result<Controller, IoFault>
     ensures ok { IfOk result (λ c. c ≡ record {
       program = program.program;
+      profile = Small;
       history = [];
       spare = entries;
     }) }
@@ -187,7 +189,7 @@ fn started(alloc: Global, program: Loaded, entries: u64) -> Result<Controller, I
     Ok(controller)
 }
 
-/// Runs a program along a history, and writes the text of the run: for each entry the peripheral
+/// Runs a program of the small profile along a history, and writes the text of the run: for each entry the peripheral
 /// output bytes and the mode that it changed, then the mode at the end and all data blocks.
 ///
 /// # Errors
@@ -203,7 +205,7 @@ pub fn replay_text<K: Sink>(
 ) -> Result<(), IoFault>
     requires { All IsValid entries.now }
     ensures { Wrote (K.shown out.old) (K.shown out.new)
-        (run_text (code_of program.program) entries.now) result }
+        (run_text Small (code_of program.program) entries.now) result }
 {
     let mut controller = started(alloc, program, entries.len() as u64)?;
     write_entries(&mut controller, entries, out)?;

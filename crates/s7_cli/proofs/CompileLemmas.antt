@@ -1,6 +1,6 @@
 -- What the stages of compiling find, joined.
-use Rattle.std.proofs.Common.{◌≡◌, Bool, true, false, if◌then◌else◌, refl, sym, ap, subst, ◌∙◌, ℕ, suc, ◌<◌, List, [], ◌∷◌, get_or, Option, Some, None, option_map, Result, Ok, Err, inl, inr, Bor, arith}
-use Rattle.std.specs.Option.{unwrap_or, IfSome}
+use Rattle.std.proofs.Common.{◌≡◌, Bool, true, false, if◌then◌else◌, refl, sym, ap, subst, ◌∙◌, ℕ, suc, ◌<◌, List, [], ◌∷◌, get_or, Option, Some, None, Result, Ok, Err, inl, inr, arith}
+use Rattle.std.specs.Option.{unwrap_or}
 use Rattle.plc_base.specs.declared.refusals.Refusal.{Refusal}
 use Rattle.plc_base.specs.declared.refusals.SourceFault.{SourceFault}
 use Rattle.plc_base.specs.declared.refusals.SourceFault.TheVariants as found
@@ -14,7 +14,6 @@ use Rattle.stl_lexer.specs.Tokens.{AreTokens, IsRefused as AreNoTokens}
 use Rattle.stl_parser.specs.Source.{IsRefusedBy as IsRefusedTree}
 use Rattle.plc_base.specs.Least.{least, lesser, is_before}
 use Rattle.stl_symbols.specs.Symbol.{Symbol}
-use Rattle.stl_symbols.specs.Symbols.{symbols_of, with_lines, Reads}
 use Rattle.plc_base.proofs.LeastLemmas.{least-append}
 use Rattle.block_layout.specs.Layouts.{layouts_of}
 use Rattle.block_layout.specs.Table.{layout_refusals}
@@ -26,11 +25,6 @@ use Rattle.sem_kept.specs.Stages.{InTurn}
 use Rattle.sem_kept.specs.Meaning.{HasSymbols, HasTokens, HasTree, refusals_of, sound_by, IsSound, IsJudgedWith, IsJudged}
 use Rattle.s7_cli.specs.declared.compiling.LaidSource.{LaidSource}
 use Rattle.s7_cli.specs.Compiling.{RefusesBy, Finds, fault_in_symbols, fault_in_source, HasProgram, IsLaid, IsRefusedBy}
-
--- an empty symbols file has no symbols
-pub empty_file : symbols_of [] ≡ Ok []
-unfolding symbols_of with_lines
-empty_file = refl
 
 -- the lesser of a refusal and another is one
 one_of : (before : Bool) (r s : Refusal)
@@ -87,18 +81,6 @@ refused_by_statements symbols tree layouts r here laid there =
 
 -- ---- what a stage finds
 
-pub without_file : (r : Result (List Symbol) SourceFault) → Reads (symbols_of []) r
-    → Finds (HasSymbols None) r
-without_file (Ok list) e = sym e ∙ empty_file
-without_file (Err (found.Refused refusal)) e = sym e ∙ empty_file
-without_file (Err found.NoMemory) e = tt
-
-pub with_file : (bytes : List ℕ) (r : Result (List Symbol) SourceFault)
-    → Reads (symbols_of bytes) r → Finds (HasSymbols (Some bytes)) r
-with_file bytes (Ok list) e = sym e
-with_file bytes (Err (found.Refused refusal)) e = sym e
-with_file bytes (Err found.NoMemory) e = tt
-
 pub tree_refused : (source : List ℕ) (tokens : List Token) (fault : SourceFault)
     → AreTokens source tokens → IsRefusedTree source tokens fault
     → Finds (InTurn HasTokens (HasTree source) source) (Err fault)
@@ -112,7 +94,7 @@ tokens_refused source found.NoMemory refused = tt
 
 -- ---- whole
 
-pub symbols_refused : (source : List ℕ) (symbols : Option (List ℕ)) (fault : SourceFault)
+pub symbols_refused : (source symbols : List ℕ) (fault : SourceFault)
     → Finds (HasSymbols symbols) (Err fault) → RefusesBy source symbols (fault_in_symbols fault)
 unfolding IsJudged
 symbols_refused source symbols (found.Refused refusal) h = inl (refusal, refl, h)
@@ -124,7 +106,7 @@ with_tree : (source : List ℕ) (symbols : List Symbol) (refusal : Refusal)
 with_tree source symbols refusal (inl refused) = inl refused
 with_tree source symbols refusal (inr (tokens, are, refused)) = inr (tokens, are, inl refused)
 
-pub tree_fault : (source : List ℕ) (symbols : Option (List ℕ)) (list : List Symbol)
+pub tree_fault : (source symbols : List ℕ) (list : List Symbol)
     (fault : SourceFault)
     → HasSymbols symbols (Ok list)
     → Finds (InTurn HasTokens (HasTree source) source) (Err fault)
@@ -134,7 +116,7 @@ tree_fault source symbols list (found.Refused refusal) has h =
     inr (list, has, (refusal, refl, with_tree source list refusal h))
 tree_fault source symbols list found.NoMemory has h = tt
 
-pub program_fault : (source : List ℕ) (symbols : Option (List ℕ)) (list : List Symbol)
+pub program_fault : (source symbols : List ℕ) (list : List Symbol)
     (tree : Tree) (fault : SourceFault)
     → HasSymbols symbols (Ok list)
     → InTurn HasTokens (HasTree source) source (Ok tree) → IsRefusedBy list tree fault
@@ -144,12 +126,6 @@ program_fault source symbols list tree (found.Refused refusal) has (tokens, are,
     inr (list, has, (refusal, refl, inr (tokens, are, inr (tree, is, inl h))))
 program_fault source symbols list tree found.NoMemory has at h = tt
 
--- the symbols file, by the files as they are read
-pub if_file : (P : List ℕ → Type 0) (file : Option (Bor (List ℕ)))
-    → IfSome file (λ s. P s.now) → IfSome (option_map (λ (s : Bor (List ℕ)). s.now) file) P
-if_file P None h = h
-if_file P (Some s) h = h
-
 pub all_bytes : (bytes : List ℕ) → ((i : ℕ) → get_or bytes i 0 < 256) → AreBytes bytes
 all_bytes [] small = tt
 all_bytes (b ∷ bytes) small =
@@ -158,7 +134,7 @@ all_bytes (b ∷ bytes) small =
 
 -- ---- a source that is laid out
 
-pub statements_fault : (source : List ℕ) (symbols : Option (List ℕ)) (laid : LaidSource)
+pub statements_fault : (source symbols : List ℕ) (laid : LaidSource)
     (checked : Tree) (fault : SourceFault)
     → IsLaid source symbols laid
     → Checks (least (statement_refusals laid.tree laid.symbols laid.layouts)) checked (Err fault)
@@ -169,7 +145,7 @@ statements_fault source symbols laid checked (found.Refused refusal) is h =
 statements_fault source symbols laid checked found.NoMemory is h = tt
 
 -- where its statements break no rule, its program runs
-accepted_runs : ProgramsRun → (source : List ℕ) (symbols : Option (List ℕ)) (laid : LaidSource)
+accepted_runs : ProgramsRun → (source symbols : List ℕ) (laid : LaidSource)
     → AreFiles source symbols → IsLaid source symbols laid
     → least (statement_refusals laid.tree laid.symbols laid.layouts) ≡ None
     → IsRunnable (program_in laid.symbols laid.tree)
@@ -178,7 +154,7 @@ accepted_runs law source symbols laid are is there =
     law source symbols laid.symbols is.parsed.0 laid.tree are is.list is.parsed.1 is.parsed.2
     (sound_both laid.symbols laid.tree laid.layouts is.right is.layout there)
 
-pub has_program : ProgramsRun → (source : List ℕ) (symbols : Option (List ℕ)) (laid : LaidSource)
+pub has_program : ProgramsRun → (source symbols : List ℕ) (laid : LaidSource)
     → AreFiles source symbols → IsLaid source symbols laid
     → least (statement_refusals laid.tree laid.symbols laid.layouts) ≡ None
     → HasProgram source symbols
@@ -187,7 +163,7 @@ has_program law source symbols laid are is there =
     (program_in laid.symbols laid.tree, runs.0, runs.1)
 
 -- and it is the one that is generated
-pub generated_runs : ProgramsRun → (source : List ℕ) (symbols : Option (List ℕ))
+pub generated_runs : ProgramsRun → (source symbols : List ℕ)
     (laid : LaidSource) (checked : Tree)
     → AreFiles source symbols → IsLaid source symbols laid → checked ≡ laid.tree
     → least (statement_refusals laid.tree laid.symbols laid.layouts) ≡ None

@@ -1,6 +1,7 @@
 -- The text of a run is one for programs that no history tells apart.
 use Rattle.std.proofs.Common.{◌≡◌, refl, sym, ◌∙◌, ap, ℕ, ◌+◌, List, [], ◌∷◌, ◌++◌, length}
 use Rattle.plc_base.specs.declared.Mode.{Mode}
+use Rattle.plc_base.specs.declared.Profile.{Profile}
 use Rattle.machine.specs.Code.{Code}
 use Rattle.machine.specs.Statement.{World}
 use Rattle.var_access.specs.declared.Entry.{Entry}
@@ -13,25 +14,25 @@ use Rattle.sem_kept.specs.Kept.{IsKept}
 use Rattle.run_text.specs.LineText.{end_text}
 use Rattle.run_text.specs.RunText.{blocks_text, lines_from, run_text, shown_text}
 
-lines-kept : ContinuesReplay → (c d : Code) → IsKept c d → (before : List What) (n : ℕ) (es : List Entry)
-    → lines_from d n (replay d before) es ≡ lines_from c n (replay c before) es
-lines-kept continues c d kept before n [] = refl
-lines-kept continues c d kept before n (e ∷ es) =
-    ap (λ (seen : Observed). shown_text (n + 1) seen ++ lines_from d (n + 1) (happens d (replay d before) e.what).state es) (kept.seen before e.what)
-    ∙ ap (λ (s : State). first ++ lines_from d (n + 1) s es) (sym (continues d before e.what))
-    ∙ ap (λ (t : List ℕ). first ++ t) (lines-kept continues c d kept (before ++ e.what ∷ []) (n + 1) es)
-    ∙ ap (λ (s : State). first ++ lines_from c (n + 1) s es) (continues c before e.what)
+lines-kept : ContinuesReplay → (profile : Profile) (c d : Code) → IsKept c d → (before : List What) (n : ℕ) (es : List Entry)
+    → lines_from d n (replay profile d before) es ≡ lines_from c n (replay profile c before) es
+lines-kept continues profile c d kept before n [] = refl
+lines-kept continues profile c d kept before n (e ∷ es) =
+    ap (λ (seen : Observed). shown_text (n + 1) seen ++ lines_from d (n + 1) (happens d (replay profile d before) e.what).state es) (kept.seen profile before e.what)
+    ∙ ap (λ (s : State). first ++ lines_from d (n + 1) s es) (sym (continues profile d before e.what))
+    ∙ ap (λ (t : List ℕ). first ++ t) (lines-kept continues profile c d kept (before ++ e.what ∷ []) (n + 1) es)
+    ∙ ap (λ (s : State). first ++ lines_from c (n + 1) s es) (continues profile c before e.what)
   where
     first : List ℕ
-    first = shown_text (n + 1) (happens c (replay c before) e.what).seen
+    first = shown_text (n + 1) (happens c (replay profile c before) e.what).seen
 
-pub texts-kept : ContinuesReplay → (c d : Code) → IsKept c d → (es : List Entry) → run_text d es ≡ run_text c es
+pub texts-kept : ContinuesReplay → (profile : Profile) (c d : Code) → IsKept c d → (es : List Entry) → run_text profile d es ≡ run_text profile c es
 unfolding run_text replay
-texts-kept continues c d kept es =
-    ap (λ (lines : List ℕ). lines ++ (end_text (length es) (replay d (events es)).mode ++ blocks_text (replay d (events es)).world))
-    (lines-kept continues c d kept [] 0 es)
-    ∙ ap (λ (mode : Mode). lines ++ (end_text (length es) mode ++ blocks_text (replay d (events es)).world)) (kept.mode (events es))
-    ∙ ap (λ (world : World). lines ++ (end_text (length es) (replay c (events es)).mode ++ blocks_text world)) (kept.world (events es))
+texts-kept continues profile c d kept es =
+    ap (λ (lines : List ℕ). lines ++ (end_text (length es) (replay profile d (events es)).mode ++ blocks_text (replay profile d (events es)).world))
+    (lines-kept continues profile c d kept [] 0 es)
+    ∙ ap (λ (mode : Mode). lines ++ (end_text (length es) mode ++ blocks_text (replay profile d (events es)).world)) (kept.mode profile (events es))
+    ∙ ap (λ (world : World). lines ++ (end_text (length es) (replay profile c (events es)).mode ++ blocks_text world)) (kept.world profile (events es))
   where
     lines : List ℕ
-    lines = lines_from c 0 (replay c []) es
+    lines = lines_from c 0 (replay profile c []) es

@@ -1,5 +1,5 @@
 -- What compiling answers, stage by stage.
-use Rattle.std.specs.Prelude.{◌≡◌, ℕ, List, Option, None, Result, Ok, Err}
+use Rattle.std.specs.Prelude.{◌≡◌, ℕ, List, None, Result, Ok, Err}
 use Rattle.flat_code.specs.Programs.{Program}
 use Rattle.machine.specs.Flat.{code_of}
 use Rattle.plc_base.specs.declared.refusals.Refusal.{Refusal}
@@ -19,7 +19,7 @@ use Rattle.s7_cli.specs.declared.faults.CompileFault.{CompileFault}
 use Rattle.s7_cli.specs.declared.faults.CompileFault.TheVariants as fault
 
 -- a source with its symbols is refused so; nothing is said where memory is wanting
-abbrev pub RefusesBy : (source : List ℕ) (symbols : Option (List ℕ)) → CompileFault → Type 0
+abbrev pub RefusesBy : (source symbols : List ℕ) → CompileFault → Type 0
 RefusesBy source symbols (fault.Symbols refusal) =
     IsRefusedSource source symbols (InSymbols refusal)
 RefusesBy source symbols (fault.Source refusal) =
@@ -56,7 +56,7 @@ Lays symbols tree (Err fault) = IsRefusedBy symbols tree fault
 
 -- a source with its symbols is laid out so, and breaks no rule on its symbols, tokens, clauses and
 -- layout
-pub record IsLaid (source : List ℕ) (symbols : Option (List ℕ)) (laid : LaidSource) : Type 0 where
+pub record IsLaid (source symbols : List ℕ) (laid : LaidSource) : Type 0 where
   pub list : HasSymbols symbols (Ok laid.symbols)
   pub parsed : InTurn HasTokens (HasTree source) source (Ok laid.tree)
   pub right : least (layout_refusals laid.tree laid.symbols) ≡ None
@@ -65,10 +65,10 @@ pub record IsLaid (source : List ℕ) (symbols : Option (List ℕ)) (laid : Laid
 -- each source with its symbols that is laid out so is refused so
 abbrev pub RefusesLaid : LaidSource → CompileFault → Type 0
 RefusesLaid laid fault =
-    (source : List ℕ) (symbols : Option (List ℕ))
+    (source symbols : List ℕ)
     → IsLaid source symbols laid → RefusesBy source symbols fault
 
 -- a source with its symbols has a program, which has an image, verifies, and runs as it means
-abbrev pub HasProgram : (source : List ℕ) (symbols : Option (List ℕ)) → Type 0
+abbrev pub HasProgram : (source symbols : List ℕ) → Type 0
 HasProgram source symbols =
     (p : Program) × IsRunnable p × RunsAs source symbols (code_of p)

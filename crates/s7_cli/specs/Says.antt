@@ -1,6 +1,7 @@
 -- What a command answers for what its input files hold, and what it writes to its output files.
 use Rattle.std.specs.Prelude.{◌≡◌, ℕ, List, [], ◌∷◌, Option, Some, None, Result, Ok, Err}
 use Rattle.plc_base.specs.declared.Refusal.{Refusal}
+use Rattle.plc_base.specs.declared.Profile.TheVariants.{Small}
 use Rattle.var_access.specs.declared.Entry.{Entry}
 use Rattle.machine.specs.Code.{Code}
 use Rattle.sem_kept.specs.Meaning.{IsJudged, Refused, InSymbols, InSource}
@@ -21,7 +22,7 @@ refused_program (InSource refusal) = refused Source refusal
 abbrev pub go_answer : Result Code Refused → Result (List Entry) Refusal → Answer
 go_answer (Err why) history = refused_program why
 go_answer (Ok code) (Err refusal) = refused History refusal
-go_answer (Ok code) (Ok entries) = done (run_text code entries)
+go_answer (Ok code) (Ok entries) = done (run_text Small code entries)
 
 -- `check`: the source with its symbols is checked
 abbrev pub check_answer : Result Code Refused → Answer
@@ -29,24 +30,24 @@ check_answer (Err why) = refused_program why
 check_answer (Ok code) = done ok_line
 
 -- over the contents of its files
-abbrev pub GoSays :
-    (source : List ℕ) (symbols : Option (List ℕ)) (history : List ℕ) → Answer → Type 0
+abbrev pub GoSays : (source symbols history : List ℕ) → Answer → Type 0
 GoSays source symbols history answer =
     (judged : Result Code Refused) × IsJudged source symbols judged
     × (answer ≡ go_answer judged (history_of history))
 
 -- what `check` answers, over the contents of its files
-abbrev pub CheckSays : (source : List ℕ) (symbols : Option (List ℕ)) → Answer → Type 0
+abbrev pub CheckSays : (source symbols : List ℕ) → Answer → Type 0
 CheckSays source symbols answer =
     (judged : Result Code Refused) × IsJudged source symbols judged × (answer ≡ check_answer judged)
 
--- over the contents of the command's input files, in the order of reading
+-- over the contents of the command's input files, in the order of reading; without a symbols file the
+-- symbols are no bytes
 abbrev pub Says : Command → List (List ℕ) → Answer → Type 0
-Says (Go _ None _) (source ∷ history ∷ []) answer = GoSays source None history answer
+Says (Go _ None _) (source ∷ history ∷ []) answer = GoSays source [] history answer
 Says (Go _ (Some _) _) (source ∷ symbols ∷ history ∷ []) answer =
-    GoSays source (Some symbols) history answer
-Says (Check _ None) (source ∷ []) answer = CheckSays source None answer
-Says (Check _ (Some _)) (source ∷ symbols ∷ []) answer = CheckSays source (Some symbols) answer
+    GoSays source symbols history answer
+Says (Check _ None) (source ∷ []) answer = CheckSays source [] answer
+Says (Check _ (Some _)) (source ∷ symbols ∷ []) answer = CheckSays source symbols answer
 Says _ contents answer = ⊥
 
 -- what the command writes to an output file, over the same contents

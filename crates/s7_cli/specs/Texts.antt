@@ -1,16 +1,20 @@
 -- What was read of a source.
-use Rattle.std.specs.Prelude.{ℕ, List, ◌∷◌, ◌≤◌, Option, length, option_map, option_to_list, IfSome}
+use Rattle.std.specs.Prelude.{ℕ, List, [], ◌∷◌, ◌≤◌, Option, length, option_map, option_to_list, unwrap_or}
 use Rattle.s7_cli.specs.declared.files.ProgramText.{ProgramText}
 
 -- the bytes of the symbols file, if there is one
-abbrev pub symbols_of : ProgramText → Option (List ℕ)
-symbols_of text = option_map (λ v. v.items) text.symbols
+abbrev pub symbols_file : ProgramText → Option (List ℕ)
+symbols_file text = option_map (λ v. v.items) text.symbols
+
+-- the same, and no bytes where there is none
+abbrev pub symbols_of : ProgramText → List ℕ
+symbols_of text = unwrap_or (symbols_file text) []
 
 -- the contents of its files, in the order of reading
 abbrev pub contents_of : ProgramText → List (List ℕ)
-contents_of text = text.source.items ∷ option_to_list (symbols_of text)
+contents_of text = text.source.items ∷ option_to_list (symbols_file text)
 
 -- neither file is longer than it may be
 pub record IsWithin (text : ProgramText) : Type 0 where
   pub source : length text.source.items ≤ 1048576
-  pub symbols : IfSome (symbols_of text) (λ s. length s ≤ 1048576)
+  pub symbols : length (symbols_of text) ≤ 1048576

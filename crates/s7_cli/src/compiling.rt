@@ -1,5 +1,4 @@
 ghost use Rattle.std.specs.Prelude.{◌≡◌, ◌≤◌, length, IfOk, IfErr};
-ghost use Rattle.std.specs.Option.{option_map, IfSome};
 ghost use Rattle.machine.specs.Flat.{code_of};
 ghost use Rattle.stl_ast.specs.Literals.{AreBytes};
 ghost use Rattle.stl_symbols.specs.Symbols.{symbols_limit};
@@ -41,18 +40,13 @@ struct LaidSource {
     layouts: Layouts,
 }
 
-/// The symbols of a symbols file. Without a file there are none, as in an empty one.
-fn symbols_of(alloc: Global, symbols: Option<&[u8]>) -> Result<Symbols, SourceFault>
-    requires { IfSome symbols (λ s. length s.now ≤ symbols_limit) }
-    ensures { Finds (HasSymbols (option_map (λ s. s.now) symbols.entry)) result }
+/// The symbols of a symbols file.
+fn symbols_of(alloc: Global, symbols: &[u8]) -> Result<Symbols, SourceFault>
+    requires { length symbols.now ≤ symbols_limit }
+    ensures { Finds (HasSymbols symbols.now) result }
 {
-    match symbols {
-        None => read_symbols(alloc, &[]),
-        Some(bytes) => {
-            let list = read_symbols(alloc, bytes)?;
-            Ok(list)
-        }
-    }
+    let list = read_symbols(alloc, symbols)?;
+    Ok(list)
 }
 
 /// The tree of a source.
@@ -120,13 +114,13 @@ fn layouts_of(alloc: Global, tree: &Tree, symbols: &Symbols) -> Result<Layouts, 
 fn laid_out(
     alloc: Global,
     source: &[u8],
-    symbols: Option<&[u8]>,
+    symbols: &[u8],
 ) -> Result<LaidSource, CompileFault>
     requires source { length source.now ≤ source_limit }
-    requires symbols { IfSome symbols (λ s. length s.now ≤ symbols_limit) }
-    ensures laid { IfOk result (IsLaid source.now (option_map (λ s. s.now) symbols.entry)) }
+    requires symbols { length symbols.now ≤ symbols_limit }
+    ensures laid { IfOk result (IsLaid source.now symbols.now) }
     ensures refused { IfErr result
-        (RefusesBy source.now (option_map (λ s. s.now) symbols.entry)) }
+        (RefusesBy source.now symbols.now) }
 {
     let list = match symbols_of(alloc, symbols) {
         Ok(list) => list,
@@ -177,41 +171,31 @@ fn law_of_bytes(bytes: &[u8])
     ensures { AreBytes bytes.now }
 {}
 
-/// A law: so it is with a file, if there is one.
-fn law_of_file(file: Option<&[u8]>)
-    ensures { IfSome file.entry (λ bytes. AreBytes bytes.now) }
-{
-    match file {
-        None => {}
-        Some(bytes) => law_of_bytes(bytes),
-    }
-}
-
 /// A law: what is known of a source and a symbols file that are read.
-fn law_of_files(source: &[u8], symbols: Option<&[u8]>)
+fn law_of_files(source: &[u8], symbols: &[u8])
     requires source { length source.now ≤ source_limit }
-    requires symbols { IfSome symbols (λ s. length s.now ≤ symbols_limit) }
-    ensures { AreFiles source.now (option_map (λ s. s.now) symbols.entry) }
+    requires symbols { length symbols.now ≤ symbols_limit }
+    ensures { AreFiles source.now symbols.now }
 {
     law_of_bytes(source);
-    law_of_file(symbols);
+    law_of_bytes(symbols);
 }
 
-/// Checks a source of at most 1,048,576 bytes with its symbols file, which has at most as many, by
-/// the rules of `compiled`. No program is made: that a source which breaks no rule has one that
+/// Checks a source of at most 1,048,576 bytes with its symbols file, which has at most as many (no
+/// file: no bytes), by the rules of `compiled`. No program is made: that a source which breaks no rule has one that
 /// verifies and runs as it means is proved.
 ///
 /// # Errors
 ///
 /// Those of `compiled`: `Symbols` or `Source` with the refusal exactly where the symbols file or the
 /// source with these symbols is refused; or `NoMemory`.
-pub fn judged(alloc: Global, source: &[u8], symbols: Option<&[u8]>) -> Result<(), CompileFault>
+pub fn judged(alloc: Global, source: &[u8], symbols: &[u8]) -> Result<(), CompileFault>
     requires source { length source.now ≤ source_limit }
-    requires symbols { IfSome symbols (λ s. length s.now ≤ symbols_limit) }
+    requires symbols { length symbols.now ≤ symbols_limit }
     ensures ok { IfOk result (λ done.
-        HasProgram source.now (option_map (λ s. s.now) symbols.entry)) }
+        HasProgram source.now symbols.now) }
     ensures refused { IfErr result
-        (RefusesBy source.now (option_map (λ s. s.now) symbols.entry)) }
+        (RefusesBy source.now symbols.now) }
 {
     sem_kept::laws::programs_run();
     law_of_files(source, symbols);
@@ -220,8 +204,8 @@ pub fn judged(alloc: Global, source: &[u8], symbols: Option<&[u8]>) -> Result<()
     Ok(())
 }
 
-/// Compiles a source of at most 1,048,576 bytes with its symbols file, which has at most as many,
-/// into a loaded program that runs as it means. The symbols are checked first, then the tokens of
+/// Compiles a source of at most 1,048,576 bytes with its symbols file, which has at most as many (no
+/// file: no bytes), into a loaded program that runs as it means. The symbols are checked first, then the tokens of
 /// the source, its clauses, and its layout together with its statements.
 ///
 /// # Errors
@@ -231,14 +215,14 @@ pub fn judged(alloc: Global, source: &[u8], symbols: Option<&[u8]>) -> Result<()
 pub fn compiled(
     alloc: Global,
     source: &[u8],
-    symbols: Option<&[u8]>,
+    symbols: &[u8],
 ) -> Result<Loaded, CompileFault>
     requires source { length source.now ≤ source_limit }
-    requires symbols { IfSome symbols (λ s. length s.now ≤ symbols_limit) }
+    requires symbols { length symbols.now ≤ symbols_limit }
     ensures ok { IfOk result (λ l.
-        RunsAs source.now (option_map (λ s. s.now) symbols.entry) (code_of l.program)) }
+        RunsAs source.now symbols.now (code_of l.program)) }
     ensures refused { IfErr result
-        (RefusesBy source.now (option_map (λ s. s.now) symbols.entry)) }
+        (RefusesBy source.now symbols.now) }
 {
     sem_kept::laws::programs_run();
     law_of_files(source, symbols);

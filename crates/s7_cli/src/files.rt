@@ -28,13 +28,13 @@ pub struct ProgramText {
 }
 
 impl ProgramText {
-    /// The bytes of the symbols file, if there is one.
-    pub fn symbols(&self) -> Option<&[u8]>
-        ensures { option_map (λ s. s.now) result ≡ symbols_of self.now }
+    /// The bytes of the symbols file; none where there is no file.
+    pub fn symbols(&self) -> &[u8]
+        ensures { result.now ≡ symbols_of self.now }
     {
         match &self.symbols {
-            Some(bytes) => Some(bytes.as_slice()),
-            None => None,
+            Some(bytes) => bytes.as_slice(),
+            None => &[],
         }
     }
 }

@@ -8,9 +8,9 @@ ghost use Rattle.s7_cli.specs.Inner.{RefusedBy};
 ghost use Rattle.s7_cli.specs.Says.{CheckSays, GoSays};
 ghost use Rattle.s7_cli.specs.Texts.{IsWithin, symbols_of};
 
+use crate::compiling::{compiled, judged};
 use crate::failures::Failure;
 use crate::files::ProgramText;
-use crate::compiling::{compiled, judged};
 use event_text::read_history;
 use image_file::Loaded;
 use std::alloc::Global;

@@ -1,6 +1,6 @@
 -- The program of a source that breaks no rule runs as the source means.
-use Rattle.std.proofs.Common.{◌≡◌, refl, sym, ap, ◌∙◌, ℕ, List, [], Option, Some, None, Ok, arith}
-use Rattle.sem_kept.specs.Accepted.{AreSymbols, IsAccepted, program_in, AcceptedVerifies}
+use Rattle.std.proofs.Common.{◌≡◌, refl, sym, ap, ◌∙◌, ℕ, List, Option, Some, None, Ok, arith}
+use Rattle.sem_kept.specs.Accepted.{IsAccepted, program_in, AcceptedVerifies}
 use Rattle.sem_kept.specs.Verified.{VerifiedIsCompilable}
 use Rattle.sem_kept.specs.Kept.{ProgramsAreKept}
 use Rattle.plc_base.specs.declared.refusals.Refusal.{Refusal}
@@ -15,9 +15,8 @@ use Rattle.plc_base.proofs.LeastLemmas.{least-append}
 use Rattle.stl_types.specs.Table.{statement_refusals}
 use Rattle.sem_kept.specs.Agreement.{AreFiles, IsRunnable, ProgramsRun}
 use Rattle.sem_kept.specs.Meaning.{HasSymbols, HasTokens, HasTree, refusals_of, sound_by, code_in, IsJudged, MeansCode}
-use Rattle.sem_kept.proofs.StageLemmas.{ok_same}
 
-means : (source : List ℕ) (symbols : Option (List ℕ)) (list : List Symbol) (tokens : List Token)
+means : (source symbols : List ℕ) (list : List Symbol) (tokens : List Token)
     (tree : Tree)
     → HasSymbols symbols (Ok list) → HasTokens source (Ok tokens) → HasTree source tokens (Ok tree)
     → least (refusals_of list tree) ≡ None → MeansCode source symbols (code_in list tree)
@@ -28,12 +27,6 @@ means source symbols list tokens tree has_list has_tokens has_tree sound = (
   (tokens, has_tokens, (tree, has_tree, (tree, ap (sound_by tree) (sym sound), refl))),
 )
 
--- the symbols of an accepted source
-named : (symbols : Option (List ℕ)) (list : List Symbol)
-    → HasSymbols symbols (Ok list) → AreSymbols symbols list
-named None list has = ok_same list [] has
-named (Some bytes) list has = sym has
-
 -- neither of two lists has a refusal where both together have none
 none_of_both : (a b : Option Refusal) → lesser a b ≡ None → (a ≡ None) × (b ≡ None)
 unfolding lesser
@@ -41,7 +34,7 @@ none_of_both None b none = (refl, none)
 none_of_both (Some r) None none = cc
 none_of_both (Some r) (Some q) none = absurd (grind arith)
 
-accepted : (source : List ℕ) (symbols : Option (List ℕ)) (list : List Symbol)
+accepted : (source symbols : List ℕ) (list : List Symbol)
     (tokens : List Token) (tree : Tree)
     → AreFiles source symbols
     → HasSymbols symbols (Ok list) → HasTokens source (Ok tokens) → HasTree source tokens (Ok tree)
@@ -49,7 +42,7 @@ accepted : (source : List ℕ) (symbols : Option (List ℕ)) (list : List Symbol
 accepted source symbols list tokens tree are has_list has_tokens has_tree sound = record {
   short = are.source_short;
   file_short = are.symbols_short;
-  named = named symbols list has_list;
+  named = sym has_list;
   tokens = tokens;
   lexed = has_tokens;
   parsed = has_tree;

@@ -1,5 +1,5 @@
 -- A source is checked in one way.
-use Rattle.std.proofs.Common.{◌≡◌, refl, sym, ◌∙◌, ℕ, List, [], Option, Some, None, Result, Ok, Err, ◌⊎◌, inl, inr}
+use Rattle.std.proofs.Common.{◌≡◌, refl, sym, ◌∙◌, ℕ, List, Option, Some, None, Result, Ok, Err, ◌⊎◌, inl, inr}
 use Rattle.plc_base.specs.declared.refusals.Refusal.{Refusal}
 use Rattle.machine.specs.Code.{Code}
 use Rattle.stl_lexer.specs.declared.kinds.Token.{Token}
@@ -8,9 +8,9 @@ use Rattle.stl_ast.specs.declared.blocks.Tree.{Tree}
 use Rattle.stl_parser.specs.Source.{IsTreeUnique, TreeExcludesViolation, IsViolationUnique as OneClauseViolation, HasTreeOrViolation, IsTotal as EachHasTree}
 use Rattle.plc_base.specs.Least.{least}
 use Rattle.stl_symbols.specs.Symbol.{Symbol}
-use Rattle.stl_symbols.specs.Symbols.{symbols_of}
+use Rattle.stl_symbols.specs.Symbols.{symbols_of, with_lines}
 use Rattle.sem_kept.specs.Stages.{InTurn, Told, HasOneOutcome, HasOutcome}
-use Rattle.sem_kept.specs.Meaning.{HasSymbols, HasTokens, HasTree, refusals_of, sound_by, IsSound, code_in, HasCode, IsJudgedWith, Refused, InSymbols, InSource, IsJudged, MeansCode, IsRefusedSource, IsMeaningUnique, ExcludesRefusal, IsRefusalUnique, IsTotal}
+use Rattle.sem_kept.specs.Meaning.{HasSymbols, HasTokens, HasTree, refusals_of, sound_by, IsSound, code_in, HasCode, IsJudgedWith, Refused, InSymbols, InSource, IsJudged, MeansCode, IsRefusedSource, IsMeaningUnique, ExcludesRefusal, IsRefusalUnique, IsTotal, NoFileHasNone}
 use Rattle.sem_kept.proofs.StageLemmas.{same_refusal, one_by_parts, in_turn_one, in_turn_some, told_one, told_some}
 
 -- what is known of tokens and of clauses
@@ -23,6 +23,12 @@ pub record Laws : Type 0 where
   pub one_clause_violation : OneClauseViolation
   pub tokens_or_violation : EachHasTokens
   pub tree_or_violation : EachHasTree
+
+-- ---- symbols
+
+pub no_file : NoFileHasNone
+unfolding symbols_of with_lines
+no_file = refl
 
 -- ---- one outcome at most
 
@@ -62,10 +68,9 @@ with_one laws source symbols =
     source
 
 symbols_one : HasOneOutcome HasSymbols
-symbols_one None x y is_x is_y = is_x ∙ sym is_y
-symbols_one (Some bytes) x y is_x is_y = is_x ∙ sym is_y
+symbols_one bytes x y is_x is_y = is_x ∙ sym is_y
 
-judged_one : Laws → (source : List ℕ) (symbols : Option (List ℕ)) (x y : Result Code Refused)
+judged_one : Laws → (source symbols : List ℕ) (x y : Result Code Refused)
     → IsJudged source symbols x → IsJudged source symbols y → x ≡ y
 unfolding IsJudged
 judged_one laws source =
@@ -130,10 +135,9 @@ with_some laws source symbols =
     source
 
 symbols_some : HasOutcome HasSymbols
-symbols_some None = (Ok [], refl)
-symbols_some (Some bytes) = (symbols_of bytes, refl)
+symbols_some bytes = (symbols_of bytes, refl)
 
-judged_some : Laws → (source : List ℕ) (symbols : Option (List ℕ))
+judged_some : Laws → (source symbols : List ℕ)
     → (x : Result Code Refused) × IsJudged source symbols x
 unfolding IsJudged
 judged_some laws source =
@@ -141,12 +145,12 @@ judged_some laws source =
     (told_some InSymbols HasSymbols symbols_some)
     (told_some InSource (IsJudgedWith source) (with_some laws source))
 
-abbrev Judged : (source : List ℕ) (symbols : Option (List ℕ)) → Type 0
+abbrev Judged : (source symbols : List ℕ) → Type 0
 Judged source symbols =
     ((code : Code) × MeansCode source symbols code)
     ⊎ ((refused : Refused) × IsRefusedSource source symbols refused)
 
-by_outcome : (source : List ℕ) (symbols : Option (List ℕ))
+by_outcome : (source symbols : List ℕ)
     → (x : Result Code Refused) × IsJudged source symbols x → Judged source symbols
 by_outcome source symbols (Ok code, judged) = inl (code, judged)
 by_outcome source symbols (Err refused, judged) = inr (refused, judged)

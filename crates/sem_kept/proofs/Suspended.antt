@@ -3,6 +3,7 @@ use Rattle.std.proofs.Common.{◌≡◌, refl, sym, ◌∙◌, ap, subst, ℕ, z
 use Rattle.std.proofs.lemmas.Bool.{ne_eqb}
 use Rattle.std.proofs.lemmas.List.{take_more}
 use Rattle.plc_base.specs.StopCauses as causes
+use Rattle.plc_base.specs.declared.Profile.{Profile}
 use Rattle.plc_base.specs.declared.Spot.{Spot}
 use Rattle.frames.specs.declared.Activation.{Activation}
 use Rattle.frames.specs.declared.bindings.Binding.{Binding}
@@ -85,7 +86,7 @@ best_keeps code (Some best) s place there = by (may_start best.class s.activatio
   where
     by : (b : Bool)
         → Keeps s.activations (if b then request_started code best s else s).activations place
-    by true = begun_keeps (ob_in code best.class best.ob best.info) (request_taken s) place there
+    by true = begun_keeps (ob_in s.profile code best.class best.ob best.info) (request_taken s) place there
     by false = stays s.activations place there
 
 best_mode : (code : Code) (o : Option Pending) (s : State) → (best_started code o s).mode ≡ s.mode
@@ -93,7 +94,7 @@ best_mode code None s = refl
 best_mode code (Some best) s = by (may_start best.class s.activations)
   where
     by : (b : Bool) → (if b then request_started code best s else s).mode ≡ s.mode
-    by true = begun_mode (ob_in code best.class best.ob best.info) (request_taken s)
+    by true = begun_mode (ob_in s.profile code best.class best.ob best.info) (request_taken s)
     by false = refl
 
 settled_keeps : (code : Code) (s : State) (place : ℕ) → place < length s.activations
@@ -278,61 +279,61 @@ state_keeps code w s place there on =
 -- ---- histories
 
 -- a replay of one more entry
-replay_more : ContinuesReplay → (code : Code) (history : List What) (w : What)
-    → replay code (history ++ w ∷ []) ≡ state_after code w (replay code history)
+replay_more : ContinuesReplay → (profile : Profile) (code : Code) (history : List What) (w : What)
+    → replay profile code (history ++ w ∷ []) ≡ state_after code w (replay profile code history)
 unfolding happens
-replay_more continues code history w = continues code history w
+replay_more continues profile code history w = continues profile code history w
 
 -- the state after one more of the entries
-after_one : ContinuesReplay → (code : Code) (history : List What) (k : ℕ) → k < length history
-    → after code history (k + 1)
-    ≡ state_after code (get_or history k entry.Step) (after code history k)
-after_one continues code history k inside =
-    ap (replay code) (take_more history k entry.Step inside)
-    ∙ replay_more continues code (take k history) (get_or history k entry.Step)
+after_one : ContinuesReplay → (profile : Profile) (code : Code) (history : List What) (k : ℕ) → k < length history
+    → after profile code history (k + 1)
+    ≡ state_after code (get_or history k entry.Step) (after profile code history k)
+after_one continues profile code history k inside =
+    ap (replay profile code) (take_more history k entry.Step inside)
+    ∙ replay_more continues profile code (take k history) (get_or history k entry.Step)
 
-same_next : ContinuesReplay → (code : Code) (history : List What) (place k : ℕ)
-    → k < length history → place + 1 < length (after code history k).activations
-    → is_stop (after code history (k + 1)).mode ≡ false
-    → standing (after code history (k + 1)).activations place
-    ≡ standing (after code history k).activations place
-same_next continues code history place k inside suspended goes_on =
+same_next : ContinuesReplay → (profile : Profile) (code : Code) (history : List What) (place k : ℕ)
+    → k < length history → place + 1 < length (after profile code history k).activations
+    → is_stop (after profile code history (k + 1)).mode ≡ false
+    → standing (after profile code history (k + 1)).activations place
+    ≡ standing (after profile code history k).activations place
+same_next continues profile code history place k inside suspended goes_on =
     let w : What = get_or history k entry.Step in
-    let next : after code history (k + 1) ≡ state_after code w (after code history k)
-    = after_one continues code history k inside in
-    let on : is_stop (state_after code w (after code history k)).mode ≡ false
+    let next : after profile code history (k + 1) ≡ state_after code w (after profile code history k)
+    = after_one continues profile code history k inside in
+    let on : is_stop (state_after code w (after profile code history k)).mode ≡ false
     = sym (ap (λ (s : State). is_stop s.mode) next) ∙ goes_on in
     ap (λ (s : State). standing s.activations place) next
-    ∙ state_keeps code w (after code history k) place suspended on
+    ∙ state_keeps code w (after profile code history k) place suspended on
 
-same_after : ContinuesReplay → (code : Code) (history : List What) (place first last : ℕ)
-    → IsSuspended code history place first last → (j : ℕ) → first + j ≤ last
-    → standing (after code history (first + j)).activations place
-    ≡ standing (after code history first).activations place
-same_after continues code history place first last is zero within =
+same_after : ContinuesReplay → (profile : Profile) (code : Code) (history : List What) (place first last : ℕ)
+    → IsSuspended profile code history place first last → (j : ℕ) → first + j ≤ last
+    → standing (after profile code history (first + j)).activations place
+    ≡ standing (after profile code history first).activations place
+same_after continues profile code history place first last is zero within =
     let e : first + zero ≡ first = omega arith in
-    ap (λ (k : ℕ). standing (after code history k).activations place) e
-same_after continues code history place first last is (suc j) within =
+    ap (λ (k : ℕ). standing (after profile code history k).activations place) e
+same_after continues profile code history place first last is (suc j) within =
     let e : first + suc j ≡ first + j + 1 = omega arith in
     let final : last ≤ length history = is.within in
-    ap (λ (k : ℕ). standing (after code history k).activations place) e
-    ∙ same_next continues code history place (first + j) (omega arith)
+    ap (λ (k : ℕ). standing (after profile code history k).activations place) e
+    ∙ same_next continues profile code history place (first + j) (omega arith)
     (is.suspended (first + j) (omega arith) (omega arith))
     (is.goes_on (first + j + 1) (omega arith) (omega arith))
-    ∙ same_after continues code history place first last is j (omega arith)
+    ∙ same_after continues profile code history place first last is j (omega arith)
 
 -- the law of resumption, over any program
-resumes : ContinuesReplay → (code : Code) (history : List What) (place first last : ℕ)
-    → IsSuspended code history place first last → Resumes code history place first last
-resumes continues code history place first last is k from to =
+resumes : ContinuesReplay → (profile : Profile) (code : Code) (history : List What) (place first last : ℕ)
+    → IsSuspended profile code history place first last → Resumes profile code history place first last
+resumes continues profile code history place first last is k from to =
     let e : first + (k - first) ≡ k = omega arith in
-    ap (λ (n : ℕ). standing (after code history n).activations place) (sym e)
-    ∙ same_after continues code history place first last is (k - first) (omega arith)
+    ap (λ (n : ℕ). standing (after profile code history n).activations place) (sym e)
+    ∙ same_after continues profile code history place first last is (k - first) (omega arith)
 
 pub sources_resume : ContinuesReplay → SourcesResume
-sources_resume continues source symbols code history place first last means is =
-    resumes continues code history place first last is
+sources_resume continues source symbols profile code history place first last means is =
+    resumes continues profile code history place first last is
 
 pub images_resume : ContinuesReplay → ImagesResume
-images_resume continues l history place first last is =
-    resumes continues (code_of l.program) history place first last is
+images_resume continues profile l history place first last is =
+    resumes continues profile (code_of l.program) history place first last is

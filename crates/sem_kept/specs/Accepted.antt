@@ -1,6 +1,5 @@
 -- A source that breaks no rule, and its program.
-use Rattle.std.specs.Prelude.{◌≡◌, ℕ, ◌≤◌, List, [], length, Option, Some, None, Ok}
-use Rattle.std.specs.Option.{IfSome}
+use Rattle.std.specs.Prelude.{◌≡◌, ℕ, ◌≤◌, List, length, None, Ok}
 use Rattle.block_layout.specs.Layouts.{layouts_of}
 use Rattle.block_layout.specs.Table.{layout_refusals}
 use Rattle.flat_code.specs.Image.{IsProgram}
@@ -18,17 +17,11 @@ use Rattle.stl_symbols.specs.Symbol.{Symbol}
 use Rattle.stl_symbols.specs.Symbols.{symbols_limit, symbols_of}
 use Rattle.stl_types.specs.Table.{statement_refusals}
 
--- the symbols of a symbols file; without a file there are none
-abbrev pub AreSymbols : Option (List ℕ) → List Symbol → Type 0
-AreSymbols None symbols = symbols ≡ []
-AreSymbols (Some bytes) symbols = symbols_of bytes ≡ Ok symbols
-
 -- a source of no more than 1 MiB, with a symbols file of no more, breaks no rule
-pub record IsAccepted (source : List ℕ) (file : Option (List ℕ)) (symbols : List Symbol) (t : Tree)
-    : Type 0 where
+pub record IsAccepted (source file : List ℕ) (symbols : List Symbol) (t : Tree) : Type 0 where
   pub short : length source ≤ source_limit
-  pub file_short : IfSome file (λ bytes. length bytes ≤ symbols_limit)
-  pub named : AreSymbols file symbols
+  pub file_short : length file ≤ symbols_limit
+  pub named : symbols_of file ≡ Ok symbols
   pub tokens : List Token
   pub lexed : AreTokens source tokens
   pub parsed : IsTree source tokens t
@@ -42,6 +35,6 @@ program_in symbols t = program_of t symbols (layouts_of t symbols)
 -- the program of each accepted source has an image and verifies
 abbrev pub AcceptedVerifies : Type 0
 AcceptedVerifies =
-    (source : List ℕ) (file : Option (List ℕ)) (symbols : List Symbol) (t : Tree)
-    → IsAccepted source file symbols t → AreBytes source → IfSome file AreBytes
+    (source file : List ℕ) (symbols : List Symbol) (t : Tree)
+    → IsAccepted source file symbols t → AreBytes source → AreBytes file
     → IsProgram (program_in symbols t) × Verifies (program_in symbols t)

@@ -1,6 +1,5 @@
 -- The program of a source runs as the source means.
-use Rattle.std.specs.Prelude.{◌≡◌, ◌≤◌, ℕ, List, length, Option, None, Ok}
-use Rattle.std.specs.Option.{IfSome}
+use Rattle.std.specs.Prelude.{◌≡◌, ◌≤◌, ℕ, List, length, None, Ok}
 use Rattle.flat_code.specs.Image.{IsProgram}
 use Rattle.flat_code.specs.Loading.{Verifies}
 use Rattle.flat_code.specs.Programs.{Program}
@@ -18,7 +17,7 @@ use Rattle.sem_kept.specs.Kept.{IsKept}
 use Rattle.sem_kept.specs.Meaning.{HasSymbols, HasTokens, HasTree, refusals_of, MeansCode}
 
 -- the source with these symbols means a code, and no history tells it from the one that runs
-abbrev pub RunsAs : (source : List ℕ) (symbols : Option (List ℕ)) → (running : Code) → Type 0
+abbrev pub RunsAs : (source symbols : List ℕ) → (running : Code) → Type 0
 RunsAs source symbols running =
     (code : Code) × MeansCode source symbols code × IsKept code running
 
@@ -28,16 +27,16 @@ pub record IsRunnable (p : Program) : Type 0 where
   pub verifies : Verifies p
 
 -- a source and a symbols file as they are read: bytes, and no more than a limit of them
-pub record AreFiles (source : List ℕ) (symbols : Option (List ℕ)) : Type 0 where
+pub record AreFiles (source symbols : List ℕ) : Type 0 where
   pub source_short : length source ≤ source_limit
   pub source_bytes : AreBytes source
-  pub symbols_short : IfSome symbols (λ file. length file ≤ symbols_limit)
-  pub symbols_bytes : IfSome symbols AreBytes
+  pub symbols_short : length symbols ≤ symbols_limit
+  pub symbols_bytes : AreBytes symbols
 
 -- the program of a source that breaks no rule has an image, verifies, and runs as the source means
 abbrev pub ProgramsRun : Type 0
 ProgramsRun =
-    (source : List ℕ) (symbols : Option (List ℕ)) (list : List Symbol) (tokens : List Token)
+    (source symbols : List ℕ) (list : List Symbol) (tokens : List Token)
     (tree : Tree)
     → AreFiles source symbols
     → HasSymbols symbols (Ok list) → HasTokens source (Ok tokens) → HasTree source tokens (Ok tree)

@@ -41,7 +41,7 @@ pub record IsCoded (b : CodeBlock) : Type 0 where
 -- of an accepted source, whose elements are bytes
 abbrev pub AreCoded : Type 0
 AreCoded =
-    (source : List ℕ) (file : Option (List ℕ)) (symbols : List Symbol) (t : Tree)
+    (source file : List ℕ) (symbols : List Symbol) (t : Tree)
     → IsAccepted source file symbols t → AreBytes source
     → AllByRecursion IsCoded (program_in symbols t).code_blocks
 

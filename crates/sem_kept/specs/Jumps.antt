@@ -32,7 +32,7 @@ pub record AllLandRight (ops : List OpData) : Type 0 where
 -- the code of each block of an accepted source
 abbrev pub JumpsLandRight : Type 0
 JumpsLandRight =
-    (source : List ℕ) (file : Option (List ℕ)) (symbols : List Symbol) (t : Tree)
+    (source file : List ℕ) (symbols : List Symbol) (t : Tree)
     → IsAccepted source file symbols t
     → AllByRecursion (λ b. AllLandRight (code_in b.statements))
     (code_blocks_of t symbols (layouts_of t symbols))

@@ -1,6 +1,7 @@
 -- The meaning of statements and that of the program that is compiled of them, along every history.
 use Rattle.std.specs.Prelude.{◌≡◌, List}
 use Rattle.std.specs.List.{AllByRecursion}
+use Rattle.plc_base.specs.declared.Profile.{Profile}
 use Rattle.flat_code.specs.Programs.{DataBlock, NameEntry}
 use Rattle.machine.specs.Code.{Code}
 use Rattle.machine.specs.Flat.{code_of}
@@ -9,19 +10,19 @@ use Rattle.controller.specs.Replay.{happens, replay}
 use Rattle.stl_codegen.specs.Compiled.{StatedBlock}
 use Rattle.sem_kept.specs.Statements.{stated_code, IsCompilable, program_with}
 
--- of two codes the second does what the first one means: after every history the mode, memory with
--- timers and counters, the scheduler and the diagnostics are the same, and every entry answers and
--- shows the same
+-- of two codes the second does what the first one means, at each profile: after every history the
+-- mode, memory with timers and counters, the scheduler and the diagnostics are the same, and every
+-- entry answers and shows the same
 pub record IsKept (c d : Code) : Type 0 where
-  pub world : (history : List What) → (replay d history).world ≡ (replay c history).world
-  pub mode : (history : List What) → (replay d history).mode ≡ (replay c history).mode
-  pub sched : (history : List What) → (replay d history).sched ≡ (replay c history).sched
-  pub diagnostics : (history : List What)
-      → (replay d history).diagnostics ≡ (replay c history).diagnostics
-  pub reply : (history : List What) (entry : What)
-      → (happens d (replay d history) entry).reply ≡ (happens c (replay c history) entry).reply
-  pub seen : (history : List What) (entry : What)
-      → (happens d (replay d history) entry).seen ≡ (happens c (replay c history) entry).seen
+  pub world : (profile : Profile) (history : List What) → (replay profile d history).world ≡ (replay profile c history).world
+  pub mode : (profile : Profile) (history : List What) → (replay profile d history).mode ≡ (replay profile c history).mode
+  pub sched : (profile : Profile) (history : List What) → (replay profile d history).sched ≡ (replay profile c history).sched
+  pub diagnostics : (profile : Profile) (history : List What)
+      → (replay profile d history).diagnostics ≡ (replay profile c history).diagnostics
+  pub reply : (profile : Profile) (history : List What) (entry : What)
+      → (happens d (replay profile d history) entry).reply ≡ (happens c (replay profile c history) entry).reply
+  pub seen : (profile : Profile) (history : List What) (entry : What)
+      → (happens d (replay profile d history) entry).seen ≡ (happens c (replay profile c history) entry).seen
 
 -- the program that is compiled of blocks that can be compiled does what their statements mean,
 -- whatever its data blocks and its names are

@@ -18,10 +18,9 @@ use Rattle.sem_kept.specs.Stages.{InTurn, Told}
 
 -- ---- stages
 
--- the symbols of a symbols file, or its refusal; without a file there are none
-abbrev pub HasSymbols : Option (List ℕ) → Result (List Symbol) Refusal → Type 0
-HasSymbols None outcome = outcome ≡ Ok []
-HasSymbols (Some bytes) outcome = outcome ≡ symbols_of bytes
+-- the symbols of a symbols file, or its refusal; no bytes stand for no file, and have no symbols
+abbrev pub HasSymbols : List ℕ → Result (List Symbol) Refusal → Type 0
+HasSymbols bytes outcome = outcome ≡ symbols_of bytes
 
 -- the tokens of a source, or its first token that breaks a rule
 abbrev pub HasTokens : List ℕ → Result (List Token) Refusal → Type 0
@@ -72,42 +71,45 @@ pub data Refused : Type 0 where
   InSource : (refusal : Refusal) → Refused
 
 -- the symbols are checked first, and then the source with them
-unfoldable pub IsJudged :
-    (source : List ℕ) (symbols : Option (List ℕ)) → Result Code Refused → Type 0
+unfoldable pub IsJudged : (source symbols : List ℕ) → Result Code Refused → Type 0
 IsJudged source symbols outcome =
     InTurn (Told InSymbols HasSymbols) (Told InSource (IsJudgedWith source)) symbols outcome
 
 -- this source with these symbols means this code
-abbrev pub MeansCode : (source : List ℕ) (symbols : Option (List ℕ)) → Code → Type 0
+abbrev pub MeansCode : (source symbols : List ℕ) → Code → Type 0
 MeansCode source symbols code = IsJudged source symbols (Ok code)
 
 -- this source with these symbols is refused so
-abbrev pub IsRefusedSource : (source : List ℕ) (symbols : Option (List ℕ)) → Refused → Type 0
+abbrev pub IsRefusedSource : (source symbols : List ℕ) → Refused → Type 0
 IsRefusedSource source symbols refused = IsJudged source symbols (Err refused)
 
 -- ---- laws
 
+-- no bytes have no symbols: so they stand for no file
+abbrev pub NoFileHasNone : Type 0
+NoFileHasNone = HasSymbols [] (Ok [])
+
 -- a source means one code at most
 abbrev pub IsMeaningUnique : Type 0
 IsMeaningUnique =
-    (source : List ℕ) (symbols : Option (List ℕ)) (c d : Code)
+    (source symbols : List ℕ) (c d : Code)
     → MeansCode source symbols c → MeansCode source symbols d → c ≡ d
 
 -- none where it is refused
 abbrev pub ExcludesRefusal : Type 0
 ExcludesRefusal =
-    (source : List ℕ) (symbols : Option (List ℕ)) (code : Code) (refused : Refused)
+    (source symbols : List ℕ) (code : Code) (refused : Refused)
     → MeansCode source symbols code → IsRefusedSource source symbols refused → ⊥
 
 -- and it is refused in one way at most
 abbrev pub IsRefusalUnique : Type 0
 IsRefusalUnique =
-    (source : List ℕ) (symbols : Option (List ℕ)) (r s : Refused)
+    (source symbols : List ℕ) (r s : Refused)
     → IsRefusedSource source symbols r → IsRefusedSource source symbols s → r ≡ s
 
 -- each source means a code or is refused
 abbrev pub IsTotal : Type 0
 IsTotal =
-    (source : List ℕ) (symbols : Option (List ℕ))
+    (source symbols : List ℕ)
     → ((code : Code) × MeansCode source symbols code)
     ⊎ ((refused : Refused) × IsRefusedSource source symbols refused)

@@ -89,6 +89,6 @@ BlockIsFine p b =
 -- of an accepted source, whose elements are bytes
 abbrev pub OperandsAreFine : Type 0
 OperandsAreFine =
-    (source : List ℕ) (file : Option (List ℕ)) (symbols : List Symbol) (t : Tree)
+    (source file : List ℕ) (symbols : List Symbol) (t : Tree)
     → IsAccepted source file symbols t → AreBytes source
     → AllByRecursion (BlockIsFine (program_in symbols t)) (program_in symbols t).code_blocks

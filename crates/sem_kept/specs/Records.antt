@@ -1,8 +1,7 @@
 -- The records of the program of an accepted source: no field has a fault, where its code and its
 -- counts have none.
-use Rattle.std.specs.Prelude.{◌≡◌, ◌<◌, ℕ, Bool, true, List, length, get_or, Option, None}
+use Rattle.std.specs.Prelude.{◌≡◌, ◌<◌, ℕ, Bool, true, List, length, get_or, None}
 use Rattle.std.specs.List.{AllByRecursion}
-use Rattle.std.specs.Option.{IfSome}
 use Rattle.flat_code.specs.Checking.{good_counts}
 use Rattle.flat_code.specs.Codes.{are_ops, code_bytes, code_fault}
 use Rattle.flat_code.specs.Image.{body}
@@ -19,8 +18,8 @@ pub record HasCode (b : CodeBlock) : Type 0 where
   pub size : length (code_bytes b.code) < 4294967296
 
 -- a symbols file is made of bytes
-abbrev pub IsOfBytes : Option (List ℕ) → Type 0
-IsOfBytes file = IfSome file (λ bytes. (i : ℕ) → get_or bytes i 0 < 256)
+abbrev pub IsOfBytes : List ℕ → Type 0
+IsOfBytes file = (i : ℕ) → get_or file i 0 < 256
 
 -- a program has at most 65,535 code blocks, 256 data blocks and 65,535 names
 abbrev pub HasCounts : Program → Type 0
@@ -30,7 +29,7 @@ HasCounts p =
 -- whether or not code and lines are checked
 abbrev pub RecordsAreRight : Type 0
 RecordsAreRight =
-    (source : List ℕ) (file : Option (List ℕ)) (symbols : List Symbol) (t : Tree)
+    (source file : List ℕ) (symbols : List Symbol) (t : Tree)
     → IsAccepted source file symbols t → IsOfBytes file
     → AllByRecursion HasCode (program_in symbols t).code_blocks → HasCounts (program_in symbols t)
     → (judged : Bool) → (body judged).good (program_in symbols t) ≡ true

@@ -1,5 +1,6 @@
 -- The law of resumption: a suspended activation goes on as it was left.
 use Rattle.std.specs.Prelude.{ℕ, ◌≡◌, ◌<◌, ◌≤◌, ◌+◌, List, [], ◌∷◌, length, take, false, Option, Some, None, nat_eq, if◌then◌else◌}
+use Rattle.plc_base.specs.declared.Profile.{Profile}
 use Rattle.var_access.specs.declared.What.{What}
 use Rattle.controller.specs.Replay.{replay}
 use Rattle.controller.specs.State.{State, is_stop}
@@ -10,8 +11,8 @@ use Rattle.machine.specs.Flat.{code_of}
 use Rattle.sem_kept.specs.Meaning.{MeansCode}
 
 -- the state after the first k entries
-abbrev pub after : Code → List What → ℕ → State
-after code history k = replay code (take k history)
+abbrev pub after : Profile → Code → List What → ℕ → State
+after profile code history k = replay profile code (take k history)
 
 -- the activation at a place of the list, counted from 0 at the bottom
 abbrev pub standing : List Activation → ℕ → Option Activation
@@ -21,33 +22,33 @@ standing (a ∷ below) place =
 
 -- from `first` entries on, up to `last` entries, the mode isn't STOP and an activation stands at
 -- this place. After `last` entries it is the running one; before that it is suspended
-pub record IsSuspended (code : Code) (history : List What) (place first last : ℕ) : Type 0 where
+pub record IsSuspended (profile : Profile) (code : Code) (history : List What) (place first last : ℕ) : Type 0 where
   pub earlier : first < last
   pub within : last ≤ length history
-  pub goes_on : (k : ℕ) → first ≤ k → k ≤ last → is_stop (after code history k).mode ≡ false
+  pub goes_on : (k : ℕ) → first ≤ k → k ≤ last → is_stop (after profile code history k).mode ≡ false
   pub suspended : (k : ℕ) → first ≤ k → k < last
-      → place + 1 < length (after code history k).activations
-  pub runs : length (after code history last).activations ≡ place + 1
+      → place + 1 < length (after profile code history k).activations
+  pub runs : length (after profile code history last).activations ≡ place + 1
 
 -- all the while the activation is the same: its class, registers, delay count, frames and all that
 -- they hold
-abbrev pub Resumes : Code → List What → (place first last : ℕ) → Type 0
-Resumes code history place first last =
+abbrev pub Resumes : Profile → Code → List What → (place first last : ℕ) → Type 0
+Resumes profile code history place first last =
     (k : ℕ) → first ≤ k → k ≤ last
-    → standing (after code history k).activations place
-    ≡ standing (after code history first).activations place
+    → standing (after profile code history k).activations place
+    ≡ standing (after profile code history first).activations place
 
--- so it is over the statements of a source, and over a loaded program
+-- so it is over the statements of a source, at each profile
 abbrev pub SourcesResume : Type 0
 SourcesResume =
-    (source : List ℕ) (symbols : Option (List ℕ)) (code : Code) (history : List What)
+    (source symbols : List ℕ) (profile : Profile) (code : Code) (history : List What)
     (place first last : ℕ)
-    → MeansCode source symbols code → IsSuspended code history place first last
-    → Resumes code history place first last
+    → MeansCode source symbols code → IsSuspended profile code history place first last
+    → Resumes profile code history place first last
 
 -- so it is over a program that is loaded
 abbrev pub ImagesResume : Type 0
 ImagesResume =
-    (l : LoadedProgram) (history : List What) (place first last : ℕ)
-    → IsSuspended (code_of l.program) history place first last
-    → Resumes (code_of l.program) history place first last
+    (profile : Profile) (l : LoadedProgram) (history : List What) (place first last : ℕ)
+    → IsSuspended profile (code_of l.program) history place first last
+    → Resumes profile (code_of l.program) history place first last

@@ -23,7 +23,7 @@ pub record IsSmall (p : Program) : Type 0 where
 -- so is that of an accepted source
 abbrev pub AcceptedIsSmall : Type 0
 AcceptedIsSmall =
-    (source : List ℕ) (file : Option (List ℕ)) (symbols : List Symbol) (t : Tree)
+    (source file : List ℕ) (symbols : List Symbol) (t : Tree)
     → IsAccepted source file symbols t → IsSmall (program_in symbols t)
 
 -- and where its records are right too, it has an image

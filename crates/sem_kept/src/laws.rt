@@ -13,6 +13,7 @@ ghost use Rattle.sem_kept.specs.Meaning.{
   ExcludesRefusal,
   IsRefusalUnique,
   IsTotal,
+  NoFileHasNone,
 };
 ghost use Rattle.sem_kept.specs.Resumption.{SourcesResume, ImagesResume};
 
@@ -54,8 +55,10 @@ pub fn programs_are_kept()
 }
 
 /// A source with its symbols is checked in one way: it means at most one code, none where it is
-/// refused, there is at most one refusal, and each source means a code or is refused.
+/// refused, there is at most one refusal, and each source means a code or is refused. No bytes have
+/// no symbols, so they stand for no symbols file.
 pub fn law_of_sources()
+    ensures no_file { NoFileHasNone }
     ensures one_meaning { IsMeaningUnique }
     ensures meaning_or_refusal { ExcludesRefusal }
     ensures one_refusal { IsRefusalUnique }

@@ -1,11 +1,11 @@
 //! Sources compiled and checked, and programs run, by the calls behind the commands.
 use crate::calls::{ONE_RUN, RUNG};
 use crate::compare::same;
-use s7_cli::{CompileFault, compiled, judged};
 use event_text::read_history;
 use plc_base::Refusal;
 use plc_io::MemSink;
 use run_text::{Line, replay_text};
+use s7_cli::{CompileFault, compiled, judged};
 use std::alloc::Global;
 use std::process::Abort;
 use std::test::Fail;
@@ -25,13 +25,10 @@ fn runs(
     out: &mut MemSink,
     alloc: Global,
     source: &[u8],
-    symbols: Option<&[u8]>,
+    symbols: &[u8],
     history: &[u8],
 ) -> Result<(), Fail> {
-    assert!(rt; source.len() <= LIMIT);
-    if let Some(bytes) = symbols {
-        assert!(rt; bytes.len() <= LIMIT);
-    }
+    assert!(rt; source.len() <= LIMIT && symbols.len() <= LIMIT);
     let program = compiled(alloc, source, symbols)?;
     let entries = read_history(alloc, history)?;
     replay_text(alloc, program, &entries, out)?;
@@ -69,9 +66,9 @@ fn accepted_or_refused(rt: HostRuntime) -> Result<(), Fail> {
     ];
     for (source, symbols, fault) in table {
         assert!(rt; source.len() <= LIMIT && symbols.len() <= LIMIT);
-        let accepted = judged(rt.alloc(), source, Some(symbols));
+        let accepted = judged(rt.alloc(), source, symbols);
         same(&rt, "judged", accepted.err(), fault);
-        let program = compiled(rt.alloc(), source, Some(symbols));
+        let program = compiled(rt.alloc(), source, symbols);
         same(&rt, "compiled", program.err(), fault);
     }
     Ok(())
@@ -87,7 +84,7 @@ fn a_source_by_symbols_is_compiled(rt: HostRuntime) -> Result<(), Fail> {
         &mut out,
         rt.alloc(),
         BY_SYMBOLS,
-        Some(SYMBOLS),
+        SYMBOLS,
         history,
     )?;
     let text = b"@6 PQ 4 = 01\nEND 6 RUN\n".as_slice();
@@ -99,7 +96,7 @@ fn a_source_by_symbols_is_compiled(rt: HostRuntime) -> Result<(), Fail> {
 #[test]
 fn a_program_is_run(rt: HostRuntime) -> Result<(), Fail> {
     let mut out = MemSink::new(rt.alloc(), 1);
-    runs(&rt, &mut out, rt.alloc(), RUNG, None, ONE_RUN)?;
+    runs(&rt, &mut out, rt.alloc(), RUNG, b"", ONE_RUN)?;
     let text = b"@7 PQ 4 = 01\nEND 7 RUN\n".as_slice();
     same(&rt, "the run", out.taken.as_slice(), text);
     Ok(())

@@ -934,7 +934,7 @@ tree_sound symbols t well l s = record {
 }
 
 -- the tree of an accepted source
-pub right_tree : (source : List ℕ) (file : Option (List ℕ)) (symbols : List Symbol) (t : Tree)
+pub right_tree : (source file : List ℕ) (symbols : List Symbol) (t : Tree)
     → IsAccepted source file symbols t → IsSoundTree symbols t
 unfolding layout_refusals statement_refusals
 right_tree source file symbols t a =

@@ -1,5 +1,5 @@
 -- The numbers of the symbols of a file fit.
-use Rattle.std.proofs.Common.{ℕ, ◌+◌, ◌≤◌, Bool, true, false, List, [], ◌∷◌, ◌++◌, length, take, drop, Option, Some, None, Result, Ok, Err, is_some, sym, subst, arith}
+use Rattle.std.proofs.Common.{◌≡◌, ℕ, ◌+◌, ◌≤◌, Bool, true, false, List, [], ◌∷◌, ◌++◌, length, take, drop, Option, Some, None, Result, Ok, Err, is_some, sym, subst, arith}
 use Rattle.std.specs.Prelude.{IfOk, IfSome, bytes_eq, cond, find, nat_eq, not, ◌==◌, if◌then◌else◌}
 use Rattle.std.specs.List.{AllByRecursion, prefix_len}
 use Rattle.std.specs.Option.{option_map}
@@ -18,7 +18,6 @@ use Rattle.stl_symbols.specs.Line.{Columns, columns}
 use Rattle.stl_symbols.specs.Symbol.{Symbol, symbol_named}
 use Rattle.stl_symbols.specs.Symbols.{and_then_lines, declaration_of, declared, is_name, most_symbols, symbols_of, with_columns, with_declaration, with_line, with_lines, with_symbol, without_blanks, without_last_blanks}
 use Rattle.sem_kept.proofs.accepted.CodedViews.{IsWord, SymbolFits}
-use Rattle.sem_kept.specs.Accepted.{AreSymbols}
 
 number_fits : (text : List ℕ) → IfSome (number_of text) IsWord
 number_fits text = found (number_of text) IsWord (decimal_range 65535 text)
@@ -238,8 +237,7 @@ file_fits : (bytes : List ℕ) → IfOk (symbols_of bytes) AreFit
 unfolding symbols_of
 file_fits bytes = lines_added 1 [] (lines bytes) tt
 
-pub symbols_fit : (file : Option (List ℕ)) (symbols : List Symbol) → AreSymbols file symbols
+pub symbols_fit : (file : List ℕ) (symbols : List Symbol) → symbols_of file ≡ Ok symbols
     → AllByRecursion SymbolFits symbols
-symbols_fit None symbols are = subst AreFit (sym are) tt
-symbols_fit (Some bytes) symbols are =
-    subst (λ (r : Result (List Symbol) Refusal). IfOk r AreFit) are (file_fits bytes)
+symbols_fit file symbols are =
+    subst (λ (r : Result (List Symbol) Refusal). IfOk r AreFit) are (file_fits file)

@@ -91,7 +91,7 @@ block_settles symbols t tree fit k b l block = by (is_code b.kind) refl
         subst (AllByRecursion (Settle symbols t k))
         (sym (block.well_formed.runs.1 (no_body b.kind is))) tt
 
-pub operands_settle : (source : List ℕ) (file : Option (List ℕ)) (symbols : List Symbol) (t : Tree)
+pub operands_settle : (source file : List ℕ) (symbols : List Symbol) (t : Tree)
     → IsAccepted source file symbols t → (k : ℕ) (b : Block) → slice_get t.blocks k ≡ Some b
     → AllByRecursion (Settle symbols t k) b.body
 operands_settle source file symbols t accepted k b there =

@@ -18,7 +18,6 @@ use Rattle.stl_symbols.specs.Symbol.{Symbol, symbol_named}
 use Rattle.stl_symbols.specs.Symbols.{and_then_lines, declaration, declaration_of, declared, is_name, most_symbols, symbols_of, with_columns, with_declaration, with_line, with_lines, with_symbol, without_blanks, without_last_blanks}
 use Rattle.stl_symbols.specs.declared.targets.Target.{Target}
 use Rattle.stl_symbols.specs.declared.targets.Target.TheVariants as target
-use Rattle.sem_kept.specs.Accepted.{AreSymbols}
 use Rattle.sem_kept.proofs.accepted.Accepted.{all_append}
 
 -- the areas in which symbols lie
@@ -187,11 +186,10 @@ unfolding symbols_of
 file_fits bytes = lines_more 1 [] (lines bytes) tt
 
 -- all symbols of a file
-pub symbols_fit : (file : Option (List ℕ)) (symbols : List Symbol) → AreSymbols file symbols
+pub symbols_fit : (file : List ℕ) (symbols : List Symbol) → symbols_of file ≡ Ok symbols
     → AllByRecursion SymbolFits symbols
-symbols_fit None symbols e = subst (λ (s : List Symbol). AllFit s) (sym e) tt
-symbols_fit (Some bytes) symbols e =
-    subst (λ (r : Result (List Symbol) Refusal). Gives AllFit r) e (file_fits bytes)
+symbols_fit file symbols e =
+    subst (λ (r : Result (List Symbol) Refusal). Gives AllFit r) e (file_fits file)
 
 find_fits : (test : Symbol → Bool) (ss : List Symbol) → AllByRecursion SymbolFits ss
     → Holds SymbolFits (find test ss)

@@ -17,7 +17,7 @@ use Rattle.block_layout.specs.Layouts.{layouts_of}
 use Rattle.stl_codegen.specs.Compiled.{compiled}
 use Rattle.stl_codegen.specs.Generated.{code_blocks_of}
 use Rattle.stl_codegen.specs.Order.{is_code_before}
-use Rattle.sem_kept.specs.Accepted.{AreSymbols, program_in}
+use Rattle.sem_kept.specs.Accepted.{program_in}
 use Rattle.sem_kept.specs.Records.{HasCode, HasCounts, IsOfBytes, RecordsAreRight}
 use Rattle.sem_kept.proofs.accepted.Accepted.{IsSoundTree, all_both, right_tree, sound_code_blocks}
 use Rattle.sem_kept.proofs.accepted.RecordBlocks.{HasFields, IsRightBlock, code_blocks_rise, counted, data_blocks_rise, fields_of, first_good, next_good}
@@ -70,9 +70,8 @@ all_from : (bytes : List ℕ) → ((i : ℕ) → get_or bytes i 0 < 256) → OfB
 all_from [] h = tt
 all_from (b ∷ bytes) h = (h 0, all_from bytes (λ i. h (suc i)))
 
-pub file_named : (file : Option (List ℕ)) (symbols : List Symbol) → AreSymbols file symbols → IsOfBytes file → AreNamed symbols
-file_named None symbols none bytes = subst AreNamed (sym none) (tt, tt)
-file_named (Some text) symbols are bytes = symbols_named text symbols (all_from text bytes) are
+pub file_named : (file : List ℕ) (symbols : List Symbol) → symbols_of file ≡ Ok symbols → IsOfBytes file → AreNamed symbols
+file_named file symbols are bytes = symbols_named file symbols (all_from file bytes) are
 
 pub right_by : LinesRise → RecordsAreRight
 right_by law source file symbols t a bytes codes enough judged =

@@ -26,7 +26,6 @@ use Rattle.stl_codegen.specs.Generated.{has_name, name_entry, names_of}
 use Rattle.stl_codegen.specs.Order.{is_name_before}
 use Rattle.stl_parser.proofs.OptionLemmas.{chained, mapped, none_holds, passed}
 use Rattle.sem_kept.proofs.accepted.SizesSums.{sorted_length, sorted_sum}
-use Rattle.sem_kept.specs.Accepted.{AreSymbols}
 
 -- ---- what a symbol is
 
@@ -296,11 +295,9 @@ file_fine bytes = lines_added 1 [] (lines bytes) none_fine
 ok_holds : {A E : Type 0} (r : Result A E) (x : A) (P : A → Type 0) → r ≡ Ok x → IfOk r P → P x
 ok_holds r x P e h = let k = subst (λ (q : Result _ _). IfOk q P) e h in k
 
-pub symbols_fine : (file : Option (List ℕ)) (symbols : List Symbol) → AreSymbols file symbols
+pub symbols_fine : (file : List ℕ) (symbols : List Symbol) → symbols_of file ≡ Ok symbols
     → AreFine symbols
-symbols_fine None symbols none = subst AreFine (sym none) none_fine
-symbols_fine (Some bytes) symbols some =
-    ok_holds (symbols_of bytes) symbols AreFine some (file_fine bytes)
+symbols_fine file symbols are = ok_holds (symbols_of file) symbols AreFine are (file_fine file)
 
 -- ---- their names
 

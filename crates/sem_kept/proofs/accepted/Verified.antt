@@ -2,7 +2,6 @@
 -- block has one, by its operand, its jump, its brackets or its call.
 use Rattle.std.proofs.Common.{◌≡◌, ℕ, ◌+◌, ◌<◌, zero, suc, true, false, List, [], ◌∷◌, length, map, get_or, Option, Some, None, refl, arith}
 use Rattle.std.specs.List.{AllByRecursion}
-use Rattle.std.specs.Option.{IfSome}
 use Rattle.flat_code.specs.Checking.{good_blocks}
 use Rattle.flat_code.specs.Image.{record_of_block}
 use Rattle.flat_code.specs.Loading.{AreVerified, around, lens_of}
@@ -18,7 +17,7 @@ use Rattle.sem_kept.specs.Accepted.{AcceptedVerifies, program_in}
 use Rattle.sem_kept.specs.Coded.{IsCoded}
 use Rattle.sem_kept.specs.Jumps.{AllLandRight}
 use Rattle.sem_kept.specs.Operands.{AreFine}
-use Rattle.sem_kept.specs.Records.{HasCode, IsOfBytes}
+use Rattle.sem_kept.specs.Records.{HasCode}
 use Rattle.sem_kept.specs.Sizes.{IsSmallBlock}
 use Rattle.sem_kept.proofs.accepted.Accepted.{right_tree}
 use Rattle.sem_kept.proofs.accepted.Coded.{are_coded}
@@ -63,10 +62,6 @@ below [] are i = omega arith
 below (b ∷ bytes) are zero = let le = are.0 in omega arith
 below (b ∷ bytes) are (suc i) = below bytes are.1 i
 
-of_bytes : (file : Option (List ℕ)) → IfSome file AreBytes → IsOfBytes file
-of_bytes None are = tt
-of_bytes (Some bytes) are = below bytes are
-
 pub accepted_verifies : AcceptedVerifies
 accepted_verifies source file symbols t a bytes file_bytes =
     let small = accepted_is_small source file symbols t a in
@@ -77,10 +72,10 @@ accepted_verifies source file symbols t a bytes file_bytes =
     let blocks : good_blocks (0, 0) p.code_blocks ≡ true =
     code_blocks_right symbols t (1 + length source) false tree (omega (arith, short)) (lines_rise source a.tokens t a.lexed a.parsed) codes in
     let datas = data_blocks_right symbols t tree (data_blocks_rise symbols t tree) in
-    let names = names_right symbols (file_named file symbols a.named (of_bytes file file_bytes)) in (
+    let names = names_right symbols (file_named file symbols a.named (below file file_bytes)) in (
       small_is_program p small blocks datas names,
       record {
-        right = records_right source file symbols t a (of_bytes file file_bytes) codes small.counts true;
+        right = records_right source file symbols t a (below file file_bytes) codes small.counts true;
         blocks = blocks_clean (lens_of p.data_blocks) (map record_of_block p.code_blocks)
             (code_blocks_of t symbols (layouts_of t symbols)) (operands_are_fine source file symbols t a bytes)
             (jumps_land_right source file symbols t a);

@@ -1,5 +1,6 @@
 use Rattle.std.proofs.Common.{◌∙◌, ap, refl, Err}
 use Rattle.std.proofs.lemmas.Result.{err_from_is_err_and}
+use Rattle.plc_base.specs.declared.Profile.TheVariants.{Small}
 use Rattle.machine.specs.Flat.{code_of}
 use Rattle.run_text.specs.RunText.{run_text}
 use Rattle.run_text.proofs.EntryLemmas.{cut-run, run-splits}
@@ -14,7 +15,7 @@ returns-in_err-controller g c =
 pub returns-in_err-write_entries : goal.returns-in_err-write_entries
 returns-in_err-write_entries g c =
     let handed = err_from_is_err_and c.from_residual-in_err-write_entries.result c.from_residual-in_err-write_entries.ensures.1 in
-    goes-cut _ _ _ _ _ _ _ _ _ _ (goes-first (run_text (code_of c.args.program.program) c.args.entries.now) _)
+    goes-cut _ _ _ _ _ _ _ _ _ _ (goes-first (run_text Small (code_of c.args.program.program) c.args.entries.now) _)
     (cut-run c.args.program.program c.in_ok-controller.controller c.args.entries.now c.in_ok-controller.ensures.ok)
     refl
     c.in_err-write_entries.ensures.text
@@ -23,7 +24,7 @@ returns-in_err-write_entries g c =
 pub returns : goal.returns
 returns g c =
     goes-last _ _ _ _ _ _ _
-    (goes-next _ _ _ _ _ _ _ _ _ (goes-first (run_text (code_of c.args.program.program) c.args.entries.now) _)
+    (goes-next _ _ _ _ _ _ _ _ _ (goes-first (run_text Small (code_of c.args.program.program) c.args.entries.now) _)
     (run-splits c.args.program.program c.in_ok-controller.controller c.write_entries.new.controller c.args.entries.now c.in_ok-controller.ensures.ok
     c.in_ok-write_entries.ensures.ok)
     refl

@@ -6,7 +6,7 @@ use Rattle.s7_cli.specs.Answer.{Answer}
 use Rattle.s7_cli.specs.Command.{Check, Input, program_inputs}
 use Rattle.s7_cli.specs.Lines.{ok_line}
 use Rattle.s7_cli.specs.Says.{CheckSays}
-use Rattle.s7_cli.specs.Texts.{contents_of, symbols_of}
+use Rattle.s7_cli.specs.Texts.{contents_of, symbols_file, symbols_of}
 use Rattle.s7_cli.proofs.ComesLemmas.{comes-unread, comes-refused, comes-written}
 use Rattle.s7_cli.proofs.SaysLemmas.{check-said, within}
 use Rattle.s7_cli.proofs.checking.check.Goals as goal
@@ -30,7 +30,7 @@ returns-in_err-judge_program g c =
     let text = c.in_ok-text.text in
     comes-refused Unit (Check c.args.src.now symbols) _ _ _ (contents_of text)
     (CheckSays text.source.items (symbols_of text)) _ _ (fault.1 ∙ ap Err fault.2) c.in_ok-text.ensures
-    (λ (a : Answer) said. check-said contents c.args.src.now symbols text.source.items (symbols_of text) a c.in_ok-text.ensures.hold.1 said)
+    (λ (a : Answer) said. check-said contents c.args.src.now symbols text.source.items (symbols_file text) a c.in_ok-text.ensures.hold.1 said)
     c.in_err-judge_program.ensures.refused
 
 pub returns : goal.returns
@@ -41,5 +41,5 @@ returns g c =
     let text = c.in_ok-text.text in
     let runs = c.in_ok-judge_program.ensures.accepted.2 in
     comes-written (Check c.args.src.now symbols) _ _ _ (contents_of text) ok_line _ refl c.in_ok-text.ensures
-    (check-said contents c.args.src.now symbols text.source.items (symbols_of text) _ c.in_ok-text.ensures.hold.1 (Ok runs.0, runs.1, refl))
+    (check-said contents c.args.src.now symbols text.source.items (symbols_file text) _ c.in_ok-text.ensures.hold.1 (Ok runs.0, runs.1, refl))
     c.write_text.ensures

@@ -1,4 +1,4 @@
-use Rattle.std.proofs.Common.{ℕ, List, Option, option_map, Result, Err, IfErr, sym, ap, ◌∙◌, subst, Bor}
+use Rattle.std.proofs.Common.{ℕ, List, Result, Err, IfErr, sym, ap, ◌∙◌, subst}
 use Rattle.std.proofs.lemmas.Result.{err_from_is_err_and}
 use Rattle.flat_code.specs.Programs.{Program}
 use Rattle.image_file.specs.Loaded.{LoadedProgram}
@@ -11,7 +11,7 @@ use Rattle.s7_cli.proofs.compiling.compiled.Goals as goal
 
 pub returns-in_err-checked-clause-refused : goal.returns-in_err-checked-clause-refused
 returns-in_err-checked-clause-refused c =
-    let given : Option (List ℕ) = option_map (λ (s : Bor (List ℕ)). s.now) c.args.symbols in
+    let given : List ℕ = c.args.symbols.now in
     let fault = err_from_is_err_and c.from_residual-in_err-checked.result
     c.from_residual-in_err-checked.ensures.1 in
     subst (λ (r : Result LoadedProgram CompileFault). IfErr r (RefusesBy c.args.source.now given))
@@ -20,7 +20,7 @@ returns-in_err-checked-clause-refused c =
 
 pub generate-requires : goal.generate-requires
 generate-requires c =
-    let given : Option (List ℕ) = option_map (λ (s : Bor (List ℕ)). s.now) c.args.symbols in
+    let given : List ℕ = c.args.symbols.now in
     let runs = generated_runs c.programs_run.ensures c.args.source.now given c.in_ok-laid.laid
     c.in_ok-checked.checked c.law_of_files.ensures c.in_ok-laid.ensures.laid
     c.in_ok-checked.ensures.tree c.in_ok-checked.ensures.sound in
@@ -28,7 +28,7 @@ generate-requires c =
 
 pub loaded-requires : goal.loaded-requires
 loaded-requires c =
-    let given : Option (List ℕ) = option_map (λ (s : Bor (List ℕ)). s.now) c.args.symbols in
+    let given : List ℕ = c.args.symbols.now in
     let runs = generated_runs c.programs_run.ensures c.args.source.now given c.in_ok-laid.laid
     c.in_ok-checked.checked c.law_of_files.ensures c.in_ok-laid.ensures.laid
     c.in_ok-checked.ensures.tree c.in_ok-checked.ensures.sound in
@@ -36,7 +36,7 @@ loaded-requires c =
 
 pub returns-clause-ok : goal.returns-clause-ok
 returns-clause-ok c =
-    let given : Option (List ℕ) = option_map (λ (s : Bor (List ℕ)). s.now) c.args.symbols in
+    let given : List ℕ = c.args.symbols.now in
     let runs = generated_runs c.programs_run.ensures c.args.source.now given c.in_ok-laid.laid
     c.in_ok-checked.checked c.law_of_files.ensures c.in_ok-laid.ensures.laid
     c.in_ok-checked.ensures.tree c.in_ok-checked.ensures.sound in

@@ -1,4 +1,4 @@
-use Rattle.std.proofs.Common.{ℕ, List, Option, option_map, Result, Err, IfErr, sym, ap, ◌∙◌, subst, Bor}
+use Rattle.std.proofs.Common.{ℕ, List, Result, Err, IfErr, sym, ap, ◌∙◌, subst}
 use Rattle.std.proofs.lemmas.Result.{err_from_is_err_and}
 use Rattle.s7_cli.specs.Compiling.{RefusesBy}
 use Rattle.s7_cli.specs.declared.faults.CompileFault.{CompileFault}
@@ -7,7 +7,7 @@ use Rattle.s7_cli.proofs.compiling.judged.Goals as goal
 
 pub returns-in_err-_checked-clause-refused : goal.returns-in_err-_checked-clause-refused
 returns-in_err-_checked-clause-refused c =
-    let given : Option (List ℕ) = option_map (λ (s : Bor (List ℕ)). s.now) c.args.symbols in
+    let given : List ℕ = c.args.symbols.now in
     let fault = err_from_is_err_and c.from_residual-in_err-_checked.result
     c.from_residual-in_err-_checked.ensures.1 in
     subst (λ (r : Result Unit CompileFault). IfErr r (RefusesBy c.args.source.now given))
@@ -16,6 +16,6 @@ returns-in_err-_checked-clause-refused c =
 
 pub returns-clause-ok : goal.returns-clause-ok
 returns-clause-ok c =
-    let given : Option (List ℕ) = option_map (λ (s : Bor (List ℕ)). s.now) c.args.symbols in
+    let given : List ℕ = c.args.symbols.now in
     has_program c.programs_run.ensures c.args.source.now given c.in_ok-laid.laid
     c.law_of_files.ensures c.in_ok-laid.ensures.laid c.in_ok-_checked.ensures.sound

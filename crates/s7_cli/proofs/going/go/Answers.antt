@@ -1,6 +1,7 @@
 use Rattle.std.proofs.Common.{◌≡◌, ap, refl, sym, ◌∙◌, subst, List, [], ◌∷◌, ◌++◌, ℕ, Vec, Global, Option, Ok, Err, append-nil}
 use Rattle.std.specs.Option.{option_map}
 use Rattle.std.proofs.lemmas.Result.{err_from_is_err_and}
+use Rattle.plc_base.specs.declared.Profile.TheVariants.{Small}
 use Rattle.plc_io.specs.Contents.{Contents}
 use Rattle.image_file.specs.Loaded.{LoadedProgram}
 use Rattle.machine.specs.Flat.{code_of}
@@ -13,7 +14,7 @@ use Rattle.s7_cli.specs.Command.{Go, Input, program_inputs}
 use Rattle.s7_cli.specs.Ends.{taking}
 use Rattle.s7_cli.specs.Inner.{TextWritten}
 use Rattle.s7_cli.specs.Says.{GoSays, go_answer}
-use Rattle.s7_cli.specs.Texts.{contents_of, symbols_of}
+use Rattle.s7_cli.specs.Texts.{contents_of, symbols_file, symbols_of}
 use Rattle.s7_cli.proofs.ComesLemmas.{comes-unread, comes-refused, comes-written, file-read, file-unread, read-then, unread-then}
 use Rattle.s7_cli.proofs.RunLemmas.{texts-kept}
 use Rattle.s7_cli.proofs.SaysLemmas.{go-said, within}
@@ -63,7 +64,7 @@ returns-in_err-program g c =
     (read-then _ _ _ (program_inputs c.args.src.now symbols) (history_input c.args.hist.now ∷ []) (contents_of text) (history ∷ []) c.in_ok-text.ensures
     (file-read bytes_of _ _ (history_input c.args.hist.now) c.in_ok-history.history c.in_ok-history.ensures))
     (λ (a : Answer) said.
-    go-said contents c.args.src.now symbols c.args.hist.now text.source.items (symbols_of text) history a c.in_ok-text.ensures.hold.1
+    go-said contents c.args.src.now symbols c.args.hist.now text.source.items (symbols_file text) history a c.in_ok-text.ensures.hold.1
     (subst (λ (h : List ℕ). GoSays text.source.items (symbols_of text) h a) c.deref.ensures.value said))
     c.in_err-program.ensures.refused
 
@@ -77,12 +78,12 @@ returns g c =
     let entries : List Entry = c.in_ok-program.entries.items in
     let runs = c.in_ok-program.ensures.runs in
     let spells : history_of history ≡ Ok entries = ap history_of (sym c.deref.ensures.value) ∙ c.in_ok-program.ensures.spells in
-    comes-written (Go c.args.src.now symbols c.args.hist.now) _ _ _ (contents_of text ++ history ∷ []) (run_text runs.0 entries) _ refl
+    comes-written (Go c.args.src.now symbols c.args.hist.now) _ _ _ (contents_of text ++ history ∷ []) (run_text Small runs.0 entries) _ refl
     (read-then _ _ _ (program_inputs c.args.src.now symbols) (history_input c.args.hist.now ∷ []) (contents_of text) (history ∷ []) c.in_ok-text.ensures
     (file-read bytes_of _ _ (history_input c.args.hist.now) c.in_ok-history.history c.in_ok-history.ensures))
-    (go-said contents c.args.src.now symbols c.args.hist.now text.source.items (symbols_of text) history _ c.in_ok-text.ensures.hold.1
+    (go-said contents c.args.src.now symbols c.args.hist.now text.source.items (symbols_file text) history _ c.in_ok-text.ensures.hold.1
     (Ok runs.0, runs.1, ap (go_answer (Ok runs.0)) (sym spells)))
     (subst
     (λ (t : List ℕ). TextWritten t (taking (g.K.Sink.shown c.args.out.now) (g.K.Sink.shown c.replay_text.new.out)) c.written.result)
-    (ap (run_text running) c.deref-2.ensures.value ∙ texts-kept c.continues_replay.ensures.state runs.0 running runs.2 entries)
+    (ap (run_text Small running) c.deref-2.ensures.value ∙ texts-kept c.continues_replay.ensures.state Small runs.0 running runs.2 entries)
     (c.written.ensures _ _ _ c.replay_text.ensures))
