@@ -5,11 +5,12 @@ use Rattle.std.specs.declared.alloc.Global.{Global}
 use Rattle.std.specs.List.{AllByRecursion, IsDistinct}
 use Rattle.std.proofs.lemmas.Bool.{and_parts, ltb-true}
 use Rattle.std.proofs.lemmas.Bool.Decides.{nat_tests}
+use Rattle.plc_base.specs.Kinds.{kind_number}
 use Rattle.plc_base.specs.declared.BlockId.{BlockId}
 use Rattle.plc_base.specs.declared.blocks.BlockKind.{BlockKind}
 use Rattle.plc_base.specs.declared.blocks.BlockKind.TheVariants as kinds
 use Rattle.flat_code.specs.Faults.{fault_of, lies_within, unless}
-use Rattle.flat_code.specs.Image.{kind_field, parameter_count, block_number, local_bytes, instance_bytes, plain_u16, plain_u32, zero_u16, head, number_of_kind, record_of_block, raw_of_block, code_block, code_blocks, after_block, data_number, instance_field, data_len, contents, raw_data, raw_of_data, data_block, after_data, data_blocks, records_of, body}
+use Rattle.flat_code.specs.Image.{kind_field, parameter_count, block_number, local_bytes, instance_bytes, plain_u16, plain_u32, zero_u16, head, record_of_block, raw_of_block, code_block, code_blocks, after_block, data_number, instance_field, data_len, contents, raw_data, raw_of_data, data_block, after_data, data_blocks, records_of, body}
 use Rattle.flat_code.specs.Layout.{chain, good_many, is_fine}
 use Rattle.flat_code.specs.Loading.{Verifies}
 use Rattle.flat_code.specs.Programs.{CodeBlock, DataBlock, Program}
@@ -55,7 +56,7 @@ numbers_rise p h = datas_are _ p.data_blocks (records_parts true (records_of p) 
 
 -- ---- code blocks are no data blocks
 
-kind_right : (k : BlockKind) → lies_within 1 3 (number_of_kind k) ≡ true → is_data_kind k ≡ false
+kind_right : (k : BlockKind) → lies_within 1 3 (kind_number k) ≡ true → is_data_kind k ≡ false
 kind_right kinds.Ob h = refl
 kind_right kinds.Fc h = refl
 kind_right kinds.Fb h = refl
@@ -76,7 +77,7 @@ block_kind s b good =
     let h = (raw_of_block (record_of_block b)).0 in
     let parts = record_parts_of true s (record_of_block b) good in
     let a = chain_parts (kind_field s.0) (λ kind. chain (parameter_count kind) (λ params. chain (block_number s.0 s.1 kind) (λ number. chain (local_bytes kind) (λ locals. chain (instance_bytes kind) (λ instance. chain plain_u16 (λ statements. chain zero_u16 (λ zero. plain_u32))))))) h parts.head_good in
-    kind_right b.id.kind (head_kind s.0 (number_of_kind b.id.kind) a.0)
+    kind_right b.id.kind (head_kind s.0 (kind_number b.id.kind) a.0)
 
 abbrev AreCode : List CodeBlock → Type 0
 AreCode [] = Unit {0}

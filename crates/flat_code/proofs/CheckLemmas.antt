@@ -6,11 +6,12 @@ use Rattle.std.specs.Int.{w16, to_be_bytes}
 use Rattle.std.proofs.lemmas.List.{length-map}
 use Rattle.std.proofs.lemmas.List.Sums.{sum_by-cons}
 use Rattle.std.specs.List.{sum_by}
+use Rattle.plc_base.specs.Kinds.{kind_number}
 use Rattle.plc_base.proofs.ListLemmas.{drop_next}
 use Rattle.flat_code.specs.Checking.{all_good, good_params, good_lines, good_blocks, good_datas, good_names, good_counts, good_records, makes_program, block_size, data_size, name_size, image_size}
 use Rattle.flat_code.specs.Codes.{are_ops, code_bytes, code_of, size}
 use Rattle.flat_code.specs.Faults.{fault_of, name_fault}
-use Rattle.flat_code.specs.Image.{zero_u8, zero_u16, plain_u16, plain_u32, width_field, bytes_fit, section_field, parameter_byte, parameter_bit, raw_parameter, parameter, kind_field, parameter_count, block_number, local_bytes, instance_bytes, Head, head, instance_in, same_state, parameters, line_field, line_after, lines_of, code_and_lines, raw_block, raw_of_block, plain_block, code_block, after_block, number_of_kind, record_of_block, record_of_param, data_number, instance_field, data_len, contents, raw_data, data_block, after_data, name_len, name_bytes, name_area, name_bit, raw_name, name_record, after_name, name_of_entry, data_count, Counts, counts, code_blocks, data_blocks, names, raw_records, raw_of_records, records_of, records, body, front_size, IsProgram}
+use Rattle.flat_code.specs.Image.{zero_u8, zero_u16, plain_u16, plain_u32, width_field, bytes_fit, section_field, parameter_byte, parameter_bit, raw_parameter, parameter, kind_field, parameter_count, block_number, local_bytes, instance_bytes, Head, head, instance_in, same_state, parameters, line_field, line_after, lines_of, code_and_lines, raw_block, raw_of_block, plain_block, code_block, after_block, record_of_block, record_of_param, data_number, instance_field, data_len, contents, raw_data, data_block, after_data, name_len, name_bytes, name_area, name_bit, raw_name, name_record, after_name, name_of_entry, data_count, Counts, counts, code_blocks, data_blocks, names, raw_records, raw_of_records, records_of, records, body, front_size, IsProgram}
 use Rattle.flat_code.specs.Layout.{Layout, is_fine, good_many, spell_many}
 use Rattle.flat_code.specs.Ops.{OpData, IsOp, op_bytes}
 use Rattle.flat_code.specs.Programs.{CodeBlock, DataBlock, NameEntry, Program}
@@ -58,9 +59,9 @@ lines_good : (start : ℕ) (before : ℕ × ℕ) (b : CodeBlock) → good_lines 
 unfolding lines_of
 lines_good start before b h = counted (line_field false) line_after 0 b.lines ∙ h
 
-params_good : (b : CodeBlock) → (parameters (raw_of_block (record_of_block b)).0).good (map record_of_param b.params) ≡ good_params (number_of_kind b.id.kind) b.instance_len b.params
+params_good : (b : CodeBlock) → (parameters (raw_of_block (record_of_block b)).0).good (map record_of_param b.params) ≡ good_params (kind_number b.id.kind) b.instance_len b.params
 unfolding parameters
-params_good b = counted (λ s. parameter (number_of_kind b.id.kind) b.instance_len) same_state 0 (map record_of_param b.params)
+params_good b = counted (λ s. parameter (kind_number b.id.kind) b.instance_len) same_state 0 (map record_of_param b.params)
 
 -- what comes behind a test counts only where it is met
 both : (t a b : Bool) → (t ≡ true → a ≡ b) → (t && a) ≡ (t && b)
@@ -72,7 +73,7 @@ with_true true b c p q = and_from b c p q
 with_true false b c p q = refl
 
 pub block_by_parts : (before : ℕ × ℕ) (b : CodeBlock) → ((head before).good (raw_of_block (record_of_block b)).0 ≡ true → are_ops b.code ≡ true) → good_lines b.lines ≡ true
-    → ((head before).good (raw_of_block (record_of_block b)).0 && good_params (number_of_kind b.id.kind) b.instance_len b.params) ≡ (code_block false before).good (record_of_block b)
+    → ((head before).good (raw_of_block (record_of_block b)).0 && good_params (kind_number b.id.kind) b.instance_len b.params) ≡ (code_block false before).good (record_of_block b)
 unfolding code_block plain_block raw_block code_and_lines
 block_by_parts before b ops lines =
     let h = (raw_of_block (record_of_block b)).0 in

@@ -3,7 +3,7 @@ use Rattle.std.specs.Prelude.{ℕ, zero, suc, ◌+◌, nat_le, nat_lt, ◌==◌,
 use Rattle.std.specs.Option.{option_map, option_and_then}
 use Rattle.plc_base.specs.declared.places.Area.{Area}
 use Rattle.plc_base.specs.declared.places.Area.TheVariants as area
-use Rattle.plc_base.specs.Widths.{byte_count}
+use Rattle.plc_base.specs.Widths.{byte_count, width_number}
 use Rattle.plc_base.specs.declared.places.Width.{Width}
 use Rattle.plc_base.specs.declared.places.Width.TheVariants as width
 use Rattle.flat_code.specs.declared.image_fields.ParameterRecord.{ParameterRecord}
@@ -11,7 +11,6 @@ use Rattle.flat_code.specs.declared.operands.Operand.{Operand}
 use Rattle.flat_code.specs.declared.operands.Operand.TheVariants as operand
 use Rattle.flat_code.specs.declared.operands.Passed.{Passed}
 use Rattle.flat_code.specs.declared.operands.Passed.TheVariants as passed
-use Rattle.flat_code.specs.Forms.{width_code}
 use Rattle.flat_code.specs.Ops.{OpData}
 use Rattle.flat_code.specs.Programs.{DataBlock}
 use Rattle.flat_code.specs.Records.{BlockRecord}
@@ -120,7 +119,7 @@ own_parameter around index = if around.kind == 2 then slice_get around.params in
 -- an operand of form 05 whose parameter isn't there, or has another width
 abbrev pub lacks_own : Option ParameterRecord → Width → Bool
 lacks_own None w = true
-lacks_own (Some p) w = not (p.width == width_code w)
+lacks_own (Some p) w = not (p.width == width_number w)
 
 -- an IN parameter, if there is one; a function doesn't write it, nor pass it for OUT or IN_OUT
 abbrev pub is_input : Option ParameterRecord → Bool
@@ -177,9 +176,9 @@ literal_fits width value =
 -- input of a function for OUT or IN_OUT
 abbrev pub misfits_parameter : Around → ParameterRecord → Passed → Bool
 misfits_parameter around q (passed.Literal value) = not (q.section == 1) || not (literal_fits q.width value)
-misfits_parameter around q (passed.Direct a w byte bit) = not (q.width == width_code w)
-misfits_parameter around q (passed.Parameter index w) = not (q.width == width_code w) || not (q.section == 1) && is_input (own_parameter around index)
-misfits_parameter around q (passed.InBlock number a w byte bit) = not (q.width == width_code w)
+misfits_parameter around q (passed.Direct a w byte bit) = not (q.width == width_number w)
+misfits_parameter around q (passed.Parameter index w) = not (q.width == width_number w) || not (q.section == 1) && is_input (own_parameter around index)
+misfits_parameter around q (passed.InBlock number a w byte bit) = not (q.width == width_number w)
 
 -- a parameter that the called block lacks (None), or that what is passed doesn't fit
 abbrev pub misfits_index : Around → Option ParameterRecord → Passed → Bool

@@ -1,6 +1,7 @@
 -- The forms of operands: the payload of each, as the table of forms has it.
 use Rattle.std.specs.Prelude.{ℕ, ◌==◌, Bool, true, false, ◌||◌, if◌then◌else◌, List, [], ◌∷◌, Option, Some, None}
 use Rattle.std.specs.Option.{option_map}
+use Rattle.plc_base.specs.Widths.{width_number}
 use Rattle.plc_base.specs.declared.places.Area.{Area}
 use Rattle.plc_base.specs.declared.places.Area.TheVariants as area
 use Rattle.plc_base.specs.declared.places.Width.{Width}
@@ -32,13 +33,6 @@ area_of_code n =
     else if n == 133 then Some area.Di
     else if n == 134 then Some area.L
     else None
-
--- the byte that names a width, 1 bit to 4 double word
-abbrev pub width_code : Width → ℕ
-width_code width.Bit = 1
-width_code width.Byte = 2
-width_code width.Word = 3
-width_code width.Dword = 4
 
 -- the width that a byte names
 abbrev pub width_of_code : ℕ → Option Width
@@ -95,7 +89,7 @@ crossing = such_that crosses (named crossing_code crossing_of_code)
 
 -- a width byte, 1 to 4; a width that the instruction lacks is read too (fault 7)
 abbrev pub a_width : Coding Width
-a_width = named width_code width_of_code
+a_width = named width_number width_of_code
 
 -- 2 FC, 3 FB, 5 SFC
 abbrev pub is_callable : ℕ → Bool

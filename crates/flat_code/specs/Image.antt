@@ -1,5 +1,7 @@
 -- THE IMAGE of a program, version 1, and what reading bytes as one notes and finds.
 use Rattle.std.specs.Prelude.{◌≡◌, ℕ, zero, suc, ◌+◌, ◌-◌, ◌*◌, ◌≤◌, nat_lt, ◌==◌, Bool, true, false, ◌&&◌, ◌||◌, if◌then◌else◌, List, [], ◌∷◌, ◌++◌, length, map, take, drop, Option, Some, None}
+use Rattle.plc_base.specs.Kinds.{kind_number}
+use Rattle.plc_base.specs.Widths.{width_number}
 use Rattle.plc_base.specs.declared.blocks.BlockKind.{BlockKind}
 use Rattle.plc_base.specs.declared.blocks.BlockKind.TheVariants as kind
 use Rattle.plc_base.specs.declared.places.Area.{Area}
@@ -8,7 +10,7 @@ use Rattle.flat_code.specs.declared.programs.Param.{Param}
 use Rattle.flat_code.specs.declared.image_fields.ParameterRecord.{ParameterRecord}
 use Rattle.flat_code.specs.declared.image_fields.Field.TheVariants as field_of
 use Rattle.flat_code.specs.Coding.{Coding, u8, u16, u32}
-use Rattle.flat_code.specs.Forms.{width_code, width_of_number}
+use Rattle.flat_code.specs.Forms.{width_of_number}
 use Rattle.flat_code.specs.Ops.{OpData}
 use Rattle.flat_code.specs.Programs.{CodeBlock, DataBlock, NameEntry, Program}
 use Rattle.flat_code.specs.Records.{BlockRecord, NameRecord, Records}
@@ -358,14 +360,6 @@ records judged = seen_as records_of_raw raw_of_records (raw_records judged)
 abbrev pub kind_of_number : ℕ → BlockKind
 kind_of_number n = if n == 1 then kind.Ob else if n == 2 then kind.Fc else if n == 3 then kind.Fb else kind.Udt
 
--- 1 OB, 2 FC, 3 FB, and 5 SFC, a kind of calls alone; 0 for DB and UDT, which have no code
-abbrev pub number_of_kind : BlockKind → ℕ
-number_of_kind kind.Ob = 1
-number_of_kind kind.Fc = 2
-number_of_kind kind.Fb = 3
-number_of_kind kind.Sfc = 5
-number_of_kind _ = 0
-
 -- 16#81 I, 16#82 Q, 16#83 M; a number that names none of them is a fault, and stands for M
 abbrev pub area_of_number : ℕ → Area
 area_of_number n = if n == 129 then area.I else if n == 130 then area.Q else area.M
@@ -383,7 +377,7 @@ param_of p = record { section = p.section; width = width_of_number p.width; byte
 
 -- the record of a parameter: its width by number, the rest as it is
 abbrev pub record_of_param : Param → ParameterRecord
-record_of_param p = record { section = p.section; width = width_code p.width; byte = p.byte; bit = p.bit }
+record_of_param p = record { section = p.section; width = width_number p.width; byte = p.byte; bit = p.bit }
 
 -- a code block by its record; ops and lines are the same in both
 abbrev pub block_of_record : BlockRecord → CodeBlock
@@ -391,7 +385,7 @@ block_of_record b = record { id = record { kind = kind_of_number b.kind; number 
 
 -- the record of a code block: its kind and the widths of its parameters by numbers
 abbrev pub record_of_block : CodeBlock → BlockRecord
-record_of_block b = record { kind = number_of_kind b.id.kind; number = b.id.number; local_len = b.local_len; instance_len = b.instance_len; params = map record_of_param b.params; code = b.code; lines = b.lines }
+record_of_block b = record { kind = kind_number b.id.kind; number = b.id.number; local_len = b.local_len; instance_len = b.instance_len; params = map record_of_param b.params; code = b.code; lines = b.lines }
 
 -- a symbol by its record; the variable lies in no data block, so its place has number 0
 abbrev pub entry_of_name : NameRecord → NameEntry
@@ -399,7 +393,7 @@ entry_of_name n = record { name = n.name; place = record { area = area_of_number
 
 -- the record of a symbol; where its place isn't in I, Q or M its area is 0, which is fault 4
 abbrev pub name_of_entry : NameEntry → NameRecord
-name_of_entry e = record { name = e.name; area = number_of_area e.place.number e.place.area; width = width_code e.width; byte = e.place.byte; bit = e.place.bit }
+name_of_entry e = record { name = e.name; area = number_of_area e.place.number e.place.area; width = width_number e.width; byte = e.place.byte; bit = e.place.bit }
 
 -- the program of records; data blocks are the same in both
 abbrev pub program_of : Records → Program

@@ -4,7 +4,6 @@ ghost use Rattle.flat_code.specs.Ops.{op_bytes, code_byte};
 
 use crate::operands::{Operand, Passed};
 use crate::ops::Op;
-use crate::record_numbers::width_number;
 use plc_base::{Area, NoMemory};
 
 fn code_of_area(area: Area) -> u8
@@ -56,7 +55,7 @@ fn put(out: &mut Vec<u8>, first: u8, operand: &Operand) -> Result<(), NoMemory>
             bit,
         } => {
             let [a, b] = byte.to_be_bytes();
-            out.extend_from_slice(&[first, 2, code_of_area(area), width_number(width), a, b, bit])
+            out.extend_from_slice(&[first, 2, code_of_area(area), width.number(), a, b, bit])
         }
         Operand::ByMemory {
             area,
@@ -69,7 +68,7 @@ fn put(out: &mut Vec<u8>, first: u8, operand: &Operand) -> Result<(), NoMemory>
                 first,
                 3,
                 code_of_area(area),
-                width_number(width),
+                width.number(),
                 code_of_area(from),
                 a,
                 b,
@@ -86,7 +85,7 @@ fn put(out: &mut Vec<u8>, first: u8, operand: &Operand) -> Result<(), NoMemory>
                 first,
                 4,
                 code_of_crossing(area),
-                width_number(width),
+                width.number(),
                 register,
                 a,
                 b,
@@ -95,7 +94,7 @@ fn put(out: &mut Vec<u8>, first: u8, operand: &Operand) -> Result<(), NoMemory>
             ])
         }
         Operand::Parameter { index, width } => {
-            out.extend_from_slice(&[first, 5, index, width_number(width)])
+            out.extend_from_slice(&[first, 5, index, width.number()])
         }
         Operand::Numbered { kind, number } => {
             let [a, b] = number.to_be_bytes();
@@ -162,14 +161,14 @@ fn put_pass(out: &mut Vec<u8>, first: u8, index: u8, actual: Passed) -> Result<(
                 index,
                 2,
                 code_of_area(area),
-                width_number(width),
+                width.number(),
                 a,
                 b,
                 bit,
             ])
         }
         Passed::Parameter { index: of, width } => {
-            out.extend_from_slice(&[first, 11, index, 5, of, width_number(width)])
+            out.extend_from_slice(&[first, 11, index, 5, of, width.number()])
         }
         Passed::InBlock {
             number,
@@ -188,7 +187,7 @@ fn put_pass(out: &mut Vec<u8>, first: u8, index: u8, actual: Passed) -> Result<(
                 c,
                 d,
                 code_of_area(area),
-                width_number(width),
+                width.number(),
                 a,
                 b,
                 bit,

@@ -1,16 +1,16 @@
 //! Whether the code blocks of a program have no fault in their image.
 ghost use Rattle.std.specs.Prelude.{◌≡◌, ◌≤◌, ◌&&◌, nat_lt, true, false, length, IfSome, IfNone};
+ghost use Rattle.plc_base.specs.Kinds.{kind_number};
 ghost use Rattle.flat_code.specs.Checking.{good_blocks, good_lines, good_params};
 ghost use Rattle.flat_code.specs.Codes.{are_ops, code_bytes};
 ghost use Rattle.flat_code.specs.Coding.{u8, u16};
 ghost use Rattle.flat_code.specs.Faults.{fault_of};
-ghost use Rattle.flat_code.specs.Image.{code_block, head, instance_bytes, local_bytes, number_of_kind, parameter, plain_u16, plain_u32, raw_of_block, record_of_block, record_of_param, zero_u16};
+ghost use Rattle.flat_code.specs.Image.{code_block, head, instance_bytes, local_bytes, parameter, plain_u16, plain_u32, raw_of_block, record_of_block, record_of_param, zero_u16};
 ghost use Rattle.flat_code.specs.Layout.{is_fine};
 
 use crate::image_fields::Field;
 use crate::ops::Op;
 use crate::programs::{CodeBlock, Param};
-use crate::record_numbers::{kind_number, width_number};
 
 /// Whether a field has no fault.
 pub(crate) fn is_fine(field: Field) -> bool
@@ -54,7 +54,7 @@ pub(crate) fn code_len(ops: &[Op]) -> Option<u32>
 fn is_good_parameter(kind: u8, instance: u16, param: &Param) -> bool
     ensures { result ≡ (parameter kind instance).good (record_of_param param.now) }
 {
-    let width = width_number(param.width);
+    let width = param.width.number();
     is_good_u8(
         param.section,
         Field::Section {
@@ -92,10 +92,10 @@ fn are_good_parameters(kind: u8, instance: u16, params: &[Param]) -> bool
 
 fn has_good_parameters(block: &CodeBlock) -> bool
     ensures { result
-        ≡ good_params (number_of_kind block.now.id.kind) block.now.instance_len block.now.params }
+        ≡ good_params (kind_number block.now.id.kind) block.now.instance_len block.now.params }
 {
     are_good_parameters(
-        kind_number(block.id.kind),
+        block.id.kind.number(),
         block.instance_len,
         block.params.as_slice(),
     )
@@ -154,7 +154,7 @@ fn is_good_head(kind_before: u8, before: u16, block: &CodeBlock) -> bool
     ensures ops { result ≡ true → are_ops block.now.code ≡ true }
     ensures lines { good_lines block.now.lines ≡ true }
 {
-    let kind = kind_number(block.id.kind);
+    let kind = block.id.kind.number();
     let count = block.params.as_slice().len() as u8;
     let number = block.id.number;
     let lens = are_good_lens(kind, block);
@@ -189,9 +189,9 @@ fn is_good_block(kind_before: u8, before: u16, block: &CodeBlock) -> bool
 
 /// Kind and number of a block.
 fn key_of(block: &CodeBlock) -> (u8, u16)
-    ensures { result ≡ (number_of_kind block.now.id.kind, block.now.id.number) }
+    ensures { result ≡ (kind_number block.now.id.kind, block.now.id.number) }
 {
-    (kind_number(block.id.kind), block.id.number)
+    (block.id.kind.number(), block.id.number)
 }
 
 /// Whether no code block has a fault.

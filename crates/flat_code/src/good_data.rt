@@ -9,7 +9,7 @@ use crate::good_blocks::{is_fine, is_good_u8, is_good_u16};
 use crate::image_fields::Field;
 use crate::names::{NameEntry, ends_blank, is_name_before, is_upper_case};
 use crate::programs::DataBlock;
-use crate::record_numbers::{area_number, width_number};
+use crate::record_numbers::area_number;
 
 /// A law: bytes fit a field of their number.
 fn law_of_bytes(bytes: &[u8])
@@ -98,7 +98,7 @@ fn is_good_name(before: &[u8], entry: &NameEntry) -> bool
 {
     let name = entry.name.as_slice();
     let area = area_number(&entry.place);
-    let width = width_number(entry.width);
+    let width = entry.width.number();
     law_of_bytes(name);
     law_of_word(entry.place.byte);
     is_good_name_len(name.len())

@@ -28,7 +28,7 @@ pub use names::{NameEntry, Names, ends_blank, is_name_before, is_upper_case};
 pub use operands::{Operand, Passed};
 pub use ops::Op;
 pub use programs::{CodeBlock, DataBlock, Param, Program};
-pub use record_numbers::{area_number, kind_number, width_number, width_of_number};
+pub use record_numbers::{area_number, width_of_number};
 pub use table::{Takes, taken_by, taken_by_word};
 pub use words::{
     Adding, CallWord, EndWord, Logic, Number, PointerWord, Shift, WORDS, Word, word_of,

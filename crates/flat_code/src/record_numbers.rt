@@ -1,22 +1,10 @@
-//! Kinds, areas and widths as an image has them.
+//! Areas and widths as an image has them.
 ghost use Rattle.std.specs.Prelude.{◌≡◌};
-ghost use Rattle.flat_code.specs.Forms.{width_code, width_of_number};
-ghost use Rattle.flat_code.specs.Image.{number_of_area, number_of_kind};
+ghost use Rattle.flat_code.specs.Forms.{width_of_number};
+ghost use Rattle.flat_code.specs.Image.{number_of_area};
 
 use crate::fields::width_of;
-use plc_base::{Area, BlockKind, Place, Width};
-
-/// A width as an image has it: 1 bit, 2 byte, 3 word, 4 double word.
-pub fn width_number(width: Width) -> u8
-    ensures { result ≡ width_code width }
-{
-    match width {
-        Width::Bit => 1,
-        Width::Byte => 2,
-        Width::Word => 3,
-        Width::Dword => 4,
-    }
-}
+use plc_base::{Area, Place, Width};
 
 /// The width that a number in an image names: 1 bit, 2 byte, 3 word, 4 double word; a bit for the
 /// others, which are faults.
@@ -26,19 +14,6 @@ pub fn width_of_number(number: u8) -> Width
     match width_of(number) {
         Some(width) => width,
         None => Width::Bit,
-    }
-}
-
-/// A block kind as an image has it: 1 OB, 2 FC, 3 FB, 5 SFC; 0 for the others.
-pub fn kind_number(kind: BlockKind) -> u8
-    ensures { result ≡ number_of_kind kind }
-{
-    match kind {
-        BlockKind::Ob => 1,
-        BlockKind::Fc => 2,
-        BlockKind::Fb => 3,
-        BlockKind::Sfc => 5,
-        _ => 0,
     }
 }
 

@@ -3,6 +3,8 @@ use Rattle.std.proofs.Common.{◌≡◌, ℕ, zero, suc, ◌+◌, ◌-◌, ◌*�
 use Rattle.std.proofs.lemmas.Bool.{cases_lt, eq-eqb, and_parts, and_from, eqb-true, eqb-false, leb-true, ltb-false, ltb-true, le-ltb, lt-ltb, or_from}
 use Rattle.std.proofs.lemmas.List.{append-nil, take_at, drop_at, take-append-drop, nil_from_length, get_or-drop, get_or-take, get_or_past, length-take}
 use Rattle.std.proofs.lemmas.Option.{same_Some}
+use Rattle.plc_base.specs.Widths.{width_number}
+use Rattle.plc_base.specs.Kinds.{kind_number}
 use Rattle.plc_base.specs.declared.blocks.BlockKind.{BlockKind}
 use Rattle.plc_base.specs.declared.blocks.BlockKind.TheVariants as kind
 use Rattle.plc_base.specs.declared.places.Area.{Area}
@@ -14,14 +16,14 @@ use Rattle.flat_code.specs.declared.programs.Param.{Param}
 use Rattle.flat_code.specs.declared.image_fields.ParameterRecord.{ParameterRecord}
 use Rattle.flat_code.specs.declared.image_fields.Field.TheVariants.{StatementCount, Line}
 use Rattle.flat_code.specs.Coding.{Coding, u8, u16, u32}
-use Rattle.flat_code.specs.Forms.{width_code, width_of_number}
+use Rattle.flat_code.specs.Forms.{width_of_number}
 use Rattle.flat_code.specs.Ops.{OpData}
 use Rattle.flat_code.specs.Programs.{CodeBlock, DataBlock, NameEntry, Program}
 use Rattle.flat_code.specs.Records.{BlockRecord, NameRecord, Records}
 use Rattle.flat_code.specs.Faults.{fault_of, name_fault, unless, lies_within}
 use Rattle.flat_code.specs.Layout.{Note, Faulty, Whole, AllBlocks, Cursor, Read, Layout, ended, given, bind, noted, is_fine, field, chain, checked, located, spell_many, many, good_many, seen_as, remembered, faults_in}
 use Rattle.flat_code.specs.Codes.{are_ops, code_bytes, stop_at, is_nowhere, code_of, only}
-use Rattle.flat_code.specs.Image.{plain, plain_u16, plain_u32, zero_u8, zero_u16, width_field, bytes_fit, bytes, section_field, parameter_byte, parameter_bit, RawParameter, raw_parameter, parameter_of_raw, raw_of_parameter, parameter, kind_field, parameter_count, block_number, local_bytes, instance_bytes, Head, head, params_in, instance_in, statements_in, code_len_in, same_state, parameters, end_marks, line_after, line_field, lines_of, code_and_lines, RawBlock, raw_block, block_of_raw, raw_of_block, plain_block, whole_at, code_block_at, code_block, after_block, data_number, instance_field, data_len, contents, RawData, raw_data, instance_of_number, number_of_instance, data_of_raw, raw_of_data, data_block, after_data, name_len, name_bytes, name_area, name_bit, RawName, raw_name, name_of_raw, raw_of_name, name_record, after_name, data_count, Counts, counts, code_blocks, plain_data_blocks, data_blocks, names, RawRecords, raw_records, records_of_raw, raw_of_records, records, kind_of_number, number_of_kind, area_of_number, number_of_area, param_of, record_of_param, block_of_record, record_of_block, entry_of_name, name_of_entry, program_of, records_of, body, magic_field, version_field, Front, front, front_size, front_of, image, IsProgram, IsRight, at_end, cut, read_by, read_image}
+use Rattle.flat_code.specs.Image.{plain, plain_u16, plain_u32, zero_u8, zero_u16, width_field, bytes_fit, bytes, section_field, parameter_byte, parameter_bit, RawParameter, raw_parameter, parameter_of_raw, raw_of_parameter, parameter, kind_field, parameter_count, block_number, local_bytes, instance_bytes, Head, head, params_in, instance_in, statements_in, code_len_in, same_state, parameters, end_marks, line_after, line_field, lines_of, code_and_lines, RawBlock, raw_block, block_of_raw, raw_of_block, plain_block, whole_at, code_block_at, code_block, after_block, data_number, instance_field, data_len, contents, RawData, raw_data, instance_of_number, number_of_instance, data_of_raw, raw_of_data, data_block, after_data, name_len, name_bytes, name_area, name_bit, RawName, raw_name, name_of_raw, raw_of_name, name_record, after_name, data_count, Counts, counts, code_blocks, plain_data_blocks, data_blocks, names, RawRecords, raw_records, records_of_raw, raw_of_records, records, kind_of_number, area_of_number, number_of_area, param_of, record_of_param, block_of_record, record_of_block, entry_of_name, name_of_entry, program_of, records_of, body, magic_field, version_field, Front, front, front_size, front_of, image, IsProgram, IsRight, at_end, cut, read_by, read_image}
 use Rattle.flat_code.proofs.CodingLemmas.{IsBytes, Takes, IsExact, pair_is, u8_exact, u16_exact, u32_exact}
 use Rattle.image_file.specs.Typing.{AreFew}
 use Rattle.image_file.proofs.LayoutLemmas.{at_place, Finds, Spells, IsLaidOut, Parts, bind_parts, bind_finds, given_finds, field_laid, chain_laid, checked_laid, seen_laid, remembered_laid, many_laid, located_laid, no_faults, no_faults_join}
@@ -427,14 +429,14 @@ records_laid judged = seen_laid records_of_raw raw_of_records (raw_records judge
 
 -- ---- programs: kinds, widths and areas by their numbers
 
-kind_back : (n : ℕ) → lies_within 1 3 n ≡ true → number_of_kind (kind_of_number n) ≡ n
+kind_back : (n : ℕ) → lies_within 1 3 n ≡ true → kind_number (kind_of_number n) ≡ n
 kind_back zero h = absurd cc
 kind_back (suc zero) h = refl
 kind_back (suc (suc zero)) h = refl
 kind_back (suc (suc (suc zero))) h = refl
 kind_back (suc (suc (suc (suc n)))) h = absurd (let le = leb-true (suc (suc (suc (suc n)))) 3 (and_parts (leb 1 (suc (suc (suc (suc n))))) (leb (suc (suc (suc (suc n)))) 3) h).1 in omega arith)
 
-kind_there : (k : BlockKind) → lies_within 1 3 (number_of_kind k) ≡ true → kind_of_number (number_of_kind k) ≡ k
+kind_there : (k : BlockKind) → lies_within 1 3 (kind_number k) ≡ true → kind_of_number (kind_number k) ≡ k
 kind_there kind.Ob h = refl
 kind_there kind.Fc h = refl
 kind_there kind.Fb h = refl
@@ -442,7 +444,7 @@ kind_there kind.Db h = absurd cc
 kind_there kind.Sfc h = absurd cc
 kind_there kind.Udt h = refl
 
-width_back : (n : ℕ) → lies_within 1 4 n ≡ true → width_code (width_of_number n) ≡ n
+width_back : (n : ℕ) → lies_within 1 4 n ≡ true → width_number (width_of_number n) ≡ n
 width_back zero h = absurd cc
 width_back (suc zero) h = refl
 width_back (suc (suc zero)) h = refl
@@ -450,7 +452,7 @@ width_back (suc (suc (suc zero))) h = refl
 width_back (suc (suc (suc (suc zero)))) h = refl
 width_back (suc (suc (suc (suc (suc n))))) h = absurd (let le = leb-true (suc (suc (suc (suc (suc n))))) 4 (and_parts (leb 1 (suc (suc (suc (suc (suc n)))))) (leb (suc (suc (suc (suc (suc n))))) 4) h).1 in omega arith)
 
-pub width_there : (w : Width) → width_of_number (width_code w) ≡ w
+pub width_there : (w : Width) → width_of_number (width_number w) ≡ w
 width_there width.Bit = refl
 width_there width.Byte = refl
 width_there width.Word = refl
@@ -539,8 +541,8 @@ name_there : (before : List ℕ) (e : NameEntry) → (name_record before).good (
 name_there before e good =
     let p = name_parts_of before (name_of_entry e) good in
     let a = area_there e.place.number e.place.area p.area_good in
-    ap (λ (z : Area). let r : NameEntry = record { name = e.name; place = record { area = z; number = 0; byte = e.place.byte; bit = e.place.bit }; width = width_of_number (width_code e.width) } in r) a.1
-    ∙ ap (λ (n : ℕ). let r : NameEntry = record { name = e.name; place = record { area = e.place.area; number = n; byte = e.place.byte; bit = e.place.bit }; width = width_of_number (width_code e.width) } in r) (sym a.0)
+    ap (λ (z : Area). let r : NameEntry = record { name = e.name; place = record { area = z; number = 0; byte = e.place.byte; bit = e.place.bit }; width = width_of_number (width_number e.width) } in r) a.1
+    ∙ ap (λ (n : ℕ). let r : NameEntry = record { name = e.name; place = record { area = e.place.area; number = n; byte = e.place.byte; bit = e.place.bit }; width = width_of_number (width_number e.width) } in r) (sym a.0)
     ∙ ap (λ (w : Width). let r : NameEntry = record { name = e.name; place = e.place; width = w } in r) (width_there e.width)
 
 codes_back : (judged : Bool) (n : ℕ) (bs : List BlockRecord) → (code_blocks judged n).good bs ≡ true → map record_of_block (map block_of_record bs) ≡ bs

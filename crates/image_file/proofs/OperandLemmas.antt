@@ -2,6 +2,7 @@
 use Rattle.std.proofs.Common.{◌≡◌, ◌⊎◌, ℕ, zero, suc, ◌+◌, ◌<◌, ◌≤◌, Bool, true, false, cond, eqb, ltb, not, ◌&&◌, ◌||◌, List, [], ◌∷◌, length, map, slice_get, Option, Some, None, option_map, refl, sym, ap, subst, ◌∙◌, arith, inl, inr}
 use Rattle.std.proofs.lemmas.Bool.{and_parts, eqb-true, eq-eqb, ne_eqb, ltb-false, or_parts, not-false}
 use Rattle.std.proofs.lemmas.Option.{same_Some, slice_get-map}
+use Rattle.plc_base.specs.Kinds.{kind_number}
 use Rattle.plc_base.specs.declared.blocks.BlockId.{BlockId}
 use Rattle.plc_base.specs.declared.blocks.BlockKind.{BlockKind}
 use Rattle.plc_base.specs.declared.blocks.BlockKind.TheVariants as kinds
@@ -14,11 +15,11 @@ use Rattle.flat_code.specs.declared.operands.Operand.{Operand}
 use Rattle.flat_code.specs.declared.operands.Operand.TheVariants as operand
 use Rattle.flat_code.specs.declared.operands.Passed.{Passed}
 use Rattle.flat_code.specs.declared.operands.Passed.TheVariants as passed
-use Rattle.flat_code.specs.Forms.{width_code, width_of_number}
-use Rattle.plc_base.specs.Widths.{byte_count}
+use Rattle.flat_code.specs.Forms.{width_of_number}
+use Rattle.plc_base.specs.Widths.{byte_count, width_number}
 use Rattle.flat_code.specs.Ops.{OpData}
 use Rattle.flat_code.specs.Programs.{CodeBlock, Program}
-use Rattle.flat_code.specs.Image.{number_of_kind, kind_of_number, record_of_param, record_of_block}
+use Rattle.flat_code.specs.Image.{kind_of_number, record_of_param, record_of_block}
 use Rattle.flat_code.specs.Loading.{Verifies, lens_of}
 use Rattle.flat_code.specs.Table.{takes_of, has_width}
 use Rattle.flat_code.specs.Placed.{Placed, spots, begins, last_op, is_empty}
@@ -46,7 +47,7 @@ within p b area.L w byte e = ltb-false b.local_len (byte + byte_count w) e
 fits_place : (p : Program) (b : CodeBlock) (a : Area) (w : Width) (byte bit : ℕ) → is_bad_place (around_in p b) a w byte bit ≡ false → (is_odd_bit w bit ≡ false) × LiesWithin b a w byte
 fits_place p b a w byte bit e = let o = or_parts (is_odd_bit w bit) (is_past_locals (around_in p b) a w byte) e in (o.0, within p b a w byte o.1)
 
-is_function : (k : BlockKind) → eqb (number_of_kind k) 2 ≡ true → k ≡ kinds.Fc
+is_function : (k : BlockKind) → eqb (kind_number k) 2 ≡ true → k ≡ kinds.Fc
 is_function kinds.Ob e = absurd cc
 is_function kinds.Fc e = refl
 is_function kinds.Fb e = absurd cc
@@ -61,19 +62,19 @@ record Has (b : CodeBlock) (index : ℕ) (w : Width) (own : Option ParameterReco
   own_is : own ≡ Some (record_of_param param)
 
 has_param : (p : Program) (b : CodeBlock) (index : ℕ) (w : Width) → lacks_own (own_parameter (around_in p b) index) w ≡ false → Has b index w (own_parameter (around_in p b) index)
-has_param p b index w e = by_kind (eqb (number_of_kind b.id.kind) 2) refl e
+has_param p b index w e = by_kind (eqb (kind_number b.id.kind) 2) refl e
   where
-    by_param : (o : Option Param) → slice_get b.params index ≡ o → eqb (number_of_kind b.id.kind) 2 ≡ true → lacks_own (option_map record_of_param o) w ≡ false → Has b index w (option_map record_of_param o)
+    by_param : (o : Option Param) → slice_get b.params index ≡ o → eqb (kind_number b.id.kind) 2 ≡ true → lacks_own (option_map record_of_param o) w ≡ false → Has b index w (option_map record_of_param o)
     by_param None is kind l = absurd cc
     by_param (Some param) is kind l =
-        let same = eqb-true (width_code param.width) (width_code w) (not-false (eqb (width_code param.width) (width_code w)) l) in
+        let same = eqb-true (width_number param.width) (width_number w) (not-false (eqb (width_number param.width) (width_number w)) l) in
         record {
           param = param;
           has = record { kind = is_function b.id.kind kind; there = is; width = sym (width_there param.width) ∙ ap width_of_number same ∙ width_there w };
           own_is = refl;
         }
 
-    by_kind : (k : Bool) → eqb (number_of_kind b.id.kind) 2 ≡ k → lacks_own (cond k (slice_get (map record_of_param b.params) index) None) w ≡ false → Has b index w (cond k (slice_get (map record_of_param b.params) index) None)
+    by_kind : (k : Bool) → eqb (kind_number b.id.kind) 2 ≡ k → lacks_own (cond k (slice_get (map record_of_param b.params) index) None) w ≡ false → Has b index w (cond k (slice_get (map record_of_param b.params) index) None)
     by_kind false kind l = absurd cc
     by_kind true kind l =
         let there = slice_get-map record_of_param b.params index in
@@ -189,24 +190,24 @@ record FoundIn (bs : List CodeBlock) (id : BlockId) (kind : ℕ) (called : Calle
   there : block_of id bs ≡ Some block
   same : called ≡ (kind, block.instance_len, map record_of_param block.params)
 
-found_in : (bs : List CodeBlock) (id : BlockId) (kind : ℕ) (called : Callee) → ((k : BlockKind) → eqb (number_of_kind k) kind ≡ eqb (kind_order k) (kind_order id.kind)) → block_with kind id.number (map signature_of (map record_of_block bs)) ≡ Some called → FoundIn bs id kind called
+found_in : (bs : List CodeBlock) (id : BlockId) (kind : ℕ) (called : Callee) → ((k : BlockKind) → eqb (kind_number k) kind ≡ eqb (kind_order k) (kind_order id.kind)) → block_with kind id.number (map signature_of (map record_of_block bs)) ≡ Some called → FoundIn bs id kind called
 found_in [] id kind called agree e = absurd cc
 found_in (b ∷ bs) id kind called agree e =
-    by (eqb (number_of_kind b.id.kind) kind && eqb b.id.number id.number) refl (ap (λ (z : Bool). z && eqb b.id.number id.number) (sym (agree b.id.kind))) e (λ h. found_in bs id kind called agree h)
+    by (eqb (kind_number b.id.kind) kind && eqb b.id.number id.number) refl (ap (λ (z : Bool). z && eqb b.id.number id.number) (sym (agree b.id.kind))) e (λ h. found_in bs id kind called agree h)
   where
-    by : (t : Bool) → (eqb (number_of_kind b.id.kind) kind && eqb b.id.number id.number) ≡ t → same_id b.id id ≡ (eqb (number_of_kind b.id.kind) kind && eqb b.id.number id.number)
-        → cond t (Some (number_of_kind b.id.kind, b.instance_len, map record_of_param b.params)) (block_with kind id.number (map signature_of (map record_of_block bs))) ≡ Some called
+    by : (t : Bool) → (eqb (kind_number b.id.kind) kind && eqb b.id.number id.number) ≡ t → same_id b.id id ≡ (eqb (kind_number b.id.kind) kind && eqb b.id.number id.number)
+        → cond t (Some (kind_number b.id.kind, b.instance_len, map record_of_param b.params)) (block_with kind id.number (map signature_of (map record_of_block bs))) ≡ Some called
         → (block_with kind id.number (map signature_of (map record_of_block bs)) ≡ Some called → FoundIn bs id kind called) → FoundIn (b ∷ bs) id kind called
     by true t s e more =
-        let k = eqb-true (number_of_kind b.id.kind) kind (and_parts (eqb (number_of_kind b.id.kind) kind) (eqb b.id.number id.number) t).0 in
+        let k = eqb-true (kind_number b.id.kind) kind (and_parts (eqb (kind_number b.id.kind) kind) (eqb b.id.number id.number) t).0 in
         record {
           block = b;
           there = rw (s ∙ t) refl;
-          same = sym (same_Some (number_of_kind b.id.kind, b.instance_len, map record_of_param b.params) called e) ∙ ap (λ (n : ℕ). let c : Callee = (n, b.instance_len, map record_of_param b.params) in c) k;
+          same = sym (same_Some (kind_number b.id.kind, b.instance_len, map record_of_param b.params) called e) ∙ ap (λ (n : ℕ). let c : Callee = (n, b.instance_len, map record_of_param b.params) in c) k;
         }
     by false t s e more = let m = more e in record { block = m.block; there = rw (s ∙ t) m.there; same = m.same }
 
-functions_agree : (k : BlockKind) → eqb (number_of_kind k) 2 ≡ eqb (kind_order k) 1
+functions_agree : (k : BlockKind) → eqb (kind_number k) 2 ≡ eqb (kind_order k) 1
 functions_agree kinds.Ob = refl
 functions_agree kinds.Fc = refl
 functions_agree kinds.Fb = refl
@@ -214,7 +215,7 @@ functions_agree kinds.Db = refl
 functions_agree kinds.Sfc = refl
 functions_agree kinds.Udt = refl
 
-function_blocks_agree : (k : BlockKind) → eqb (number_of_kind k) 3 ≡ eqb (kind_order k) 2
+function_blocks_agree : (k : BlockKind) → eqb (kind_number k) 3 ≡ eqb (kind_order k) 2
 function_blocks_agree kinds.Ob = refl
 function_blocks_agree kinds.Fc = refl
 function_blocks_agree kinds.Fb = refl

@@ -4,6 +4,7 @@ use Rattle.std.proofs.lemmas.Bool.{and_parts, eqb-true, ltb-true, leb-true, lt-l
 use Rattle.std.proofs.lemmas.Bool.Decides.{nat_tests}
 use Rattle.std.proofs.lemmas.List.{length-map}
 use Rattle.std.proofs.lemmas.Option.{same_Some}
+use Rattle.plc_base.specs.Kinds.{kind_number}
 use Rattle.plc_base.specs.declared.blocks.BlockId.{BlockId}
 use Rattle.plc_base.specs.declared.blocks.BlockKind.{BlockKind}
 use Rattle.plc_base.specs.declared.blocks.BlockKind.TheVariants as kinds
@@ -15,7 +16,7 @@ use Rattle.flat_code.specs.Ops.{OpData, is_op}
 use Rattle.flat_code.specs.Programs.{CodeBlock, Program}
 use Rattle.flat_code.specs.declared.programs.Param.{Param}
 use Rattle.flat_code.specs.Records.{BlockRecord}
-use Rattle.flat_code.specs.Image.{plain_u16, plain_u32, zero_u16, kind_field, parameter_count, block_number, local_bytes, instance_bytes, Head, head, counts, data_count, code_block, code_blocks, after_block, raw_of_block, records, records_of, raw_of_records, body, number_of_kind, record_of_block, IsProgram, IsRight, end_marks, statements_in, lines_of, line_field, line_after, record_of_param}
+use Rattle.flat_code.specs.Image.{plain_u16, plain_u32, zero_u16, kind_field, parameter_count, block_number, local_bytes, instance_bytes, Head, head, counts, data_count, code_block, code_blocks, after_block, raw_of_block, records, records_of, raw_of_records, body, record_of_block, IsProgram, IsRight, end_marks, statements_in, lines_of, line_field, line_after, record_of_param}
 use Rattle.flat_code.specs.declared.image_fields.OpenBracket.{OpenBracket}
 use Rattle.flat_code.specs.Placed.{Placed, placed, places, opened, before_next}
 use Rattle.image_file.specs.Verified.{place_at, Begins, BlockIsRight}
@@ -56,7 +57,7 @@ head_small before h good =
       code = ltb-true h.1.1.1.1.1.1.1 4294967296 (and_parts (ltb h.1.1.1.1.1.1.1 4294967296) true g.1).0;
     }
 
-kind_small : (k : BlockKind) → lies_within 1 3 (number_of_kind k) ≡ true → ltb (kind_order k) 3 ≡ true
+kind_small : (k : BlockKind) → lies_within 1 3 (kind_number k) ≡ true → ltb (kind_order k) 3 ≡ true
 kind_small kinds.Ob h = refl
 kind_small kinds.Fc h = refl
 kind_small kinds.Fb h = refl
@@ -179,7 +180,7 @@ none_mapped (p ∷ ps) e = absurd (omega (arith, e))
 
 ob_block : (s : ℕ × ℕ) (b : CodeBlock) → (head s).good (raw_of_block (record_of_block b)).0 ≡ true → b.id.kind ≡ kinds.Ob → (b.params ≡ []) × (20 ≤ b.local_len)
 ob_block s b good is =
-    let right = ob_right s (raw_of_block (record_of_block b)).0 good (ap number_of_kind is) in
+    let right = ob_right s (raw_of_block (record_of_block b)).0 good (ap kind_number is) in
     (none_mapped b.params right.0, right.1)
 
 lines_right : (start : ℕ) (h : Head) (ops : List OpData) (lines : List ℕ) → (lines_of true start h ops).good lines ≡ true → end_marks ops ≡ statements_in h

@@ -7,7 +7,7 @@ ghost use Rattle.flat_code.specs.Blocks.{is_odd_bit, is_past_locals, is_bad_plac
 ghost use Rattle.image_file.specs.Judging.{around_of};
 
 use crate::surroundings::Surroundings;
-use flat_code::{Op, Operand, ParameterRecord, Passed, taken_by, width_number};
+use flat_code::{Op, Operand, ParameterRecord, Passed, taken_by};
 use plc_base::{Area, Width};
 
 /// Whether a bit number stands where no bit is meant.
@@ -73,7 +73,7 @@ pub(crate) fn lacks_own(parameter: Option<ParameterRecord>, width: Width) -> boo
 {
     match parameter {
         None => true,
-        Some(parameter) => parameter.width != width_number(width),
+        Some(parameter) => parameter.width != width.number(),
     }
 }
 
@@ -211,12 +211,12 @@ pub(crate) fn misfits_parameter(
         Passed::Literal { value } => {
             parameter.section != 1 || !literal_fits(parameter.width, value)
         }
-        Passed::Direct { width, .. } => parameter.width != width_number(width),
+        Passed::Direct { width, .. } => parameter.width != width.number(),
         Passed::Parameter { index, width } => {
-            parameter.width != width_number(width)
+            parameter.width != width.number()
                 || parameter.section != 1 && is_input(own_parameter(around, index))
         }
-        Passed::InBlock { width, .. } => parameter.width != width_number(width),
+        Passed::InBlock { width, .. } => parameter.width != width.number(),
     }
 }
 

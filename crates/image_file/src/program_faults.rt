@@ -20,9 +20,7 @@ use crate::refusing::VerifyError;
 use crate::surroundings::{DataLens, SignatureRead, Signatures, Surroundings};
 use crate::verifying::judge_block;
 use crate::writing::code_len;
-use flat_code::{
-    CodeBlock, DataBlock, Field, Op, Param, ParameterRecord, Program, kind_number, width_number,
-};
+use flat_code::{CodeBlock, DataBlock, Field, Op, Param, ParameterRecord, Program};
 use plc_base::NoMemory;
 use std::alloc::Global;
 
@@ -89,7 +87,7 @@ fn record_of_param(param: &Param) -> ParameterRecord
 {
     ParameterRecord {
         section: param.section,
-        width: width_number(param.width),
+        width: param.width.number(),
         byte: param.byte,
         bit: param.bit,
     }
@@ -110,7 +108,7 @@ fn signature(alloc: Global, block: &CodeBlock) -> Result<SignatureRead, NoMemory
 {
     let params = records_of_params(alloc, block.params.as_slice())?;
     Ok(SignatureRead {
-        kind: kind_number(block.id.kind),
+        kind: block.id.kind.number(),
         number: block.id.number,
         instance_len: block.instance_len,
         params,
@@ -196,7 +194,7 @@ fn block_fault(
 {
     let params = records_of_params(alloc, block.params.as_slice())?;
     let around = Surroundings {
-        kind: kind_number(block.id.kind),
+        kind: block.id.kind.number(),
         local_len: block.local_len,
         params: params.as_slice(),
         blocks: signatures,

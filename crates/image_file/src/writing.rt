@@ -7,10 +7,7 @@ ghost use Rattle.image_file.specs.Running.{head_values};
 ghost use Rattle.image_file.specs.Writing.{BlockFits, DataFits, NameFits, ProgramFits};
 
 use crate::records::HeadRead;
-use flat_code::{
-    CodeBlock, DataBlock, NameEntry, Op, Param, Program, area_number, encode_op, kind_number,
-    width_number,
-};
+use flat_code::{CodeBlock, DataBlock, NameEntry, Op, Param, Program, area_number, encode_op};
 use plc_base::NoMemory;
 use std::alloc::Global;
 
@@ -43,7 +40,7 @@ fn put_parameter(out: &mut Vec<u8>, param: &Param) -> Result<(), NoMemory>
         ≡ out.old.items ++ (parameter 0 0).spell (record_of_param param.now)) }
 {
     let [a, b] = param.byte.to_be_bytes();
-    out.extend_from_slice(&[param.section, width_number(param.width), a, b, param.bit, 0])
+    out.extend_from_slice(&[param.section, param.width.number(), a, b, param.bit, 0])
 }
 
 fn put_parameters(out: &mut Vec<u8>, params: &[Param]) -> Result<(), NoMemory>
@@ -82,7 +79,7 @@ fn head_of(block: &CodeBlock) -> HeadRead
     ensures { head_values result ≡ (raw_of_block (record_of_block block.now)).0 }
 {
     HeadRead {
-        kind: kind_number(block.id.kind),
+        kind: block.id.kind.number(),
         params: block.params.as_slice().len() as u8,
         number: block.id.number,
         locals: block.local_len,
@@ -183,7 +180,7 @@ fn put_name(out: &mut Vec<u8>, entry: &NameEntry) -> Result<(), NoMemory>
     out.extend_from_slice(entry.name.as_slice())?;
     out.extend_from_slice(&[
         area_number(&entry.place),
-        width_number(entry.width),
+        entry.width.number(),
         a,
         b,
         entry.place.bit,

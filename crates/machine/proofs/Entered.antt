@@ -10,7 +10,7 @@ use Rattle.std.specs.Ordering.{nat_cmp, eq_by_cmp}
 use Rattle.std.specs.Cmp.{nat_cmp_total}
 use Rattle.plc_base.specs.declared.Width.{Width}
 use Rattle.plc_base.specs.declared.Width.TheVariants as widths
-use Rattle.plc_base.specs.Widths.{bit_count}
+use Rattle.plc_base.specs.Widths.{bit_count, width_number}
 use Rattle.plc_base.specs.declared.Profile.{Profile}
 use Rattle.plc_mem.specs.Areas.{Areas}
 use Rattle.plc_mem.specs.Fresh.{fresh}
@@ -22,7 +22,7 @@ use Rattle.flat_code.specs.declared.operands.Passed.{Passed}
 use Rattle.flat_code.specs.declared.operands.Passed.TheVariants as passed
 use Rattle.flat_code.specs.declared.programs.Param.{Param}
 use Rattle.flat_code.specs.Blocks.{Around, Callee, callee, own_parameter, literal_fits, misfits_parameter, is_index, pass_index, is_passed, are_passed, is_short, data_len}
-use Rattle.flat_code.specs.Forms.{width_code, payload_fits, actual as flat_actual, width_of_number}
+use Rattle.flat_code.specs.Forms.{payload_fits, actual as flat_actual, width_of_number}
 use Rattle.flat_code.specs.Image.{record_of_block, record_of_param, param_of}
 use Rattle.flat_code.specs.Loading.{lens_of, around}
 use Rattle.flat_code.specs.Ops.{OpData, is_op}
@@ -40,9 +40,9 @@ use Rattle.machine.proofs.Standing.{AllBefore}
 
 pub record IsParam (p : Param) (r : ParameterRecord) : Type 0 where
   pub section : p.section ≡ r.section
-  pub width : (w : Width) → r.width ≡ width_code w → p.width ≡ w
+  pub width : (w : Width) → r.width ≡ width_number w → p.width ≡ w
 
-same_code : (v w : Width) → width_code v ≡ width_code w → v ≡ w
+same_code : (v w : Width) → width_number v ≡ width_number w → v ≡ w
 same_code widths.Bit widths.Bit e = refl
 same_code widths.Byte widths.Byte e = refl
 same_code widths.Word widths.Word e = refl
@@ -63,7 +63,7 @@ same_code widths.Dword widths.Word e = absurd (omega (arith, e))
 pub of_block : (p : Param) → IsParam p (record_of_param p)
 of_block p = record { section = refl; width = λ w e. same_code p.width w e }
 
-code_back : (w : Width) → width_of_number (width_code w) ≡ w
+code_back : (w : Width) → width_of_number (width_number w) ≡ w
 code_back widths.Bit = refl
 code_back widths.Byte = refl
 code_back widths.Word = refl
@@ -93,7 +93,7 @@ of_functions (q ∷ rs) (suc index) r found = of_functions rs index r found
 literal_small : (p : Param) (r : ParameterRecord) (value : ℕ) → IsParam p r → literal_fits r.width value ≡ true → value < 4294967296 → value < 2 ^ bit_count p.width
 literal_small p r value is fits small = one (eqb r.width 1) refl fits
   where
-    at : (w : Width) → r.width ≡ width_code w → value < 2 ^ bit_count w → value < 2 ^ bit_count p.width
+    at : (w : Width) → r.width ≡ width_number w → value < 2 ^ bit_count w → value < 2 ^ bit_count p.width
     at w e less = rw (is.width w e) less
 
     four : (t : Bool) → eqb r.width 4 ≡ t → t ≡ true → value < 2 ^ bit_count p.width
@@ -141,21 +141,21 @@ actual_fits p b q r (passed.Literal value) is by_itself fits small =
       literal_small q r value is (not-false (literal_fits r.width value) parts.1) (small value refl),
     )
 actual_fits p b q r (passed.Direct a w byte bit) is by_itself fits small =
-    sym (is.width w (eqb-true r.width (width_code w) (not-false (eqb r.width (width_code w)) fits)))
+    sym (is.width w (eqb-true r.width (width_number w) (not-false (eqb r.width (width_number w)) fits)))
 actual_fits p b q r (passed.Parameter index w) is by_itself fits small =
     let own = by_itself.0 in
     let has = by_itself.1 in
-    let clear : (not (eqb r.width (width_code w)) || (not (eqb r.section 1) && eqb own.section 1)) ≡ false =
+    let clear : (not (eqb r.width (width_number w)) || (not (eqb r.section 1) && eqb own.section 1)) ≡ false =
     rw (own_there p b index w own has) at fits in
-    let wide = eqb-true r.width (width_code w) (not-false (eqb r.width (width_code w)) (or_parts (not (eqb r.width (width_code w))) (not (eqb r.section 1) && eqb own.section 1) clear).0) in (
+    let wide = eqb-true r.width (width_number w) (not-false (eqb r.width (width_number w)) (or_parts (not (eqb r.width (width_number w))) (not (eqb r.section 1) && eqb own.section 1) clear).0) in (
       has.kind,
       own,
       has.there,
       has.width ∙ sym (is.width w wide),
-      λ input. is.section ∙ input_kept own.section r.section (not (eqb r.width (width_code w))) clear input,
+      λ input. is.section ∙ input_kept own.section r.section (not (eqb r.width (width_number w))) clear input,
     )
 actual_fits p b q r (passed.InBlock number a w byte bit) is by_itself fits small =
-    sym (is.width w (eqb-true r.width (width_code w) (not-false (eqb r.width (width_code w)) fits)))
+    sym (is.width w (eqb-true r.width (width_number w) (not-false (eqb r.width (width_number w)) fits)))
 
 literal_of :
     (code index value : ℕ) (actual : Passed) → is_op code (operand.Pass index actual) ≡ true

@@ -1,7 +1,7 @@
 //! The numbers of kinds, areas and widths in the records of an image.
 
 use crate::compare::same;
-use flat_code::{area_number, kind_number, width_number, width_of_number};
+use flat_code::{area_number, width_of_number};
 use plc_base::{Area, BlockKind, Place, Width};
 
 #[test]
@@ -12,7 +12,7 @@ fn numbers_of_widths(rt: HostRuntime) {
         (Width::Word, 3),
         (Width::Dword, 4),
     ] {
-        same(&rt, width, width_number(width), number);
+        same(&rt, width, width.number(), number);
     }
 }
 
@@ -43,7 +43,7 @@ fn numbers_of_kinds(rt: HostRuntime) {
         (BlockKind::Db, 0),
         (BlockKind::Udt, 0),
     ] {
-        same(&rt, kind, kind_number(kind), number);
+        same(&rt, kind, kind.number(), number);
     }
 }
 

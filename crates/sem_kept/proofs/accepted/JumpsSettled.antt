@@ -1,10 +1,11 @@
 -- In an accepted source the operand of each statement but a call is checked.
 use Rattle.std.proofs.Common.{◌≡◌, ◌≤◌, ℕ, Bool, true, false, List, [], ◌∷◌, map, Option, Some, None, refl, sym, ap, subst}
 use Rattle.std.specs.List.{AllByRecursion, slice_get}
+use Rattle.plc_base.specs.Kinds.{kind_number}
 use Rattle.plc_base.specs.declared.blocks.BlockKind.{BlockKind}
 use Rattle.plc_base.specs.declared.blocks.BlockKind.TheVariants as kinds
 use Rattle.flat_code.specs.Blocks.{Around}
-use Rattle.flat_code.specs.Image.{number_of_kind, record_of_param}
+use Rattle.flat_code.specs.Image.{record_of_param}
 use Rattle.stl_ast.specs.Blocks.{has_body}
 use Rattle.stl_ast.specs.Statements.{is_called}
 use Rattle.stl_ast.specs.declared.blocks.Block.{Block}
@@ -36,7 +37,7 @@ seen_settles a x h = subst Settles (sym h.is) tt
 -- no other block has a part in it
 abbrev around_of : Block → BlockLayout → Around
 around_of b l = record {
-  kind = number_of_kind b.kind;
+  kind = kind_number b.kind;
   local_len = l.local_len;
   params = map record_of_param (params_of b l);
   blocks = [];

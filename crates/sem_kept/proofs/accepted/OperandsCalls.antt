@@ -6,11 +6,12 @@ use Rattle.std.specs.List.{AllByRecursion, list_all, slice_get}
 use Rattle.std.specs.Option.{is_none, option_and_then, option_map}
 use Rattle.std.specs.Bool.{Decides}
 use Rattle.std.proofs.lemmas.Slice.Eq.{bytes_eq-Decides}
+use Rattle.plc_base.specs.Kinds.{kind_number}
 use Rattle.plc_base.specs.declared.blocks.BlockId.{BlockId}
 use Rattle.plc_base.specs.declared.blocks.BlockKind.{BlockKind}
 use Rattle.plc_base.specs.declared.blocks.BlockKind.TheVariants as kinds
 use Rattle.flat_code.specs.Blocks.{Around, Callee as FlatCallee, Signature, are_passed, block_with, callee as flat_callee, data_len, is_bad_call, is_bad_instance, is_index, is_passed, is_short, pass_index, signature_of, system_function, system_params}
-use Rattle.flat_code.specs.Image.{number_of_kind, record_of_block, record_of_param}
+use Rattle.flat_code.specs.Image.{record_of_block, record_of_param}
 use Rattle.flat_code.specs.Instr.{Passing, Calls}
 use Rattle.flat_code.specs.Loading.{lens_of}
 use Rattle.flat_code.specs.Ops.{OpData}
@@ -360,17 +361,17 @@ source_code : (k : BlockKind) → (k ≡ kinds.Fc) ⊎ (k ≡ kinds.Fb) → is_c
 source_code k h = ⊎_elim (λ e. ap is_code e) (λ e. ap is_code e) h
 
 source_called_kind : (k : BlockKind) → (k ≡ kinds.Fc) ⊎ (k ≡ kinds.Fb)
-    → called_kind k ≡ number_of_kind k
+    → called_kind k ≡ kind_number k
 source_called_kind k h =
-    ⊎_elim (λ e. ap called_kind e ∙ sym (ap number_of_kind e))
-    (λ e. ap called_kind e ∙ sym (ap number_of_kind e)) h
+    ⊎_elim (λ e. ap called_kind e ∙ sym (ap kind_number e))
+    (λ e. ap called_kind e ∙ sym (ap kind_number e)) h
 
 not_five : (k : BlockKind) → (k ≡ kinds.Fc) ⊎ (k ≡ kinds.Fb) → (called_kind k == 5) ≡ false
 not_five k h =
     ⊎_elim (λ e. ap (λ (j : BlockKind). called_kind j == 5) e) (λ e. ap (λ (j : BlockKind). called_kind j == 5) e) h
 
 source_flat : (blocks : List Signature) (k : BlockKind) (number : ℕ) → (k ≡ kinds.Fc) ⊎ (k ≡ kinds.Fb)
-    → flat_callee blocks (called_kind k) number ≡ block_with (number_of_kind k) number blocks
+    → flat_callee blocks (called_kind k) number ≡ block_with (kind_number k) number blocks
 unfolding flat_callee
 source_flat blocks k number h =
     ap (λ (t' : Bool). if t' then option_map system_function (system_params number) else block_with (called_kind k) number blocks)

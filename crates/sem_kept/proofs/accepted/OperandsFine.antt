@@ -1,9 +1,10 @@
 -- THE OPS OF AN ACCEPTED SOURCE have no fault by their operands, their end marks and their calls.
 use Rattle.std.proofs.Common.{ℕ, suc, ◌≡◌, ◌≤◌, Bool, true, false, List, [], ◌∷◌, map, Some, refl, sym, ◌∙◌, ap, subst, if◌then◌else◌}
 use Rattle.std.specs.List.{AllByRecursion}
+use Rattle.plc_base.specs.Kinds.{kind_number}
 use Rattle.plc_base.specs.declared.blocks.BlockId.{BlockId}
 use Rattle.flat_code.specs.Blocks.{Around}
-use Rattle.flat_code.specs.Image.{number_of_kind, record_of_block}
+use Rattle.flat_code.specs.Image.{record_of_block}
 use Rattle.flat_code.specs.Loading.{around, lens_of}
 use Rattle.flat_code.specs.Placed.{spots}
 use Rattle.flat_code.specs.Programs.{Program}
@@ -56,7 +57,7 @@ module _ (symbols : List Symbol) (t : Tree) (tree : IsSoundTree symbols t)
   is_code_here = ap is_code kind_is ∙ code
 
   surrounded : Surrounds symbols t b l here
-  surrounded = record { kind = ap number_of_kind (sym kind_is); local = refl; params = refl }
+  surrounded = record { kind = ap kind_number (sym kind_is); local = refl; params = refl }
 
   ends : AllByRecursion (EndsBy here.local_len) b.body
   ends = ends_by l.local_len b.body

@@ -7,9 +7,9 @@ use Rattle.std.specs.Bool.{Decides}
 use Rattle.std.proofs.lemmas.List.{map-append}
 use Rattle.std.proofs.lemmas.Grind.{flat_map-append}
 use Rattle.std.proofs.lemmas.Slice.Eq.{bytes_eq-Decides}
+use Rattle.plc_base.specs.Widths.{width_number}
 use Rattle.plc_base.specs.declared.blocks.BlockKind.{BlockKind}
 use Rattle.flat_code.specs.Blocks.{input, output, system_params}
-use Rattle.flat_code.specs.Forms.{width_code}
 use Rattle.flat_code.specs.Image.{record_of_param}
 use Rattle.flat_code.specs.declared.image_fields.ParameterRecord.{ParameterRecord}
 use Rattle.flat_code.specs.declared.programs.Param.{Param}
@@ -50,7 +50,7 @@ use Rattle.sem_kept.proofs.accepted.OperandsCells.{IsUnbroken, Unbroken}
 
 abbrev pub IsRecordOf : Formal → ParameterRecord → Type 0
 IsRecordOf f r =
-    (r.section ≡ section_number f.section) × (r.width ≡ width_code (width_of f.kind))
+    (r.section ≡ section_number f.section) × (r.width ≡ width_number (width_of f.kind))
     × (is_parameter f.section ≡ true)
 
 abbrev pub Matched : List Formal → List ParameterRecord → Type 0

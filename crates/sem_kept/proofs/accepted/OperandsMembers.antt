@@ -4,11 +4,12 @@ use Rattle.std.proofs.Common.{ℕ, zero, suc, ◌≡◌, ◌≤◌, ◌+◌, ◌
 use Rattle.std.specs.Prelude.{◌==◌, slice_get, slice_index, slice_set}
 use Rattle.std.specs.List.{AllByRecursion}
 use Rattle.std.specs.Option.{option_and_then, option_map}
+use Rattle.plc_base.specs.Kinds.{kind_number}
 use Rattle.plc_base.specs.declared.blocks.BlockId.{BlockId}
 use Rattle.plc_base.specs.declared.blocks.BlockKind.{BlockKind}
 use Rattle.plc_base.specs.declared.blocks.BlockKind.TheVariants as kinds
 use Rattle.flat_code.specs.Blocks.{Signature, block_with, data_len, signature_of}
-use Rattle.flat_code.specs.Image.{number_of_kind, record_of_block, record_of_param}
+use Rattle.flat_code.specs.Image.{record_of_block, record_of_param}
 use Rattle.flat_code.specs.Loading.{lens_of}
 use Rattle.flat_code.specs.Programs.{DataBlock}
 use Rattle.flat_code.specs.declared.image_fields.ParameterRecord.{ParameterRecord}
@@ -243,7 +244,7 @@ finds kind number il ps (b ∷ bs) h some =
     by false is more = more (λ none. some (is, none))
 
 code_kind_same : (j k : BlockKind) → is_code j ≡ true → is_code k ≡ true
-    → number_of_kind j ≡ number_of_kind k → j ≡ k
+    → kind_number j ≡ kind_number k → j ≡ k
 code_kind_same kinds.Ob kinds.Ob e f g = refl
 code_kind_same kinds.Fc kinds.Fc e f g = refl
 code_kind_same kinds.Fb kinds.Fb e f g = refl
@@ -282,30 +283,30 @@ second_true false y e = absurd cc
 pub called_block : (symbols : List Symbol) (t : Tree) → IsSoundTree symbols t → (p : ℕ) (b : Block)
     (l : BlockLayout) (id : BlockId) → IsSound symbols t p b l → l.id ≡ Some id
     → is_code id.kind ≡ true
-    → block_with (number_of_kind id.kind) id.number
+    → block_with (kind_number id.kind) id.number
     (map signature_of (map record_of_block (map compiled (code_blocks_of t symbols (layouts_of t symbols)))))
-    ≡ Some (number_of_kind id.kind, instance_len b l, map record_of_param (params_of b l))
+    ≡ Some (kind_number id.kind, instance_len b l, map record_of_param (params_of b l))
 called_block symbols t tree p b l id h is code =
-    finds (number_of_kind id.kind) id.number (instance_len b l) (map record_of_param (params_of b l))
+    finds (kind_number id.kind) id.number (instance_len b l) (map record_of_param (params_of b l))
     (code_blocks_of t symbols (layouts_of t symbols))
     (sound_code_blocks symbols t
-    (λ x. matches (number_of_kind id.kind) id.number x ≡ true
+    (λ x. matches (kind_number id.kind) id.number x ≡ true
     → ((sig_of x).instance_len ≡ instance_len b l) × ((sig_of x).params ≡ map record_of_param (params_of b l)))
     tree each)
-    (λ none. clash (code_block_there symbols t (λ x. matches (number_of_kind id.kind) id.number x ≡ false) none
+    (λ none. clash (code_block_there symbols t (λ x. matches (kind_number id.kind) id.number x ≡ false) none
     p b l id h is code))
   where
-    clash : matches (number_of_kind id.kind) id.number (code_block (context_at symbols t p) b l id) ≡ false → ⊥
+    clash : matches (kind_number id.kind) id.number (code_block (context_at symbols t p) b l id) ≡ false → ⊥
     clash e =
-        let one : (number_of_kind id.kind == number_of_kind id.kind) ≡ true = eq-eqb (number_of_kind id.kind) (number_of_kind id.kind) refl in
+        let one : (kind_number id.kind == kind_number id.kind) ≡ true = eq-eqb (kind_number id.kind) (kind_number id.kind) refl in
         let two : (id.number == id.number) ≡ true = eq-eqb id.number id.number refl in
-        let both : matches (number_of_kind id.kind) id.number (code_block (context_at symbols t p) b l id) ≡ true
+        let both : matches (kind_number id.kind) id.number (code_block (context_at symbols t p) b l id) ≡ true
         = ap (λ (t' : Bool). t' && id.number == id.number) one ∙ two in
         absurd cc
 
     each : (k : ℕ) (c : Block) (m : BlockLayout) (other : BlockId) → IsSound symbols t k c m
         → m.id ≡ Some other → is_code other.kind ≡ true
-        → matches (number_of_kind id.kind) id.number (code_block (context_at symbols t k) c m other) ≡ true
+        → matches (kind_number id.kind) id.number (code_block (context_at symbols t k) c m other) ≡ true
         → (instance_len c m ≡ instance_len b l)
         × (map record_of_param (params_of c m) ≡ map record_of_param (params_of b l))
     each k c m other g e f fits = (
@@ -317,10 +318,10 @@ called_block symbols t tree p b l id h is code =
         same : other ≡ id
         same = id_by other id
             (code_kind_same other.kind id.kind f code
-            (eqb-true (number_of_kind other.kind) (number_of_kind id.kind)
-            (first_true (number_of_kind other.kind == number_of_kind id.kind) (other.number == id.number) fits)))
+            (eqb-true (kind_number other.kind) (kind_number id.kind)
+            (first_true (kind_number other.kind == kind_number id.kind) (other.number == id.number) fits)))
             (eqb-true other.number id.number
-            (second_true (number_of_kind other.kind == number_of_kind id.kind) (other.number == id.number) fits))
+            (second_true (kind_number other.kind == kind_number id.kind) (other.number == id.number) fits))
 
         place : k ≡ p
         place = one_block symbols t id k p c b m l g h (e ∙ ap (λ (x : BlockId). Some x) same) is

@@ -2,12 +2,12 @@
 use Rattle.std.proofs.Common.{ℕ, suc, ◌≡◌, ◌≤◌, ◌+◌, ◌*◌, ◌-◌, pos, negsuc, List, [], ◌∷◌, ◌++◌, append_assoc, Option, Some, None, Bool, true, false, ◌&&◌, ◌||◌, not, nat_eq, nat_le, refl, sym, ◌∙◌, ap, subst, arith, length, find, bytes_eq, if◌then◌else◌, eqb-true, leb-true, le-leb, lt-ltb, eq-eqb}
 use Rattle.std.specs.Prelude.{◌==◌}
 use Rattle.std.specs.List.{AllByRecursion, slice_get}
+use Rattle.plc_base.specs.Widths.{width_number}
 use Rattle.plc_base.specs.declared.places.Area.{Area}
 use Rattle.plc_base.specs.declared.places.Area.TheVariants as area
 use Rattle.plc_base.specs.declared.places.Width.{Width}
 use Rattle.plc_base.specs.declared.places.Width.TheVariants as width
 use Rattle.flat_code.specs.Blocks.{Around, is_above, is_bad_actual, is_bad_place, is_input as is_input_parameter, is_odd_bit, is_past_locals, literal_fits, misfits_index, misfits_parameter, own_parameter}
-use Rattle.flat_code.specs.Forms.{width_code}
 use Rattle.flat_code.specs.declared.image_fields.ParameterRecord.{ParameterRecord}
 use Rattle.flat_code.specs.declared.operands.Passed.{Passed}
 use Rattle.flat_code.specs.declared.operands.Passed.TheVariants as passed
@@ -107,7 +107,7 @@ time_fits (literal.Number (negsuc n)) is has h = absurd cc
 time_fits _ is has h = absurd cc
 
 literal_width : (value : Literal) (kind : Simple) → IsLiteral value → HasBytes value
-    → fits value kind ≡ true → literal_fits (width_code (width_of kind)) (bits_of value) ≡ true
+    → fits value kind ≡ true → literal_fits (width_number (width_of kind)) (bits_of value) ≡ true
 literal_width value simple.Dword is has h = refl
 literal_width value simple.Dint is has h = refl
 literal_width value simple.Time is has h = refl
@@ -178,8 +178,8 @@ typed_width f w None e h = same_widths w (width_of f.kind) e
 typed_width f w (Some kind) e h = h ∙ same_types kind f.kind e
 
 width_same : (r : ParameterRecord) (f : Formal) (w : Width) → IsRecordOf f r → w ≡ width_of f.kind
-    → not (r.width == width_code w) ≡ false
-width_same r f w h e = ap not (eq-eqb r.width (width_code w) (h.1 ∙ ap width_code (sym e)))
+    → not (r.width == width_number w) ≡ false
+width_same r f w h e = ap not (eq-eqb r.width (width_number w) (h.1 ∙ ap width_number (sym e)))
 
 first_none : (a b : Bool) → (a || b) ≡ false → a ≡ false
 first_none true b e = absurd cc
@@ -187,7 +187,7 @@ first_none false b e = refl
 
 -- a place
 place_passes : (a : Around) (r : ParameterRecord) (ar : Area) (number byte bit : ℕ) (w : Width)
-    → is_bad_place a ar w byte bit ≡ false → not (r.width == width_code w) ≡ false
+    → is_bad_place a ar w byte bit ≡ false → not (r.width == width_number w) ≡ false
     → (is_bad_actual a (passed_place (record { area = ar; number = number; byte = byte; bit = bit }) w) ≡ false)
     × (misfits_parameter a r (passed_place (record { area = ar; number = number; byte = byte; bit = bit }) w) ≡ false)
 place_passes a r area.Db number byte bit w fits same = by (nat_eq number 0)
@@ -230,14 +230,14 @@ view_passes a c f r o (view.Direct place w side declared) e fits h taken = recor
   fits = (place_passes a r place.area place.number place.byte place.bit w fits.0 same).1;
 }
   where
-    same : not (r.width == width_code w) ≡ false
+    same : not (r.width == width_number w) ≡ false
     same = width_same r f w h (typed_width f w declared
         (both_left (fits_type f w declared) (takes_side f.section side) taken) fits.1)
 view_passes a c f r o (view.Parameter index own declared) e fits h taken = record {
   actual = passed.Parameter index (width_of declared);
   is = ap (passed_seen o) e;
   right = fits.0;
-  fits = either_none (not (r.width == width_code (width_of declared)))
+  fits = either_none (not (r.width == width_number (width_of declared)))
       (not (r.section == 1) && is_input_parameter (own_parameter a index))
       (width_same r f (width_of declared) h
       (same_types declared f.kind (both_left (is_same_type declared f.kind) (takes_section f.section own) taken)))

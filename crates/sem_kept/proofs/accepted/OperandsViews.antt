@@ -3,7 +3,8 @@ use Rattle.std.proofs.Common.{ℕ, zero, suc, ◌≡◌, ◌<◌, ◌≤◌, ◌
 use Rattle.std.specs.Prelude.{◌==◌}
 use Rattle.std.specs.List.{AllByRecursion, flat_map, slice_get}
 use Rattle.std.specs.Option.{is_none, option_and_then}
-use Rattle.plc_base.specs.Widths.{byte_count}
+use Rattle.plc_base.specs.Kinds.{kind_number}
+use Rattle.plc_base.specs.Widths.{byte_count, width_number}
 use Rattle.plc_base.specs.declared.blocks.BlockId.{BlockId}
 use Rattle.plc_base.specs.declared.blocks.BlockKind.{BlockKind}
 use Rattle.plc_base.specs.declared.blocks.BlockKind.TheVariants as kinds
@@ -12,8 +13,7 @@ use Rattle.plc_base.specs.declared.places.Area.TheVariants as area
 use Rattle.plc_base.specs.declared.places.Width.{Width}
 use Rattle.plc_base.specs.declared.places.Width.TheVariants as width
 use Rattle.flat_code.specs.Blocks.{Around, is_bad_place, is_input as is_input_parameter, is_odd_bit, is_past_locals, lacks_own, own_parameter}
-use Rattle.flat_code.specs.Forms.{width_code}
-use Rattle.flat_code.specs.Image.{number_of_kind, record_of_param}
+use Rattle.flat_code.specs.Image.{record_of_param}
 use Rattle.flat_code.specs.declared.image_fields.ParameterRecord.{ParameterRecord}
 use Rattle.stl_ast.specs.Blocks.{is_parameter, may_have}
 use Rattle.stl_ast.specs.Operands.{IsBitOf, IsOperand}
@@ -91,7 +91,7 @@ use Rattle.sem_kept.proofs.accepted.OperandsWords.{ViewFits}
 -- what surrounds the code block of a block of the source
 pub record Surrounds (symbols : List Symbol) (t : Tree) (b : Block) (l : BlockLayout) (a : Around)
     : Type 0 where
-  pub kind : a.kind ≡ number_of_kind b.kind
+  pub kind : a.kind ≡ kind_number b.kind
   pub local : a.local_len ≡ l.local_len
   pub params : a.params ≡ map record_of_param (params_of b l)
 
@@ -521,7 +521,7 @@ module _ (symbols : List Symbol) (t : Tree) (tree : IsSoundTree symbols t) (k : 
             ∙ ap (λ (o : Option Cell). parameter index kind o) there;
         fits = (
           ap (λ (o : Option ParameterRecord). lacks_own o (width_of kind)) given
-              ∙ ap not (eq-eqb (width_code (width_of kind)) (width_code (width_of kind)) refl),
+              ∙ ap not (eq-eqb (width_number (width_of kind)) (width_number (width_of kind)) refl),
           ap (λ (o : Option ParameterRecord). is_input_parameter o) given
               ∙ section_is_input c.section cell.section,
         );
@@ -533,7 +533,7 @@ module _ (symbols : List Symbol) (t : Tree) (tree : IsSoundTree symbols t) (k : 
           given : own_parameter a index ≡ Some (record_of_param (param (section_number c.section) (width_of kind) 0))
           given =
               own_there a index (record_of_param (param (section_number c.section) (width_of kind) 0))
-              (around.kind ∙ ap number_of_kind is)
+              (around.kind ∙ ap kind_number is)
               (ap (λ (ps : List ParameterRecord). slice_get ps index) around.params
               ∙ mapped_there record_of_param (params_of b l) index (param (section_number c.section) (width_of kind) 0)
               (ap (λ (o : Option Block). slice_get (params_of b l) (parameter_index (length (cells_at (layouts_of t symbols) k false)) s.place o)) block.block_there

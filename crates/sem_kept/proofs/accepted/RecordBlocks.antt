@@ -7,6 +7,7 @@ use Rattle.std.proofs.lemmas.Bool.{and_from, and_parts, eq-eqb, eqb-true, le-leb
 use Rattle.std.proofs.lemmas.Bool.Decides.{nat_tests}
 use Rattle.std.proofs.lemmas.List.{length-map}
 use Rattle.std.proofs.lemmas.Option.{slice_get-map}
+use Rattle.plc_base.specs.Kinds.{kind_number}
 use Rattle.plc_base.specs.declared.blocks.BlockId.{BlockId}
 use Rattle.plc_base.specs.declared.blocks.BlockKind.{BlockKind}
 use Rattle.plc_base.specs.declared.blocks.BlockKind.TheVariants as kinds
@@ -28,7 +29,7 @@ use Rattle.block_layout.specs.declared.blocks.BlockLayout.{BlockLayout}
 use Rattle.flat_code.specs.Checking.{all_good}
 use Rattle.flat_code.specs.Codes.{are_ops, code_bytes, code_fault, code_of, is_nowhere, only, stop_at}
 use Rattle.flat_code.specs.Faults.{fault_of, has_number}
-use Rattle.flat_code.specs.Image.{block_number, code_and_lines, code_block as block_layout_of, end_marks, head, instance_bytes, kind_field, line_after, line_field, lines_of as lines_layout, local_bytes, number_of_kind, parameter_count, parameters, parameter, plain_block, plain_u16, plain_u32, raw_block, raw_of_block, record_of_block, record_of_param, same_state}
+use Rattle.flat_code.specs.Image.{block_number, code_and_lines, code_block as block_layout_of, end_marks, head, instance_bytes, kind_field, line_after, line_field, lines_of as lines_layout, local_bytes, parameter_count, parameters, parameter, plain_block, plain_u16, plain_u32, raw_block, raw_of_block, record_of_block, record_of_param, same_state}
 use Rattle.flat_code.specs.Instr.{Instr, Passing, Does, Jumps, JumpsByList, Calls, Returns}
 use Rattle.flat_code.specs.Layout.{Layout, good_many, is_fine}
 use Rattle.flat_code.specs.Ops.{OpData}
@@ -293,10 +294,10 @@ lines_good judged last before low (x ∷ lines) near le some h =
 pub record HasFields (last : ℕ) (b : CodeBlock) : Type 0 where
   pub code : is_code b.id.kind ≡ true
   pub number : is_block_number b.id.kind b.id.number ≡ true
-  pub params : HasParams (number_of_kind b.id.kind) b.instance_len b.params
+  pub params : HasParams (kind_number b.id.kind) b.instance_len b.params
   pub local : b.local_len ≤ 1024
-  pub start : number_of_kind b.id.kind ≡ 1 → 20 ≤ b.local_len
-  pub instance : (if eqb (number_of_kind b.id.kind) 3 then leb b.instance_len 16384 else eqb b.instance_len 0) ≡ true
+  pub start : kind_number b.id.kind ≡ 1 → 20 ≤ b.local_len
+  pub instance : (if eqb (kind_number b.id.kind) 3 then leb b.instance_len 16384 else eqb b.instance_len 0) ≡ true
   pub lines : Rises last 1 b.lines
 
 local_there : (symbols : List Symbol) (t : Tree) (k : ℕ) (b : Block) (l : BlockLayout) → IsSound symbols t k b l → l.local_len ≡ local_len (types_of symbols t.blocks) b
@@ -308,13 +309,13 @@ unfolding local_len
 local_start y b kind = rw kind (omega arith)
 
 instance_right : (symbols : List Symbol) (t : Tree) (k : ℕ) (b : Block) (l : BlockLayout) (kind : BlockKind) → IsSound symbols t k b l → b.kind ≡ kind → is_code kind ≡ true
-    → (if eqb (number_of_kind kind) 3 then leb (instance_len b l) 16384 else eqb (instance_len b l) 0) ≡ true
+    → (if eqb (kind_number kind) 3 then leb (instance_len b l) 16384 else eqb (instance_len b l) 0) ≡ true
 instance_right symbols t k b l kind h same code = by kind same code
   where
     none : is_function_block b.kind ≡ false → eqb (instance_len b l) 0 ≡ true
     none e = ap (λ (s : Bool). eqb (if s then l.length else 0) 0) e
 
-    by : (kind : BlockKind) → b.kind ≡ kind → is_code kind ≡ true → (if eqb (number_of_kind kind) 3 then leb (instance_len b l) 16384 else eqb (instance_len b l) 0) ≡ true
+    by : (kind : BlockKind) → b.kind ≡ kind → is_code kind ≡ true → (if eqb (kind_number kind) 3 then leb (instance_len b l) 16384 else eqb (instance_len b l) 0) ≡ true
     by kinds.Ob same code = none (ap is_function_block same)
     by kinds.Fc same code = none (ap is_function_block same)
     by kinds.Fb same code =
@@ -325,7 +326,7 @@ instance_right symbols t k b l kind h same code = by kind same code
     by kinds.Udt same code = absurd cc
     by kinds.Sfc same code = absurd cc
 
-number_one : (k : BlockKind) → is_code k ≡ true → number_of_kind k ≡ 1 → k ≡ kinds.Ob
+number_one : (k : BlockKind) → is_code k ≡ true → kind_number k ≡ 1 → k ≡ kinds.Ob
 number_one kinds.Ob h e = refl
 number_one kinds.Fc h e = absurd (omega (arith, e))
 number_one kinds.Fb h e = absurd (omega (arith, e))
@@ -387,7 +388,7 @@ unfolding plain_u32
 long_good n near = and_from _ _ (lt-ltb n 4294967296 near) refl
 
 -- numbers of blocks in an image
-number_there : (k : BlockKind) (n : ℕ) → is_code k ≡ true → is_block_number k n ≡ true → (has_number (number_of_kind k) n ≡ true) × (n < 65536)
+number_there : (k : BlockKind) (n : ℕ) → is_code k ≡ true → is_block_number k n ≡ true → (has_number (kind_number k) n ≡ true) × (n < 65536)
 number_there kinds.Ob n code h = (h, grind (arith, nat_tests, h))
 number_there kinds.Fc n code h = ((and_parts (leb 0 n) (leb n 2047) h).1, grind (arith, nat_tests, h))
 number_there kinds.Fb n code h = ((and_parts (leb 0 n) (leb n 2047) h).1, grind (arith, nat_tests, h))
@@ -395,7 +396,7 @@ number_there kinds.Db n code h = absurd cc
 number_there kinds.Udt n code h = absurd cc
 number_there kinds.Sfc n code h = absurd cc
 
-kind_within : (k : BlockKind) → is_code k ≡ true → (1 ≤ number_of_kind k) × (number_of_kind k ≤ 3) × (number_of_kind k ≡ rank k)
+kind_within : (k : BlockKind) → is_code k ≡ true → (1 ≤ kind_number k) × (kind_number k ≤ 3) × (kind_number k ≡ rank k)
 kind_within kinds.Ob h = (omega arith, omega arith, refl)
 kind_within kinds.Fc h = (omega arith, omega arith, refl)
 kind_within kinds.Fb h = (omega arith, omega arith, refl)
@@ -414,21 +415,21 @@ implied kind t h = by (eqb kind 1) refl
 instance_near : (kind n : ℕ) → (if eqb kind 3 then leb n 16384 else eqb n 0) ≡ true → n < 65536
 instance_near kind n h = grind (arith, nat_tests)
 
-head_good : (last : ℕ) (before : ℕ × ℕ) (b : CodeBlock) → HasFields last b → HasCode b → before.0 ≤ number_of_kind b.id.kind
-    → (not (eqb (number_of_kind b.id.kind) before.0) || ltb before.1 b.id.number) ≡ true
+head_good : (last : ℕ) (before : ℕ × ℕ) (b : CodeBlock) → HasFields last b → HasCode b → before.0 ≤ kind_number b.id.kind
+    → (not (eqb (kind_number b.id.kind) before.0) || ltb before.1 b.id.number) ≡ true
     → (head before).good (raw_of_block (record_of_block b)).0 ≡ true
 unfolding head
 head_good last before b h c low rises =
     let kind = kind_within b.id.kind h.code in
     let number = number_there b.id.kind b.id.number h.code h.number in
     let count : length (map record_of_param b.params) ≤ 60 = subst (λ (n : ℕ). n ≤ 60) (sym (length-map b.params record_of_param)) h.params.few in
-    and_from _ _ (kind_good before.0 (number_of_kind b.id.kind) kind.0 kind.1 low)
-    (and_from _ _ (count_good (number_of_kind b.id.kind) (length (map record_of_param b.params)) count
-    (implied (number_of_kind b.id.kind) (eqb (length (map record_of_param b.params)) 0) (λ e. ap (λ (ps : List Param). eqb (length (map record_of_param ps)) 0) (h.params.none e))))
-    (and_from _ _ (number_good before.0 before.1 (number_of_kind b.id.kind) b.id.number number.1 number.0 rises)
-    (and_from _ _ (local_good (number_of_kind b.id.kind) b.local_len h.local
-    (implied (number_of_kind b.id.kind) (leb 20 b.local_len) (λ e. le-leb 20 b.local_len (h.start e))))
-    (and_from _ _ (instance_good (number_of_kind b.id.kind) b.instance_len (instance_near (number_of_kind b.id.kind) b.instance_len h.instance) h.instance)
+    and_from _ _ (kind_good before.0 (kind_number b.id.kind) kind.0 kind.1 low)
+    (and_from _ _ (count_good (kind_number b.id.kind) (length (map record_of_param b.params)) count
+    (implied (kind_number b.id.kind) (eqb (length (map record_of_param b.params)) 0) (λ e. ap (λ (ps : List Param). eqb (length (map record_of_param ps)) 0) (h.params.none e))))
+    (and_from _ _ (number_good before.0 before.1 (kind_number b.id.kind) b.id.number number.1 number.0 rises)
+    (and_from _ _ (local_good (kind_number b.id.kind) b.local_len h.local
+    (implied (kind_number b.id.kind) (leb 20 b.local_len) (λ e. le-leb 20 b.local_len (h.start e))))
+    (and_from _ _ (instance_good (kind_number b.id.kind) b.instance_len (instance_near (kind_number b.id.kind) b.instance_len h.instance) h.instance)
     (and_from _ _ (word_good (length b.lines) c.statements)
     (and_from _ _ zero_word_good (long_good (length (code_bytes b.code)) c.size)))))))
 
@@ -491,13 +492,13 @@ unfolding fault_of
 marks_good true marks count same = let e = eq-eqb marks count same in rw e refl
 marks_good false marks count same = refl
 
-block_good : (last : ℕ) (judged : Bool) (before : ℕ × ℕ) (b : CodeBlock) → last < 4294967296 → HasFields last b → HasCode b → end_marks b.code ≡ length b.lines → before.0 ≤ number_of_kind b.id.kind
-    → (not (eqb (number_of_kind b.id.kind) before.0) || ltb before.1 b.id.number) ≡ true
+block_good : (last : ℕ) (judged : Bool) (before : ℕ × ℕ) (b : CodeBlock) → last < 4294967296 → HasFields last b → HasCode b → end_marks b.code ≡ length b.lines → before.0 ≤ kind_number b.id.kind
+    → (not (eqb (kind_number b.id.kind) before.0) || ltb before.1 b.id.number) ≡ true
     → (block_layout_of judged before).good (record_of_block b) ≡ true
 unfolding block_layout_of plain_block raw_block code_and_lines parameters lines_layout
 block_good last judged before b near h c marks low rises =
     and_from _ _ (head_good last before b h c low rises)
-    (and_from _ _ (counted (λ s. parameter (number_of_kind b.id.kind) b.instance_len) same_state 0 (map record_of_param b.params) ∙ h.params.good)
+    (and_from _ _ (counted (λ s. parameter (kind_number b.id.kind) b.instance_len) same_state 0 (map record_of_param b.params) ∙ h.params.good)
     (and_from _ _ (code_good judged b.code c.ops c.ends)
     (and_from _ _ (marks_good judged (end_marks b.code) (length b.lines) marks)
     (counted (line_field judged) line_after 0 b.lines ∙ lines_good judged last 0 1 b.lines near (omega arith) (omega arith) h.lines))))
@@ -512,17 +513,17 @@ pair_low r n s m h = (grind (arith, nat_tests), grind (arith, nat_tests))
 
 pub first_good : (last : ℕ) (judged : Bool) (x : StatedBlock) → last < 4294967296 → IsRightBlock last x → (block_layout_of judged (0, 0)).good (record_of_block (compiled x)) ≡ true
 first_good last judged x near h =
-    block_good last judged (0, 0) (compiled x) near h.0 h.1 (marks_there x) (omega arith) (first (number_of_kind x.id.kind) (kind_within x.id.kind h.0.code).0)
+    block_good last judged (0, 0) (compiled x) near h.0 h.1 (marks_there x) (omega arith) (first (kind_number x.id.kind) (kind_within x.id.kind h.0.code).0)
   where
     first : (kind : ℕ) → 1 ≤ kind → (not (eqb kind 0) || ltb 0 x.id.number) ≡ true
     first kind some = grind (arith, nat_tests)
 
 pub next_good : (last : ℕ) (judged : Bool) (x y : StatedBlock) → last < 4294967296 → is_code x.id.kind ≡ true → is_code_before x y ≡ true → IsRightBlock last y
-    → (block_layout_of judged (number_of_kind x.id.kind, x.id.number)).good (record_of_block (compiled y)) ≡ true
+    → (block_layout_of judged (kind_number x.id.kind, x.id.number)).good (record_of_block (compiled y)) ≡ true
 next_good last judged x y near code rises h =
     let front = (kind_within x.id.kind code).2 in
     let behind = (kind_within y.id.kind h.0.code).2 in
-    let pair : (ltb (number_of_kind x.id.kind) (number_of_kind y.id.kind) || eqb (number_of_kind x.id.kind) (number_of_kind y.id.kind) && ltb x.id.number y.id.number) ≡ true
+    let pair : (ltb (kind_number x.id.kind) (kind_number y.id.kind) || eqb (kind_number x.id.kind) (kind_number y.id.kind) && ltb x.id.number y.id.number) ≡ true
     = rw front (rw behind rises) in
-    let low = pair_low (number_of_kind x.id.kind) x.id.number (number_of_kind y.id.kind) y.id.number pair in
-    block_good last judged (number_of_kind x.id.kind, x.id.number) (compiled y) near h.0 h.1 (marks_there y) low.0 low.1
+    let low = pair_low (kind_number x.id.kind) x.id.number (kind_number y.id.kind) y.id.number pair in
+    block_good last judged (kind_number x.id.kind, x.id.number) (compiled y) near h.0 h.1 (marks_there y) low.0 low.1

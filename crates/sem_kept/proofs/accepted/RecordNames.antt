@@ -11,6 +11,7 @@ use Rattle.std.proofs.lemmas.Bool.Decides.{nat_tests}
 use Rattle.std.proofs.lemmas.List.{length-reverse, length-map, get_or-reverse}
 use Rattle.std.proofs.lemmas.List.Sums.{prefix_len_stops}
 use Rattle.std.proofs.lemmas.Slice.Eq.{bytes_eq-Decides}
+use Rattle.plc_base.specs.Widths.{width_number}
 use Rattle.csv.specs.Machine.{Read, next_record, step, is_end, fields_after, field_after, ends_at_end}
 use Rattle.csv.specs.Reading.{default_config, strip_bom, is_bom}
 use Rattle.csv.specs.declared.parser.Action.{Action}
@@ -26,7 +27,6 @@ use Rattle.plc_base.specs.declared.places.Width.TheVariants as width
 use Rattle.plc_base.specs.declared.refusals.Refusal.{Refusal}
 use Rattle.flat_code.specs.Checking.{good_names}
 use Rattle.flat_code.specs.Faults.{is_before, is_upper, ends_blank, lies_within, fault_of, name_fault}
-use Rattle.flat_code.specs.Forms.{width_code}
 use Rattle.flat_code.specs.Image.{bytes_fit, name_record, raw_name, name_len, name_area, name_bit, width_field, plain_u16, name_of_entry, number_of_area, after_name}
 use Rattle.flat_code.specs.Layout.{is_fine}
 use Rattle.flat_code.specs.Programs.{NameEntry}
@@ -178,7 +178,7 @@ pub record IsPlaced (place : Place) (w : Width) : Type 0 where
   pub number : place.number ≡ 0
   pub byte : place.byte < 65536
   pub bit : place.bit ≤ 7
-  pub whole : (eqb (width_code w) 1 || eqb place.bit 0) ≡ true
+  pub whole : (eqb (width_number w) 1 || eqb place.bit 0) ≡ true
 
 abbrev pub IsTarget : Target → Type 0
 IsTarget (target.Variable place w) = IsPlaced place w
@@ -210,7 +210,7 @@ byte_placed : (name : List ℕ) (a : Area) (w : Width) (text : List ℕ)
     → IfSome (option_map (λ n. variable a w n 0) (number_of text)) (Declares name (declared name))
 byte_placed name a w text =
     mapped (number_of text) _ (λ n. n ≤ 65535) (Declares name (declared name)) (decimal_within 65535 text)
-    (λ n low. (refl, record { number = refl; byte = omega (arith, low); bit = omega arith; whole = either (eqb (width_code w) 1) }))
+    (λ n low. (refl, record { number = refl; byte = omega (arith, low); bit = omega arith; whole = either (eqb (width_number w) 1) }))
   where
     either : (t : Bool) → (t || true) ≡ true
     either true = refl
@@ -606,7 +606,7 @@ area_good zero area.Di none h = absurd cc
 area_good zero area.L none h = absurd cc
 area_good (suc n) a none h = absurd (omega (arith, none))
 
-pub width_good : (w : Width) → width_field.good (width_code w) ≡ true
+pub width_good : (w : Width) → width_field.good (width_number w) ≡ true
 unfolding width_field fault_of
 width_good width.Bit = refl
 width_good width.Byte = refl
@@ -640,7 +640,7 @@ entry_good before e h rises =
     (and_from _ _ (text_good before e.name h.bytes ∙ text_right before e h rises)
     (and_from _ _ (area_good e.place.number e.place.area h.place.number h.named)
     (and_from _ _ (width_good e.width)
-    (and_from _ _ (word_good e.place.byte h.place.byte) (bit_good (width_code e.width) e.place.bit h.place.bit h.place.whole)))))
+    (and_from _ _ (word_good e.place.byte h.place.byte) (bit_good (width_number e.width) e.place.bit h.place.bit h.place.whole)))))
 
 first_name : (name : List ℕ) → 1 ≤ length name → is_before [] name ≡ true
 first_name [] some = absurd (omega (arith, some))

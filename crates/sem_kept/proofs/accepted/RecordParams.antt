@@ -8,10 +8,11 @@ use Rattle.std.specs.Str.{bytes_eq}
 use Rattle.std.proofs.lemmas.Bool.{and_from, eq-eqb, eqb-true, le-leb, lt-ltb, ltb-false}
 use Rattle.std.proofs.lemmas.Bool.Decides.{nat_tests}
 use Rattle.std.proofs.lemmas.List.Sums.{sum_by-cons, sum_by-append}
+use Rattle.plc_base.specs.Kinds.{kind_number}
 use Rattle.plc_base.specs.declared.blocks.BlockId.{BlockId}
 use Rattle.plc_base.specs.declared.blocks.BlockKind.{BlockKind}
 use Rattle.plc_base.specs.declared.blocks.BlockKind.TheVariants as kinds
-use Rattle.plc_base.specs.Widths.{byte_count}
+use Rattle.plc_base.specs.Widths.{byte_count, width_number}
 use Rattle.plc_base.specs.declared.places.Width.{Width}
 use Rattle.plc_base.specs.declared.places.Width.TheVariants as width
 use Rattle.plc_base.specs.declared.refusals.Refusal.{Refusal}
@@ -57,8 +58,7 @@ use Rattle.block_layout.specs.Sizes.{largest}
 use Rattle.block_layout.specs.declared.members.Member.{Member}
 use Rattle.flat_code.specs.Checking.{good_params}
 use Rattle.flat_code.specs.Faults.{fault_of}
-use Rattle.flat_code.specs.Forms.{width_code}
-use Rattle.flat_code.specs.Image.{number_of_kind, parameter, parameter_bit, parameter_byte, raw_parameter, record_of_param, section_field}
+use Rattle.flat_code.specs.Image.{parameter, parameter_bit, parameter_byte, raw_parameter, record_of_param, section_field}
 use Rattle.flat_code.specs.declared.programs.Param.{Param}
 use Rattle.flat_code.proofs.CheckLemmas.{zero_byte_good}
 use Rattle.stl_codegen.specs.Generated.{instance_len, offset_named, param_here, param_of, params_of, section_number}
@@ -612,7 +612,7 @@ section_good n low high = grind (arith, nat_tests)
 
 byte_good : (kind instance : ℕ) (w : Width) (byte : ℕ) → byte < 65536
     → (if eqb kind 3 then leb (byte + byte_count w) instance else eqb byte 0) ≡ true
-    → (parameter_byte kind instance (width_code w)).good byte ≡ true
+    → (parameter_byte kind instance (width_number w)).good byte ≡ true
 unfolding parameter_byte fault_of
 byte_good kind instance width.Bit byte near h = and_from _ _ (lt-ltb byte 65536 near) (rw h refl)
 byte_good kind instance width.Byte byte near h = and_from _ _ (lt-ltb byte 65536 near) (rw h refl)
@@ -857,7 +857,7 @@ other_params kind instance b l other h =
     (plain_params kind instance l.components l.components other))
 
 pub params_right : (symbols : List Symbol) (t : Tree) (k : ℕ) (b : Block) (l : BlockLayout) (kind : BlockKind) → IsSound symbols t k b l
-    → b.kind ≡ kind → is_code kind ≡ true → HasParams (number_of_kind kind) (instance_len b l) (params_of b l)
+    → b.kind ≡ kind → is_code kind ≡ true → HasParams (kind_number kind) (instance_len b l) (params_of b l)
 unfolding block_layout
 params_right symbols t k b l kind h same code = by kind same code
   where
@@ -867,7 +867,7 @@ params_right symbols t k b l kind h same code = by kind same code
     few : length (params_of b l) ≤ 60
     few = few_params (types_of symbols t.blocks) b l are h.well_formed.sections.1 h.head.by_52
 
-    by : (kind : BlockKind) → b.kind ≡ kind → is_code kind ≡ true → HasParams (number_of_kind kind) (instance_len b l) (params_of b l)
+    by : (kind : BlockKind) → b.kind ≡ kind → is_code kind ≡ true → HasParams (kind_number kind) (instance_len b l) (params_of b l)
     by kinds.Ob same code =
         let none = no_params (types_of symbols t.blocks) b l are same h.well_formed in
         record { few = few; good = ap (good_params 1 (instance_len b l)) none; none = λ e. none }

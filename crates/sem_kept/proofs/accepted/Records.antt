@@ -5,9 +5,10 @@ use Rattle.std.specs.List.{AllByRecursion}
 use Rattle.std.proofs.lemmas.Bool.{and_from}
 use Rattle.std.proofs.lemmas.Bool.Decides.{nat_tests}
 use Rattle.std.proofs.lemmas.List.{length-map}
+use Rattle.plc_base.specs.Kinds.{kind_number}
 use Rattle.flat_code.specs.Checking.{all_good, good_counts, good_datas, good_names}
 use Rattle.flat_code.specs.Faults.{fault_of}
-use Rattle.flat_code.specs.Image.{after_block, after_data, after_name, body, code_block, code_blocks, counts, data_block, data_blocks, data_count, name_of_entry, name_record, names, number_of_kind, plain_u16, raw_records, record_of_block, records, zero_u16}
+use Rattle.flat_code.specs.Image.{after_block, after_data, after_name, body, code_block, code_blocks, counts, data_block, data_blocks, data_count, name_of_entry, name_record, names, plain_u16, raw_records, record_of_block, records, zero_u16}
 use Rattle.flat_code.specs.Programs.{Program}
 use Rattle.stl_ast.specs.declared.blocks.Tree.{Tree}
 use Rattle.stl_parser.specs.Lines.{Rises, lines_of, LinesRise}
@@ -59,7 +60,7 @@ pub code_blocks_right : (symbols : List Symbol) (t : Tree) (last : ℕ) (judged 
 code_blocks_right symbols t last judged h near rise codes =
     let blocks = code_blocks_of t symbols (layouts_of t symbols) in
     ap (λ z. all_good (code_block judged) after_block (0, 0) z) (map_twice compiled record_of_block blocks)
-    ∙ good_all (code_block judged) after_block (λ x. record_of_block (compiled x)) (λ x. (number_of_kind x.id.kind, x.id.number)) is_code_before (IsRightBlock last) (0, 0)
+    ∙ good_all (code_block judged) after_block (λ x. record_of_block (compiled x)) (λ x. (kind_number x.id.kind, x.id.number)) is_code_before (IsRightBlock last) (0, 0)
     (λ s x. refl) (λ x is. first_good last judged x near is) (λ x y there rises is. next_good last judged x y near there.0.code rises is)
     blocks (code_blocks_rise symbols t h)
     (all_both (λ x. HasFields last (compiled x)) (λ x. HasCode (compiled x)) blocks

@@ -1,6 +1,7 @@
 use Rattle.std.proofs.Common.{◌∙◌, sym}
+use Rattle.plc_base.specs.Kinds.{kind_number}
 use Rattle.flat_code.specs.Checking.{good_params}
-use Rattle.flat_code.specs.Image.{head, number_of_kind, raw_of_block, record_of_block}
+use Rattle.flat_code.specs.Image.{head, raw_of_block, record_of_block}
 use Rattle.flat_code.proofs.CheckLemmas.{block_by_parts, met, unmet}
 use Rattle.flat_code.proofs.good_blocks.is_good_block.Goals as goal
 
@@ -9,7 +10,7 @@ returns-then-head c =
     let b = c.args.block.now in
     let e = c.is_good_head-head.ensures in
     let parts = block_by_parts (c.args.kind_before, c.args.before) b (λ t. e.ops (e.head ∙ t)) e.lines in
-    let m = met ((head (c.args.kind_before, c.args.before)).good (raw_of_block (record_of_block b)).0) (good_params (number_of_kind b.id.kind) b.instance_len b.params) (sym e.head ∙ c.if-head.true) in
+    let m = met ((head (c.args.kind_before, c.args.before)).good (raw_of_block (record_of_block b)).0) (good_params (kind_number b.id.kind) b.instance_len b.params) (sym e.head ∙ c.if-head.true) in
     c.has_good_parameters-params.ensures ∙ sym m ∙ parts
 
 pub returns-else-head : goal.returns-else-head
@@ -17,4 +18,4 @@ returns-else-head c =
     let b = c.args.block.now in
     let e = c.is_good_head-head.ensures in
     let parts = block_by_parts (c.args.kind_before, c.args.before) b (λ t. e.ops (e.head ∙ t)) e.lines in
-    c.if-head.false ∙ sym (unmet ((head (c.args.kind_before, c.args.before)).good (raw_of_block (record_of_block b)).0) (good_params (number_of_kind b.id.kind) b.instance_len b.params) (sym e.head ∙ c.if-head.false)) ∙ parts
+    c.if-head.false ∙ sym (unmet ((head (c.args.kind_before, c.args.before)).good (raw_of_block (record_of_block b)).0) (good_params (kind_number b.id.kind) b.instance_len b.params) (sym e.head ∙ c.if-head.false)) ∙ parts
