@@ -6,14 +6,15 @@
 //! `TV5 CV5` its value, `ERR` the first synchronous error, `ERRS` how many, `STOP` the cause, `END` 1 where OB 1 has ended,
 //! `SYS` the last system function, `IN0 IN1 IN2` its inputs, `INS` how many, `RES` 1 where it has a result, `DEPTH` the frames, `AT` the
 //! next statement's offset. Before a run `STEPS` says how many statements run, `MS` the milliseconds behind each, and
-//! `GIVE` the result of each system function. What a row doesn't name of registers, open blocks and outcome is as before.
+//! `GIVE` the result of each system function; `LARGE` chooses the large profile. What a row doesn't name of registers,
+//! open blocks and outcome is as before.
 ghost use Rattle.std.specs.Prelude.{◌≡◌, ◌<◌, ◌^◌};
 ghost use Rattle.plc_base.specs.Widths.{bit_count};
 
 use frames::{Activation, Binding, Frame};
 use image_file::{Loaded, load};
 use machine::{Outcome, give_result, is_ready, statement};
-use plc_base::{Area, BlockId, BlockKind, Place, Width};
+use plc_base::{Area, BlockId, BlockKind, Place, Profile, Width};
 use plc_mem::Memory;
 use status_word::{Regs, Status};
 use std::alloc::Global;
@@ -111,29 +112,35 @@ fn twice() -> Fail {
     Fail::new("two data blocks of one number")
 }
 
-fn memory_of_none(alloc: Global) -> Result<Memory, Fail> {
+fn memory_of_none(alloc: Global, profile: Profile) -> Result<Memory, Fail> {
     let blocks: [Numbered; 0] = [];
-    let memory = Memory::new(alloc, &blocks)?;
+    let memory = Memory::new(alloc, &blocks, profile)?;
     Ok(memory)
 }
 
-fn memory_of_one(alloc: Global, first: Numbered) -> Result<Memory, Fail> {
+fn memory_of_one(alloc: Global, profile: Profile, first: Numbered) -> Result<Memory, Fail> {
     let blocks = [first];
-    let memory = Memory::new(alloc, &blocks)?;
+    let memory = Memory::new(alloc, &blocks, profile)?;
     Ok(memory)
 }
 
-fn memory_of_two(alloc: Global, first: Numbered, second: Numbered) -> Result<Memory, Fail> {
+fn memory_of_two(
+    alloc: Global,
+    profile: Profile,
+    first: Numbered,
+    second: Numbered,
+) -> Result<Memory, Fail> {
     if first.0 == second.0 {
         return Err(twice());
     }
     let blocks = [first, second];
-    let memory = Memory::new(alloc, &blocks)?;
+    let memory = Memory::new(alloc, &blocks, profile)?;
     Ok(memory)
 }
 
 fn memory_of_three(
     alloc: Global,
+    profile: Profile,
     first: Numbered,
     second: Numbered,
     third: Numbered,
@@ -142,7 +149,7 @@ fn memory_of_three(
         return Err(twice());
     }
     let blocks = [first, second, third];
-    let memory = Memory::new(alloc, &blocks)?;
+    let memory = Memory::new(alloc, &blocks, profile)?;
     Ok(memory)
 }
 
@@ -158,8 +165,8 @@ fn first_frame(local_len: u16) -> Frame
     frame
 }
 
-/// Memory with the data blocks of a program.
-fn memory_of(alloc: Global, program: &str) -> Result<Memory, Fail> {
+/// Memory of a profile with the data blocks of a program.
+fn memory_of(alloc: Global, profile: Profile, program: &str) -> Result<Memory, Fail> {
     let mut blocks = Vec::new(alloc);
     for text in program.split('|') {
         if is_data_block(text) {
@@ -171,15 +178,15 @@ fn memory_of(alloc: Global, program: &str) -> Result<Memory, Fail> {
     let second = blocks.pop();
     let first = blocks.pop();
     match (third, second, first) {
-        (Some(c), Some(b), Some(a)) => memory_of_three(alloc, a, b, c),
-        (Some(b), Some(a), None) => memory_of_two(alloc, a, b),
-        (Some(a), None, None) => memory_of_one(alloc, a),
-        _ => memory_of_none(alloc),
+        (Some(c), Some(b), Some(a)) => memory_of_three(alloc, profile, a, b, c),
+        (Some(b), Some(a), None) => memory_of_two(alloc, profile, a, b),
+        (Some(a), None, None) => memory_of_one(alloc, profile, a),
+        _ => memory_of_none(alloc, profile),
     }
 }
 
 impl Bench {
-    fn new(alloc: Global, program: &str) -> Result<Bench, Fail> {
+    fn new(alloc: Global, profile: Profile, program: &str) -> Result<Bench, Fail> {
         let image: Image = assembled(alloc, program)?;
         let loaded = load(alloc, image.bytes.as_slice())?;
         let ob = BlockId {
@@ -192,10 +199,10 @@ impl Bench {
         };
         Ok(Bench {
             loaded,
-            memory: memory_of(alloc, program)?,
-            timers: Timers::new(),
-            counters: Counters::new(),
-            activation: Activation::new(1, 1, first_frame(local_len)),
+            memory: memory_of(alloc, profile, program)?,
+            timers: Timers::new(profile),
+            counters: Counters::new(profile),
+            activation: Activation::new(1, 1, first_frame(local_len), profile),
             end: image.end,
             seen: Seen {
                 error: 0,
@@ -400,7 +407,11 @@ static KEPT: [&str; 11] = [
 
 fn holds(rt: &impl Abort, alloc: Global, row: &Row) -> Result<(), Fail> {
     let (program, before, after) = *row;
-    let mut bench = Bench::new(alloc, program)?;
+    let profile = match given(before, "LARGE") {
+        Some(_) => Profile::Large,
+        None => Profile::Small,
+    };
+    let mut bench = Bench::new(alloc, profile, program)?;
     bench.set_all(before);
     bench.run(before);
     for pair in after.split_ascii_whitespace() {

@@ -5,7 +5,7 @@ use crate::bench::{Row, all_hold};
 use std::test::Fail;
 
 /// 22: a place that is read is absent, in part too.
-static ABSENT_READING: [Row; 24] = [
+static ABSENT_READING: [Row; 30] = [
     ("L MB256; L #5", "A1=7 STW=1FF", "ERR=22 ERRS=1 A1=5 A2=7"),
     ("L MW255", "A1=7 A2=8 STW=1FF", "ERR=22"),
     ("L MD253", "A1=7 A2=8", "ERR=22"),
@@ -44,6 +44,13 @@ static ABSENT_READING: [Row; 24] = [
     ),
     ("L W[AR1+0.0]", "AR1=830007F8", "ERR=22"),
     ("L B[AR1+0.0]", "AR1=860000A0", "ERR=22"),
+    // in the large profile MB 2047 is the last byte
+    ("L MB256", "LARGE=1 MB256=5", "A1=5"),
+    ("L MD2044", "LARGE=1 MD2044=5", "A1=5"),
+    ("L MB2048", "LARGE=1 A1=7", "ERR=22"),
+    ("L MW2047", "LARGE=1 A1=7", "ERR=22"),
+    ("A M2048.0", "LARGE=1 STW=9", "ERR=22"),
+    ("L W[AR1+0.0]", "LARGE=1 AR1=83003FF8", "ERR=22"),
 ];
 
 #[test]
@@ -52,7 +59,7 @@ fn places_that_are_read(rt: HostRuntime) -> Result<(), Fail> {
 }
 
 /// 23: a place that is written is absent; for =, S, R, FP, FN whatever RLO is. No part of it is written.
-static ABSENT_WRITING: [Row; 22] = [
+static ABSENT_WRITING: [Row; 26] = [
     ("T MB256; L #5", "A1=7", "ERR=23 ERRS=1 A1=5 A2=7"),
     ("T MW255", "A1=1234 MB255=99", "ERR=23 MB255=99"),
     (
@@ -95,6 +102,10 @@ static ABSENT_WRITING: [Row; 22] = [
     ("R X[AR1+0.0]", "AR1=83000800 STW=9", "ERR=23"),
     ("T MB[AR2+0.0]", "AR2=800", "ERR=23"),
     ("= Q[MD0]", "MD0=400 STW=B", "ERR=23"),
+    ("T MW2046", "LARGE=1 A1=1234", "MB2047=34"),
+    ("T MB2048", "LARGE=1 A1=7", "ERR=23"),
+    ("T MW2047", "LARGE=1 A1=1234 MB2047=99", "ERR=23 MB2047=99"),
+    ("S M2048.0", "LARGE=1 STW=B", "ERR=23"),
 ];
 
 #[test]

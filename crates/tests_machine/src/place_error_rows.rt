@@ -30,8 +30,9 @@ fn digits(rt: HostRuntime) -> Result<(), Fail> {
     all_hold(&rt, rt.alloc(), &BCD)
 }
 
-/// 26 and 27: T 128 and C 64 are beyond the range, in reading and in writing, before BCD.
-static NUMBERS: [Row; 24] = [
+/// 26 and 27: T 128 and C 64 are beyond the range, in reading and in writing, before BCD; in the large profile T 256
+/// and C 256 are.
+static NUMBERS: [Row; 34] = [
     ("A T128", "STW=9", "ERR=26"),
     ("L T128", "A1=7", "ERR=26"),
     ("LC T128", "A1=7", "ERR=26"),
@@ -56,6 +57,24 @@ static NUMBERS: [Row; 24] = [
     ("LC C[MW0]", "MW0=40 A1=7", "ERR=27"),
     ("CU C[MW0]", "MW0=40 STW=B", "ERR=27"),
     ("S C[MW0]", "MW0=40 STW=B", "ERR=27"),
+    (
+        "SET; SE T128; L T128",
+        "A1=1 LARGE=1",
+        "T128=1 A1=1 A2=1 STW=6",
+    ),
+    (
+        "SET; SE T255; L T255",
+        "A1=1 LARGE=1",
+        "T255=1 A1=1 A2=1 STW=6",
+    ),
+    ("L T256", "A1=7 LARGE=1", "ERR=26"),
+    ("SE T256", "A1=1 STW=B LARGE=1", "ERR=26"),
+    ("R T[MW0]", "MW0=100 STW=B LARGE=1", "ERR=26"),
+    ("SET; S C64; L C64", "A1=5 LARGE=1", "A1=5 A2=5 STW=6"),
+    ("SET; S C255; L C255", "A1=5 LARGE=1", "A1=5 A2=5 STW=6"),
+    ("L C256", "A1=7 LARGE=1", "ERR=27"),
+    ("S C256", "A1=000A STW=B LARGE=1", "ERR=27"),
+    ("CU C[MW0]", "MW0=100 STW=B LARGE=1", "ERR=27"),
 ];
 
 #[test]

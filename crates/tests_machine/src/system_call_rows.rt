@@ -114,12 +114,18 @@ fn system_functions(rt: HostRuntime) -> Result<(), Fail> {
     all_hold(&rt, rt.alloc(), &CALLS)
 }
 
-/// STOP: 6 for the seventeenth frame, 7 for local bytes past 1,024. The call copies and sets nothing.
-static STOPS: [Row; 10] = [
+/// STOP: 6 for the seventeenth frame, in the large profile for the twenty-fifth, 7 for local bytes past 1,024. The
+/// call copies and sets nothing.
+static STOPS: [Row; 13] = [
     (
         "UC FC1 | FC 1 0 0 { UC FC1",
         "",
         "STOP=6 DEPTH=10 AT=0 STW=4",
+    ),
+    (
+        "UC FC1 | FC 1 0 0 { UC FC1",
+        "LARGE=1",
+        "STOP=6 DEPTH=18 AT=0 STW=4",
     ),
     // OB 1 has 20 local bytes
     (
@@ -152,6 +158,16 @@ static STOPS: [Row; 10] = [
         "UC FC1 | FC 1 68 0 { UC FC1",
         "",
         "STOP=7 DEPTH=F AT=0 STW=4",
+    ),
+    (
+        "UC FC1 | FC 1 42 0 { UC FC1",
+        "LARGE=1",
+        "STOP=6 DEPTH=18 AT=0 STW=4",
+    ),
+    (
+        "UC FC1 | FC 1 44 0 { UC FC1",
+        "LARGE=1",
+        "STOP=7 DEPTH=17 AT=0 STW=4",
     ),
     // nothing is copied into the instance
     (

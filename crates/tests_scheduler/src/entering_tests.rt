@@ -1,8 +1,8 @@
 //! A block that is entered once more and left, an activation that begins anew, and what is copied.
 use crate::compare::same;
 use crate::function_tools::{cycle, frame};
-use frames::{Activation, Binding, Bindings, Frame, Locals};
-use plc_base::{BlockId, BlockKind, Width};
+use frames::{Activation, Binding, Bindings, Frame, Locals, Relay};
+use plc_base::{BlockId, BlockKind, Profile, Width};
 use status_word::{Check, Regs};
 use std::process::Abort;
 
@@ -39,9 +39,10 @@ fn an_activation_begins_anew(rt: HostRuntime) {
         kind: BlockKind::Ob,
         number: 40,
     };
-    a.restart(16, 40, block, 22);
+    a.restart(16, 40, block, 22, Profile::Large);
     let head = (a.class(), a.ob(), a.delay(), a.depth());
     same(&rt, "OB 40", head, (16, 40, 0, 1));
+    same(&rt, "profile", a.profile, Profile::Large);
     same(&rt, "registers", *a.regs(), Regs::new());
     same(&rt, "frame", frame_at(&a, 0), Some((40, 22)));
     let bytes = (a.local(0, 21), a.local(0, 22));
@@ -73,6 +74,8 @@ fn a_frame_is_copied_and_begins_anew(rt: HostRuntime) {
     first.di = Some(11);
     first.instance = Some(12);
     first.bindings = bindings;
+    first.relay.active = true;
+    same(&rt, "a zone", first.relay.open(false), true);
     let begun = first.brackets.begin(&mut Regs::new(), Check::A);
     same(&rt, "a bracket", begun, true);
     let mut second = frame(BlockKind::Ob, 1, 20);
@@ -82,7 +85,43 @@ fn a_frame_is_copied_and_begins_anew(rt: HostRuntime) {
     has(&rt, &first, (ob, 0, 30), [None, None, None], (0, 0));
     let data = [Some(10), Some(11), Some(12)];
     has(&rt, &second, (fb, 20, 12), data, (1, 1));
+    let closed = (first.relay.is_closed(), second.relay.is_closed());
+    same(&rt, "relays", closed, (false, true));
+    let zones = (first.relay.zones.len(), second.relay.zones.len());
+    same(&rt, "zones", zones, (0, 1));
     same(&rt, "bound", second.bindings.get(0), Some(value));
+}
+
+// The value of a zone is RLO and the value of the zone around it.
+#[test]
+fn zones_of_a_relay(rt: HostRuntime) {
+    let mut relay = Relay::off();
+    same(&rt, "no zone", relay.is_closed(), false);
+    relay.active = true;
+    for (rlo, closed) in [(true, false), (false, true), (true, true)] {
+        let opened = (relay.open(rlo), relay.is_closed());
+        same(&rt, rlo, opened, (true, closed));
+    }
+    let mut copy = relay.copied();
+    copy.active = false;
+    same(&rt, "an inactive one", copy.is_closed(), false);
+    for (ended, closed) in [(true, true), (true, false), (true, false), (false, false)] {
+        same(&rt, "a zone ends", relay.end(), ended);
+        same(&rt, "what is left", relay.is_closed(), closed);
+    }
+    let zones = (relay.zones.len(), copy.zones.len());
+    same(&rt, "zones", zones, (0, 3));
+}
+
+#[test]
+fn eight_zones_are_open_at_most(rt: HostRuntime) {
+    let mut relay = Relay::off();
+    for zones in 1..9 {
+        let opened = (relay.open(true), relay.zones.len());
+        same(&rt, "a zone", opened, (true, zones));
+    }
+    let opened = (relay.open(true), relay.zones.len());
+    same(&rt, "a ninth zone", opened, (false, 8));
 }
 
 #[test]

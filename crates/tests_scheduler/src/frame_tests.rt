@@ -2,28 +2,31 @@
 use crate::compare::same;
 use crate::function_tools::{cycle, frame};
 use frames::{Activation, FrameFault};
-use plc_base::BlockKind;
+use plc_base::{BlockKind, Profile};
 use std::test::Fail;
 
 #[test]
-fn sixteen_frames_stand_at_most(rt: HostRuntime) -> Result<(), Fail> {
-    let mut a = Activation::new(1, 1, frame(BlockKind::Ob, 1, 0));
-    for number in 2..17 {
-        let entered = (a.refuses(0), enter(&mut a, number, 0));
-        same(&rt, number, entered, (None, true));
+fn most_frames_stand(rt: HostRuntime) -> Result<(), Fail> {
+    for (profile, most) in [(Profile::Small, 16_u16), (Profile::Large, 24)] {
+        let mut a = Activation::new(1, 1, frame(BlockKind::Ob, 1, 0), profile);
+        for number in 2..most.wrapping_add(1) {
+            let entered = (a.refuses(0), enter(&mut a, number, 0));
+            same(&rt, number, entered, (None, true));
+        }
+        same(&rt, "frames that stand", a.depth(), usize::from(most));
+        same(&rt, "a further one", a.refuses(0), Some(FrameFault::Depth));
+        same(&rt, "it isn't entered", enter(&mut a, 99, 0), false);
+        same(&rt, "block of frame 0", number_at(&a, 0), Some(1));
+        same(&rt, "block of frame 15", number_at(&a, 15), Some(16));
+        same(&rt, "block of frame 24", number_at(&a, 24), None);
+        // the innermost one is left first, and the last one too
+        for left in 0..most {
+            same(&rt, "a block left", leave(&mut a), Some(most - left));
+        }
+        same(&rt, "a block left after the last one", leave(&mut a), None);
+        same(&rt, "frames at the end", a.depth(), 0);
+        same(&rt, "block of frame 0 at the end", number_at(&a, 0), None);
     }
-    same(&rt, "frames that stand", a.depth(), 16);
-    same(&rt, "a 17th frame", a.refuses(0), Some(FrameFault::Depth));
-    same(&rt, "block of frame 0", number_at(&a, 0), Some(1));
-    same(&rt, "block of frame 15", number_at(&a, 15), Some(16));
-    same(&rt, "block of frame 16", number_at(&a, 16), None);
-    // the innermost one is left first, and the last one too
-    for number in 0..16 {
-        same(&rt, "a block left", leave(&mut a), Some(16 - number));
-    }
-    same(&rt, "a block left after the last one", leave(&mut a), None);
-    same(&rt, "frames at the end", a.depth(), 0);
-    same(&rt, "block of frame 0 at the end", number_at(&a, 0), None);
     Ok(())
 }
 

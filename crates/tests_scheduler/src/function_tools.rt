@@ -2,7 +2,7 @@
 ghost use Rattle.std.specs.Prelude.{◌≡◌, ◌≤◌};
 
 use frames::{Activation, Frame};
-use plc_base::{BlockId, BlockKind};
+use plc_base::{BlockId, BlockKind, Profile};
 
 /// A frame of a block with so many local bytes, in which nothing is open.
 pub fn frame(kind: BlockKind, number: u16, local_len: u16) -> Frame
@@ -17,5 +17,5 @@ pub fn frame(kind: BlockKind, number: u16, local_len: u16) -> Frame
 
 /// OB 1 as it begins.
 pub fn cycle() -> Activation {
-    Activation::new(1, 1, frame(BlockKind::Ob, 1, 20))
+    Activation::new(1, 1, frame(BlockKind::Ob, 1, 20), Profile::Small)
 }

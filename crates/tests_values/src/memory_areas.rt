@@ -2,7 +2,7 @@ ghost use Rattle.std.specs.Prelude.{◌^◌, ◌<◌};
 ghost use Rattle.plc_base.specs.Widths.{bit_count};
 
 use crate::compare::same;
-use plc_base::{Area, Place, Width};
+use plc_base::{Area, Place, Profile, Width};
 use plc_mem::{Memory, Missing, PeripheralArea, operands};
 use std::alloc::Global;
 use std::process::Abort;
@@ -25,12 +25,17 @@ const fn in_block(number: u16, byte: u16, bit: u8) -> Place {
     }
 }
 
-/// Memory with data block 7 of four bytes 16#0A0B0C0D and data block 3 of none, in this order.
+/// The memory of the small profile.
 fn memory(rt: &impl Abort, alloc: Global) -> Memory {
+    memory_of(rt, alloc, Profile::Small)
+}
+
+/// Memory with data block 7 of four bytes 16#0A0B0C0D and data block 3 of none, in this order.
+fn memory_of(rt: &impl Abort, alloc: Global, profile: Profile) -> Memory {
     let bytes = Vec::from_slice(alloc, &[0x0A, 0x0B, 0x0C, 0x0D]);
     let bytes = bytes.expect(rt, "memory");
     let blocks = [(7, bytes), (3, Vec::new(alloc))];
-    Memory::new(alloc, &blocks).expect(rt, "memory")
+    Memory::new(alloc, &blocks, profile).expect(rt, "memory")
 }
 
 /// Writes a number, which has a place.
@@ -86,11 +91,31 @@ static EDGES: [Edge; 24] = [
     (Area::M, 1, 0, 0, Width::Byte, false),
 ];
 
+// Bit memory of the large profile.
+static LARGE_EDGES: [Edge; 9] = [
+    (Area::M, 0, 255, 0, Width::Word, true),
+    (Area::M, 0, 256, 0, Width::Byte, true),
+    (Area::M, 0, 2_047, 7, Width::Bit, true),
+    (Area::M, 0, 2_046, 0, Width::Word, true),
+    (Area::M, 0, 2_047, 0, Width::Word, false),
+    (Area::M, 0, 2_044, 0, Width::Dword, true),
+    (Area::M, 0, 2_045, 0, Width::Dword, false),
+    (Area::M, 0, 2_048, 0, Width::Bit, false),
+    (Area::Q, 0, 128, 0, Width::Byte, false),
+];
+
 // What is written is read again.
 #[test]
 fn last_bytes(rt: HostRuntime) {
-    let mut memory = memory(&rt, rt.alloc());
-    for (area, number, byte, bit, width, exists) in &EDGES {
+    let mut small = memory_of(&rt, rt.alloc(), Profile::Small);
+    all_edges(&rt, &mut small, &EDGES);
+    let mut large = memory_of(&rt, rt.alloc(), Profile::Large);
+    all_edges(&rt, &mut large, &LARGE_EDGES);
+}
+
+// Each of these operands can be written and read, or neither.
+fn all_edges(rt: &impl Abort, memory: &mut Memory, edges: &[Edge]) {
+    for (area, number, byte, bit, width, exists) in edges {
         let place = Place {
             area: *area,
             number: *number,
@@ -100,7 +125,7 @@ fn last_bytes(rt: HostRuntime) {
         let want = if *exists { Ok(1) } else { Err(Missing) };
         let written = memory.write(place, *width, 1).is_ok();
         let got = (written, memory.read(place, *width));
-        same(&rt, (place, *width), got, (*exists, want));
+        same(rt, (place, *width), got, (*exists, want));
     }
 }
 
@@ -280,6 +305,48 @@ fn changed_outputs(rt: HostRuntime) {
     all_output(&rt, &memory, "cleared", &[(0, Some(0)), (700, Some(0))]);
     next_changes(&rt, memory.outputs(), &before, &rows);
     all_read(&rt, &memory, &[(at(Area::Q, 0, 0), Width::Byte, 0x99)]);
+}
+
+// A byte of an area, what it was written, and what a warm restart leaves of it.
+static RETAINED: [(Area, u16, u32, u32); 8] = [
+    (Area::M, 0, 0x11, 0x11),
+    (Area::M, 15, 0x22, 0x22),
+    (Area::M, 16, 0x33, 0),
+    (Area::M, 255, 0x44, 0),
+    (Area::I, 0, 0x55, 0),
+    (Area::I, 127, 0x66, 0),
+    (Area::Q, 0, 0x77, 0),
+    (Area::Q, 127, 0x88, 0),
+];
+
+// MB 0 to MB 15, data blocks and the peripheral inputs and outputs stay.
+#[test]
+fn restarts(rt: HostRuntime) {
+    for (profile, last) in [(Profile::Small, 255), (Profile::Large, 2_047)] {
+        let mut memory = memory_of(&rt, rt.alloc(), profile);
+        same(&rt, "PIB 1", memory.set_input(1, 0x99), Ok(()));
+        let output = at(Area::P, 300, 0);
+        write(&rt, &mut memory, "T PQB 300", output, Width::Byte, 0xAA);
+        let end = at(Area::M, last, 0);
+        write(&rt, &mut memory, "T MB", end, Width::Byte, 0xBB);
+        for (area, byte, value, _) in &RETAINED {
+            let place = at(*area, *byte, 0);
+            let value = *value % 0x100;
+            write(&rt, &mut memory, "before", place, Width::Byte, value);
+        }
+        memory.clear_unretained();
+        for (area, byte, _, left) in &RETAINED {
+            let place = at(*area, *byte, 0);
+            all_read(&rt, &memory, &[(place, Width::Byte, *left)]);
+        }
+        let rows = [
+            (end, Width::Byte, 0),
+            (at(Area::P, 1, 0), Width::Byte, 0x99),
+            (in_block(7, 0, 0), Width::Dword, 0x0A0B_0C0D),
+        ];
+        all_read(&rt, &memory, &rows);
+        all_output(&rt, &memory, "outputs", &[(300, Some(0xAA))]);
+    }
 }
 
 // Local bytes are no memory; their operands are read and written in the same way.

@@ -1,4 +1,5 @@
 use crate::compare::same;
+use plc_base::Profile;
 use std::process::Abort;
 use timers_counters::TimerFault::{BadBcd, NoNumber};
 use timers_counters::TimerKind::{Sd, Se, Sf, Sp, Ss};
@@ -134,7 +135,7 @@ fn told(rt: &impl Abort, timers: &mut Timers, number: u16, story: &[(Event, bool
 
 #[test]
 fn stories_of_timers(rt: HostRuntime) {
-    let mut timers = Timers::new();
+    let mut timers = Timers::new(Profile::Small);
     let mut number = 0;
     for story in &STORIES {
         told(&rt, &mut timers, number, story);
@@ -142,28 +143,30 @@ fn stories_of_timers(rt: HostRuntime) {
     }
 }
 
+// The last timer of a profile, and that there is none behind it.
 #[test]
 fn the_last_timer(rt: HostRuntime) {
-    let mut timers = Timers::new();
-    let started = timers.start(127, Sp, true, 0x000A);
-    same(&rt, "SP T 127 by a digit 10", started, Err(BadBcd));
-    same(&rt, "T 127 not started", timers.output(127), Ok(false));
-    same(&rt, "SP T 127", timers.start(127, Sp, true, 0x1123), Ok(()));
-    same(&rt, "LC T 127", timers.bcd(127), Ok(0x1123));
-    timers.pass_ms(101);
-    same(&rt, "LC T 127 after 101 ms", timers.bcd(127), Ok(0x1122));
+    for (profile, last) in [(Profile::Small, 127_u16), (Profile::Large, 255)] {
+        let mut timers = Timers::new(profile);
+        let started = timers.start(last, Sp, true, 0x000A);
+        same(&rt, "SP by a digit 10", started, Err(BadBcd));
+        same(&rt, "not started", timers.output(last), Ok(false));
+        same(&rt, "SP", timers.start(last, Sp, true, 0x1123), Ok(()));
+        same(&rt, "LC", timers.bcd(last), Ok(0x1123));
+        timers.pass_ms(101);
+        same(&rt, "LC after 101 ms", timers.bcd(last), Ok(0x1122));
+        no_timer(&rt, &mut timers, last.wrapping_add(1));
+    }
 }
 
-#[test]
-fn no_timer(rt: HostRuntime) {
-    let mut timers = Timers::new();
-    let started = timers.start(128, Sp, true, 0x000A);
-    same(&rt, "SP T 128", started, Err(NoNumber));
-    same(&rt, "R T 128", timers.reset(128, true), Err(NoNumber));
-    same(&rt, "FR T 128", timers.free(128, true), Err(NoNumber));
-    same(&rt, "A T 128", timers.output(128), Err(NoNumber));
-    same(&rt, "L T 128", timers.value(128), Err(NoNumber));
-    same(&rt, "LC T 128", timers.bcd(128), Err(NoNumber));
+fn no_timer(rt: &impl Abort, timers: &mut Timers, number: u16) {
+    let started = timers.start(number, Sp, true, 0x000A);
+    same(rt, ("SP T", number), started, Err(NoNumber));
+    same(rt, "R T", timers.reset(number, true), Err(NoNumber));
+    same(rt, "FR T", timers.free(number, true), Err(NoNumber));
+    same(rt, "A T", timers.output(number), Err(NoNumber));
+    same(rt, "L T", timers.value(number), Err(NoNumber));
+    same(rt, "LC T", timers.bcd(number), Err(NoNumber));
 }
 
 /// An instruction on a counter.
@@ -219,27 +222,54 @@ static COUNTS: [(Count, Result<(), TimerFault>, u16); 23] = [
     (Clear(true), Ok(()), 0),
 ];
 
+// The last counter of a profile, and that there is none behind it.
 #[test]
 fn counters(rt: HostRuntime) {
-    let mut counters = Counters::new();
-    for (count, answer, value) in &COUNTS {
-        let done = count.happen(&mut counters, 63);
-        let got = (done, counters.value(63), counters.output(63));
-        same(&rt, *count, got, (*answer, Ok(*value), Ok(*value > 0)));
+    for (profile, last) in [(Profile::Small, 63_u16), (Profile::Large, 255)] {
+        let mut counters = Counters::new(profile);
+        for (count, answer, value) in &COUNTS {
+            let done = count.happen(&mut counters, last);
+            let got = (done, counters.value(last), counters.output(last));
+            same(&rt, *count, got, (*answer, Ok(*value), Ok(*value > 0)));
+        }
+        same(&rt, "S C 0", counters.set(0, true, 0x0345), Ok(()));
+        same(&rt, "LC C 0", counters.bcd(0), Ok(0x0345));
+        no_counter(&rt, &mut counters, last.wrapping_add(1));
     }
-    same(&rt, "S C 0", counters.set(0, true, 0x0345), Ok(()));
-    same(&rt, "LC C 0", counters.bcd(0), Ok(0x0345));
 }
 
+fn no_counter(rt: &impl Abort, counters: &mut Counters, number: u16) {
+    same(
+        rt,
+        ("CU C", number),
+        counters.up(number, true),
+        Err(NoNumber),
+    );
+    same(rt, "CD C", counters.down(number, true), Err(NoNumber));
+    same(rt, "S C", counters.set(number, true, 0x00A0), Err(NoNumber));
+    same(rt, "R C", counters.reset(number, true), Err(NoNumber));
+    same(rt, "FR C", counters.free(number, true), Err(NoNumber));
+    same(rt, "A C", counters.output(number), Err(NoNumber));
+    same(rt, "L C", counters.value(number), Err(NoNumber));
+    same(rt, "LC C", counters.bcd(number), Err(NoNumber));
+}
+
+// A warm restart leaves C 0 to C 7 with their edges, and no other counter.
 #[test]
-fn no_counter(rt: HostRuntime) {
-    let mut counters = Counters::new();
-    same(&rt, "CU C 64", counters.up(64, true), Err(NoNumber));
-    same(&rt, "CD C 64", counters.down(64, true), Err(NoNumber));
-    same(&rt, "S C 64", counters.set(64, true, 0x00A0), Err(NoNumber));
-    same(&rt, "R C 64", counters.reset(64, true), Err(NoNumber));
-    same(&rt, "FR C 64", counters.free(64, true), Err(NoNumber));
-    same(&rt, "A C 64", counters.output(64), Err(NoNumber));
-    same(&rt, "L C 64", counters.value(64), Err(NoNumber));
-    same(&rt, "LC C 64", counters.bcd(64), Err(NoNumber));
+fn restarts(rt: HostRuntime) {
+    for (profile, last) in [(Profile::Small, 63_u16), (Profile::Large, 255)] {
+        let mut counters = Counters::new(profile);
+        for number in [0, 7, 8, last] {
+            same(&rt, number, counters.set(number, true, 0x0345), Ok(()));
+        }
+        counters.clear_unretained();
+        for (number, left) in [(0, 345), (7, 345), (8, 0), (last, 0)] {
+            same(&rt, number, counters.value(number), Ok(left));
+            // set again: an edge that stayed keeps it from being so
+            same(&rt, number, counters.set(number, true, 0x0012), Ok(()));
+            let value = if left == 0 { 12 } else { left };
+            same(&rt, number, counters.value(number), Ok(value));
+        }
+        no_counter(&rt, &mut counters, last.wrapping_add(1));
+    }
 }
