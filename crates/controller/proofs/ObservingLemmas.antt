@@ -3,7 +3,7 @@ use Rattle.std.proofs.Common.{◌≡◌, ◌≢◌, ◌<◌, ◌≤◌, ℕ, zer
 use Rattle.std.specs.List.{cons_option, filter_map, range_with_len}
 use Rattle.std.proofs.lemmas.Bool.Decides.{nat_tests}
 use Rattle.std.proofs.lemmas.List.{append-nil}
-use Rattle.std.proofs.lemmas.Option.{slice_get_past}
+use Rattle.std.proofs.lemmas.Option.{slice_get_past, same_Some}
 use Rattle.plc_mem.specs.Areas.{Areas, PeripheralBytes}
 use Rattle.plc_mem.specs.Bits.{peripheral_byte}
 use Rattle.plc_mem.specs.Changes.{IsFirstChange}
@@ -102,16 +102,13 @@ pub one_more_change : (from byte found : ℕ) → from ≤ byte → is_periphera
 one_more_change from byte found ahead exists few = grind (arith, nat_tests, exists)
 
 -- two areas that are equal byte by byte are the same
-same_some : {X : Type 0} (y x : X) → Some y ≡ Some x → y ≡ x
-same_some y x e = cc
-
 same_list : {X : Type 0} (xs ys : List X) → length xs ≡ length ys
     → ((n : ℕ) → slice_get ys n ≡ slice_get xs n) → ys ≡ xs
 same_list [] [] len same = refl
 same_list [] (y ∷ ys) len same = absurd (omega arith)
 same_list (x ∷ xs) [] len same = absurd (omega arith)
 same_list (x ∷ xs) (y ∷ ys) len same =
-    let head : y ≡ x = same_some y x (same 0) in
+    let head : y ≡ x = same_Some y x (same 0) in
     let tail : ys ≡ xs = same_list xs ys (omega (arith, len)) (λ n. same (suc n)) in
     cc
 

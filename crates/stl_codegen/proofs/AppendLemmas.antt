@@ -85,6 +85,7 @@ between_stop old now left here rest whole b split none =
     let all : whole ≡ b.done ++ (here ++ rest) = b.all ∙ ap (λ (l : List OpData). b.done ++ l) split in
     subst HasNoOp (sym all) (back_has_none b.done (here ++ rest) (front_has_none here rest none))
 
+-- a part that doesn't fit
 pub between_misfit : {A : Type 0} (P : A → Type 0) (old now left here rest whole : List A) → Between old now left whole → left ≡ here ++ rest → (AllByRecursion P here → ⊥) → AllByRecursion P whole → ⊥
 between_misfit {A = A} P old now left here rest whole b split none all =
     let parted : whole ≡ b.done ++ (here ++ rest) = b.all ∙ ap (λ (l : List A). b.done ++ l) split in

@@ -18,6 +18,7 @@ use Rattle.plc_base.specs.Gathered.{gathered}
 use Rattle.plc_base.specs.Least.{broken_if}
 use Rattle.stl_symbols.specs.Symbol.{Symbol}
 use Rattle.plc_base.proofs.LeastLemmas.{least_none}
+use Rattle.plc_base.proofs.ListLemmas.{all_append}
 use Rattle.block_layout.specs.Around.{in_block}
 use Rattle.block_layout.specs.Blocks.{is_code, is_data_block}
 use Rattle.block_layout.specs.ByPlace.{by_place}
@@ -107,11 +108,6 @@ pub all_both : {A : Type 0} (P Q : A → Type 0) (xs : List A) → AllByRecursio
     → AllByRecursion Q xs → AllByRecursion (λ x. P x × Q x) xs
 all_both P Q [] h k = tt
 all_both P Q (x ∷ xs) h k = ((h.0, k.0), all_both P Q xs h.1 k.1)
-
-pub all_append : {A : Type 0} (P : A → Type 0) (xs ys : List A)
-    → AllByRecursion P xs → AllByRecursion P ys → AllByRecursion P (xs ++ ys)
-all_append P [] ys h k = k
-all_append P (x ∷ xs) ys h k = (h.0, all_append P xs ys h.1 k)
 
 pub all_inserted : {A : Type 0} (P : A → Type 0) (before : A → A → Bool) (x : A) (ys : List A)
     → P x → AllByRecursion P ys → AllByRecursion P (inserted before x ys)

@@ -4,6 +4,7 @@ use Rattle.std.specs.Prelude.{IfSome, cond, not, slice_get, if◌then◌else◌}
 use Rattle.std.specs.List.{AllByRecursion, count_by}
 use Rattle.std.proofs.lemmas.Bool.{and_from, eq-eqb, ltb-false}
 use Rattle.plc_base.specs.declared.blocks.BlockId.{BlockId}
+use Rattle.plc_base.proofs.ListLemmas.{all_append}
 use Rattle.flat_code.specs.Codes.{are_ops, code_bytes, code_of, is_nowhere, stop_at}
 use Rattle.flat_code.specs.declared.words.EndWord.TheVariants as end
 use Rattle.stl_ast.specs.Statements.{is_empty}
@@ -20,7 +21,7 @@ use Rattle.stl_codegen.specs.Compiled.{StatedBlock, compiled}
 use Rattle.stl_codegen.specs.Emitted.{ops_of}
 use Rattle.stl_codegen.specs.Generated.{code_block, code_blocks_of, returning, stated_from, statements_of}
 use Rattle.stl_codegen.specs.Instruction.{instruction}
-use Rattle.sem_kept.proofs.accepted.Accepted.{IsSound, IsSoundStatement, IsSoundTree, all_append, context_at, right_tree, sound_code_blocks}
+use Rattle.sem_kept.proofs.accepted.Accepted.{IsSound, IsSoundStatement, IsSoundTree, context_at, right_tree, sound_code_blocks}
 use Rattle.sem_kept.proofs.accepted.CodedBlocks.{AreGood, block_coded}
 use Rattle.sem_kept.proofs.accepted.CodedBytes.{tree_has}
 use Rattle.sem_kept.proofs.accepted.CodedOps.{IsGoodSource, IsGoodStatement, end_good, statement_good}

@@ -4,6 +4,7 @@ use Rattle.std.specs.Prelude.{if◌then◌else◌}
 use Rattle.std.specs.List.{AllByRecursion}
 use Rattle.std.proofs.lemmas.Bool.{and_from, ne_eqb}
 use Rattle.std.proofs.lemmas.List.{map-append}
+use Rattle.plc_base.proofs.ListLemmas.{all_append}
 use Rattle.flat_code.specs.Codes.{are_ops, code_fault, ends, first_of, last_place, only, overlong, size}
 use Rattle.flat_code.specs.Forms.{actual, direct}
 use Rattle.flat_code.specs.Instr.{Returns}
@@ -14,7 +15,6 @@ use Rattle.flat_code.specs.declared.operands.Passed.TheVariants as passed
 use Rattle.flat_code.specs.declared.words.EndWord.TheVariants as end
 use Rattle.stl_codegen.specs.Compiled.{Stated, StatedBlock, aimed, aimed_op, compiled, offset_from, offset_of, ops_in, placed_ops}
 use Rattle.stl_codegen.specs.Emitted.{ops_of}
-use Rattle.sem_kept.proofs.accepted.Accepted.{all_append}
 use Rattle.sem_kept.proofs.accepted.CodedOps.{IsGood, IsGoodPart, IsGoodStatement}
 use Rattle.sem_kept.specs.Coded.{IsCoded}
 

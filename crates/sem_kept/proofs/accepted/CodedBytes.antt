@@ -6,6 +6,7 @@ use Rattle.std.specs.Option.{option_map, option_and_then, IfSome}
 use Rattle.plc_base.specs.Decimal.{decimal_up_to}
 use Rattle.plc_base.specs.declared.places.Width.{Width}
 use Rattle.plc_base.specs.declared.places.Width.TheVariants as width
+use Rattle.plc_base.proofs.ListLemmas.{all_front, all_back}
 use Rattle.stl_lexer.specs.Bytes.{letter_b, letter_c, letter_s, letter_w, two_digit}
 use Rattle.stl_lexer.specs.Limits.{greatest_count, greatest_s5time}
 use Rattle.stl_lexer.specs.Rules.{behind_prefix, first_letter, within}
@@ -694,16 +695,6 @@ kept_has (c ∷ cs) h = by (is_kept c) (kept_has cs h.1)
     by true more = (h.0, more)
     by false more = more
 
-all_front : {A : Type 0} (P : A → Type 0) (xs ys : List A) → AllByRecursion P (xs ++ ys)
-    → AllByRecursion P xs
-all_front P [] ys h = tt
-all_front P (x ∷ xs) ys h = (h.0, all_front P xs ys h.1)
-
-all_behind : {A : Type 0} (P : A → Type 0) (xs ys : List A) → AllByRecursion P (xs ++ ys)
-    → AllByRecursion P ys
-all_behind P [] ys h = h
-all_behind P (x ∷ xs) ys h = all_behind P xs ys h.1
-
 body_has : (body : List Statement) → AllByRecursion ClauseHas (map clause.Runs body)
     → AllByRecursion StatementHasBytes body
 body_has [] h = tt
@@ -714,9 +705,9 @@ block_has : (b : Block) → AllByRecursion ClauseHas (spelled_block b)
 block_has b h =
     let ends = clause.Ends b.end_line b.kind ∷ [] in
     let runs = map clause.Runs b.body in
-    let shaped = all_behind ClauseHas (flat_map spelled_part b.parts) _ h.1 in
-    let set = all_behind ClauseHas (spelled_shape b.shape b.instance_of b.components) _ shaped in
-    let body = all_behind ClauseHas (map clause.Sets b.settings) (runs ++ ends) set in
+    let shaped = all_back ClauseHas (flat_map spelled_part b.parts) _ h.1 in
+    let set = all_back ClauseHas (spelled_shape b.shape b.instance_of b.components) _ shaped in
+    let body = all_back ClauseHas (map clause.Sets b.settings) (runs ++ ends) set in
     body_has b.body (all_front ClauseHas runs ends body)
 
 blocks_have : (bs : List Block) → AllByRecursion ClauseHas (flat_map spelled_block bs)
@@ -724,7 +715,7 @@ blocks_have : (bs : List Block) → AllByRecursion ClauseHas (flat_map spelled_b
 blocks_have [] h = tt
 blocks_have (b ∷ bs) h = (
   block_has b (all_front ClauseHas (spelled_block b) (flat_map spelled_block bs) h),
-  blocks_have bs (all_behind ClauseHas (spelled_block b) (flat_map spelled_block bs) h),
+  blocks_have bs (all_back ClauseHas (spelled_block b) (flat_map spelled_block bs) h),
 )
 
 -- THE TREE OF BYTES HAS BYTES

@@ -24,6 +24,7 @@ use Rattle.stl_ast.specs.declared.operands.Operand.TheVariants as operand
 use Rattle.stl_ast.specs.declared.blocks.Block.{Block}
 use Rattle.stl_ast.specs.declared.statements.Statement.{Statement}
 use Rattle.plc_base.specs.Least.{broken_if}
+use Rattle.plc_base.proofs.ListLemmas.{all_front}
 use Rattle.stl_types.specs.Brackets.{behind, behind_all, closes, left_open, opening}
 use Rattle.stl_types.specs.Context.{Context}
 use Rattle.stl_types.specs.Labels.{is_unknown_label, labels_of, unknown_labels}
@@ -435,11 +436,6 @@ list_right : (how : JumpWord) (p : Placed) (target : ℕ)
 list_right jump.Jl p target h = rw (h refl) refl
 list_right _ p target h = refl
 
-all_before : {A : Type 0} (P : A → Type 0) (xs ys : List A) → AllByRecursion P (xs ++ ys)
-    → AllByRecursion P xs
-all_before P [] ys h = tt
-all_before P (x ∷ xs) ys h = (h.0, all_before P xs ys h.1)
-
 -- a body that breaks none of these rules, and of which each operand goes with its instruction
 pub record IsRightBody (body : List Statement) : Type 0 where
   pub takes : AllByRecursion TakesRight body
@@ -465,7 +461,7 @@ lands c body ret pre s post name all e right label = record {
   spot = ap (spot_at (spots (the_code f (whole c body ret))))
       (ap f there.count ∙ place_is c body ret there.before there.rest there.whole)
       ∙ spot_of c body ret f there.before there.rest there.whole
-      (all_before TakesRight there.before there.rest
+      (all_front TakesRight there.before there.rest
       (subst (AllByRecursion TakesRight) there.whole all.takes))
       ∙ ap (λ (z : List ℕ). Some (few_codes z)) (sym same);
 }

@@ -6,6 +6,8 @@ use Rattle.std.specs.List.{AllByRecursion, list_all, slice_get}
 use Rattle.std.specs.Option.{is_none, option_and_then, option_map}
 use Rattle.std.specs.Bool.{Decides}
 use Rattle.std.proofs.lemmas.Slice.Eq.{bytes_eq-Decides}
+use Rattle.std.proofs.lemmas.Bool.{not-false}
+use Rattle.std.proofs.lemmas.Option.{same_Some}
 use Rattle.plc_base.specs.Kinds.{kind_number}
 use Rattle.plc_base.specs.declared.blocks.BlockId.{BlockId}
 use Rattle.plc_base.specs.declared.blocks.BlockKind.{BlockKind}
@@ -647,12 +649,12 @@ instance_number_right symbols t q d =
         ap (λ (ss : List Symbol). id_of ss d.block) (measured_symbols symbols t.blocks)
         ∙ sym (layout_id symbols t q d.block d.layout d.sound) ∙ d.is
 
-    not_false : (x : Bool) → not x ≡ false → x ≡ true
-    not_false true e = refl
-    not_false false e = absurd cc
+    not-false : (x : Bool) → not x ≡ false → x ≡ true
+    not-false true e = refl
+    not-false false e = absurd cc
 
     number : is_block_number d.id.kind d.id.number ≡ true
-    number = not_false (is_block_number d.id.kind d.id.number)
+    number = not-false (is_block_number d.id.kind d.id.number)
         (ap is_beyond (sym named) ∙ d.sound.head.by_44)
 
     first : (x y : Bool) → (x && y) ≡ true → x ≡ true
@@ -768,13 +770,6 @@ three_true false b c e f g h = absurd cc
 second_false : (a b : Bool) → (a && b) ≡ false → a ≡ true → b ≡ false
 second_false true b e f = e
 second_false false b e f = absurd cc
-
-not_false : (b : Bool) → not b ≡ false → b ≡ true
-not_false true e = refl
-not_false false e = absurd cc
-
-some_number : (m n : ℕ) → Some m ≡ Some n → m ≡ n
-some_number m n e = cc
 
 other_than_three : (k : BlockKind) → is_callable k ≡ true → is_function_block k ≡ false
     → (called_kind k == 3) ≡ false
@@ -930,7 +925,7 @@ module _ (symbols : List Symbol) (t : Tree) (tree : IsSoundTree symbols t)
           (ap (names_unknown (types_of symbols t.blocks)) (sym operand_is) ∙ sound.there))
 
       number : n ≡ d.block.id.number
-      number = some_number n d.block.id.number (sym at.2 ∙ d.number)
+      number = same_Some n d.block.id.number (sym at.2 ∙ d.number)
 
       fb_at : (p : ℕ) × (c : Block) × (m.cal.of_source.place ≡ Some p) × (slice_get t.blocks p ≡ Some c)
           × (c.kind ≡ kinds.Fb) × (m.cal.il ≡ length_of (types_of symbols t.blocks) t.blocks c)
@@ -951,7 +946,7 @@ module _ (symbols : List Symbol) (t : Tree) (tree : IsSoundTree symbols t)
 
       of_block : is_of_block (Some fb_at.0) d.block.layout.shape ≡ true
       of_block =
-          not_false (is_of_block (Some fb_at.0) d.block.layout.shape)
+          not-false (is_of_block (Some fb_at.0) d.block.layout.shape)
           (ap (λ (o : Option BlockLayout). not (is_instance (Some fb_at.0) o)) (sym d.block.laid)
           ∙ ap (λ (o : Option ℕ). not (is_instance o (slice_get (layouts_of t symbols) d.place))) (sym fb_at.2)
           ∙ ap (λ (o : Option ℕ). is_no_instance (context_at symbols t k) m.cal.of_source.place o) (sym place)

@@ -5,6 +5,8 @@ use Rattle.std.specs.Option.{option_and_then, option_map}
 use Rattle.plc_base.specs.declared.blocks.BlockId.{BlockId}
 use Rattle.plc_base.specs.declared.blocks.BlockKind.{BlockKind}
 use Rattle.plc_base.specs.declared.blocks.BlockKind.TheVariants as kinds
+use Rattle.plc_base.proofs.TruthLemmas.{and_first, and_second}
+use Rattle.plc_base.proofs.ListLemmas.{all_append}
 use Rattle.stl_ast.specs.Blocks.{may_have}
 use Rattle.stl_ast.specs.WellFormed.{AreSections, IsBlock, IsShapeOf, MayReturn}
 use Rattle.stl_ast.specs.declared.blocks.Block.{Block}
@@ -38,7 +40,7 @@ use Rattle.block_layout.specs.Types.{Types, udt_of}
 use Rattle.block_layout.specs.declared.blocks.BlockLayout.{BlockLayout}
 use Rattle.block_layout.specs.declared.blocks.Shape.TheVariants as shape
 use Rattle.block_layout.specs.declared.cells.Cell.{Cell}
-use Rattle.sem_kept.proofs.accepted.Accepted.{AreSoundDeclarations, IsSound, IsSoundTree, all_append, none_left, none_right, not_broken, sound_at}
+use Rattle.sem_kept.proofs.accepted.Accepted.{AreSoundDeclarations, IsSound, IsSoundTree, none_left, none_right, not_broken, sound_at}
 use Rattle.sem_kept.proofs.accepted.OperandsTypes.{type_settled}
 use Rattle.sem_kept.proofs.accepted.OperandsWalks.{AreRight, IsRightCell, IsSettled, structure_even}
 
@@ -274,18 +276,10 @@ same_kind kinds.Db _ e = absurd cc
 same_kind kinds.Sfc _ e = absurd cc
 same_kind kinds.Udt _ e = absurd cc
 
-both_first : (a b : Bool) → (a && b) ≡ true → a ≡ true
-both_first true b e = refl
-both_first false b e = absurd cc
-
-both_second : (a b : Bool) → (a && b) ≡ true → b ≡ true
-both_second true b e = e
-both_second false b e = absurd cc
-
 pub same_block : (a b : BlockId) → is_same_block a b ≡ true → a ≡ b
 same_block a b e =
-    let kind : a.kind ≡ b.kind = same_kind a.kind b.kind (both_first (is_same_kind a.kind b.kind) (nat_eq a.number b.number) e) in
-    let number : a.number ≡ b.number = eqb-true a.number b.number (both_second (is_same_kind a.kind b.kind) (nat_eq a.number b.number) e) in
+    let kind : a.kind ≡ b.kind = same_kind a.kind b.kind (and_first (is_same_kind a.kind b.kind) (nat_eq a.number b.number) e) in
+    let number : a.number ≡ b.number = eqb-true a.number b.number (and_second (is_same_kind a.kind b.kind) (nat_eq a.number b.number) e) in
     ap (λ (k : BlockKind). record { kind = k; number = a.number }) kind
     ∙ ap (λ (n : ℕ). record { kind = b.kind; number = n }) number
 

@@ -28,6 +28,7 @@ use Rattle.stl_ast.specs.declared.declarations.ElementType.TheVariants as elemen
 use Rattle.stl_ast.specs.declared.declarations.Simple.{Simple}
 use Rattle.stl_ast.specs.declared.declarations.Simple.TheVariants as simple
 use Rattle.plc_base.specs.Folding.{folded}
+use Rattle.plc_base.proofs.ListLemmas.{all_append}
 use Rattle.stl_symbols.specs.Names.{place_of}
 use Rattle.block_layout.specs.Around.{Outside, of_sections, of_structure, onto, returned_names}
 use Rattle.block_layout.specs.Blocks.{is_function_block}
@@ -43,7 +44,7 @@ use Rattle.stl_types.specs.Parameters.{dtime, formal, formal_here, formal_of, fo
 use Rattle.stl_types.specs.declared.parameters.Formal.{Formal}
 use Rattle.stl_codegen.specs.Generated.{param_here, param_of, params_of, section_number}
 use Rattle.stl_codegen.specs.Instruction.{in_order, return_last}
-use Rattle.sem_kept.proofs.accepted.Accepted.{all_append, all_both, all_mapped}
+use Rattle.sem_kept.proofs.accepted.Accepted.{all_both, all_mapped}
 use Rattle.sem_kept.proofs.accepted.OperandsCells.{IsUnbroken, Unbroken}
 
 -- ---- as the source has them, and the code

@@ -8,6 +8,8 @@ use Rattle.plc_base.specs.Kinds.{kind_number}
 use Rattle.plc_base.specs.declared.blocks.BlockId.{BlockId}
 use Rattle.plc_base.specs.declared.blocks.BlockKind.{BlockKind}
 use Rattle.plc_base.specs.declared.blocks.BlockKind.TheVariants as kinds
+use Rattle.plc_base.proofs.ListLemmas.{all_front, all_back}
+use Rattle.plc_base.proofs.TruthLemmas.{and_first, and_second}
 use Rattle.flat_code.specs.Blocks.{Signature, block_with, data_len, signature_of}
 use Rattle.flat_code.specs.Image.{record_of_block, record_of_param}
 use Rattle.flat_code.specs.Loading.{lens_of}
@@ -52,16 +54,6 @@ sorted_all P before (x ∷ xs) h =
     let parts = inserted_all P before x (sorted before xs) h in
     (parts.0, sorted_all P before xs parts.1)
 
-front_all : {A : Type 0} (P : A → Type 0) (xs ys : List A) → AllByRecursion P (xs ++ ys)
-    → AllByRecursion P xs
-front_all P [] ys h = tt
-front_all P (x ∷ xs) ys h = (h.0, front_all P xs ys h.1)
-
-back_all : {A : Type 0} (P : A → Type 0) (xs ys : List A) → AllByRecursion P (xs ++ ys)
-    → AllByRecursion P ys
-back_all P [] ys h = h
-back_all P (x ∷ xs) ys h = back_all P xs ys h.1
-
 -- what each block of the source gives, from its place on
 each_of : {A : Type 0} (symbols : List Symbol) (t : Tree) (P : A → Type 0)
     (of : Context → Block → BlockLayout → List A) (k : ℕ) (bs : List Block) (ls : List BlockLayout)
@@ -77,12 +69,12 @@ each_of symbols t P of k (x ∷ bs) (z ∷ ls) h zero b l e f =
     subst (λ (n : ℕ). AllByRecursion P (of (context_at symbols t n) b l)) (sym here)
     (subst (λ (m : BlockLayout). AllByRecursion P (of (context_at symbols t k) b m)) laid
     (subst (λ (c : Block). AllByRecursion P (of (context_at symbols t k) c z)) same
-    (front_all P (of (context_at symbols t k) x z) (each_block of (context_at symbols t (suc k)) bs ls) h)))
+    (all_front P (of (context_at symbols t k) x z) (each_block of (context_at symbols t (suc k)) bs ls) h)))
 each_of symbols t P of k (x ∷ bs) (z ∷ ls) h (suc i) b l e f =
     let further : suc k + i ≡ k + suc i = omega arith in
     subst (λ (n : ℕ). AllByRecursion P (of (context_at symbols t n) b l)) further
     (each_of symbols t P of (suc k) bs ls
-    (back_all P (of (context_at symbols t k) x z) (each_block of (context_at symbols t (suc k)) bs ls) h)
+    (all_back P (of (context_at symbols t k) x z) (each_block of (context_at symbols t (suc k)) bs ls) h)
     i b l e f)
 
 pub code_block_there : (symbols : List Symbol) (t : Tree) (P : StatedBlock → Type 0)
@@ -272,14 +264,6 @@ id_by a b e f =
     ap (λ (k : BlockKind). record { kind = k; number = a.number }) e
     ∙ ap (λ (n : ℕ). record { kind = b.kind; number = n }) f
 
-first_true : (x y : Bool) → (x && y) ≡ true → x ≡ true
-first_true true y e = refl
-first_true false y e = absurd cc
-
-second_true : (x y : Bool) → (x && y) ≡ true → y ≡ true
-second_true true y e = e
-second_true false y e = absurd cc
-
 pub called_block : (symbols : List Symbol) (t : Tree) → IsSoundTree symbols t → (p : ℕ) (b : Block)
     (l : BlockLayout) (id : BlockId) → IsSound symbols t p b l → l.id ≡ Some id
     → is_code id.kind ≡ true
@@ -319,9 +303,9 @@ called_block symbols t tree p b l id h is code =
         same = id_by other id
             (code_kind_same other.kind id.kind f code
             (eqb-true (kind_number other.kind) (kind_number id.kind)
-            (first_true (kind_number other.kind == kind_number id.kind) (other.number == id.number) fits)))
+            (and_first (kind_number other.kind == kind_number id.kind) (other.number == id.number) fits)))
             (eqb-true other.number id.number
-            (second_true (kind_number other.kind == kind_number id.kind) (other.number == id.number) fits))
+            (and_second (kind_number other.kind == kind_number id.kind) (other.number == id.number) fits))
 
         place : k ≡ p
         place = one_block symbols t id k p c b m l g h (e ∙ ap (λ (x : BlockId). Some x) same) is

@@ -2,6 +2,7 @@
 use Rattle.std.proofs.Common.{ℕ, suc, ◌≡◌, ◌≤◌, ◌+◌, ◌*◌, ◌-◌, pos, negsuc, List, [], ◌∷◌, ◌++◌, append_assoc, Option, Some, None, Bool, true, false, ◌&&◌, ◌||◌, not, nat_eq, nat_le, refl, sym, ◌∙◌, ap, subst, arith, length, find, bytes_eq, if◌then◌else◌, eqb-true, leb-true, le-leb, lt-ltb, eq-eqb}
 use Rattle.std.specs.Prelude.{◌==◌}
 use Rattle.std.specs.List.{AllByRecursion, slice_get}
+use Rattle.std.proofs.lemmas.Bool.{or_from, not-false}
 use Rattle.plc_base.specs.Widths.{width_number}
 use Rattle.plc_base.specs.declared.places.Area.{Area}
 use Rattle.plc_base.specs.declared.places.Area.TheVariants as area
@@ -26,6 +27,7 @@ use Rattle.stl_ast.specs.declared.operands.Operand.{Operand}
 use Rattle.stl_ast.specs.declared.operands.Operand.TheVariants as operand
 use Rattle.stl_ast.specs.declared.statements.Actual.{Actual}
 use Rattle.plc_base.specs.Folding.{folded}
+use Rattle.plc_base.proofs.TruthLemmas.{and_first, and_second}
 use Rattle.block_layout.specs.Fits.{bits_of, fits}
 use Rattle.block_layout.specs.Offsets.{width_of}
 use Rattle.stl_types.specs.Actuals.{fits_operand, fits_seen, fits_type, fits_view, formal_named, is_input_section, is_same_type, is_same_width, takes_section, takes_side, type_number}
@@ -127,18 +129,6 @@ pub record Passes (a : Around) (c : Context) (r : ParameterRecord) (o : Operand)
   pub right : is_bad_actual a actual ≡ false
   pub fits : misfits_parameter a r actual ≡ false
 
-both_left : (a b : Bool) → (a && b) ≡ true → a ≡ true
-both_left true b e = refl
-both_left false b e = absurd cc
-
-both_right : (a b : Bool) → (a && b) ≡ true → b ≡ true
-both_right true b e = e
-both_right false b e = absurd cc
-
-either_none : (a b : Bool) → a ≡ false → b ≡ false → (a || b) ≡ false
-either_none true b h k = h
-either_none false b h k = k
-
 same_widths : (a b : Width) → is_same_width a b ≡ true → a ≡ b
 same_widths width.Bit width.Bit e = refl
 same_widths width.Byte width.Byte e = refl
@@ -232,19 +222,19 @@ view_passes a c f r o (view.Direct place w side declared) e fits h taken = recor
   where
     same : not (r.width == width_number w) ≡ false
     same = width_same r f w h (typed_width f w declared
-        (both_left (fits_type f w declared) (takes_side f.section side) taken) fits.1)
+        (and_first (fits_type f w declared) (takes_side f.section side) taken) fits.1)
 view_passes a c f r o (view.Parameter index own declared) e fits h taken = record {
   actual = passed.Parameter index (width_of declared);
   is = ap (passed_seen o) e;
   right = fits.0;
-  fits = either_none (not (r.width == width_number (width_of declared)))
+  fits = or_from (not (r.width == width_number (width_of declared)))
       (not (r.section == 1) && is_input_parameter (own_parameter a index))
       (width_same r f (width_of declared) h
-      (same_types declared f.kind (both_left (is_same_type declared f.kind) (takes_section f.section own) taken)))
+      (same_types declared f.kind (and_first (is_same_type declared f.kind) (takes_section f.section own) taken)))
       (ap (λ (t : Bool). not t && is_input_parameter (own_parameter a index)) (section_input f r h)
       ∙ ap (λ (t : Bool). not (is_input_section f.section) && t) fits.1
       ∙ own_section (is_input_section f.section) (is_input_section own)
-      (both_right (is_same_type declared f.kind) (takes_section f.section own) taken));
+      (and_second (is_same_type declared f.kind) (takes_section f.section own) taken));
 }
 view_passes a c f r o _ e fits h taken = absurd cc
 
@@ -267,10 +257,10 @@ constant_passes a c f r value is has h taken = record {
   actual = passed.Literal (bits_of value);
   is = constant_is c value;
   right = refl;
-  fits = either_none (not (r.section == 1)) (not (literal_fits r.width (bits_of value)))
-      (ap not (section_input f r h ∙ both_left (is_input_section f.section) (fits value f.kind) taken))
+  fits = or_from (not (r.section == 1)) (not (literal_fits r.width (bits_of value)))
+      (ap not (section_input f r h ∙ and_first (is_input_section f.section) (fits value f.kind) taken))
       (ap not (ap (λ (n : ℕ). literal_fits n (bits_of value)) h.1
-      ∙ literal_width value f.kind is has (both_right (is_input_section f.section) (fits value f.kind) taken)));
+      ∙ literal_width value f.kind is has (and_second (is_input_section f.section) (fits value f.kind) taken)));
 }
 
 pub passes : (a : Around) (c : Context) (f : Formal) (r : ParameterRecord) (o : Operand)
@@ -317,10 +307,6 @@ found_holds P test (z ∷ zs) x h e = by (test z) refl e (found_holds P test zs 
         (subst P same h.0, ap test (sym same) ∙ is)
     by false is k more = more k
 
-not_false : (b : Bool) → not b ≡ false → b ≡ true
-not_false true e = refl
-not_false false e = absurd cc
-
 -- what is supplied for a parameter is passed
 pub supplied_passes : (a : Around) (c : Context) (formals : List Formal) (actuals : List Actual)
     (f : Formal) (r : ParameterRecord) (x : Actual)
@@ -328,7 +314,7 @@ pub supplied_passes : (a : Around) (c : Context) (formals : List Formal) (actual
     → supplied actuals f ≡ Some x → Passes a c r x.value
 supplied_passes a c formals actuals f r x good found h e =
     passes a c f r x.value one.0.seen one.0.well one.0.bytes h
-    (not_false (fits_operand c f x.value)
+    (not-false (fits_operand c f x.value)
     (ap (misfits c x) (sym (found (folded x.name) one.1)) ∙ one.0.fits))
   where
     one : IsGoodActual a c formals x × (bytes_eq (folded x.name) f.name ≡ true)

@@ -4,6 +4,7 @@ use Rattle.std.proofs.Common.{◌≡◌, ℕ, ◌+◌, Bool, true, false, ◌&&�
 use Rattle.std.specs.Prelude.{◌==◌}
 use Rattle.std.specs.List.{AllByRecursion}
 use Rattle.std.proofs.lemmas.List.{map-append}
+use Rattle.std.proofs.lemmas.Bool.{or_from}
 use Rattle.plc_base.specs.declared.blocks.BlockId.{BlockId}
 use Rattle.flat_code.specs.Blocks.{Around, callee, call_fault_among, is_above, is_bad_actual, is_bad_call, is_bad_place, is_in_db, is_stray_pass, is_stray_use_db, lacks_width, mark_fault, misfits_call, misfits_callee, operand_fault, pass_before, pass_index, prepares, seven_if}
 use Rattle.flat_code.specs.Codes.{first_of, size}
@@ -27,10 +28,6 @@ use Rattle.sem_kept.specs.Operands.{ArePassed, AreFine, InstrFits, IsFine, IsRig
 
 seven_none : (b : Bool) → b ≡ false → seven_if b ≡ None
 seven_none b e = ap seven_if e
-
-both_false : (a b : Bool) → a ≡ false → b ≡ false → (a || b) ≡ false
-both_false true b h k = h
-both_false false b h k = k
 
 and_false : (a b : Bool) → b ≡ false → (a && b) ≡ false
 and_false true b h = h
@@ -70,7 +67,7 @@ right_operand : (a : Around) (ss : List Spot) (p : Placed) (o : Operand) → IsR
     → operand_fault a ss p o ≡ None
 right_operand a ss p (operand.Direct area w byte bit) h =
     seven_none (lacks_width p.op w || is_bad_place a area w byte bit)
-    (both_false (lacks_width p.op w) (is_bad_place a area w byte bit) h.0 h.1)
+    (or_from (lacks_width p.op w) (is_bad_place a area w byte bit) h.0 h.1)
 right_operand a ss p (operand.ByMemory area w from byte) h = seven_none (lacks_width p.op w) h
 right_operand a ss p (operand.ByRegister area w register bits) h = seven_none (lacks_width p.op w) h
 right_operand a ss p (operand.Parameter index w) h =
@@ -204,7 +201,7 @@ pass_fine : (a : Around) (lens : List (ℕ × ℕ)) (ss : List Spot) (at : ℕ)
       rest = passing ps ++ call_op calls.Call block instance ∷ rest;
     })
 pass_fine a lens ss at brackets before p ps block instance rest above bad misfits = record {
-  operand = λ still. seven_none _ (both_false (is_stray_pass here p.index) (is_bad_actual a p.actual) stray bad);
+  operand = λ still. seven_none _ (or_from (is_stray_pass here p.index) (is_bad_actual a p.actual) stray bad);
   call = seven_none _ unfit;
   mark = refl;
 }

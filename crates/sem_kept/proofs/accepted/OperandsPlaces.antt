@@ -1,13 +1,15 @@
 -- What a path into declared variables names: a place that meets its width, within the local data
 -- where it lies there, or a parameter of the function.
-use Rattle.std.proofs.Common.{ℕ, zero, suc, ◌≡◌, ◌≤◌, ◌+◌, ◌-◌, ◌*◌, ◌/◌, ◌%◌, ℤ, ◌-ℤ◌, unsigned_abs, List, [], ◌∷◌, ◌++◌, Option, Some, None, is_some, Bool, true, false, ◌||◌, not, nat_eq, nat_lt, refl, sym, ◌∙◌, ap, subst, arith, length, drop, drop_of_length-le, if◌then◌else◌, eqb-true, le-ltb, le-leb, eq-eqb, ne_eqb}
+use Rattle.std.proofs.Common.{ℕ, zero, suc, ◌≡◌, ◌≤◌, ◌+◌, ◌-◌, ◌*◌, ◌/◌, ◌%◌, ℤ, ◌-ℤ◌, unsigned_abs, List, [], ◌∷◌, ◌++◌, Option, Some, None, is_some, Bool, true, false, not, nat_eq, nat_lt, refl, sym, ◌∙◌, ap, subst, arith, length, drop, drop_of_length-le, if◌then◌else◌, eqb-true, le-ltb, le-leb, eq-eqb, ne_eqb}
 use Rattle.std.specs.Prelude.{◌==◌}
 use Rattle.std.specs.List.{AllByRecursion, flat_map, slice_get}
+use Rattle.std.proofs.lemmas.Bool.{or_from}
 use Rattle.plc_base.specs.Widths.{byte_count}
 use Rattle.plc_base.specs.declared.blocks.BlockKind.{BlockKind}
 use Rattle.plc_base.specs.declared.blocks.BlockKind.TheVariants as kinds
 use Rattle.plc_base.specs.declared.places.Area.{Area}
 use Rattle.plc_base.specs.declared.places.Area.TheVariants as area
+use Rattle.plc_base.proofs.ListLemmas.{all_append}
 use Rattle.flat_code.specs.Blocks.{Around, is_bad_place, is_odd_bit}
 use Rattle.stl_ast.specs.Blocks.{is_parameter, may_have}
 use Rattle.stl_ast.specs.Declarations.{is_plain}
@@ -45,7 +47,7 @@ use Rattle.stl_types.specs.declared.views.Seen.TheVariants.{Sees}
 use Rattle.stl_types.specs.declared.views.Side.TheVariants as side
 use Rattle.stl_types.specs.declared.views.View.TheVariants as view
 use Rattle.stl_codegen.specs.Instruction.{return_last}
-use Rattle.sem_kept.proofs.accepted.Accepted.{all_append, there}
+use Rattle.sem_kept.proofs.accepted.Accepted.{there}
 use Rattle.sem_kept.proofs.accepted.OperandsWalks.{Lies, Meets, MeetsKind}
 use Rattle.sem_kept.proofs.accepted.OperandsPaths.{element_plain}
 
@@ -135,16 +137,12 @@ place_within offset limit local simple.Dword h e f = le-ltb local (offset / 8 + 
 place_within offset limit local simple.Dint h e f = le-ltb local (offset / 8 + 4) (omega (arith, h, e, f))
 place_within offset limit local simple.Time h e f = le-ltb local (offset / 8 + 4) (omega (arith, h, e, f))
 
-either_false : (a b : Bool) → a ≡ false → b ≡ false → (a || b) ≡ false
-either_false true b h k = h
-either_false false b h k = k
-
 -- a variable in the local data
 pub local_fits : (a : Around) (offset limit : ℕ) (kind : Simple) → IsPlaced limit offset kind
     → limit % 16 ≡ 0 → limit / 8 ≤ a.local_len
     → is_bad_place a area.L (width_of kind) (offset / 8) (offset % 8) ≡ false
 local_fits a offset limit kind h e f =
-    either_false (is_odd_bit (width_of kind) (offset % 8))
+    or_from (is_odd_bit (width_of kind) (offset % 8))
     (nat_lt a.local_len (offset / 8 + byte_count (width_of kind)))
     (place_even offset kind h.even) (place_within offset limit a.local_len kind h.within e f)
 
@@ -152,12 +150,12 @@ local_fits a offset limit kind h e f =
 pub data_fits : (a : Around) (offset limit : ℕ) (kind : Simple) → IsPlaced limit offset kind
     → is_bad_place a area.Db (width_of kind) (offset / 8) (offset % 8) ≡ false
 data_fits a offset limit kind h =
-    either_false (is_odd_bit (width_of kind) (offset % 8)) false (place_even offset kind h.even) refl
+    or_from (is_odd_bit (width_of kind) (offset % 8)) false (place_even offset kind h.even) refl
 
 pub instance_fits : (a : Around) (offset limit : ℕ) (kind : Simple) → IsPlaced limit offset kind
     → is_bad_place a area.Di (width_of kind) (offset / 8) (offset % 8) ≡ false
 instance_fits a offset limit kind h =
-    either_false (is_odd_bit (width_of kind) (offset % 8)) false (place_even offset kind h.even) refl
+    or_from (is_odd_bit (width_of kind) (offset % 8)) false (place_even offset kind h.even) refl
 
 -- ---- parameters of a function
 

@@ -3,6 +3,7 @@ use Rattle.std.proofs.Common.{ℕ, zero, suc, ◌≡◌, ◌<◌, ◌≤◌, ◌
 use Rattle.std.specs.Prelude.{◌==◌}
 use Rattle.std.specs.List.{AllByRecursion, flat_map, slice_get}
 use Rattle.std.specs.Option.{is_none, option_and_then}
+use Rattle.std.proofs.lemmas.Bool.{or_from}
 use Rattle.plc_base.specs.Kinds.{kind_number}
 use Rattle.plc_base.specs.Widths.{byte_count, width_number}
 use Rattle.plc_base.specs.declared.blocks.BlockId.{BlockId}
@@ -305,10 +306,6 @@ own_there a index q is there =
 
 -- ---- addresses and symbols
 
-neither : (a b : Bool) → a ≡ false → b ≡ false → (a || b) ≡ false
-neither true b h k = h
-neither false b h k = k
-
 no_odd_bit : (w : Width) (bit : ℕ) → IsBitOf w bit → is_odd_bit w bit ≡ false
 no_odd_bit width.Bit bit h = refl
 no_odd_bit width.Byte bit h = ap not (eq-eqb bit 0 h)
@@ -331,7 +328,7 @@ address_fits : (a : Around) (ar : Letters) (w : Width) (byte bit : ℕ) → IsBi
     → (if is_local ar then byte + byte_count w else 0) ≤ a.local_len
     → is_bad_place a (area_of ar) w byte bit ≡ false
 address_fits a ar w byte bit h ends =
-    neither (is_odd_bit w bit) (is_past_locals a (area_of ar) w byte) (no_odd_bit w bit h)
+    or_from (is_odd_bit w bit) (is_past_locals a (area_of ar) w byte) (no_odd_bit w bit h)
     (no_past a ar w byte ends)
 
 outside_locals : (a : Around) (ar : Area) (w : Width) (byte : ℕ) → is_symbols_area ar ≡ true
@@ -346,7 +343,7 @@ outside_locals a area.Di w byte h = refl
 
 target_fits : (a : Around) (x : Target) → TargetFits x → ViewFits a (target_view x)
 target_fits a (target.Variable place w) h = (
-  neither (is_odd_bit w place.bit) (is_past_locals a place.area w place.byte) h.0
+  or_from (is_odd_bit w place.bit) (is_past_locals a place.area w place.byte) h.0
       (outside_locals a place.area w place.byte h.1),
   tt,
 )

@@ -3,6 +3,7 @@
 use Rattle.std.proofs.Common.{ℕ, zero, suc, ◌≡◌, ◌<◌, ◌≤◌, ◌+◌, ◌*◌, ◌/◌, ◌%◌, min, List, [], ◌∷◌, Option, Some, None, Bool, true, false, ◌&&◌, nat_eq, nat_lt, refl, sym, ◌∙◌, ap, subst, arith, length, drop, add-one, drop-drop, if◌then◌else◌, eqb-true, mul-le-mul_right, suc-mul, mul_assoc}
 use Rattle.std.specs.List.{slice_get}
 use Rattle.std.specs.Str.{bytes_eq}
+use Rattle.plc_base.proofs.TruthLemmas.{and_first}
 use Rattle.stl_ast.specs.declared.declarations.Bounds.{Bounds}
 use Rattle.stl_ast.specs.declared.declarations.Simple.{Simple}
 use Rattle.stl_ast.specs.declared.declarations.Simple.TheVariants as simple
@@ -306,10 +307,6 @@ component_none : (level at p : ℕ) (name : List ℕ) → component level at p n
 unfolding component
 component_none level at p name = refl
 
-and_left : (a b : Bool) → (a && b) ≡ true → a ≡ true
-and_left true b e = refl
-and_left false b e = absurd cc
-
 here_within : (level at : ℕ) (c : Cell) (cs : List Cell) → at ≤ largest
     → nat_lt c.level level ≡ false → nat_eq c.level level ≡ true → c.sound ≡ true
     → end_of level at (c ∷ cs) < largest
@@ -367,7 +364,7 @@ component_found all level at p (c ∷ cs) name m e near found =
                   subst (λ (z : List Cell). up at (alignment c) + cell_bits c z ≤ end_of level at (c ∷ cs))
                   (sym (cells_behind all p c cs e))
                   (here_within level at c cs near stays
-                  (and_left (nat_eq c.level level) (bytes_eq name c.name) is) sound short);
+                  (and_first (nat_eq c.level level) (bytes_eq name c.name) is) sound short);
             })
           where
             some_same : (x y : Member) → Some x ≡ Some y → x ≡ y

@@ -3,14 +3,15 @@ use Rattle.std.proofs.Common.{◌≡◌, ℕ, zero, suc, ◌+◌, ◌≤◌, ◌
 use Rattle.std.specs.Prelude.{if◌then◌else◌, nat_eq}
 use Rattle.std.specs.List.{AllByRecursion}
 use Rattle.std.specs.Option.{option_and_then, option_map}
-use Rattle.std.proofs.lemmas.Bool.{and_from, and_parts, eq-eqb, eqb-true, le-leb, lt-ltb, ltb-false}
+use Rattle.std.proofs.lemmas.Bool.{and_from, and_parts, eq-eqb, eqb-true, le-leb, lt-ltb, ltb-false, not-false}
 use Rattle.std.proofs.lemmas.Bool.Decides.{nat_tests}
-use Rattle.std.proofs.lemmas.List.{length-map}
+use Rattle.std.proofs.lemmas.List.{length-map, map-append}
 use Rattle.std.proofs.lemmas.Option.{slice_get-map}
 use Rattle.plc_base.specs.Kinds.{kind_number}
 use Rattle.plc_base.specs.declared.blocks.BlockId.{BlockId}
 use Rattle.plc_base.specs.declared.blocks.BlockKind.{BlockKind}
 use Rattle.plc_base.specs.declared.blocks.BlockKind.TheVariants as kinds
+use Rattle.plc_base.proofs.ListLemmas.{all_append}
 use Rattle.stl_ast.specs.Statements.{is_empty}
 use Rattle.stl_ast.specs.declared.blocks.Block.{Block}
 use Rattle.stl_ast.specs.declared.blocks.Tree.{Tree}
@@ -44,7 +45,7 @@ use Rattle.stl_codegen.specs.Generated.{code_block, code_block_of, code_blocks_o
 use Rattle.stl_codegen.specs.Instruction.{instruction}
 use Rattle.stl_codegen.specs.Order.{is_code_before, is_data_before, is_id_before, rank}
 use Rattle.sem_kept.specs.Records.{HasCode}
-use Rattle.sem_kept.proofs.accepted.Accepted.{AllLaid, IsSound, IsSoundTree, all_append, context_at}
+use Rattle.sem_kept.proofs.accepted.Accepted.{AllLaid, IsSound, IsSoundTree, context_at}
 use Rattle.sem_kept.proofs.accepted.RecordData.{got, id_there, length_there, types_symbols}
 use Rattle.sem_kept.proofs.accepted.RecordOrder.{AreApart, Differ, Rise, rise_sorted}
 use Rattle.sem_kept.proofs.accepted.RecordParams.{HasParams, kind_there, params_right}
@@ -266,14 +267,10 @@ stated_rise last before c body n (s ∷ ss) tail h =
     by true skipped kept = skipped
     by false skipped kept = (h.0, h.1, kept)
 
-map_append : {A B : Type 0} (f : A → B) (xs ys : List A) → map f (xs ++ ys) ≡ map f xs ++ map f ys
-map_append f [] ys = refl
-map_append {B = B} f (x ∷ xs) ys = ap (λ (z : List B). f x ∷ z) (map_append f xs ys)
-
 lines_stated : (last : ℕ) (c : Context) (b : Block) → Rises last 1 (lines_of b) → Rises last 1 (lines_in (statements_of c b))
 unfolding statements_of
 lines_stated last c b h =
-    subst (Rises last 1) (sym (map_append (λ (s : Stated). s.line) (stated_from c b.body 0 b.body) (returning b ∷ [])))
+    subst (Rises last 1) (sym (map-append (λ (s : Stated). s.line) (stated_from c b.body 0 b.body) (returning b ∷ [])))
     (stated_rise last 1 c b.body 0 b.body (b.end_line ∷ []) h)
 
 line_good : (judged : Bool) (before line : ℕ) → line < 4294967296 → 1 ≤ line → before ≤ line → (line_field judged before).good line ≡ true
@@ -334,10 +331,6 @@ number_one kinds.Db h e = absurd cc
 number_one kinds.Udt h e = absurd cc
 number_one kinds.Sfc h e = absurd cc
 
-not_beyond : (b : Bool) → not b ≡ false → b ≡ true
-not_beyond true h = refl
-not_beyond false h = absurd cc
-
 pub fields_of : (last : ℕ) (symbols : List Symbol) (t : Tree) → AllByRecursion (λ b. Rises last 1 (lines_of b)) t.blocks
     → (k : ℕ) (b : Block) (l : BlockLayout) (id : BlockId) → IsSound symbols t k b l → l.id ≡ Some id → is_code id.kind ≡ true
     → HasFields last (compiled (code_block (context_at symbols t k) b l id))
@@ -348,7 +341,7 @@ fields_of last symbols t rise k b l id h named code =
     let most : local_len (types_of symbols t.blocks) b ≤ 1024 = ltb-false 1024 (local_len (types_of symbols t.blocks) b) h.head.by_50 in
     record {
       code = code;
-      number = not_beyond (is_block_number id.kind id.number) (ap is_beyond (sym found) ∙ h.head.by_44);
+      number = not-false (is_block_number id.kind id.number) (ap is_beyond (sym found) ∙ h.head.by_44);
       params = params_right symbols t k b l id.kind h kind code;
       local = omega (arith, local, most);
       start = λ e. let least = local_start (types_of symbols t.blocks) b (kind ∙ number_one id.kind code e) in omega (arith, local, least);

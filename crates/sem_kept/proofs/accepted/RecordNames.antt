@@ -18,7 +18,6 @@ use Rattle.csv.specs.declared.parser.Action.{Action}
 use Rattle.csv.specs.declared.parser.Action.TheVariants as act
 use Rattle.csv.specs.declared.parser.State.{State}
 use Rattle.csv.specs.declared.parser.State.TheVariants as st
-use Rattle.plc_base.specs.Decimal.{decimal_up_to, decimal_value, is_decimal}
 use Rattle.plc_base.specs.declared.places.Area.{Area}
 use Rattle.plc_base.specs.declared.places.Area.TheVariants as area
 use Rattle.plc_base.specs.declared.places.Place.{Place}
@@ -36,13 +35,15 @@ use Rattle.plc_base.specs.Folding.{folded, is_same_name}
 use Rattle.stl_symbols.specs.Line.{Columns, alone, only_record, columns_of, columns}
 use Rattle.stl_symbols.specs.Symbol.{Symbol, symbol_named}
 use Rattle.plc_base.specs.Texts.{is_blank}
+use Rattle.plc_base.proofs.DecimalLemmas.{decimal_within}
+use Rattle.plc_base.proofs.ListLemmas.{all_append}
 use Rattle.stl_symbols.specs.Symbols.{is_name, without_last_blanks, without_blanks, declared, declaration, declaration_of, most_symbols, with_symbol, with_declaration, with_columns, with_line, and_then_lines, with_lines, symbols_of}
 use Rattle.stl_symbols.specs.declared.targets.Target.{Target}
 use Rattle.stl_symbols.specs.declared.targets.Target.TheVariants as target
 use Rattle.stl_parser.proofs.OptionLemmas.{mapped, chained, passed, none_holds}
 use Rattle.stl_codegen.specs.Generated.{has_name, name_entry, names_of}
 use Rattle.stl_codegen.specs.Order.{is_name_before}
-use Rattle.sem_kept.proofs.accepted.Accepted.{all_append, all_sorted}
+use Rattle.sem_kept.proofs.accepted.Accepted.{all_sorted}
 use Rattle.sem_kept.proofs.accepted.RecordOrder.{AreApart, Differ, rise_sorted, good_all}
 
 -- ---- bytes
@@ -187,12 +188,6 @@ IsTarget _ = Unit {0}
 -- what an address declares, if anything, has its place
 abbrev Declares : {A : Type 0} → List ℕ → (A → Option Symbol) → A → Type 0
 Declares name view a = IfSome (view a) (λ s. (s.name ≡ name) × IsTarget s.target)
-
-decimal_within : (most : ℕ) (word : List ℕ) → IfSome (decimal_up_to most word) (λ n. n ≤ most)
-unfolding decimal_up_to
-decimal_within most word =
-    passed (is_decimal word && leb (decimal_value word) most) (Some (decimal_value word)) (λ n. n ≤ most)
-    (λ t. leb-true (decimal_value word) most (and_parts (is_decimal word) (leb (decimal_value word) most) t).1)
 
 bit_within : (text : List ℕ) → IfSome (bit_behind text) (λ bit. bit ≤ 7)
 bit_within [] = tt

@@ -34,6 +34,7 @@ use Rattle.stl_ast.specs.declared.declarations.Simple.TheVariants as simple
 use Rattle.plc_base.specs.Folding.{folded}
 use Rattle.plc_base.specs.Gathered.{gathered}
 use Rattle.plc_base.specs.Least.{broken_if}
+use Rattle.plc_base.proofs.ListLemmas.{all_front, all_back, all_append}
 use Rattle.stl_symbols.specs.Names.{place_of}
 use Rattle.stl_symbols.specs.Symbol.{Symbol}
 use Rattle.block_layout.specs.Around.{Outside, around, onto, of_sections, of_structure, returned_names, section_declarations, in_block, in_list}
@@ -63,7 +64,7 @@ use Rattle.flat_code.specs.declared.programs.Param.{Param}
 use Rattle.flat_code.proofs.CheckLemmas.{zero_byte_good}
 use Rattle.stl_codegen.specs.Generated.{instance_len, offset_named, param_here, param_of, params_of, section_number}
 use Rattle.stl_codegen.specs.Instruction.{return_last}
-use Rattle.sem_kept.proofs.accepted.Accepted.{IsSound, all_append, none_left, none_right, not_broken}
+use Rattle.sem_kept.proofs.accepted.Accepted.{IsSound, none_left, none_right, not_broken}
 use Rattle.sem_kept.proofs.accepted.RecordNames.{width_good}
 
 -- ---- what holds of each declaration of a list, with those before it
@@ -126,14 +127,6 @@ not_in n (m ∷ names) e = by (bytes_eq n m) (place_of n names) refl e (not_in n
     by false None is e more = (is, more refl)
     by false (Some k) is e more = absurd cc
 
-front_of : {A : Type 0} (P : A → Type 0) (xs ys : List A) → AllByRecursion P (xs ++ ys) → AllByRecursion P xs
-front_of P [] ys h = tt
-front_of P (x ∷ xs) ys h = (h.0, front_of P xs ys h.1)
-
-rest_of : {A : Type 0} (P : A → Type 0) (xs ys : List A) → AllByRecursion P (xs ++ ys) → AllByRecursion P ys
-rest_of P [] ys h = h
-rest_of P (x ∷ xs) ys h = rest_of P xs ys h.1
-
 -- the names of the outermost cells so far
 abbrev seen_by : List (List ℕ) → Cell → List (List ℕ)
 seen_by seen c = if nat_eq c.level 0 then c.name ∷ seen else seen
@@ -181,14 +174,14 @@ Covers outer before seen = (n : List ℕ) → NotIn n (names_before outer 0 befo
 covers_more : (outer : List (List ℕ)) (before : List Declaration) (seen : List (List ℕ)) (d : Declaration) (c : Cell)
     → c.name ≡ folded d.name → c.level ≡ d.level → Covers outer before seen → Covers outer (d ∷ before) (seen_by seen c)
 covers_more outer before seen d c name level h n all =
-    rw level (by (nat_eq d.level 0) (rest_of (λ m. bytes_eq n m ≡ false) (names_before outer 0 before) (name_here 0 d) out))
+    rw level (by (nat_eq d.level 0) (all_back (λ m. bytes_eq n m ≡ false) (names_before outer 0 before) (name_here 0 d) out))
   where
     out : NotIn n (names_before outer 0 before ++ name_here 0 d)
     out = subst (NotIn n) (names_step outer d before) all
 
     by : (t : Bool) → NotIn n (if t then folded d.name ∷ [] else []) → NotIn n (if t then c.name ∷ seen else seen)
-    by true k = (ap (bytes_eq n) name ∙ k.0, h n (front_of (λ m. bytes_eq n m ≡ false) (names_before outer 0 before) (name_here 0 d) out))
-    by false k = h n (front_of (λ m. bytes_eq n m ≡ false) (names_before outer 0 before) (name_here 0 d) out)
+    by true k = (ap (bytes_eq n) name ∙ k.0, h n (all_front (λ m. bytes_eq n m ≡ false) (names_before outer 0 before) (name_here 0 d) out))
+    by false k = h n (all_front (λ m. bytes_eq n m ≡ false) (names_before outer 0 before) (name_here 0 d) out)
 
 name_new : (o : Outside) (before : List Declaration) (d : Declaration) → is_twice o before d ≡ false → nat_eq d.level 0 ≡ true
     → NotIn (folded d.name) (names_before o.names 0 before)
@@ -218,7 +211,7 @@ cells_covered y o section before (d ∷ ds) seen covers =
 names_more : (outer : List (List ℕ)) (before ds : List Declaration) (n : List ℕ) → NotIn n (names_before outer 0 (onto before ds)) → NotIn n (names_before outer 0 before)
 names_more outer before [] n h = h
 names_more outer before (d ∷ ds) n h =
-    front_of (λ m. bytes_eq n m ≡ false) (names_before outer 0 before) (name_here 0 d)
+    all_front (λ m. bytes_eq n m ≡ false) (names_before outer 0 before) (name_here 0 d)
     (subst (NotIn n) (names_step outer d before) (names_more outer (d ∷ before) ds n h))
 
 sections_once : (y : Types) (o : Outside) (wanted : PartKind → Bool) (before : List Declaration) (ps : List Part) (seen : List (List ℕ))

@@ -6,6 +6,7 @@ use Rattle.std.specs.Option.{is_none, option_and_then, option_map}
 use Rattle.std.proofs.lemmas.Bool.Decides.{nat_tests}
 use Rattle.std.proofs.lemmas.List.{length-map, length-replicate}
 use Rattle.std.proofs.lemmas.List.Sums.{sum_by-cons}
+use Rattle.std.proofs.lemmas.Option.{same_Some}
 use Rattle.plc_base.specs.declared.blocks.BlockId.{BlockId}
 use Rattle.plc_base.specs.declared.blocks.BlockKind.{BlockKind}
 use Rattle.plc_base.specs.declared.blocks.BlockKind.TheVariants as kinds
@@ -348,9 +349,6 @@ laid_length : (y : Types) (blocks before : List Block) (b : Block) (l : BlockLay
 unfolding block_layout
 laid_length y blocks before b l is = ap (λ (l : BlockLayout). l.length) is
 
-same_some : {A : Type 0} (x y : A) → Some x ≡ Some y → x ≡ y
-same_some x y h = cc
-
 of_same : (k : BlockKind) (o : Option BlockId) (id : BlockId)
     → of_kind (is_same_kind k) o ≡ Some id → is_same_kind k id.kind ≡ true
 of_same k None id h = absurd cc
@@ -359,7 +357,7 @@ of_same k (Some j) id h = by (is_same_kind k j.kind) refl h
     by : (same : Bool) → is_same_kind k j.kind ≡ same → (if same then Some j else None) ≡ Some id
         → is_same_kind k id.kind ≡ true
     by true e h =
-        ap (λ (i : BlockId). is_same_kind k i.kind) (sym (same_some j id h)) ∙ e
+        ap (λ (i : BlockId). is_same_kind k i.kind) (sym (same_Some j id h)) ∙ e
     by false e h = absurd cc
 
 sound_kind : (symbols : List Symbol) (t : Tree) (k : ℕ) (b : Block) (l : BlockLayout)
@@ -683,7 +681,7 @@ part_of : {X : Type 0} (f : X → ℕ) (xs : List X) (k : ℕ) (x : X) → slice
     → f x ≤ sum_by f xs
 part_of f [] k x h = absurd cc
 part_of f (y ∷ ys) zero x h =
-    omega (arith, ap f (same_some y x h), sum_by-cons f y ys)
+    omega (arith, ap f (same_Some y x h), sum_by-cons f y ys)
 part_of f (y ∷ ys) (suc k) x h = omega (arith, part_of f ys k x h, sum_by-cons f y ys)
 
 few_statements : (n : ℕ) → nat_lt 65534 n ≡ false → n + 1 < 65536

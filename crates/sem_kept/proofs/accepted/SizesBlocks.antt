@@ -5,6 +5,7 @@ use Rattle.std.specs.List.{sum_by}
 use Rattle.std.specs.Option.{option_and_then, option_map}
 use Rattle.std.proofs.lemmas.Bool.Decides.{nat_tests}
 use Rattle.std.proofs.lemmas.List.Sums.{sum_by-cons}
+use Rattle.std.proofs.lemmas.Bool.{and_parts, lt-ltb, not-false}
 use Rattle.plc_base.specs.declared.blocks.BlockId.{BlockId}
 use Rattle.plc_base.specs.declared.blocks.BlockKind.{BlockKind}
 use Rattle.plc_base.specs.declared.blocks.BlockKind.TheVariants as kinds
@@ -34,17 +35,13 @@ same_kind kinds.Sfc kinds.Sfc h = refl
 same_kind kinds.Udt kinds.Udt h = refl
 same_kind _ _ h = cc
 
-both_true : (a b : Bool) → (a && b) ≡ true → (a ≡ true) × (b ≡ true)
-both_true true b h = (refl, h)
-both_true false b h = absurd cc
-
 same_number : (m n : ℕ) → nat_eq m n ≡ true → m ≡ n
 same_number m n h = grind (arith, nat_tests)
 
 same_id : (k j : BlockKind) (m n : ℕ) → (is_same_kind k j && nat_eq m n) ≡ true
     → (k ≡ j) × (m ≡ n)
 same_id k j m n h =
-    let parts = both_true (is_same_kind k j) (nat_eq m n) h in
+    let parts = and_parts (is_same_kind k j) (nat_eq m n) h in
     (same_kind k j parts.0, same_number m n parts.1)
 
 same_block : (a b : BlockId) → is_same_block a b ≡ true → a ≡ b
@@ -212,15 +209,8 @@ coded symbols b = bit (is_code_id (id_of symbols b))
 ob_low : (n : ℕ) → is_ob_number n ≡ true → n < 123
 ob_low n h = grind (arith, nat_tests)
 
-low : (m n : ℕ) → m < n → nat_lt m n ≡ true
-low m n h = grind (arith, nat_tests)
-
 within : (n : ℕ) → (nat_le 0 n && nat_le n 2047) ≡ true → n < 2048
 within n h = grind (arith, nat_tests)
-
-right_number : (b : Bool) → not b ≡ false → b ≡ true
-right_number true h = refl
-right_number false h = absurd cc
 
 by_kind : (k : BlockKind) (n : ℕ) → not (is_block_number k n) ≡ false
     → bit (is_code k)
@@ -229,11 +219,11 @@ by_kind : (k : BlockKind) (n : ℕ) → not (is_block_number k n) ≡ false
     + bit (below_limit kinds.Fb 2048 (Some (record { kind = k; number = n })))
 unfolding below_limit
 by_kind kinds.Ob n h =
-    rw (low n 123 (ob_low n (right_number (is_ob_number n) h))) (omega arith)
+    rw (lt-ltb n 123 (ob_low n (not-false (is_ob_number n) h))) (omega arith)
 by_kind kinds.Fc n h =
-    rw (low n 2048 (within n (right_number (is_block_number kinds.Fc n) h))) (omega arith)
+    rw (lt-ltb n 2048 (within n (not-false (is_block_number kinds.Fc n) h))) (omega arith)
 by_kind kinds.Fb n h =
-    rw (low n 2048 (within n (right_number (is_block_number kinds.Fb n) h))) (omega arith)
+    rw (lt-ltb n 2048 (within n (not-false (is_block_number kinds.Fb n) h))) (omega arith)
 by_kind kinds.Db n h = omega arith
 by_kind kinds.Sfc n h = omega arith
 by_kind kinds.Udt n h = omega arith

@@ -4,9 +4,9 @@ use Rattle.std.proofs.Common.{arith, ℕ, ◌+◌, ◌*◌, ◌≡◌, ◌≤◌
 use Rattle.std.specs.Prelude.{◌&&◌, not, nat_lt, take, drop}
 use Rattle.std.specs.Option.{IfSome}
 use Rattle.std.specs.List.{flat_map, position_or_len, sum_by}
-use Rattle.std.proofs.lemmas.Bool.Decides.{nat_tests}
 use Rattle.std.proofs.lemmas.List.Sums.{sum_by-append, sum_by-cons}
 use Rattle.std.proofs.lemmas.List.{length-drop, length-take}
+use Rattle.std.proofs.lemmas.Bool.{ltb-true}
 use Rattle.plc_base.specs.declared.blocks.BlockKind.{BlockKind}
 use Rattle.stl_lexer.specs.Tokens.{AreTokens, text_of}
 use Rattle.stl_lexer.specs.declared.kinds.Token.{Token}
@@ -154,16 +154,13 @@ inside_takes source p line tokens =
     (statement_takes source line tokens (length tokens))
     (setting_takes source line tokens (length tokens)))
 
-is_below : (m n : ℕ) → nat_lt m n ≡ true → m < n
-is_below m n test = grind (arith, nat_tests)
-
 place_takes : (source : List ℕ) (tokens : List Token)
     → IfSome (spec.semicolon_place source tokens) (λ n. n < length tokens)
 unfolding spec.semicolon_place
 place_takes source tokens =
     let place = position_or_len (λ t. is_mark source t mark.Semicolon) tokens in
     passed (nat_lt place (length tokens)) _ (λ n. n < length tokens)
-    (λ test. is_below place (length tokens) test)
+    (λ test. ltb-true place (length tokens) test)
 
 cut_lengths : (n : ℕ) (tokens : List Token) → n < length tokens
     → length (take n tokens) + 1 + length (drop (n + 1) tokens) ≤ length tokens

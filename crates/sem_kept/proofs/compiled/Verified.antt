@@ -32,6 +32,8 @@ use Rattle.stl_symbols.specs.Symbol.{Symbol}
 use Rattle.block_layout.specs.Blocks.{is_code}
 use Rattle.block_layout.specs.declared.blocks.BlockLayout.{BlockLayout}
 use Rattle.plc_base.specs.declared.blocks.BlockId.{BlockId}
+use Rattle.plc_base.proofs.ListLemmas.{all_append}
+use Rattle.plc_base.proofs.TruthLemmas.{and_first, and_second}
 use Rattle.stl_types.specs.Bodies.{first_context}
 use Rattle.stl_types.specs.Context.{Context}
 use Rattle.stl_codegen.specs.Compiled.{Stated, StatedBlock, compiled, code_in, ops_in, offset_from, offset_of, aimed, aimed_op}
@@ -95,11 +97,6 @@ made_of c b l (Some id) = by (is_code id.kind)
         → AllByRecursion IsMadeBlock (if is then code_block c b l id ∷ [] else [])
     by true = (made_block c b l id, tt)
     by false = tt
-
-all_append : {A : Type 0} (P : A → Type 0) (xs ys : List A)
-    → AllByRecursion P xs → AllByRecursion P ys → AllByRecursion P (xs ++ ys)
-all_append P [] ys h k = k
-all_append P (x ∷ xs) ys h k = (h.0, all_append P xs ys h.1 k)
 
 made_each : (c : Context) (bs : List Block) (ls : List BlockLayout)
     → AllByRecursion IsMadeBlock (each_block (λ c b l. code_block_of c b l l.id) c bs ls)
@@ -633,14 +630,6 @@ block_compilable b made right =
 
 -- ---- a program that verifies
 
-both_left : (a b : Bool) → (a && b) ≡ true → a ≡ true
-both_left true b e = refl
-both_left false b e = absurd cc
-
-both_right : (a b : Bool) → (a && b) ≡ true → b ≡ true
-both_right true b e = e
-both_right false b e = absurd cc
-
 first_none : (a b : Option ℕ) → is_nowhere (first_of a b) ≡ true → a ≡ None
 first_none None b e = refl
 first_none (Some at) b e = absurd cc
@@ -650,13 +639,13 @@ unfolding code_of
 code_short count ops e = record {
   at = 0;
   none = first_none (overlong 0 0 ops) (if ends_right ops then None else Some (last_place 0 ops))
-      (both_right (are_ops ops) (is_nowhere (stop_at true ops []))
-      (both_left (are_ops ops && is_nowhere (stop_at true ops [])) (eqb (length (code_bytes ops)) count) e));
+      (and_second (are_ops ops) (is_nowhere (stop_at true ops []))
+      (and_first (are_ops ops && is_nowhere (stop_at true ops [])) (eqb (length (code_bytes ops)) count) e));
 }
 
 block_short : (before : ℕ × ℕ) (b : BlockRecord) → (whole_block true before).good b ≡ true → IsShort b.code
 unfolding whole_block plain_block raw_block code_and_lines
-block_short before b e = code_short _ b.code (both_left _ _ (both_right _ _ (both_right _ _ e)))
+block_short before b e = code_short _ b.code (and_first _ _ (and_second _ _ (and_second _ _ e)))
 
 blocks_short : (before : ℕ × ℕ) (n : ℕ) (bs : List BlockRecord)
     → good_many (whole_block true) after_block before n bs ≡ true
@@ -664,8 +653,8 @@ blocks_short : (before : ℕ × ℕ) (n : ℕ) (bs : List BlockRecord)
 blocks_short before n [] e = tt
 blocks_short before zero (b ∷ bs) e = absurd cc
 blocks_short before (suc n) (b ∷ bs) e = (
-  block_short before b (both_left _ _ e),
-  blocks_short (after_block before b) n bs (both_right _ _ e),
+  block_short before b (and_first _ _ e),
+  blocks_short (after_block before b) n bs (and_second _ _ e),
 )
 
 program_short : (p : Program) → IsRight p
@@ -673,7 +662,7 @@ program_short : (p : Program) → IsRight p
 unfolding body records raw_records code_blocks
 program_short p e =
     blocks_short (0, 0) _ (map record_of_block p.code_blocks)
-    (both_left _ _ (both_right _ _ e))
+    (and_first _ _ (and_second _ _ e))
 
 code_clean : (a : Around) (ops : List OpData) → block_faults a 0 ops ≡ [] → IsClean a (spots ops) 0 ops
 unfolding block_faults
