@@ -13,12 +13,12 @@ use Rattle.plc_base.specs.declared.refusals.Refusal.{Refusal}
 use Rattle.flat_code.specs.Blocks.{is_odd_bit}
 use Rattle.stl_symbols.specs.Address.{address_letters, address_of, bit_address, bit_behind, has_type, look_up, number_of, numbered, variable}
 use Rattle.plc_base.specs.Folding.{is_same_name}
+use Rattle.plc_base.proofs.ListLemmas.{all_append}
 use Rattle.stl_symbols.specs.Line.{Columns, columns}
 use Rattle.stl_symbols.specs.Symbol.{Symbol, symbol_named}
 use Rattle.stl_symbols.specs.Symbols.{and_then_lines, declaration, declaration_of, declared, is_name, most_symbols, symbols_of, with_columns, with_declaration, with_line, with_lines, with_symbol, without_blanks, without_last_blanks}
 use Rattle.stl_symbols.specs.declared.targets.Target.{Target}
 use Rattle.stl_symbols.specs.declared.targets.Target.TheVariants as target
-use Rattle.sem_kept.proofs.accepted.Accepted.{all_append}
 
 -- the areas in which symbols lie
 abbrev pub is_symbols_area : Area → Bool
