@@ -99,6 +99,13 @@ class Refusals(ToolTest):
             self.assertEqual(self.lines(open_source), [(last, 13, 0), (last, 20, 0)])
         self.assertEqual(self.lines("FUNCTION FC 1 : VOID\nVAR_INPUT\na : INT;\n"), [(3, 13, 0)])
 
+    def test_a_block_that_lost_its_frame_is_left_out(self):
+        source = DATA.replace("STRUCT\n  c : INT := 40000;", "STRUKT\n  c : INT;") + TOKENS.replace("  A \"Motor;\n  L W#16#12G;\n  A I 0.0 $\n", "")
+        self.assertEqual(self.lines(source), [(2, 10, 0), (4, 11, 2), (13, 10, 0)])
+
+    def test_what_stands_outside_of_blocks(self):
+        self.assertEqual(self.lines("SET;\nFUNCTION FC 1 : VOID\nBEGIN\nL nix;\nEND_FUNCTION\nCLR;\n"), [(1, 11, 0), (4, 20, 0), (6, 11, 0)])
+
     def test_an_attribute_without_end(self):
         self.assertEqual(self.lines("FUNCTION FC 1 : VOID\n{ open\nBEGIN\nL nix;\nEND_FUNCTION\n"), [(2, 2, 0), (4, 20, 0)])
 

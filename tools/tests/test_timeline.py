@@ -75,10 +75,10 @@ class Timelines(ToolTest):
         tree = xml.etree.ElementTree.fromstring(self.read("picture"))
         texts = [it.text for it in tree.iter("{http://www.w3.org/2000/svg}text")]
         times = ["0 s", "0.02 s", "0.04 s", "0.06 s", "0.08 s", "0.1 s", "0.12 s", "0.14 s"]
-        self.assertEqual(texts, ["Fast & slow", *times, 'I 0.0 "Start"', 'QW 6 "Speed"', "0", "-2"])
-        # the labels' column ends at 16 + 13 * 7.3 + 14 = 125; the axis is 819 wide and holds 150 ms and 6 more behind them
-        end_of_pulse = round(125 + 819 * 100 / 156, 1)
-        self.assertIn(f'd="M125.0,48 H{end_of_pulse} L{end_of_pulse},68 H944.0"', self.read("picture"))
+        self.assertEqual(texts, ["Fast & slow", *times, 'I 0.0 "Start"', 'QW 6 "Speed"', "0", "-2", "STOP 8"])
+        # the labels' column ends at 16 + 13 * 7.85 + 14 = 132; the axis is 812 wide and holds 150 ms and 6 more behind them
+        end_of_pulse = round(132 + 812 * 100 / 156, 1)
+        self.assertIn(f'd="M132.0,48 H{end_of_pulse} L{end_of_pulse},68 H944.0"', self.read("picture"))
 
     def test_a_diagram_is_legible_on_any_page(self):
         self.expect(0, "", "timeline", "run", "history", "--svg", "picture")

@@ -62,6 +62,9 @@ class Clause(NamedTuple):
     def covers(self, line):
         return self.line <= line <= self.tokens[-1].line
 
+    def is_in_block(self):
+        return self.block >= 0
+
     def is_head(self):
         return self.tokens[0].upper in HEADS
 

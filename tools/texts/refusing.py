@@ -10,7 +10,7 @@ from texts.histories import ARRIVING
 from texts.tool import Refused, decoded
 
 REFUSED = re.compile(r"(symbols|source) refused: line (\d+) rule (\d+)\n")
-NO_TOKEN, NO_END, ENDS_INSIDE = 1, 2, 13
+NO_TOKEN, NO_END, MISPLACED, ENDS_INSIDE = 1, 2, 11, 13
 RULES_OF_CLAUSES = (10, 11, 12, 13)
 INITIAL_VALUE = 41
 RULES_OF_NAMES = (20, 23, 34)
@@ -83,12 +83,17 @@ class Checker:
         return match[1], int(match[2]), int(match[3])
 
 
-def ways_out(texts, clauses, kind, line, rule):
+def ways_out(texts, clauses, found, cause):
     """Texts without what is refused, with the clause that was left out, the narrowest first."""
+    kind, line, rule = found
     if kind == "symbols":
         yield texts._replace(symbols=line_emptied(texts.symbols, line)), None
         return
     touched = [it for it in clauses if it.line == line] or [it for it in clauses if it.covers(line)]
+    if rule == MISPLACED and cause and touched:
+        # what is behind a clause that was left out stands nowhere any more: the block can't be checked
+        block = [it for it in clauses if it.block == touched[0].block]
+        yield texts._replace(source=blanked(texts.source, block[0].begin, block[-1].end)), block[0]
     for source, clause in sources_without(texts.source, touched, clauses, line, rule):
         yield texts._replace(source=source), clause
 
@@ -140,29 +145,57 @@ def renumbered(source, head, clauses):
     return replaced(source, head.tokens[1].begin, head.tokens[block_at(head.tokens[1:])[1]].end, b"%s %d" % (kind, free))
 
 
+class LeftOut:
+    """What was left out so far: the lines by the names that were declared there, and by the heads of blocks that lost a
+    clause against the rules of clauses."""
+
+    def __init__(self):
+        self.by_name, self.by_head = {}, {}
+
+    def add(self, texts, clauses, found, shorter, clause):
+        kind, line, rule = found
+        name = symbol_name(texts.symbols, line) if kind == "symbols" else clause.declares() if clause else b""
+        if name and is_left_out(clause, texts, shorter):
+            self.by_name.setdefault(name, line)
+        if clause and clause.is_in_block() and not clause.is_head() and rule in RULES_OF_CLAUSES:
+            self.by_head.setdefault(head_line(clause, clauses), line)
+
+    def cause_of(self, clauses, found):
+        """The line in which something was left out that may be all that is wrong in the refused line, or 0."""
+        kind, line, rule = found
+        here = [it for it in clauses if it.covers(line)]
+        if rule == MISPLACED and here:
+            return self.by_head.get(head_line(here[0], clauses), 0)
+        names = set().union(*(it.names() for it in here)) if rule in RULES_OF_NAMES else set()
+        return min((self.by_name[name] for name in names & set(self.by_name)), default=0)
+
+
+def head_line(clause, clauses):
+    """The line of the head of a clause's block, or 0 outside of all."""
+    return next((it.line for it in clauses if it.begin == clause.block), 0)
+
+
 def refusals(texts, checker, most):
     """Yields the refusals of the texts, `most` at most."""
-    left_out, found = {}, checker.refusal_of(texts)
+    left_out, found = LeftOut(), checker.refusal_of(texts)
     for _ in range(most):
         if found is None:
             return
-        kind, line, _ = found
-        clauses = clauses_of(texts.source) if kind == "source" else []
-        yield Refusal(*found, named_before(clauses, found, left_out))
-        shorter, clause, after = way_out(texts, clauses, found, checker)
-        name = symbol_name(texts.symbols, line) if kind == "symbols" else clause.declares() if clause else b""
-        if name and is_left_out(clause, texts, shorter):
-            left_out.setdefault(name, line)
+        clauses = clauses_of(texts.source) if found[0] == "source" else []
+        cause = left_out.cause_of(clauses, found)
+        yield Refusal(*found, cause)
+        shorter, clause, after = way_out(texts, clauses, found, cause, checker)
+        left_out.add(texts, clauses, found, shorter, clause)
         texts, found = shorter, after
 
 
-def way_out(texts, clauses, found, checker):
+def way_out(texts, clauses, found, cause, checker):
     """The texts without what is refused, the clause that was left out, and what is refused then: the first way by which
     the clause there, and the next one, keep the rules of clauses, or else the first by which anything changes."""
     kind, line, _ = found
-    near = (line, next((it.line for it in clauses if it.line > line), line))
+    near = range(line, next((it.line for it in clauses if it.line > line), line) + 1)
     second_best = None
-    for shorter, clause in ways_out(texts, clauses, *found):
+    for shorter, clause in ways_out(texts, clauses, found, cause):
         after = checker.refusal_of(shorter)
         if after == found:
             continue
@@ -185,12 +218,3 @@ def symbol_name(symbols, line):
     """The name in a line of a symbols file, as names of clauses are written."""
     fields = next(csv.reader([decoded(symbols.split(b"\n")[line - 1])]), [""])
     return fields[0].rstrip().upper().encode()
-
-
-def named_before(clauses, found, left_out):
-    """The line in which something was left out that a clause of the refused line names, or 0."""
-    _, line, rule = found
-    if rule not in RULES_OF_NAMES:
-        return 0
-    names = set().union(*(it.names() for it in clauses if it.covers(line)))
-    return min((left_out[name] for name in names & set(left_out)), default=0)

@@ -5,14 +5,14 @@ reader asks for that.
 """
 from xml.sax.saxutils import escape
 
-from texts.happenings import values_by_time
+from texts.happenings import modes_by_time, values_by_time
 from texts.tool import Refused
 
 WIDTH = 960
 MARGIN = 16
 ROW = 36
 HIGH, LOW = 8, 28
-LETTER = 7.3
+LETTER = 7.85
 SLANT = 3
 LARGEST_LABEL = 40
 STYLE = """
@@ -22,6 +22,7 @@ STYLE = """
   text { font: 13px ui-monospace, Menlo, Consolas, "DejaVu Sans Mono", monospace; fill: #1f2328 }
   .title { font-weight: bold }
   .time { font-size: 12px; fill: #57606a }
+  .stop { stroke: #cf222e; stroke-width: 2 }
   path.input, path.output { fill: none; stroke-width: 2; stroke-linejoin: round }
   rect.input, rect.output { fill-opacity: 0.14 }
   path.input { stroke: #0969da }
@@ -34,6 +35,7 @@ STYLE = """
     .rest { stroke: #484f58 }
     text { fill: #e6edf3 }
     .time { fill: #9198a1 }
+    .stop { stroke: #f85149 }
     path.input { stroke: #58a6ff }
     path.output { stroke: #f0883e }
     rect.input { fill: #58a6ff }
@@ -108,7 +110,8 @@ def diagram(happened, signals, title=""):
     scale = Scale(MARGIN + round(LETTER * max(map(len, labels))) + 14, happened.length)
     top = MARGIN + (24 if title else 0)
     bottom = top + ROW * len(signals)
-    height = bottom + 34
+    stops = [(time, mode) for time, mode in modes_by_time(happened) if mode.startswith("STOP")]
+    height = bottom + (52 if stops else 34)
     shapes = [f'<rect class="ground" x="0.5" y="0.5" width="{WIDTH - 1}" height="{height - 1}" rx="6"/>']
     if title:
         shapes.append(f'<text class="title" x="{MARGIN}" y="{MARGIN + 12}">{escape(title)}</text>')
@@ -125,6 +128,10 @@ def diagram(happened, signals, title=""):
         else:
             shapes.append(f'<path class="rest" d="M{scale.left},{row + LOW} H{scale.right}"/>')
             shapes += bit_row(values, scale, row, kind)
+    for time, mode in stops:
+        x = scale.x(time)
+        shapes.append(f'<path class="stop" d="M{x},{top} V{bottom + 26}"/>')
+        shapes.append(f'<text x="{x}" y="{bottom + 40}" text-anchor="middle">{mode}</text>')
     head = f'<svg xmlns="http://www.w3.org/2000/svg" viewBox="0 0 {WIDTH} {height}" width="{WIDTH}" height="{height}" role="img">'
     described = f"<title>{escape(title or 'Timing diagram of a run')}</title>"
     return "\n".join([head, described, f"<style>{STYLE}</style>", *shapes, "</svg>"]) + "\n"
