@@ -40,9 +40,9 @@ use Rattle.sys_funcs.specs.Functions.{dis_airt, en_airt, set_unless, dis_irt, en
 use Rattle.sys_funcs.specs.Returned.{Returned, returned, passed}
 use Rattle.var_access.specs.declared.What.{What}
 use Rattle.var_access.specs.declared.What.TheVariants as what
+use Rattle.var_access.specs.Entry.{IsInRange}
 use Rattle.controller.specs.Beginning.{ob_block, ob_frame, told_from, ob_begun, ob_in, begun_above}
 use Rattle.controller.specs.CyclePoint.{cycle_point, cycle_passed, cycle_info}
-use Rattle.var_access.specs.Entry.{IsInRange}
 use Rattle.controller.specs.Errors.{is_synchronous, cause_without, failure, copied_from, error_in, error_answered, failed}
 use Rattle.controller.specs.Event.{counted, effect, state_after}
 use Rattle.controller.specs.Fitting.{AllFit, AreInRange, EntriesKeepFit, FitIsReady, HistoriesAreFit, IsFit, IsSchedule, RestartKeepsFit, StartIsFit}

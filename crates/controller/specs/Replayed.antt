@@ -6,7 +6,7 @@ use Rattle.var_access.specs.declared.Entry.{Entry}
 use Rattle.var_access.specs.declared.What.{What}
 use Rattle.controller.specs.Replay.{Happened, happens, last_seen, replay}
 use Rattle.controller.specs.State.{State}
-use Rattle.controller.specs.declared.Observed.{Observed}
+use Rattle.controller.specs.declared.observing.Observed.{Observed}
 use Rattle.controller.specs.Recorded.{Recorded}
 
 -- what the entries of a history do, whoever makes them

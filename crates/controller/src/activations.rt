@@ -1,3 +1,4 @@
+//! The running activation and those that it and others interrupted.
 ghost use Rattle.std.specs.Prelude.{◌≡◌, ◌<◌, ◌≤◌, false, [], ◌∷◌, ◌+◌, ◌++◌, length, map, set, take, vec_capacity, IfOk, IfSome};
 ghost use Rattle.std.specs.Option.{option_map};
 ghost use Rattle.frames.specs.Activations.{begun, frame_begun};

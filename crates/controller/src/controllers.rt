@@ -1,15 +1,16 @@
+//! The controller: a program and its history.
 ghost use Rattle.std.specs.Prelude.{◌≡◌, ◌+◌, ◌-◌, ◌^◌, ◌<◌, ◌≤◌, ◌↔◌, [], ◌∷◌, ◌++◌, length, max, take, slice_get, is_some, replicate, false, Some, IfOk, OnOk, OnErr, IsNone, IsTrue};
 ghost use Rattle.std.specs.Option.{option_copied, option_map};
 ghost use Rattle.std.specs.FinMap as finmap;
 ghost use Rattle.plc_base.specs.declared.Profile.TheVariants.{Small};
 ghost use Rattle.image_file.specs.Readers.{bytes_of};
 ghost use Rattle.machine.specs.Flat.{code_of};
-ghost use Rattle.controller.specs.Quiet.{ShowNothing, steps_quietly};
-ghost use Rattle.controller.specs.Replay.{run_from};
-ghost use Rattle.controller.specs.Replayed.{data_blocks as blocks_after, events, next_happens, numbered as with_number, replayed, seen};
 ghost use Rattle.var_access.specs.Entry.{IsValid};
 ghost use Rattle.var_access.specs.declared.Entry.{Entry};
 ghost use Rattle.var_access.specs.declared.What.TheVariants.{Step};
+ghost use Rattle.controller.specs.Quiet.{ShowNothing, steps_quietly};
+ghost use Rattle.controller.specs.Replay.{run_from};
+ghost use Rattle.controller.specs.Replayed.{data_blocks as blocks_after, events, next_happens, numbered as with_number, replayed, seen};
 
 use crate::cpus::Cpu;
 use crate::observing::{Observed, Observer};

@@ -1,3 +1,4 @@
+//! The last records of diagnostics.
 ghost use Rattle.std.specs.Prelude.{◌≡◌, []};
 ghost use Rattle.controller.specs.State.{latest};
 

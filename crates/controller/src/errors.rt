@@ -1,9 +1,9 @@
 //! Synchronous errors.
 ghost use Rattle.std.specs.Prelude.{◌≡◌};
 ghost use Rattle.machine.specs.Flat.{code_of};
+ghost use Rattle.ob_sched.specs.StartInformation.{IsEvent, ob_of, ob_of_error};
 ghost use Rattle.controller.specs.Ready.{HasStatement};
 ghost use Rattle.controller.specs.Errors.{is_synchronous as is_error_ob, cause_without as cause_of_missing, failure as failure_of};
-ghost use Rattle.ob_sched.specs.StartInformation.{IsEvent, ob_of, ob_of_error};
 ghost use Rattle.controller.specs.Leaves.{error_left};
 ghost use Rattle.controller.specs.Stack.{IsStanding};
 ghost use Rattle.controller.specs.Views.{state_of};

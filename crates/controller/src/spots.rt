@@ -1,3 +1,4 @@
+//! Where statements stand.
 ghost use Rattle.std.specs.Prelude.{◌≡◌};
 ghost use Rattle.machine.specs.Flat.{code_of};
 ghost use Rattle.controller.specs.Ready.{HasStatement};

@@ -1,13 +1,13 @@
 //! A step: one statement of the running activation, or a cycle point.
 ghost use Rattle.std.specs.Prelude.{◌≡◌, false};
 ghost use Rattle.machine.specs.Flat.{code_of};
+ghost use Rattle.ob_sched.specs.Scheduler.{run_begun};
 ghost use Rattle.controller.specs.Leaves.{call_left, finished, mode_after};
 ghost use Rattle.controller.specs.Ready.{HasStatement, IsReady};
 ghost use Rattle.controller.specs.Stack.{IsStanding};
 ghost use Rattle.controller.specs.State.{is_stop};
 ghost use Rattle.controller.specs.Stepping.{ob_ended, run_starts, stepped};
 ghost use Rattle.controller.specs.Views.{state_of};
-ghost use Rattle.ob_sched.specs.Scheduler.{run_begun};
 
 use crate::activations::Stand;
 use crate::cpus::Cpu;

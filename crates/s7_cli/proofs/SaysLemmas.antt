@@ -12,10 +12,10 @@ use Rattle.event_text.specs.History.{history_of}
 use Rattle.event_text.specs.HistoryFault.{IsHistoryFault}
 use Rattle.event_text.specs.declared.HistoryFault.{HistoryFault}
 use Rattle.event_text.specs.declared.HistoryFault.TheVariants as history
-use Rattle.s7_cli.specs.Compiling.{RefusesBy}
-use Rattle.s7_cli.specs.declared.CompileFault.{CompileFault}
-use Rattle.s7_cli.specs.declared.CompileFault.TheVariants as compiling
 use Rattle.run_text.specs.RunText.{run_text}
+use Rattle.s7_cli.specs.Compiling.{RefusesBy}
+use Rattle.s7_cli.specs.declared.faults.CompileFault.{CompileFault}
+use Rattle.s7_cli.specs.declared.faults.CompileFault.TheVariants as compiling
 use Rattle.s7_cli.specs.declared.failures.File.{File}
 use Rattle.s7_cli.specs.declared.failures.File.TheVariants.{Source, Symbols, History}
 use Rattle.s7_cli.specs.declared.failures.Failure.{Failure}

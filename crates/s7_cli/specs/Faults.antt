@@ -1,8 +1,8 @@
 -- The failure of a command by the fault of a reader.
 use Rattle.event_text.specs.declared.HistoryFault.{HistoryFault}
 use Rattle.event_text.specs.declared.HistoryFault.TheVariants as history
-use Rattle.s7_cli.specs.declared.CompileFault.{CompileFault}
-use Rattle.s7_cli.specs.declared.CompileFault.TheVariants as compiling
+use Rattle.s7_cli.specs.declared.faults.CompileFault.{CompileFault}
+use Rattle.s7_cli.specs.declared.faults.CompileFault.TheVariants as compiling
 use Rattle.s7_cli.specs.declared.failures.File.TheVariants.{Source, Symbols, History}
 use Rattle.s7_cli.specs.declared.failures.Failure.{Failure}
 use Rattle.s7_cli.specs.declared.failures.Failure.TheVariants.{Refused, NoMemory}

@@ -111,11 +111,7 @@ fn layouts_of(alloc: Global, tree: &Tree, symbols: &Symbols) -> Result<Layouts, 
 /// Lays out a source with its symbols file. The symbols are checked first, then the tokens of the
 /// source, its clauses, and its layout. Where a rule on the layout is broken, the refusal is the
 /// least one of these rules and of those on statements.
-fn laid_out(
-    alloc: Global,
-    source: &[u8],
-    symbols: &[u8],
-) -> Result<LaidSource, CompileFault>
+fn laid_out(alloc: Global, source: &[u8], symbols: &[u8]) -> Result<LaidSource, CompileFault>
     requires source { length source.now ≤ source_limit }
     requires symbols { length symbols.now ≤ symbols_limit }
     ensures laid { IfOk result (IsLaid source.now symbols.now) }
@@ -212,11 +208,7 @@ pub fn judged(alloc: Global, source: &[u8], symbols: &[u8]) -> Result<(), Compil
 ///
 /// `Symbols` or `Source` with the refusal exactly where the symbols file or the source with these
 /// symbols is refused; or `NoMemory`.
-pub fn compiled(
-    alloc: Global,
-    source: &[u8],
-    symbols: &[u8],
-) -> Result<Loaded, CompileFault>
+pub fn compiled(alloc: Global, source: &[u8], symbols: &[u8]) -> Result<Loaded, CompileFault>
     requires source { length source.now ≤ source_limit }
     requires symbols { length symbols.now ≤ symbols_limit }
     ensures ok { IfOk result (λ l.

@@ -1,8 +1,5 @@
 -- The program of a source that breaks no rule runs as the source means.
 use Rattle.std.proofs.Common.{◌≡◌, refl, sym, ap, ◌∙◌, ℕ, List, Option, Some, None, Ok, arith}
-use Rattle.sem_kept.specs.Accepted.{IsAccepted, program_in, AcceptedVerifies}
-use Rattle.sem_kept.specs.Verified.{VerifiedIsCompilable}
-use Rattle.sem_kept.specs.Kept.{ProgramsAreKept}
 use Rattle.plc_base.specs.declared.refusals.Refusal.{Refusal}
 use Rattle.block_layout.specs.Layouts.{layouts_of}
 use Rattle.block_layout.specs.Table.{layout_refusals}
@@ -13,6 +10,9 @@ use Rattle.plc_base.specs.Least.{least, lesser}
 use Rattle.stl_symbols.specs.Symbol.{Symbol}
 use Rattle.plc_base.proofs.LeastLemmas.{least-append}
 use Rattle.stl_types.specs.Table.{statement_refusals}
+use Rattle.sem_kept.specs.Accepted.{IsAccepted, program_in, AcceptedVerifies}
+use Rattle.sem_kept.specs.Verified.{VerifiedIsCompilable}
+use Rattle.sem_kept.specs.Kept.{ProgramsAreKept}
 use Rattle.sem_kept.specs.Agreement.{AreFiles, IsRunnable, ProgramsRun}
 use Rattle.sem_kept.specs.Meaning.{HasSymbols, HasTokens, HasTree, refusals_of, sound_by, code_in, IsJudged, MeansCode}
 

@@ -79,14 +79,7 @@ fn accepted_or_refused(rt: HostRuntime) -> Result<(), Fail> {
 fn a_source_by_symbols_is_compiled(rt: HostRuntime) -> Result<(), Fail> {
     let mut out = MemSink::new(rt.alloc(), 64);
     let history = b"in 0 01\nstep 5\n";
-    runs(
-        &rt,
-        &mut out,
-        rt.alloc(),
-        BY_SYMBOLS,
-        SYMBOLS,
-        history,
-    )?;
+    runs(&rt, &mut out, rt.alloc(), BY_SYMBOLS, SYMBOLS, history)?;
     let text = b"@6 PQ 4 = 01\nEND 6 RUN\n".as_slice();
     same(&rt, "the run", out.taken.as_slice(), text);
     Ok(())

@@ -14,7 +14,7 @@ use Rattle.controller.specs.Quiet.{ShowNothing}
 use Rattle.controller.specs.Replay.{ContinuesByMore, SeenByMore, happens, last_seen, replay, run_from, seen_from}
 use Rattle.controller.specs.Shown.{Watched, nothing_shown, watched}
 use Rattle.controller.specs.State.{State}
-use Rattle.controller.specs.declared.Observed.{Observed}
+use Rattle.controller.specs.declared.observing.Observed.{Observed}
 use Rattle.controller.specs.Replayed.{events}
 
 -- ---- entries behind others

@@ -13,7 +13,7 @@ use Rattle.controller.specs.Replay.{ContinuesReplay, ContinuesSeen, happens, las
 use Rattle.controller.specs.Shown.{Watched, changes, nothing_shown, shown, watched, watched_on}
 use Rattle.controller.specs.Start.{start}
 use Rattle.controller.specs.State.{State}
-use Rattle.controller.specs.declared.Observed.{Observed}
+use Rattle.controller.specs.declared.observing.Observed.{Observed}
 use Rattle.controller.specs.Replayed.{events}
 
 -- ---- at the start

@@ -1,5 +1,5 @@
-use Rattle.sem_kept.specs.Statements.{stated_code, position, program_with}
 use Rattle.machine.specs.Flat.{code_of}
+use Rattle.sem_kept.specs.Statements.{stated_code, position, program_with}
 use Rattle.sem_kept.proofs.kept.Keeping.{kept_by}
 use Rattle.sem_kept.proofs.laws.programs_are_kept.Goals as goal
 

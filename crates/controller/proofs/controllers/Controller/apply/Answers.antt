@@ -8,7 +8,7 @@ use Rattle.controller.specs.Replay.{happens, last_seen, replay}
 use Rattle.controller.specs.Shown.{watched}
 use Rattle.controller.specs.State.{State}
 use Rattle.controller.specs.Views.{state_of}
-use Rattle.controller.specs.declared.Observed.{Observed}
+use Rattle.controller.specs.declared.observing.Observed.{Observed}
 use Rattle.controller.specs.Replayed.{events}
 use Rattle.controller.proofs.history.ReplayLemmas.{fits_next, observer_next, seen_next, state_next}
 use Rattle.controller.proofs.controllers.Controller.apply.Goals as goal

@@ -9,7 +9,7 @@ use Rattle.controller.specs.Shown.{nothing_shown, watched}
 use Rattle.controller.specs.Start.{start}
 use Rattle.controller.specs.State.{State}
 use Rattle.controller.specs.Views.{state_of}
-use Rattle.controller.specs.declared.Observed.{Observed}
+use Rattle.controller.specs.declared.observing.Observed.{Observed}
 use Rattle.controller.specs.Replayed.{events}
 use Rattle.controller.proofs.history.ReplayLemmas.{none_seen, start_fits, starts}
 use Rattle.controller.proofs.controllers.Controller.new.Goals as goal

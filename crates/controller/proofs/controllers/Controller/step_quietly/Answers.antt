@@ -10,7 +10,7 @@ use Rattle.controller.specs.Replay.{last_seen, replay, run_from}
 use Rattle.controller.specs.Shown.{watched}
 use Rattle.controller.specs.State.{State}
 use Rattle.controller.specs.Views.{state_of}
-use Rattle.controller.specs.declared.Observed.{Observed}
+use Rattle.controller.specs.declared.observing.Observed.{Observed}
 use Rattle.controller.specs.Recorded.{Recorded}
 use Rattle.controller.specs.Replayed.{events, replayed}
 use Rattle.controller.proofs.history.QuietLemmas.{fewer-steps, fits-behind, observer-behind, quiet-behind, replay-more, seen-behind, state-behind}
