@@ -54,6 +54,11 @@ class Timelines(ToolTest):
             "timeline", "-", "history", *NAMES, "--signals", 'QB 7,"motor"', given=RUN,
         )
 
+    def test_a_name_with_a_comma(self):
+        self.write("symbols", '"Motor, left","Q 4.0","BOOL",""\n')
+        answer = self.call("timeline", "run", "history", *NAMES, "--signals", '"motor, left",QB 4')
+        self.assertTrue(answer.stdout.startswith('0.000 s  Q 4.0 "Motor, left" 0 -> 1\n0.000 s  QB 4 16#00 -> 16#81\n'), answer.stdout)
+
     def test_dump(self):
         self.expect(0, "", "timeline", "run", "history", *NAMES, "--vcd", "dump", "--signals", "Start,Motor,Speed")
         self.assertEqual(

@@ -130,7 +130,7 @@ def diagram(happened, signals, title=""):
             shapes += bit_row(values, scale, row, kind)
     for time, mode in stops:
         x = scale.x(time)
-        shapes.append(f'<path class="stop" d="M{x},{top} V{bottom + 26}"/>')
+        shapes.append(f'<path class="stop" d="M{x},{top} V{bottom + 6}"/>')
         shapes.append(f'<text x="{x}" y="{bottom + 40}" text-anchor="middle">{mode}</text>')
     head = f'<svg xmlns="http://www.w3.org/2000/svg" viewBox="0 0 {WIDTH} {height}" width="{WIDTH}" height="{height}" role="img">'
     described = f"<title>{escape(title or 'Timing diagram of a run')}</title>"
