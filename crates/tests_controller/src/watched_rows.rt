@@ -1,8 +1,9 @@
 //! The numbers of a program's data blocks, and the mode that is seen where it changes.
 use crate::bench::loaded;
 use crate::compare::same;
-use controller::{Observer, Cpu, data_numbers};
-use plc_base::Mode;
+use controller::{Cpu, Observer, data_numbers};
+use plc_base::{Mode, Profile};
+use std::alloc::Global;
 use std::process::Abort;
 use std::test::Fail;
 
@@ -26,10 +27,17 @@ fn numbers_of_data_blocks(rt: HostRuntime) -> Result<(), Fail> {
 #[test]
 fn first_bytes_of_data_blocks(rt: HostRuntime) -> Result<(), Fail> {
     let program = loaded(rt.alloc(), "NOP #0 | DB 2 { 00 FF")?;
-    let parts = Cpu::start(rt.alloc(), &program)?;
-    same(&rt, "DB 2", parts.db_bytes(2), Some(&[0x00, 0xFF][..]));
-    same(&rt, "DB 3", parts.db_bytes(3), None);
+    for profile in [Profile::Small, Profile::Large] {
+        let cpu = Cpu::start(rt.alloc(), &program, profile)?;
+        same(&rt, "DB 2", cpu.db_bytes(2), Some(&[0x00, 0xFF][..]));
+        same(&rt, "DB 3", cpu.db_bytes(3), None);
+    }
     Ok(())
+}
+
+/// A program of the small profile as it starts.
+fn started(alloc: Global, program: &str) -> Result<Cpu, Fail> {
+    Ok(Cpu::start(alloc, &loaded(alloc, program)?, Profile::Small)?)
 }
 
 /// Looks at a state, where such a mode is seen and no output.
@@ -54,8 +62,8 @@ fn modes_are_seen(rt: &impl Abort, observer: &mut Observer, run: &Cpu, startup: 
 /// A start with OB 100 is in STARTUP, one without it in RUN.
 #[test]
 fn a_mode_is_seen_where_it_changes(rt: HostRuntime) -> Result<(), Fail> {
-    let run = Cpu::start(rt.alloc(), &loaded(rt.alloc(), "NOP #0")?)?;
-    let startup = Cpu::start(rt.alloc(), &loaded(rt.alloc(), "OB 100 20 0 { NOP #0")?)?;
+    let run = started(rt.alloc(), "NOP #0")?;
+    let startup = started(rt.alloc(), "OB 100 20 0 { NOP #0")?;
     let mut observer = Observer::new(&run);
     modes_are_seen(&rt, &mut observer, &run, &startup);
     Ok(())
