@@ -5,9 +5,9 @@ use Rattle.std.proofs.lemmas.Bool.Decides.{nat_tests}
 use Rattle.std.proofs.lemmas.List.{drop_more, get_or-set_other, get_or-set_same, length-map, length-replicate, length-set}
 use Rattle.std.proofs.Math.Seq.{take-append_seam}
 use Rattle.std.specs.List.{list_any, slice_get}
+use Rattle.plc_base.specs.Kinds.{is_data_type}
 use Rattle.stl_ast.specs.declared.blocks.Block.{Block}
 use Rattle.block_layout.specs.Rule43.{contains_itself, leads_to, uses_of}
-use Rattle.block_layout.specs.Blocks.{is_data_type}
 use Rattle.block_layout.specs.Heads.{flagged}
 use Rattle.block_layout.specs.Cycles.{Marks, is_new, spread, uses_of_all, with_mark, with_marks}
 use Rattle.block_layout.specs.Types.{Types}

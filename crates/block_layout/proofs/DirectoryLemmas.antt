@@ -6,8 +6,9 @@ use Rattle.std.specs.declared.cmp.Ordering.{Ordering}
 use Rattle.std.specs.declared.cmp.Ordering.TheVariants.{Less, Equal, Greater}
 use Rattle.std.proofs.lemmas.Bool.{cases_Bool}
 use Rattle.std.proofs.lemmas.Bool.Decides.{nat_tests}
+use Rattle.plc_base.specs.Kinds.{is_same_kind}
 use Rattle.plc_base.specs.declared.blocks.BlockId.{BlockId}
-use Rattle.block_layout.specs.Blocks.{block_place, is_id, is_same_kind}
+use Rattle.block_layout.specs.Blocks.{block_place, is_id}
 use Rattle.block_layout.specs.Numbered.{is_number, numbered_place, number_of, numbers_of}
 
 order_apart : (n q : ℕ) → nat_eq q n ≡ false → is_eq (nat_cmp n q) ≡ false

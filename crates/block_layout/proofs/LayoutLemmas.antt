@@ -2,11 +2,12 @@
 use Rattle.std.proofs.Common.{ℕ, zero, suc, ◌≡◌, ◌<◌, ◌≤◌, ◌+◌, Option, List, [], ◌∷◌, ◌++◌, append_assoc, ◌&&◌, false, refl, sym, ◌∙◌, ap, arith, length, length-append, drop, get_or, map}
 use Rattle.std.proofs.Math.ListN.{drop_of_length-le}
 use Rattle.std.proofs.lemmas.List.{append-nil, drop_more}
+use Rattle.plc_base.specs.Kinds.{is_data_type}
 use Rattle.plc_base.specs.declared.blocks.BlockId.{BlockId}
 use Rattle.stl_ast.specs.declared.blocks.Block.{Block}
 use Rattle.stl_symbols.specs.Symbol.{Symbol}
 use Rattle.block_layout.specs.Before.{IsBefore}
-use Rattle.block_layout.specs.Blocks.{id_of, ids_of, is_data_type}
+use Rattle.block_layout.specs.Blocks.{id_of, ids_of}
 use Rattle.block_layout.specs.Heads.{flagged}
 use Rattle.block_layout.specs.Layouts.{block_layout, layouts_by, layouts_from}
 use Rattle.block_layout.specs.Measures.{types_of, with_all_bits, with_all_depths}

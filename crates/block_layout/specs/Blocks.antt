@@ -1,6 +1,7 @@
 -- The blocks of a source: their numbers, and which block a name means.
 use Rattle.std.specs.Prelude.{ℕ, suc, nat_eq, nat_le, Bool, true, false, ◌&&◌, ◌||◌, List, [], ◌∷◌, map, Option, Some, None, if◌then◌else◌}
 use Rattle.std.specs.Option.{option_map, option_and_then}
+use Rattle.plc_base.specs.Kinds.{is_function_block, is_data_type, is_same_kind, is_same_block}
 use Rattle.plc_base.specs.declared.blocks.BlockId.{BlockId}
 use Rattle.plc_base.specs.declared.blocks.BlockKind.{BlockKind}
 use Rattle.plc_base.specs.declared.blocks.BlockKind.TheVariants as kind
@@ -11,43 +12,6 @@ use Rattle.stl_symbols.specs.Symbol.{Symbol, symbol_named}
 use Rattle.stl_symbols.specs.declared.targets.Target.{Target}
 use Rattle.stl_symbols.specs.declared.targets.Target.TheVariants as target
 
--- a code block: an organization block, a function or a function block
-abbrev pub is_code : BlockKind → Bool
-is_code kind.Ob = true
-is_code kind.Fc = true
-is_code kind.Fb = true
-is_code _ = false
-
--- a function (FC)
-abbrev pub is_function : BlockKind → Bool
-is_function kind.Fc = true
-is_function _ = false
-
--- an organization block (OB)
-abbrev pub is_organization_block : BlockKind → Bool
-is_organization_block kind.Ob = true
-is_organization_block _ = false
-
--- a function block (FB)
-abbrev pub is_function_block : BlockKind → Bool
-is_function_block kind.Fb = true
-is_function_block _ = false
-
--- a data block (DB)
-abbrev pub is_data_block : BlockKind → Bool
-is_data_block kind.Db = true
-is_data_block _ = false
-
--- a user-defined data type (UDT)
-abbrev pub is_data_type : BlockKind → Bool
-is_data_type kind.Udt = true
-is_data_type _ = false
-
--- a system function (SFC)
-abbrev pub is_system_function : BlockKind → Bool
-is_system_function kind.Sfc = true
-is_system_function _ = false
-
 -- what a data block can be of: a function block, whose instance it is, or a user-defined data type
 abbrev pub has_structure : BlockKind → Bool
 has_structure k = is_function_block k || is_data_type k
@@ -55,19 +19,6 @@ has_structure k = is_function_block k || is_data_type k
 -- a block of whatever kind
 abbrev pub is_any : BlockKind → Bool
 is_any k = true
-
--- two kinds are the same
-abbrev pub is_same_kind : BlockKind → BlockKind → Bool
-is_same_kind kind.Ob = is_organization_block
-is_same_kind kind.Fc = is_function
-is_same_kind kind.Fb = is_function_block
-is_same_kind kind.Db = is_data_block
-is_same_kind kind.Sfc = is_system_function
-is_same_kind kind.Udt = is_data_type
-
--- two blocks are the same: by kind and number
-abbrev pub is_same_block : BlockId → BlockId → Bool
-is_same_block a b = is_same_kind a.kind b.kind && nat_eq a.number b.number
 
 -- a number lies between two others, both of them included
 abbrev pub lies_within : (low high : ℕ) → ℕ → Bool

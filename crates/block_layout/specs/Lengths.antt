@@ -2,6 +2,7 @@
 use Rattle.std.specs.Prelude.{ℕ, ◌+◌, ◌/◌, max, Bool, true, false, ◌||◌, List, [], ◌∷◌, Option, Some, None, if◌then◌else◌}
 use Rattle.std.specs.List.{slice_get}
 use Rattle.std.specs.Option.{option_map}
+use Rattle.plc_base.specs.Kinds.{is_data_type, is_function_block, is_data_block, is_organization_block, is_code}
 use Rattle.block_layout.specs.declared.cells.Cell.{Cell}
 use Rattle.plc_base.specs.Widths.{byte_count}
 use Rattle.plc_base.specs.declared.blocks.BlockKind.{BlockKind}
@@ -18,7 +19,7 @@ use Rattle.stl_ast.specs.declared.statements.Actual.{Actual}
 use Rattle.stl_ast.specs.declared.statements.Statement.{Statement}
 use Rattle.block_layout.specs.declared.blocks.Shape.{Shape}
 use Rattle.block_layout.specs.declared.blocks.Shape.TheVariants as shape
-use Rattle.block_layout.specs.Blocks.{found_block, has_structure, is_data_type, is_function_block, is_data_block, is_organization_block, is_code}
+use Rattle.block_layout.specs.Blocks.{found_block, has_structure}
 use Rattle.block_layout.specs.Cells.{components_of, temps_of}
 use Rattle.block_layout.specs.Sizes.{structure_bits, up}
 use Rattle.block_layout.specs.Types.{Types}

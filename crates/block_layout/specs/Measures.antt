@@ -2,12 +2,13 @@
 -- rounds: a round takes what the one before it gave for the types that are used. Types that are sound are nested at most
 -- eight deep, so nine rounds settle them; one that contains itself, or leads to one that does, is deeper than 8 in the ninth.
 use Rattle.std.specs.Prelude.{ℕ, zero, suc, ◌+◌, min, max, List, [], ◌∷◌, map, if◌then◌else◌}
+use Rattle.plc_base.specs.Kinds.{is_data_type}
 use Rattle.stl_ast.specs.declared.blocks.Block.{Block}
 use Rattle.stl_ast.specs.declared.declarations.Declaration.{Declaration}
 use Rattle.stl_ast.specs.declared.blocks.PartKind.TheVariants as part
 use Rattle.stl_symbols.specs.Symbol.{Symbol}
 use Rattle.block_layout.specs.Around.{Outside, of_structure}
-use Rattle.block_layout.specs.Blocks.{ids_of, is_data_type}
+use Rattle.block_layout.specs.Blocks.{ids_of}
 use Rattle.block_layout.specs.Cells.{cells_of}
 use Rattle.block_layout.specs.Rule56.{own_depth, depth_around}
 use Rattle.block_layout.specs.Sizes.{structure_bits}

@@ -1,9 +1,9 @@
 -- The numbers of the blocks of one kind, at the places of these blocks.
 use Rattle.std.specs.Prelude.{ℕ, suc, nat_eq, Bool, false, List, [], ◌∷◌, map, Option, Some, None, if◌then◌else◌}
 use Rattle.std.specs.Option.{option_map}
+use Rattle.plc_base.specs.Kinds.{is_same_kind}
 use Rattle.plc_base.specs.declared.blocks.BlockId.{BlockId}
 use Rattle.plc_base.specs.declared.blocks.BlockKind.{BlockKind}
-use Rattle.block_layout.specs.Blocks.{is_same_kind}
 
 -- a block has this number; one that isn't of the kind has none
 abbrev pub is_number : ℕ → Option ℕ → Bool

@@ -1,6 +1,7 @@
 -- The place and the width of an elementary component.
 use Rattle.std.specs.Prelude.{ℕ, ◌/◌, ◌%◌, nat_le, Bool, true, false, List, map, Option, Some, None, if◌then◌else◌}
 use Rattle.std.specs.Option.{option_and_then}
+use Rattle.plc_base.specs.Kinds.{is_code, is_data_block, is_function_block}
 use Rattle.plc_base.specs.declared.blocks.BlockId.{BlockId}
 use Rattle.plc_base.specs.declared.places.Area.{Area}
 use Rattle.plc_base.specs.declared.places.Area.TheVariants as area
@@ -15,7 +16,7 @@ use Rattle.block_layout.specs.declared.blocks.Section.{Section}
 use Rattle.block_layout.specs.declared.blocks.Section.TheVariants as section
 use Rattle.block_layout.specs.declared.walks.Walk.{Walk}
 use Rattle.block_layout.specs.declared.walks.Walk.TheVariants as walk
-use Rattle.block_layout.specs.Blocks.{known_block, is_code, is_data_block, is_function_block}
+use Rattle.block_layout.specs.Blocks.{known_block}
 use Rattle.block_layout.specs.Paths.{walked_data, walked_from, leaves_from, leaves_judged, structure_of, elementary_at, if_whole}
 
 -- the width of an elementary data type

@@ -3,6 +3,7 @@
 use Rattle.std.specs.Prelude.{Bool, true, false, ◌||◌, List, ◌++◌, Option, Some, None, if◌then◌else◌}
 use Rattle.std.specs.List.{flat_map}
 use Rattle.std.specs.Option.{is_none}
+use Rattle.plc_base.specs.Kinds.{is_data_block, is_system_function}
 use Rattle.plc_base.specs.declared.blocks.BlockId.{BlockId}
 use Rattle.plc_base.specs.declared.refusals.Refusal.{Refusal}
 use Rattle.stl_ast.specs.declared.blocks.Block.{Block}
@@ -14,7 +15,7 @@ use Rattle.stl_ast.specs.declared.operands.PathHead.{PathHead}
 use Rattle.stl_ast.specs.declared.operands.PathHead.TheVariants as head
 use Rattle.plc_base.specs.Least.{broken_if}
 use Rattle.block_layout.specs.Around.{Outside, in_blocks}
-use Rattle.block_layout.specs.Blocks.{id_of, named_block, known_block, found_block, is_data_block, is_system_function}
+use Rattle.block_layout.specs.Blocks.{id_of, named_block, known_block, found_block}
 use Rattle.block_layout.specs.Declarations.{is_unknown_type}
 use Rattle.block_layout.specs.Heads.{on_heads}
 use Rattle.block_layout.specs.Lengths.{shape_of}

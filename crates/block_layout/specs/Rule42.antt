@@ -1,6 +1,7 @@
 -- Rule 42: an array with the upper below the lower bound, or an index outside its array, in a setting or an operand. The
 -- line is that of the declaration, of the setting, of the statement, or of the actual parameter.
 use Rattle.std.specs.Prelude.{ℕ, Bool, false, List, ◌++◌, Option, Some, None}
+use Rattle.plc_base.specs.Kinds.{is_data_block}
 use Rattle.plc_base.specs.declared.refusals.Refusal.{Refusal}
 use Rattle.stl_ast.specs.declared.blocks.Block.{Block}
 use Rattle.stl_ast.specs.declared.blocks.PathStep.{PathStep}
@@ -13,7 +14,7 @@ use Rattle.stl_ast.specs.declared.operands.PathHead.TheVariants as head
 use Rattle.plc_base.specs.Folding.{folded}
 use Rattle.plc_base.specs.Least.{broken_if}
 use Rattle.block_layout.specs.Around.{Outside, in_blocks}
-use Rattle.block_layout.specs.Blocks.{found_block, is_data_block}
+use Rattle.block_layout.specs.Blocks.{found_block}
 use Rattle.block_layout.specs.ByPlace.{by_place}
 use Rattle.block_layout.specs.Declarations.{has_upside_down}
 use Rattle.block_layout.specs.Operands.{Judged, in_body}

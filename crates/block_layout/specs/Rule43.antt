@@ -2,11 +2,11 @@
 -- head; a type that only uses one that contains itself doesn't break it.
 use Rattle.std.specs.Prelude.{ℕ, zero, suc, nat_eq, Bool, false, ◌&&◌, ◌||◌, List, [], ◌∷◌, length, Option, Some, None}
 use Rattle.std.specs.List.{flat_map, list_any, slice_get}
+use Rattle.plc_base.specs.Kinds.{is_data_type}
 use Rattle.plc_base.specs.declared.refusals.Refusal.{Refusal}
 use Rattle.stl_ast.specs.declared.blocks.Block.{Block}
 use Rattle.stl_ast.specs.declared.declarations.ElementType.{ElementType}
 use Rattle.stl_ast.specs.declared.declarations.ElementType.TheVariants as element
-use Rattle.block_layout.specs.Blocks.{is_data_type}
 use Rattle.block_layout.specs.Heads.{on_heads}
 use Rattle.block_layout.specs.Types.{Types, udt_of}
 

@@ -1,9 +1,9 @@
 -- Rule 53: the 257th data block, and each later one. The line is that of its head.
 use Rattle.std.specs.Prelude.{ℕ, Bool, nat_le, ◌&&◌, List}
 use Rattle.std.specs.List.{count_by}
+use Rattle.plc_base.specs.Kinds.{is_data_block}
 use Rattle.plc_base.specs.declared.refusals.Refusal.{Refusal}
 use Rattle.stl_ast.specs.declared.blocks.Block.{Block}
-use Rattle.block_layout.specs.Blocks.{is_data_block}
 use Rattle.block_layout.specs.Heads.{on_heads}
 
 -- the number of data blocks among blocks

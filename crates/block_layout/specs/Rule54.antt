@@ -1,9 +1,9 @@
 -- Rule 54: data blocks above 2,097,152 bytes together. The line is that of the head of the data block with which they are
 -- more, and of each later one.
 use Rattle.std.specs.Prelude.{ℕ, ◌+◌, Bool, nat_lt, ◌&&◌, List, sum_by, if◌then◌else◌}
+use Rattle.plc_base.specs.Kinds.{is_data_block}
 use Rattle.plc_base.specs.declared.refusals.Refusal.{Refusal}
 use Rattle.stl_ast.specs.declared.blocks.Block.{Block}
-use Rattle.block_layout.specs.Blocks.{is_data_block}
 use Rattle.block_layout.specs.Heads.{on_heads}
 use Rattle.block_layout.specs.Lengths.{length_of}
 use Rattle.block_layout.specs.Types.{Types}

@@ -1,9 +1,10 @@
 -- What the declarations of a source are checked by.
 use Rattle.std.specs.Prelude.{ℕ, List, Option}
+use Rattle.plc_base.specs.Kinds.{is_data_type}
 use Rattle.plc_base.specs.declared.blocks.BlockId.{BlockId}
 use Rattle.stl_ast.specs.declared.names.BlockName.{BlockName}
 use Rattle.stl_symbols.specs.Symbol.{Symbol}
-use Rattle.block_layout.specs.Blocks.{found_block, is_data_type}
+use Rattle.block_layout.specs.Blocks.{found_block}
 
 -- the symbols, the blocks by kind and number, and for each block, as a user-defined data type, how deep its types are
 -- nested and how many bits it takes

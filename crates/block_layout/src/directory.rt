@@ -1,12 +1,5 @@
-ghost use Rattle.std.specs.Prelude.{◌≡◌, List, [], ◌∷◌, ◌++◌, IfOk, map};
-ghost use Rattle.block_layout.specs.Blocks.{
-  block_place,
-  is_block_number,
-  is_ob_number,
-  is_same_kind,
-  known_block,
-  lies_within,
-};
+ghost use Rattle.std.specs.Prelude.{◌≡◌, List, [], ◌∷◌, ◌++◌, IfOk};
+ghost use Rattle.block_layout.specs.Blocks.{block_place, is_block_number, is_ob_number, known_block};
 ghost use Rattle.block_layout.specs.Numbered.{number_of, numbered_place, numbers_of};
 
 use plc_base::{BlockId, BlockKind};
@@ -80,22 +73,8 @@ fn number_of(kind: BlockKind, id: Option<BlockId>) -> Option<u16>
     ensures { result ≡ number_of kind id }
 {
     match id {
-        Some(id) if is_same_kind(kind, id.kind) => Some(id.number),
+        Some(id) if kind.is_same(id.kind) => Some(id.number),
         _ => None,
-    }
-}
-
-/// Whether two kinds are the same.
-pub(crate) fn is_same_kind(a: BlockKind, b: BlockKind) -> bool
-    ensures { result ≡ is_same_kind a b }
-{
-    match a {
-        BlockKind::Ob => matches!(b, BlockKind::Ob),
-        BlockKind::Fc => matches!(b, BlockKind::Fc),
-        BlockKind::Fb => matches!(b, BlockKind::Fb),
-        BlockKind::Db => matches!(b, BlockKind::Db),
-        BlockKind::Sfc => matches!(b, BlockKind::Sfc),
-        BlockKind::Udt => matches!(b, BlockKind::Udt),
     }
 }
 

@@ -1,7 +1,7 @@
 ghost use Rattle.std.specs.Prelude.{◌≡◌, ◌+◌, ◌-◌, ◌^◌, ◌&&◌, ℕ, map, min, nat_lt, if◌then◌else◌};
+ghost use Rattle.plc_base.specs.Kinds.{is_data_block};
 ghost use Rattle.stl_ast.specs.declared.blocks.Block.{Block};
 ghost use Rattle.plc_base.specs.Least.{least};
-ghost use Rattle.block_layout.specs.Blocks.{is_data_block};
 ghost use Rattle.block_layout.specs.Heads.{on_heads};
 ghost use Rattle.block_layout.specs.Lengths.{length_of, local_len};
 ghost use Rattle.block_layout.specs.Rule50.{rule_50};
@@ -10,7 +10,6 @@ ghost use Rattle.block_layout.specs.Rule54.{rule_54};
 ghost use Rattle.block_layout.specs.Types.{Types};
 
 use crate::declarations::number_at;
-use crate::heads::is_data_block;
 use plc_base::{Refusal, broken_if, lesser};
 use stl_ast::Block;
 
@@ -59,7 +58,7 @@ pub(crate) fn least_too_long(lens: &[u64], blocks: &[Block]) -> Option<Refusal>
 pub(crate) fn data_len(block: &Block, len: u64) -> u64
     ensures { result ≡ (if is_data_block block.now.kind then len else 0) }
 {
-    if is_data_block(block.kind) { len } else { 0 }
+    if block.kind.is_data_block() { len } else { 0 }
 }
 
 /// Whether a block is a data block with which all are too long.
@@ -67,7 +66,7 @@ pub(crate) fn exceeds(block: &Block, before: u64, len: u64) -> bool
     ensures { (sum : ℕ) → before ≡ min sum (2 ^ 64 - 1)
         → result ≡ (is_data_block block.now.kind && nat_lt 2097152 (sum + len)) }
 {
-    is_data_block(block.kind) && before.saturating_add(len) > MOST_TOGETHER
+    block.kind.is_data_block() && before.saturating_add(len) > MOST_TOGETHER
 }
 
 /// The least refusal by rule 54.

@@ -1,25 +1,19 @@
 ghost use Rattle.std.specs.Prelude.{◌≡◌, List, length, ◌^◌, ◌-◌, min, not, sum_by, if◌then◌else◌};
 ghost use Rattle.std.specs.List.{count_by};
+ghost use Rattle.plc_base.specs.Kinds.{is_data_block};
 ghost use Rattle.stl_ast.specs.Blocks.{is_parameter};
 ghost use Rattle.stl_ast.specs.Statements.{is_empty};
 ghost use Rattle.stl_ast.specs.declared.blocks.Block.{Block};
 ghost use Rattle.plc_base.specs.Least.{least};
-ghost use Rattle.block_layout.specs.Blocks.{is_data_block};
 ghost use Rattle.block_layout.specs.Rule22.{is_block_twice, is_earlier, rule_22};
 ghost use Rattle.block_layout.specs.Rule44.{has_wrong_number, rule_44};
-ghost use Rattle.block_layout.specs.Rule52.{
-  declared_in,
-  has_too_many_parameters,
-  parameter_count,
-  returned,
-  rule_52,
-};
+ghost use Rattle.block_layout.specs.Rule52.{declared_in, has_too_many_parameters, returned, rule_52};
 ghost use Rattle.block_layout.specs.Rule53.{data_blocks, is_one_too_many, rule_53};
 ghost use Rattle.block_layout.specs.Rule55.{has_too_many_statements, rule_55};
 
 use crate::directory::is_block_number;
 use crate::types::{Types, id_of};
-use plc_base::{BlockKind, Refusal, broken_if, least_of, lesser};
+use plc_base::{Refusal, broken_if, least_of, lesser};
 use stl_ast::{Block, Mnemonic, Part, PartKind, Simple, Statement};
 use stl_symbols::Symbols;
 
@@ -185,24 +179,18 @@ pub(crate) fn least_block_twice(types: &Types, blocks: &[Block]) -> Option<Refus
     found
 }
 
-pub(crate) fn is_data_block(kind: BlockKind) -> bool
-    ensures { result ≡ is_data_block kind }
-{
-    matches!(kind, BlockKind::Db)
-}
-
 /// Whether a data block is the 257th or a later one, behind so many.
 pub(crate) fn is_one_too_many(data_before: usize, block: &Block) -> bool
     ensures { (before : List Block) → data_blocks before ≡ data_before
         → result ≡ is_one_too_many before block.now }
 {
-    is_data_block(block.kind) && data_before >= MOST_DATA_BLOCKS
+    block.kind.is_data_block() && data_before >= MOST_DATA_BLOCKS
 }
 
 pub(crate) fn counted_data(block: &Block) -> usize
     ensures { result ≡ (if is_data_block block.now.kind then 1 else 0) }
 {
-    if is_data_block(block.kind) { 1 } else { 0 }
+    if block.kind.is_data_block() { 1 } else { 0 }
 }
 
 /// The least refusal by rule 53.

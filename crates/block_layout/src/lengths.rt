@@ -1,5 +1,6 @@
 ghost use Rattle.std.specs.Prelude.{◌≡◌, ◌≤◌, ◌<◌, ◌^◌, ◌/◌, IfOk, max, map, Some, List};
 ghost use Rattle.std.specs.List.{slice_get};
+ghost use Rattle.plc_base.specs.Kinds.{is_code, is_data_block, is_data_type, is_function_block, is_organization_block};
 ghost use Rattle.stl_ast.specs.declared.blocks.Block.{Block};
 ghost use Rattle.block_layout.specs.Types.{Types};
 ghost use Rattle.std.specs.Option.{option_copied, option_map};
@@ -7,11 +8,6 @@ ghost use Rattle.stl_ast.specs.Blocks.{is_parameter};
 ghost use Rattle.stl_ast.specs.Statements.{is_empty};
 ghost use Rattle.block_layout.specs.Blocks.{
   has_structure,
-  is_code,
-  is_data_block,
-  is_data_type,
-  is_function_block,
-  is_organization_block,
 };
 ghost use Rattle.block_layout.specs.Cells.{temps_of};
 ghost use Rattle.block_layout.specs.Facts.{outline_of};

@@ -1,7 +1,8 @@
 ghost use Rattle.std.specs.Prelude.{◌≡◌, false, is_some, map};
 ghost use Rattle.std.specs.List.{slice_get};
 ghost use Rattle.std.specs.Option.{option_copied};
-ghost use Rattle.block_layout.specs.Blocks.{found_block, is_data_block};
+ghost use Rattle.plc_base.specs.Kinds.{is_data_block};
+ghost use Rattle.block_layout.specs.Blocks.{found_block};
 ghost use Rattle.block_layout.specs.Members.{component};
 ghost use Rattle.block_layout.specs.Scopes.{HaveParameters};
 ghost use Rattle.block_layout.specs.Paths.{

@@ -1,7 +1,8 @@
 ghost use Rattle.std.specs.Prelude.{◌≡◌, ◌≤◌, IfOk, map, [], max, true};
+ghost use Rattle.plc_base.specs.Kinds.{is_data_type};
 ghost use Rattle.stl_ast.specs.declared.blocks.PartKind.TheVariants as part;
 ghost use Rattle.block_layout.specs.Around.{of_structure};
-ghost use Rattle.block_layout.specs.Blocks.{ids_of, is_data_type};
+ghost use Rattle.block_layout.specs.Blocks.{ids_of};
 ghost use Rattle.block_layout.specs.Cells.{cells_of};
 ghost use Rattle.block_layout.specs.Measures.{
   bits_after,

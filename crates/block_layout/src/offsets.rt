@@ -1,28 +1,15 @@
 ghost use Rattle.std.specs.Prelude.{◌≡◌, Some};
 ghost use Rattle.std.specs.Option.{option_and_then};
-ghost use Rattle.block_layout.specs.Blocks.{is_code, is_function_block};
+ghost use Rattle.plc_base.specs.Kinds.{is_code, is_function_block};
 ghost use Rattle.block_layout.specs.Offsets.{component, offset_in, placed, reached, variable, width_of};
 ghost use Rattle.block_layout.specs.Paths.{if_whole};
 
 use crate::beyond::{leaves_from, leaves_judged};
 use crate::blocks::{BlockLayout, Section};
-use crate::heads::is_data_block;
 use crate::routes::{elementary_at, if_whole, structure_of, walk_data};
 use crate::walks::{Walk, walk_from};
-use plc_base::{Area, BlockId, BlockKind, Place, Width};
+use plc_base::{Area, BlockId, Place, Width};
 use stl_ast::{PathStep, Simple};
-
-fn is_code(kind: BlockKind) -> bool
-    ensures { result ≡ is_code kind }
-{
-    matches!(kind, BlockKind::Ob | BlockKind::Fc | BlockKind::Fb)
-}
-
-fn is_function_block(kind: BlockKind) -> bool
-    ensures { result ≡ is_function_block kind }
-{
-    matches!(kind, BlockKind::Fb)
-}
 
 /// The width of an elementary type.
 pub fn width_of(kind: Simple) -> Width
@@ -112,11 +99,11 @@ fn offset_in(
     ensures { result ≡ offset_in layouts.now id section path.now block }
 {
     match section {
-        Section::Global if is_data_block(id.kind) => component(layouts, id.number, block, path),
-        Section::Instance if is_function_block(id.kind) => {
+        Section::Global if id.kind.is_data_block() => component(layouts, id.number, block, path),
+        Section::Instance if id.kind.is_function_block() => {
             variable(layouts, Area::Di, block, false, path)
         }
-        Section::Temp if is_code(id.kind) => variable(layouts, Area::L, block, true, path),
+        Section::Temp if id.kind.is_code() => variable(layouts, Area::L, block, true, path),
         _ => None,
     }
 }

@@ -1,18 +1,9 @@
 ghost use Rattle.std.specs.Prelude.{◌≡◌, IfOk};
-ghost use Rattle.block_layout.specs.Blocks.{
-  block_of,
-  found_block,
-  has_structure,
-  id_of,
-  ids_of,
-  is_data_block,
-  is_data_type,
-  named_block,
-  of_kind,
-};
+ghost use Rattle.plc_base.specs.Kinds.{is_data_block};
+ghost use Rattle.block_layout.specs.Blocks.{found_block, has_structure, id_of, ids_of, named_block};
 ghost use Rattle.block_layout.specs.Types.{udt_of};
 
-use crate::directory::{Directory, is_same_kind};
+use crate::directory::Directory;
 use plc_base::{BlockId, BlockKind};
 use std::alloc::{AllocError, Global};
 use std::marker::Model;
@@ -37,7 +28,7 @@ pub(crate) fn id_of(symbols: &Symbols, block: &Block) -> Option<BlockId>
     ensures { result ≡ id_of symbols.now block.now }
 {
     let id = named_block(symbols, &block.name)?;
-    if is_same_kind(block.kind, id.kind) {
+    if block.kind.is_same(id.kind) {
         Some(id)
     } else {
         None

@@ -2,6 +2,7 @@
 use Rattle.std.proofs.Common.{◌≡◌, ℕ, Bool, true, false, List, [], ◌∷◌, Option, Some, None, Result, Ok, Err, refl, ◌∙◌, ◌+◌, if◌then◌else◌}
 use Rattle.std.specs.Prelude.{unwrap_or}
 use Rattle.std.specs.Option.{option_map}
+use Rattle.plc_base.specs.Kinds.{is_system_function}
 use Rattle.plc_base.specs.declared.BlockId.{BlockId}
 use Rattle.plc_mem.specs.Areas.{Areas}
 use Rattle.frames.specs.Activations.{refused, with_local_byte}
@@ -19,7 +20,7 @@ use Rattle.machine.specs.Entering.{Call, Fails, Stops, Enters, Callee, supplied,
 use Rattle.frames.specs.Activations.{entered}
 use Rattle.machine.specs.Parts.{Parts, own_of, parts_of}
 use Rattle.machine.specs.Returning.{Return, GoesOn, Ends, left, given_back, returning}
-use Rattle.machine.specs.Statement.{World, Step, Went, Ended, SyncError, SysCall, Stop, Stuck, went_on, after_call, callee_of, block_called, after_system_call, system_called, is_system, called, is_called, not_called, after_return, returned, is_ended, performed, fetched, statement}
+use Rattle.machine.specs.Statement.{World, Step, Went, Ended, SyncError, SysCall, Stop, Stuck, went_on, after_call, callee_of, block_called, after_system_call, system_called, called, is_called, not_called, after_return, returned, is_ended, performed, fetched, statement}
 use Rattle.machine.specs.SystemCalls.{Given, system_function, system_call}
 use Rattle.machine.specs.Jumps.{rlo_tested}
 use Rattle.controller.specs.Beginning.{told_from}
@@ -101,7 +102,7 @@ calls_same : (code : Code) (block : BlockId) (instance : Option ℕ) (passings :
     (next : ℕ) (a : Activation) (w : World)
     → SameStep a (called code block instance passings next a w)
 calls_same code block instance passings next a w =
-    if_same (is_system block.kind) a
+    if_same (is_system_function block.kind) a
     (system_called (system_function block.number) block.number passings next a w)
     (block_called (code.head block) block instance passings next a w)
     (system_same (system_function block.number) block.number passings next a w)

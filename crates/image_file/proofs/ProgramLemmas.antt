@@ -4,7 +4,7 @@ use Rattle.std.proofs.lemmas.Bool.{and_parts, eqb-true, ltb-true, leb-true, lt-l
 use Rattle.std.proofs.lemmas.Bool.Decides.{nat_tests}
 use Rattle.std.proofs.lemmas.List.{length-map}
 use Rattle.std.proofs.lemmas.Option.{same_Some}
-use Rattle.plc_base.specs.Kinds.{kind_number}
+use Rattle.plc_base.specs.Kinds.{kind_number, kind_order}
 use Rattle.plc_base.specs.declared.blocks.BlockId.{BlockId}
 use Rattle.plc_base.specs.declared.blocks.BlockKind.{BlockKind}
 use Rattle.plc_base.specs.declared.blocks.BlockKind.TheVariants as kinds
@@ -20,7 +20,7 @@ use Rattle.flat_code.specs.Image.{plain_u16, plain_u32, zero_u16, kind_field, pa
 use Rattle.flat_code.specs.declared.image_fields.OpenBracket.{OpenBracket}
 use Rattle.flat_code.specs.Placed.{Placed, placed, places, opened, before_next}
 use Rattle.image_file.specs.Verified.{place_at, Begins, BlockIsRight}
-use Rattle.image_file.specs.Readers.{kind_order, same_id, block_of}
+use Rattle.image_file.specs.Readers.{same_id, block_of}
 use Rattle.image_file.specs.Seats.{nowhere, IsSmall, AreSmall, slot_of, HaveSlots}
 use Rattle.image_file.proofs.ImageLemmas.{chain_parts, unless_fine, records_parts, record_parts_of, head_kind, from_size, from_zero, from_statements, from_instance, from_locals, from_number, from_params}
 

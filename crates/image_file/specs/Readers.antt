@@ -1,23 +1,14 @@
 -- The parts of a loaded program, as its readers give them.
 use Rattle.std.specs.Prelude.{ℕ, ◌==◌, Bool, true, false, ◌&&◌, if◌then◌else◌, List, [], ◌∷◌, ◌++◌, length, map, Option, Some, None}
 use Rattle.std.specs.Option.{option_and_then}
+use Rattle.plc_base.specs.Kinds.{kind_order}
 use Rattle.plc_base.specs.declared.blocks.BlockId.{BlockId}
-use Rattle.plc_base.specs.declared.blocks.BlockKind.{BlockKind}
 use Rattle.plc_base.specs.declared.blocks.BlockKind.TheVariants as kinds
 use Rattle.flat_code.specs.declared.programs.Param.{Param}
 use Rattle.flat_code.specs.Codes.{code_bytes}
 use Rattle.flat_code.specs.Ops.{OpData}
 use Rattle.flat_code.specs.Placed.{op_placed, line_placed}
 use Rattle.flat_code.specs.Programs.{CodeBlock, DataBlock, Program}
-
--- block kinds in their order
-abbrev pub kind_order : BlockKind → ℕ
-kind_order kinds.Ob = 0
-kind_order kinds.Fc = 1
-kind_order kinds.Fb = 2
-kind_order kinds.Db = 3
-kind_order kinds.Sfc = 4
-kind_order kinds.Udt = 5
 
 -- two blocks of the same kind and number are the same
 abbrev pub same_id : BlockId → BlockId → Bool

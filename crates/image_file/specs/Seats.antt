@@ -1,6 +1,7 @@
 -- Tables by which ops and blocks are found without a search.
 use Rattle.std.specs.Prelude.{◌≡◌, ℕ, suc, ◌+◌, ◌*◌, ◌<◌, ◌≤◌, nat_lt, ◌==◌, Bool, true, ◌&&◌, if◌then◌else◌, List, [], ◌∷◌, length, drop, slice_get, slice_index_or, is_some, Option, Some, None}
 use Rattle.std.specs.Option.{option_map, option_and_then}
+use Rattle.plc_base.specs.Kinds.{kind_order}
 use Rattle.plc_base.specs.declared.blocks.BlockId.{BlockId}
 use Rattle.flat_code.specs.Codes.{size, code_bytes}
 use Rattle.flat_code.specs.Ops.{OpData}
@@ -9,7 +10,7 @@ use Rattle.flat_code.specs.Placed.{Spot, spot_at}
 use Rattle.flat_code.specs.Programs.{CodeBlock}
 use Rattle.image_file.specs.declared.seats.Seat.{Seat}
 use Rattle.image_file.specs.declared.seats.Seating.{Seating}
-use Rattle.image_file.specs.Readers.{kind_order, block_of}
+use Rattle.image_file.specs.Readers.{block_of}
 
 -- the place of the first number in a list that is an offset
 abbrev pub place_of : ℕ → List ℕ → Option ℕ

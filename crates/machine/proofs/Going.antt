@@ -1,6 +1,7 @@
 -- When nothing that a statement needs is missing.
 use Rattle.std.proofs.Common.{◌≡◌, ℕ, Bool, true, false, is_some, List, Option, Some, None, Result, Ok, Err, refl, sym, if◌then◌else◌}
 use Rattle.std.proofs.lemmas.Bool.{false≢true}
+use Rattle.plc_base.specs.Kinds.{is_system_function}
 use Rattle.plc_base.specs.declared.BlockId.{BlockId}
 use Rattle.frames.specs.declared.Activation.{Activation}
 use Rattle.flat_code.specs.Instr.{Instr, Does, Jumps, JumpsByList, Calls, Returns, Passing}
@@ -11,7 +12,7 @@ use Rattle.machine.specs.Does.{does_with}
 use Rattle.machine.specs.Entering.{Call, Fails, Stops, Enters, call}
 use Rattle.machine.specs.Returning.{Return, GoesOn, Ends, returning}
 use Rattle.machine.specs.SystemCalls.{Given, system_call, system_function}
-use Rattle.machine.specs.Statement.{World, Step, went_on, after_call, after_system_call, after_return, block_called, system_called, called, is_system, is_called, is_ended, returned, callee_of, performed, fetched, Goes}
+use Rattle.machine.specs.Statement.{World, Step, went_on, after_call, after_system_call, after_return, block_called, system_called, called, is_called, is_ended, returned, callee_of, performed, fetched, Goes}
 use Rattle.machine.specs.There.{is_there, is_complete}
 
 parts_go : (e : Result Parts ℕ) (next : ℕ) (a : Activation) → Goes (went_on e next a)
@@ -55,7 +56,7 @@ either_goes false x y f g = g refl
 
 called_goes :
     (c : Code) (block : BlockId) (instance : Option ℕ) (passings : List Passing) (next : ℕ) (a : Activation) (w : World)
-    (system : Bool) → system ≡ is_system block.kind
+    (system : Bool) → system ≡ is_system_function block.kind
     → (if system then is_some (system_function block.number) else is_some (c.head block)) ≡ true
     → Goes (called c block instance passings next a w)
 called_goes c block instance passings next a w true is there =
@@ -72,7 +73,7 @@ performed_goes c (Jumps word target) next a w there = tt
 performed_goes c (JumpsByList targets otherwise) next a w there = tt
 performed_goes c (Calls how block instance passings) next a w there =
     either_goes (is_called how a.running.regs.status.rlo) _ _
-    (λ h. called_goes c block instance passings next a w (is_system block.kind) refl there) (λ h. tt)
+    (λ h. called_goes c block instance passings next a w (is_system_function block.kind) refl there) (λ h. tt)
 performed_goes c (Returns how) next a w there =
     either_goes (is_ended how a.running.regs.status.rlo) _ _
     (λ h. returned_goes (c.head a.running.frame.block) a w there) (λ h. tt)

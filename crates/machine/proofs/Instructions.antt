@@ -4,6 +4,7 @@ use Rattle.std.proofs.lemmas.Bool.{and_parts, eqb-true, ne_eqb}
 use Rattle.std.proofs.lemmas.List.{length-map, length-reverse}
 use Rattle.std.proofs.lemmas.Option.{same_Some}
 use Rattle.std.specs.Option.{option_map}
+use Rattle.plc_base.specs.Kinds.{kind_order}
 use Rattle.plc_base.specs.declared.BlockId.{BlockId}
 use Rattle.plc_base.specs.declared.blocks.BlockKind.{BlockKind}
 use Rattle.plc_base.specs.declared.blocks.BlockKind.TheVariants as kinds
@@ -43,7 +44,7 @@ use Rattle.flat_code.specs.Placed.{op_placed, bracket_codes, last_op, is_empty a
 use Rattle.flat_code.specs.Programs.{CodeBlock, Program}
 use Rattle.flat_code.specs.Table.{admits, is_jump, takes_of, takes_of_word}
 use Rattle.flat_code.specs.Words.{word_of}
-use Rattle.image_file.specs.Readers.{kind_order, same_id, block_of}
+use Rattle.image_file.specs.Readers.{same_id, block_of}
 use Rattle.image_file.specs.Verified.{FitsCall, FitsOperand, FitsPrepared, signatures}
 use Rattle.machine.specs.DataBlocks.{is_loaded}
 use Rattle.machine.specs.Does.{on_own, does, with_db, does_with}

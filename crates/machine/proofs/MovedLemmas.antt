@@ -1,6 +1,7 @@
 -- Statements do the same at other positions.
 use Rattle.std.proofs.Common.{◌≡◌, ℕ, zero, suc, ◌%◌, ◌^◌, Bool, true, false, if◌then◌else◌, List, [], ◌∷◌, length, map, slice_get, unwrap_or, Option, Some, None, Result, Ok, Err, option_map, refl, sym, ap, ◌∙◌}
 use Rattle.std.proofs.lemmas.List.{length-map}
+use Rattle.plc_base.specs.Kinds.{is_system_function}
 use Rattle.plc_base.specs.declared.blocks.BlockId.{BlockId}
 use Rattle.plc_mem.specs.Areas.{Areas}
 use Rattle.status_word.specs.declared.registers.Regs.{Regs}
@@ -20,7 +21,7 @@ use Rattle.machine.specs.Jumps.{is_taken, after_jump, goes_to, listed, rlo_teste
 use Rattle.machine.specs.Moved.{aimed_instr, moved_fetched, Follows, moved_frame, moved, moved_step, StatementsMove}
 use Rattle.machine.specs.Parts.{Parts, own_of, parts_of}
 use Rattle.machine.specs.Returning.{given_back, left, returning}
-use Rattle.machine.specs.Statement.{World, Step, Went, went_on, jumped, after_call, callee_of, block_called, after_system_call, system_called, is_system, called, is_called, not_called, after_return, returned, is_ended, performed, fetched, statement, moved_on}
+use Rattle.machine.specs.Statement.{World, Step, Went, went_on, jumped, after_call, callee_of, block_called, after_system_call, system_called, called, is_called, not_called, after_return, returned, is_ended, performed, fetched, statement, moved_on}
 use Rattle.machine.specs.SystemCalls.{Given, system_call, system_function}
 
 -- the run goes on at the position of the next one
@@ -152,7 +153,7 @@ called_moves :
     (f : BlockId → ℕ → ℕ) (c d : Code) (block : BlockId) (instance : Option ℕ) (passings : List Passing) (next : ℕ) (a : Activation) (w : World)
     → Follows f c d
     → called d block instance passings (f a.running.frame.block next) (moved f a) w ≡ moved_step f (called c block instance passings next a w)
-called_moves f c d block instance passings next a w follows = by (is_system block.kind)
+called_moves f c d block instance passings next a w follows = by (is_system_function block.kind)
   where
     there : ℕ
     there = f a.running.frame.block next

@@ -1,6 +1,7 @@
 -- Statements one after another that leave the peripheral outputs as they are, and after each of which
 -- the activation goes on.
 use Rattle.std.specs.Prelude.{◌≡◌, ℕ, zero, suc, Bool, true, false, not, ◌||◌, ◌&&◌, List, [], ◌∷◌, slice_get, Option, Some, None, is_some}
+use Rattle.plc_base.specs.Kinds.{is_system_function}
 use Rattle.plc_base.specs.declared.Area.{Area}
 use Rattle.frames.specs.declared.Activation.{Activation}
 use Rattle.frames.specs.declared.frame.Frame.{Frame}
@@ -16,7 +17,7 @@ use Rattle.machine.specs.Code.{Code, Fetched}
 use Rattle.machine.specs.Flat.{code_of}
 use Rattle.machine.specs.Lasting.{IsReady}
 use Rattle.machine.specs.Places.{is_peripheral}
-use Rattle.machine.specs.Statement.{World, Step, Went, is_called, is_ended, is_system, statement}
+use Rattle.machine.specs.Statement.{World, Step, Went, is_called, is_ended, statement}
 
 -- the activation goes on, with no change of the peripheral outputs
 pub record GoesQuietly (step : Step) (w : World) (next : Activation) (after : World) : Type 0 where
@@ -104,7 +105,7 @@ has_caller (caller ∷ rest) = true
 -- an instance to its caller
 abbrev pub is_quiet_across : Instr → Activation → Bool
 is_quiet_across (Calls how block instance passings) a =
-    is_called how a.running.regs.status.rlo && not (is_system block.kind)
+    is_called how a.running.regs.status.rlo && not (is_system_function block.kind)
 is_quiet_across (Returns how) a =
     is_ended how a.running.regs.status.rlo && not (is_some a.running.frame.instance)
     && has_caller a.below

@@ -1,8 +1,7 @@
 -- One statement of an activation: what comes of it. This is the only place where positions move.
 use Rattle.std.specs.Prelude.{◌≡◌, ℕ, Bool, true, false, List, Option, Some, None, Result, Ok, Err, if◌then◌else◌}
+use Rattle.plc_base.specs.Kinds.{is_system_function}
 use Rattle.plc_base.specs.StopCauses as causes
-use Rattle.plc_base.specs.declared.blocks.BlockKind.{BlockKind}
-use Rattle.plc_base.specs.declared.blocks.BlockKind.TheVariants as kinds
 use Rattle.plc_base.specs.declared.BlockId.{BlockId}
 use Rattle.plc_mem.specs.Areas.{Areas}
 use Rattle.status_word.specs.declared.Regs.{Regs}
@@ -120,16 +119,11 @@ system_called None number passings next a w = Stuck
 system_called (Some params) number passings next a w =
     after_system_call (system_call params passings (own_of a.running) w.memory) number next a
 
--- SFC: its call enters no frame; the system function does its work outside the machine
-abbrev pub is_system : BlockKind → Bool
-is_system kinds.Sfc = true
-is_system _ = false
-
 -- a call that is made: of a system function by its number, of each other block by its head
 abbrev pub called :
     Code → BlockId → Option ℕ → List Passing → (next : ℕ) → Activation → World → Step
 called code block instance passings next a w =
-    if is_system block.kind
+    if is_system_function block.kind
     then system_called (system_function block.number) block.number passings next a w
     else block_called (code.head block) block instance passings next a w
 

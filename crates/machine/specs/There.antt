@@ -1,17 +1,17 @@
 -- What a statement needs of a program: what it calls, and the head of its own block at a return.
 use Rattle.std.specs.Prelude.{◌==◌, Bool, true, false, is_some, length, Option, Some, None, if◌then◌else◌}
+use Rattle.plc_base.specs.Kinds.{is_system_function}
 use Rattle.plc_base.specs.declared.BlockId.{BlockId}
 use Rattle.frames.specs.Activations.{frames_of}
 use Rattle.frames.specs.declared.Activation.{Activation}
 use Rattle.flat_code.specs.Instr.{Instr, Calls, Returns}
 use Rattle.machine.specs.Code.{Code, Fetched}
-use Rattle.machine.specs.Statement.{is_system}
 use Rattle.machine.specs.SystemCalls.{system_function}
 
 -- a called block is there: a system function of the profile, or a block of the program
 abbrev pub is_callee : Code → BlockId → Bool
 is_callee c block =
-    if is_system block.kind then is_some (system_function block.number) else is_some (c.head block)
+    if is_system_function block.kind then is_some (system_function block.number) else is_some (c.head block)
 
 -- what a CALL calls is there, and at a return the head of its own block
 abbrev pub is_there : Code → Instr → (own : BlockId) → Bool

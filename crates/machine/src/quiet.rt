@@ -18,7 +18,7 @@ ghost use Rattle.machine.specs.Walking.{Passes};
 use crate::entering::{Callee, enter_if_room};
 use crate::performing::jump_to;
 use crate::returning::return_from_block;
-use crate::statements::{instance_named, is_called, is_ended, is_jl, is_system, kind_called};
+use crate::statements::{instance_named, is_called, is_ended, is_jl, kind_called};
 use crate::walking::{bind_all, jump_of, walk_from};
 use crate::whole::does_with;
 use flat_code::{CallWord, EndWord, JumpWord, Operand, Word};
@@ -299,7 +299,7 @@ fn call_quietly(
     if !is_called(how, a.running.regs.status.rlo) {
         return false;
     }
-    if is_system(block.kind) {
+    if block.kind.is_system_function() {
         return false;
     }
     match c.code(block) {

@@ -9,7 +9,7 @@ ghost use Rattle.machine.specs.There.{is_callee as is_callee_of, is_there, is_co
 ghost use Rattle.machine.specs.Walking.{TellsThere};
 ghost use Rattle.flat_code.specs.Placed.{line_placed};
 
-use crate::statements::{is_system, kind_called};
+use crate::statements::kind_called;
 use crate::system_calls::system_function;
 use crate::walking::{Walk, walk_from};
 use flat_code::{Operand, Word};
@@ -21,7 +21,7 @@ use plc_base::BlockId;
 fn is_callee(c: &Loaded, block: BlockId) -> bool
     ensures { result ≡ is_callee_of (code_of c.now.program) block }
 {
-    if is_system(block.kind) {
+    if block.kind.is_system_function() {
         system_function(block.number).is_some()
     } else {
         c.code(block).is_some()

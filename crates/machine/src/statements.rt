@@ -9,7 +9,7 @@ ghost use Rattle.machine.specs.Entering.{call};
 ghost use Rattle.machine.specs.Does.{does_with as does_with_of};
 ghost use Rattle.machine.specs.Parts.{own_of, parts_of};
 ghost use Rattle.machine.specs.Flat.{code_of, jump_instr, is_jl as is_jl_of, kind_called as kind_called_of, instance_named as instance_named_of, instr_of, statement_at, head_of};
-ghost use Rattle.machine.specs.Statement.{World, world, went_on, returned, after_call, after_system_call, callee_of, statement as statement_of, fetched, performed, called, block_called, system_called, is_called as is_called_of, is_ended as is_ended_of, is_system as is_system_of, Goes, Comes};
+ghost use Rattle.machine.specs.Statement.{World, world, went_on, returned, after_call, after_system_call, callee_of, statement as statement_of, fetched, performed, called, block_called, system_called, is_called as is_called_of, is_ended as is_ended_of, Goes, Comes};
 ghost use Rattle.machine.specs.SystemCalls.{system_function as system_function_of, system_call, count_inputs};
 ghost use Rattle.machine.specs.Walking.{Passes};
 
@@ -263,17 +263,11 @@ fn call_any(
         → Comes (called (code_of c.now.program) block instance passings next a.old
         (world m.old t n)) a.old a.new (world m.old t n) (world m.new t n) result }
 {
-    if is_system(block.kind) {
+    if block.kind.is_system_function() {
         call_function(code, at, block.number, next, a, m)
     } else {
         call_code(c, code, at, block, instance, next, a, m)
     }
-}
-
-pub(crate) fn is_system(kind: BlockKind) -> bool
-    ensures { result ≡ is_system_of kind }
-{
-    matches!(kind, BlockKind::Sfc)
 }
 
 // BE, BEU and BEC.

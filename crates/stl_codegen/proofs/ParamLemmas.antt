@@ -1,11 +1,11 @@
 -- The parameters of a block, which stand in another order in its code than in its declaration.
 use Rattle.std.proofs.Common.{◌≡◌, ◌≤◌, Bool, List, [], ◌∷◌, ◌++◌, length, take, drop, Option, Some, None, sym, ap, subst, ◌∙◌, arith}
 use Rattle.std.specs.List.{AllByRecursion, flat_map}
+use Rattle.plc_base.specs.Kinds.{is_function_block}
 use Rattle.plc_base.proofs.ListLemmas.{all_front, all_back}
 use Rattle.flat_code.specs.declared.programs.Param.{Param}
 use Rattle.stl_ast.specs.declared.blocks.Block.{Block}
 use Rattle.stl_ast.specs.declared.declarations.Simple.{Simple}
-use Rattle.block_layout.specs.Blocks.{is_function_block}
 use Rattle.block_layout.specs.declared.blocks.BlockLayout.{BlockLayout}
 use Rattle.stl_codegen.specs.Fitting.{ParamFits, ParamsFit}
 use Rattle.stl_codegen.specs.Generated.{param_here, params_of}

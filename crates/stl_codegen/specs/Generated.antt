@@ -1,6 +1,7 @@
 -- The program of a source that breaks no rule.
 use Rattle.std.specs.Prelude.{ℕ, suc, ◌+◌, ◌/◌, ◌%◌, Bool, true, false, ◌&&◌, ◌||◌, List, [], ◌∷◌, ◌++◌, map, flat_map, Option, Some, None, if◌then◌else◌, slice_get}
 use Rattle.std.specs.Option.{option_and_then}
+use Rattle.plc_base.specs.Kinds.{is_function, is_function_block, is_data_block, is_code}
 use Rattle.plc_base.specs.declared.blocks.BlockId.{BlockId}
 use Rattle.plc_base.specs.declared.blocks.BlockKind.{BlockKind}
 use Rattle.plc_base.specs.declared.blocks.BlockKind.TheVariants as kinds
@@ -21,7 +22,6 @@ use Rattle.stl_ast.specs.declared.statements.Statement.{Statement}
 use Rattle.stl_symbols.specs.Symbol.{Symbol}
 use Rattle.stl_symbols.specs.declared.targets.Target.{Target}
 use Rattle.stl_symbols.specs.declared.targets.Target.TheVariants as target
-use Rattle.block_layout.specs.Blocks.{is_function, is_function_block, is_data_block, is_code}
 use Rattle.block_layout.specs.InitialBytes.{initial_bytes}
 use Rattle.block_layout.specs.Members.{component}
 use Rattle.block_layout.specs.Offsets.{width_of}

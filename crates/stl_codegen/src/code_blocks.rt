@@ -1,7 +1,7 @@
 ghost use Rattle.std.specs.Prelude.{◌≡◌, ◌≤◌, IfOk, IfSome, Some, map};
 ghost use Rattle.std.specs.List.{AllByRecursion};
 ghost use Rattle.std.specs.Option.{IfNone};
-ghost use Rattle.block_layout.specs.Blocks.{is_code};
+ghost use Rattle.plc_base.specs.Kinds.{is_code};
 ghost use Rattle.stl_codegen.specs.Compiled.{compiled};
 ghost use Rattle.stl_codegen.specs.Fitting.{Added, BlockFits};
 ghost use Rattle.stl_codegen.specs.Generated.{
@@ -78,12 +78,6 @@ fn code_block(
     }))
 }
 
-fn is_code(kind: BlockKind) -> bool
-    ensures { result ≡ is_code kind }
-{
-    matches!(kind, BlockKind::Ob | BlockKind::Fc | BlockKind::Fb)
-}
-
 /// Adds the code block that a block of the source is, if it is one.
 fn add_known(
     alloc: Global,
@@ -96,7 +90,7 @@ fn add_known(
     ensures { IfOk result (λ done. Added BlockFits made.old.items made.new.items
         (map compiled (code_block_of scope.now block.now layout.now (Some id))) done) }
 {
-    if !is_code(id.kind) {
+    if !id.kind.is_code() {
         return Ok(Some(()));
     }
     let Some(one) = code_block(alloc, scope, block, layout, id)? else {

@@ -1,6 +1,5 @@
 ghost use Rattle.std.specs.Prelude.{◌≡◌, ◌≤◌, IfSome};
 ghost use Rattle.std.specs.Option.{IfNone};
-ghost use Rattle.plc_base.specs.Pointer.{area_number};
 ghost use Rattle.stl_codegen.specs.Fitting.{IsNoOperand, IsStill};
 ghost use Rattle.stl_codegen.specs.Operands.{
   constant_bits,
@@ -58,21 +57,6 @@ fn direct(place: Place, width: Width) -> FlatOperand
     }
 }
 
-fn area_number(area: Area) -> u32
-    ensures value { result ≡ area_number area }
-    ensures below { result ≤ 6 }
-{
-    match area {
-        Area::P => 0,
-        Area::I => 1,
-        Area::Q => 2,
-        Area::M => 3,
-        Area::Db => 4,
-        Area::Di => 5,
-        Area::L => 6,
-    }
-}
-
 /// The bits of a pointer constant, by its area where it has one.
 fn pointer_bits(area: Option<Area>, byte: u16, bit: u8) -> u32
     ensures { result ≡ pointer_bits area byte bit }
@@ -80,7 +64,7 @@ fn pointer_bits(area: Option<Area>, byte: u16, bit: u8) -> u32
     let within = 8 * byte as u32 + bit as u32;
     match area {
         None => within,
-        Some(area) => 0x8000_0000 + 0x0100_0000 * area_number(area) + within,
+        Some(area) => 0x8000_0000 + 0x0100_0000 * u32::from(area.number()) + within,
     }
 }
 

@@ -11,24 +11,16 @@ ghost use Rattle.std.specs.Prelude.{
 };
 ghost use Rattle.std.specs.Option.{IfNone};
 ghost use Rattle.std.specs.List.{AllByRecursion, flat_map};
-ghost use Rattle.block_layout.specs.Blocks.{is_function_block};
+ghost use Rattle.plc_base.specs.Kinds.{is_function_block};
 ghost use Rattle.block_layout.specs.Offsets.{width_of};
 ghost use Rattle.stl_codegen.specs.Fitting.{Added, ParamFits, ParamsFit};
-ghost use Rattle.stl_codegen.specs.Generated.{
-  offset_named,
-  param,
-  param_bits,
-  param_here,
-  param_of,
-  params_of,
-  section_number,
-};
+ghost use Rattle.stl_codegen.specs.Generated.{offset_named, param, param_bits, param_here, params_of, section_number};
 
 use crate::instructions::in_order;
 use arrayvec::ArrayVec;
 use block_layout::{BlockLayout, Cell, Element, Layout, Member, is_parameter, width_of};
 use flat_code::Param;
-use plc_base::{BlockKind, Width};
+use plc_base::Width;
 use std::alloc::{AllocError, Global};
 use stl_ast::{Block, PartKind, Simple};
 
@@ -41,12 +33,6 @@ fn section_number(section: PartKind) -> u8
         PartKind::Output => 2,
         _ => 3,
     }
-}
-
-pub(crate) fn is_function_block(kind: BlockKind) -> bool
-    ensures { result ≡ is_function_block kind }
-{
-    matches!(kind, BlockKind::Fb)
 }
 
 /// A parameter that begins so many bits from the start; `None` where its byte doesn't fit its field.
@@ -173,7 +159,7 @@ pub(crate) fn params_of(
     ensures none { IfOk result (λ made. IfNone made
         (ParamsFit (params_of block.now layout.now) → ⊥)) }
 {
-    let in_instance = is_function_block(block.kind);
+    let in_instance = block.kind.is_function_block();
     let Some(params) = declared_params(alloc, in_instance, &layout.components)? else {
         return Ok(None);
     };

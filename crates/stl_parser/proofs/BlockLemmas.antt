@@ -4,6 +4,7 @@ use Rattle.std.specs.Prelude.{nat_eq, nat_lt, ◌&&◌}
 use Rattle.std.specs.List.{flat_map}
 use Rattle.std.proofs.lemmas.List.{append_assoc, append-nil, map-append}
 use Rattle.std.proofs.lemmas.Option.{same_Some}
+use Rattle.plc_base.specs.Kinds.{kind_order}
 use Rattle.plc_base.specs.declared.blocks.BlockKind.{BlockKind}
 use Rattle.plc_base.specs.declared.blocks.BlockKind.TheVariants as kinds
 use Rattle.stl_lexer.specs.Limits.{source_limit}
@@ -26,7 +27,7 @@ use Rattle.stl_parser.specs.declared.clauses.Clause.TheVariants as clause
 use Rattle.stl_parser.specs.declared.places.ClausePlace.{ClausePlace}
 use Rattle.stl_parser.specs.declared.places.ClausePlace.TheVariants as place
 use Rattle.stl_parser.specs.BlockReading.{is_inside, behind_inside, declared_by, set_by, stated_by, opens_shape, opens_part, opened_place, ReadsContent, ReadsShape}
-use Rattle.stl_parser.specs.Clauses.{level_at, block_rank}
+use Rattle.stl_parser.specs.Clauses.{level_at}
 use Rattle.stl_parser.specs.Frame.{follow, follow_outside, follow_head, follow_section, follow_between, follow_shape, follow_shaped, follow_body, follow_settings}
 use Rattle.stl_parser.specs.Source.{Step, step_of, is_outside, Reads, ReadsKept}
 use Rattle.stl_parser.specs.Spelling.{is_kept, spelled_part, spelled_behind_head, spelled_block}
@@ -185,7 +186,7 @@ body_follows k (clause.Runs s) q h = (same_Some q _ (sym h), refl)
 body_follows k clause.Network q h = (same_Some q _ (sym h), refl)
 body_follows k clause.Title q h = (same_Some q _ (sym h), refl)
 body_follows k (clause.Ends line e) q h =
-    let s = if_some (nat_eq (block_rank e) (block_rank k)) place.Outside q h in (same_kind e k s.0, s.1)
+    let s = if_some (nat_eq (kind_order e) (kind_order k)) place.Outside q h in (same_kind e k s.0, s.1)
 body_follows k _ q h = cc
 
 pub body_step : (source : List ℕ) (k : BlockKind) (rest : List Token) (c : Clause) (behind : List Token) (q : ClausePlace) →
@@ -243,7 +244,7 @@ head_follows k clause.Title q h = same_Some _ q h
 head_follows k (clause.Section line p) q h = sym (if_some (may_have k p) (place.Section k p 0) q h).1
 head_follows k clause.Begins q h = sym (if_some (has_body k) (place.Body k) q h).1
 head_follows k clause.Structure q h = sym (if_some (has_shape k) (place.Shape k 0) q h).1
-head_follows k (clause.Based name) q h = sym (if_some (nat_eq (block_rank k) 3) (place.Shaped k) q h).1
+head_follows k (clause.Based name) q h = sym (if_some (nat_eq (kind_order k) 3) (place.Shaped k) q h).1
 head_follows k _ q h = cc
 
 head_opens : (k : BlockKind) (c : Clause) (q : ClausePlace) → follow_head k c ≡ Some q → (c ≡ clause.Note → ⊥) → (c ≡ clause.Title → ⊥) →

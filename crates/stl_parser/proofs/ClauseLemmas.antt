@@ -5,6 +5,7 @@ use Rattle.std.specs.Option.{option_and_then, IfSome}
 use Rattle.std.specs.List.{position_or_len}
 use Rattle.std.proofs.lemmas.List.{length-drop, length-take}
 use Rattle.std.proofs.lemmas.Bool.{ltb-true}
+use Rattle.plc_base.specs.Kinds.{kind_order}
 use Rattle.plc_base.specs.declared.blocks.BlockKind.{BlockKind}
 use Rattle.plc_base.specs.declared.blocks.BlockKind.TheVariants as kinds
 use Rattle.stl_lexer.specs.declared.kinds.Token.{Token}
@@ -75,7 +76,7 @@ FitsInside n _ = Unit {0}
 abbrev IsInside : ClausePlace → ℕ → Clause × Bool → Type 0
 IsInside p n r = (r.1 ≡ false → IsRight p r.0) × FitsInside n r.0
 
-same_rank : (e k : BlockKind) → nat_eq (spec.block_rank e) (spec.block_rank k) ≡ true → e ≡ k
+same_rank : (e k : BlockKind) → nat_eq (kind_order e) (kind_order k) ≡ true → e ≡ k
 same_rank kinds.Ob kinds.Ob h = refl
 same_rank kinds.Fc kinds.Fc h = refl
 same_rank kinds.Fb kinds.Fb h = refl

@@ -1,4 +1,5 @@
 -- Right clauses have a tree: what the frame lets follow at a place is what a tree spells from there on.
+use Rattle.plc_base.specs.Kinds.{kind_order, is_data_type}
 use Rattle.stl_parser.proofs.LevelLemmas.{IsAt, read_level}
 use Rattle.std.proofs.Common.{arith, inl, inr, ℕ, zero, suc, ◌+◌, ◌≤◌, ◌⊎◌, ◌≡◌, Bool, true, false, List, [], ◌∷◌, ◌++◌, map, filter, cond, length, Option, Some, None, Result, Ok, Err, if◌then◌else◌, refl, sym, ◌∙◌, ap, subst}
 use Rattle.std.specs.Prelude.{nat_eq, nat_lt, ◌&&◌}
@@ -23,7 +24,7 @@ use Rattle.stl_parser.specs.declared.clauses.Clause.{Clause}
 use Rattle.stl_parser.specs.declared.clauses.Clause.TheVariants as clause
 use Rattle.stl_parser.specs.declared.places.ClausePlace.{ClausePlace}
 use Rattle.stl_parser.specs.declared.places.ClausePlace.TheVariants as place
-use Rattle.stl_parser.specs.Clauses.{Read, level_at, block_rank, clause_at}
+use Rattle.stl_parser.specs.Clauses.{Read, level_at, clause_at}
 use Rattle.stl_parser.specs.Frame.{follow, follow_outside, follow_head, follow_section, follow_between, follow_shape, follow_shaped, follow_body, follow_settings}
 use Rattle.stl_ast.specs.Blocks.{may_have, may_declare, has_body, has_shape, has_settings, part_rank, is_date_and_time}
 use Rattle.stl_ast.specs.Operands.{IsNameOf}
@@ -31,7 +32,7 @@ use Rattle.stl_ast.specs.Statements.{IsStatement}
 use Rattle.stl_ast.specs.WellFormed.{IsSourceKind, IsHeadName, MayReturn, AreDeclaredIn, IsSection, AreInOrder, AreSections, IsComponent, AreComponents, IsShapeOf, IsSetting, AreSettings, IsBody, IsBlock}
 use Rattle.stl_parser.proofs.OptionLemmas.{some_holds}
 use Rattle.stl_parser.proofs.ClauseLemmas.{IsBaseName, IsRight, Fits, IsReadAt, clause_holds}
-use Rattle.stl_parser.specs.Spelling.{is_kept, is_udt, is_udt_kind, nowhere, spelled_part, spelled_shape, spelled_block}
+use Rattle.stl_parser.specs.Spelling.{is_kept, is_udt, nowhere, spelled_part, spelled_shape, spelled_block}
 use Rattle.stl_parser.specs.Source.{Step, step_of, judged, place_of, placed, Reads, ClausesHaveTree}
 use Rattle.std.proofs.lemmas.List.{append_assoc}
 use Rattle.plc_base.proofs.TruthLemmas.{and_first, and_second}
@@ -118,7 +119,7 @@ passes : (b : Bool) (q : ClausePlace) (cs : List Clause) → SpellsBehind (if b 
 passes true q cs h = (refl, h)
 passes false q cs h = absurd h
 
-pub same_kind : (e k : BlockKind) → nat_eq (block_rank e) (block_rank k) ≡ true → e ≡ k
+pub same_kind : (e k : BlockKind) → nat_eq (kind_order e) (kind_order k) ≡ true → e ≡ k
 same_kind kinds.Ob kinds.Ob h = refl
 same_kind kinds.Fc kinds.Fc h = refl
 same_kind kinds.Fb kinds.Fb h = refl
@@ -184,14 +185,14 @@ section_spells line p ds ps cs rest e =
 udt_name : (name : BlockName) → IsBaseName name → is_udt name ≡ true → IsNameOf (λ k. k ≡ kinds.Udt) name
 udt_name (block.Number id) h test = (udt_kind id.kind test, h.1)
   where
-    udt_kind : (k : BlockKind) → is_udt_kind k ≡ true → k ≡ kinds.Udt
+    udt_kind : (k : BlockKind) → is_data_type k ≡ true → k ≡ kinds.Udt
     udt_kind kinds.Udt test = refl
     udt_kind _ test = cc
 udt_name (block.Quoted name) h test = tt
 
-fb_kind : (k : BlockKind) → (k ≡ kinds.Fb) ⊎ (k ≡ kinds.Udt) → is_udt_kind k ≡ false → k ≡ kinds.Fb
+fb_kind : (k : BlockKind) → (k ≡ kinds.Fb) ⊎ (k ≡ kinds.Udt) → is_data_type k ≡ false → k ≡ kinds.Fb
 fb_kind k (inl h) test = h
-fb_kind k (inr h) test = true_is_no_false (is_udt_kind k) (ap is_udt_kind h) test
+fb_kind k (inr h) test = true_is_no_false (is_data_type k) (ap is_data_type h) test
 
 fb_name : (name : BlockName) → IsBaseName name → is_udt name ≡ false → IsNameOf (λ k. k ≡ kinds.Fb) name
 fb_name (block.Number id) h test = (fb_kind id.kind h.0 test, h.1)
@@ -277,7 +278,7 @@ shaped_inside kinds.Udt ds ss h components set =
     record { head = tt; sections = (tt, tt); shaped = (refl, refl, components); set = set; runs = (tt, λ lacks. refl) }
 shaped_inside _ ds ss h components set = cc
 
-from_based : (k : BlockKind) (name : BlockName) (cs : List Clause) → IsBaseName name → nat_eq (block_rank k) 3 ≡ true →
+from_based : (k : BlockKind) (name : BlockName) (cs : List Clause) → IsBaseName name → nat_eq (kind_order k) 3 ≡ true →
     Spells (place.Shaped k) cs → Spells (place.Head k) (clause.Based name ∷ cs)
 from_based kinds.Db name cs base test h = based_spells name (is_udt name) cs base refl h
 from_based _ name cs base test h = cc
@@ -323,7 +324,7 @@ from_head k clause.Structure cs right h =
       s.7,
     )
 from_head k (clause.Based name) cs right h =
-    let passed = passes (nat_eq (block_rank k) 3) (place.Shaped k) cs h in from_based k name cs right passed.0 passed.1
+    let passed = passes (nat_eq (kind_order k) 3) (place.Shaped k) cs h in from_based k name cs right passed.0 passed.1
 from_head k _ cs right h = absurd h
 
 -- an outline of a level is one of the next
@@ -428,7 +429,7 @@ from_body k (clause.Runs s) cs right h = (s ∷ h.0, h.1, h.2, ap (λ xs. clause
 from_body k clause.Network cs right h = h
 from_body k clause.Title cs right h = h
 from_body k (clause.Ends line e) cs right h =
-    let s = passes (nat_eq (block_rank e) (block_rank k)) place.Outside cs h in
+    let s = passes (nat_eq (kind_order e) (kind_order k)) place.Outside cs h in
     ([], line, s.1.0, ap (λ x. clause.Ends line x ∷ cs) (same_kind e k s.0) ∙ ap (λ xs. clause.Ends line k ∷ xs) s.1.1, tt, s.1.2)
 from_body k _ cs right h = absurd h
 

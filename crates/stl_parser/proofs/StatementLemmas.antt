@@ -6,6 +6,7 @@ use Rattle.std.specs.List.{list_all}
 use Rattle.std.proofs.lemmas.Bool.Decides.{nat_tests}
 use Rattle.std.proofs.lemmas.List.{length-drop}
 use Rattle.std.proofs.lemmas.Bool.{not-true}
+use Rattle.plc_base.specs.Kinds as of_kind
 use Rattle.plc_base.specs.declared.blocks.BlockKind.{BlockKind}
 use Rattle.plc_base.specs.declared.blocks.BlockKind.TheVariants as kinds
 use Rattle.plc_base.proofs.TruthLemmas.{and_first, and_second}
@@ -186,11 +187,11 @@ block_call_holds source code tokens call none some =
       size = omega (arith, h.1);
     })
 
-is_data_block : (k : BlockKind) → spec.is_db k ≡ true → k ≡ kinds.Db
+is_data_block : (k : BlockKind) → of_kind.is_data_block k ≡ true → k ≡ kinds.Db
 is_data_block kinds.Db h = refl
 is_data_block _ h = cc
 
-is_function_block : (k : BlockKind) → spec.is_fb k ≡ true → k ≡ kinds.Fb
+is_function_block : (k : BlockKind) → of_kind.is_function_block k ≡ true → k ≡ kinds.Fb
 is_function_block kinds.Fb h = refl
 is_function_block _ h = cc
 
@@ -207,8 +208,8 @@ data_block_holds : (source : List ℕ) (tokens : List Token) → IfSome (spec.da
 unfolding spec.data_block_at
 data_block_holds source tokens =
     chained (block_at source tokens) _ (IsNamed (length tokens)) (IsDataBlock (length tokens)) (named_holds source tokens)
-    (λ r h. passed (spec.may_be r.0 spec.is_db) _ (IsDataBlock (length tokens))
-    (λ test. (may_be_holds r.0 spec.is_db (λ k. k ≡ kinds.Db) h.0 is_data_block test, omega (arith, h.1))))
+    (λ r h. passed (spec.may_be r.0 of_kind.is_data_block) _ (IsDataBlock (length tokens))
+    (λ test. (may_be_holds r.0 of_kind.is_data_block (λ k. k ≡ kinds.Db) h.0 is_data_block test, omega (arith, h.1))))
 
 abbrev HasInstance : BlockName → ℕ → Option BlockName × List Token → Type 0
 HasInstance name n r = IsInstance name r.0 × (length r.1 ≤ n)
@@ -219,10 +220,10 @@ unfolding spec.instance_at
 instance_holds source name [] h = (tt, omega arith)
 instance_holds source name (t ∷ rest) h =
     both (is_mark source t mark.Comma) _ _ (HasInstance name (length (t ∷ rest)))
-    (passed (spec.may_be name spec.is_fb) _ (HasInstance name (length (t ∷ rest)))
+    (passed (spec.may_be name of_kind.is_function_block) _ (HasInstance name (length (t ∷ rest)))
     (λ test. mapped (spec.data_block_at source rest) _ (IsDataBlock (length rest)) (HasInstance name (length (t ∷ rest)))
     (data_block_holds source rest)
-    (λ r k. ((may_be_holds name spec.is_fb (λ k. k ≡ kinds.Fb) h is_function_block test, k.0), omega (arith, k.1)))))
+    (λ r k. ((may_be_holds name of_kind.is_function_block (λ k. k ≡ kinds.Fb) h is_function_block test, k.0), omega (arith, k.1)))))
     (tt, omega arith)
 
 -- the value of an actual parameter

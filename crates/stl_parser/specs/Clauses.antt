@@ -1,6 +1,7 @@
 -- Clauses: the grammar of one clause.
 use Rattle.std.specs.Prelude.{ℕ, ◌+◌, nat_lt, nat_eq, Bool, true, false, ◌&&◌, not, if◌then◌else◌, List, [], ◌∷◌, take, drop, position, Option, Some, None}
 use Rattle.std.specs.Option.{option_map, option_or, option_and_then}
+use Rattle.plc_base.specs.Kinds.{kind_order}
 use Rattle.plc_base.specs.declared.blocks.BlockKind.{BlockKind}
 use Rattle.plc_base.specs.declared.blocks.BlockKind.TheVariants as kinds
 use Rattle.stl_lexer.specs.declared.kinds.Token.{Token}
@@ -75,15 +76,6 @@ abbrev pub takes_parameters : ClausePlace → Bool
 takes_parameters (place.Section k p level) = is_parameter p
 takes_parameters _ = false
 
--- a number for each kind of block, by which two kinds are compared; that of a data block is 3
-abbrev pub block_rank : BlockKind → ℕ
-block_rank kinds.Ob = 0
-block_rank kinds.Fc = 1
-block_rank kinds.Fb = 2
-block_rank kinds.Db = 3
-block_rank kinds.Sfc = 4
-block_rank kinds.Udt = 5
-
 -- a clause, what follows it, and whether a label in it is too long
 abbrev pub Read : Type 0
 Read = Option (Clause × List Token × Bool)
@@ -94,7 +86,7 @@ behind_note source p rest = if in_head p then skip_semicolon source rest else re
 
 -- a block of this kind may have this name: it has the kind, or it is a quoted name
 unfoldable pub is_of_kind : BlockKind → BlockName → Bool
-is_of_kind k (block.Number id) = nat_eq (block_rank id.kind) (block_rank k)
+is_of_kind k (block.Number id) = nat_eq (kind_order id.kind) (kind_order k)
 is_of_kind k (block.Quoted name) = true
 
 -- the name of a block of this kind, and what follows

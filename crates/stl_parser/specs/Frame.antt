@@ -1,5 +1,6 @@
 -- The frame: which kind of clause may follow where.
 use Rattle.std.specs.Prelude.{ℕ, zero, suc, nat_lt, nat_eq, ◌&&◌, if◌then◌else◌, Option, Some, None}
+use Rattle.plc_base.specs.Kinds.{kind_order}
 use Rattle.plc_base.specs.declared.blocks.BlockKind.{BlockKind}
 use Rattle.plc_base.specs.declared.blocks.BlockKind.TheVariants as kinds
 use Rattle.stl_ast.specs.declared.blocks.PartKind.{PartKind}
@@ -9,7 +10,6 @@ use Rattle.stl_parser.specs.declared.clauses.Clause.{Clause}
 use Rattle.stl_parser.specs.declared.clauses.Clause.TheVariants as clause
 use Rattle.stl_parser.specs.declared.places.ClausePlace.{ClausePlace}
 use Rattle.stl_parser.specs.declared.places.ClausePlace.TheVariants as place
-use Rattle.stl_parser.specs.Clauses.{block_rank}
 
 -- where the clauses behind an END_STRUCT stand
 abbrev pub section_behind : BlockKind → PartKind → ℕ → Option ClausePlace
@@ -28,7 +28,7 @@ follow_head k clause.Title = Some (place.Head k)
 follow_head k (clause.Section line p) = if may_have k p then Some (place.Section k p 0) else None
 follow_head k clause.Begins = if has_body k then Some (place.Body k) else None
 follow_head k clause.Structure = if has_shape k then Some (place.Shape k 0) else None
-follow_head k (clause.Based name) = if nat_eq (block_rank k) 3 then Some (place.Shaped k) else None
+follow_head k (clause.Based name) = if nat_eq (kind_order k) 3 then Some (place.Shaped k) else None
 follow_head k _ = None
 
 -- what may stand in a section
@@ -67,7 +67,7 @@ follow_body k (clause.Runs s) = Some (place.Body k)
 follow_body k clause.Network = Some (place.Body k)
 follow_body k clause.Title = Some (place.Body k)
 follow_body k (clause.Ends line e) =
-    if nat_eq (block_rank e) (block_rank k) then Some place.Outside else None
+    if nat_eq (kind_order e) (kind_order k) then Some place.Outside else None
 follow_body k _ = None
 
 -- what may stand in the BEGIN part of a data block

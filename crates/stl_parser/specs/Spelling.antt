@@ -1,8 +1,7 @@
 -- A tree as it is spelled by clauses.
 use Rattle.std.specs.Prelude.{Bool, true, false, List, [], ◌∷◌, ◌++◌, if◌then◌else◌, map, Option, Some, None}
 use Rattle.std.specs.List.{flat_map}
-use Rattle.plc_base.specs.declared.blocks.BlockKind.{BlockKind}
-use Rattle.plc_base.specs.declared.blocks.BlockKind.TheVariants as kinds
+use Rattle.plc_base.specs.Kinds.{is_data_type}
 use Rattle.stl_ast.specs.declared.blocks.Block.{Block}
 use Rattle.stl_ast.specs.declared.blocks.Part.{Part}
 use Rattle.stl_ast.specs.declared.declarations.Bounds.{Bounds}
@@ -37,14 +36,9 @@ is_kept (clause.Runs s) = true
 abbrev pub spelled_part : Part → List Clause
 spelled_part p = clause.Section p.line p.kind ∷ map clause.Declares p.items
 
--- a user-defined data type (UDT)
-abbrev pub is_udt_kind : BlockKind → Bool
-is_udt_kind kinds.Udt = true
-is_udt_kind _ = false
-
 -- UDT and its number; a quoted name isn't taken for that of a data type
 abbrev pub is_udt : BlockName → Bool
-is_udt (block.Number id) = is_udt_kind id.kind
+is_udt (block.Number id) = is_data_type id.kind
 is_udt (block.Quoted name) = false
 
 -- what no block spells: a clause that no tree keeps

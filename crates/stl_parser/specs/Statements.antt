@@ -1,8 +1,8 @@
 -- Instructions and statements.
 use Rattle.std.specs.Prelude.{ℕ, ◌+◌, nat_lt, Bool, true, false, ◌&&◌, ◌||◌, if◌then◌else◌, List, [], ◌∷◌, length, take, drop, Option, Some, None}
 use Rattle.std.specs.Option.{option_map, option_or, option_and_then}
+use Rattle.plc_base.specs.Kinds.{is_function_block, is_data_block}
 use Rattle.plc_base.specs.declared.blocks.BlockKind.{BlockKind}
-use Rattle.plc_base.specs.declared.blocks.BlockKind.TheVariants as kinds
 use Rattle.stl_lexer.specs.declared.kinds.Token.{Token}
 use Rattle.stl_lexer.specs.declared.kinds.TokenKind.TheVariants as kind
 use Rattle.stl_lexer.specs.Tokens.{text_of}
@@ -76,26 +76,16 @@ abbrev pub may_be : BlockName → (BlockKind → Bool) → Bool
 may_be (block.Number id) test = test id.kind
 may_be (block.Quoted name) test = true
 
--- a function block, which alone is called with an instance
-abbrev pub is_fb : BlockKind → Bool
-is_fb kinds.Fb = true
-is_fb _ = false
-
--- a data block, as the instance of a call is
-abbrev pub is_db : BlockKind → Bool
-is_db kinds.Db = true
-is_db _ = false
-
 -- the data block behind the comma of a call
 unfoldable pub data_block_at : List ℕ → List Token → Option (BlockName × List Token)
-data_block_at source tokens = option_and_then (λ r. if may_be r.0 is_db then Some r else None) (block_at source tokens)
+data_block_at source tokens = option_and_then (λ r. if may_be r.0 is_data_block then Some r else None) (block_at source tokens)
 
 -- the instance of a call, `, DB n` behind a function block, and what follows
 unfoldable pub instance_at : List ℕ → BlockName → List Token → Option (Option BlockName × List Token)
 instance_at source name [] = Some (None, [])
 instance_at source name (t ∷ rest) =
     if is_mark source t mark.Comma
-    then (if may_be name is_fb then option_map (λ r. (Some r.0, r.1)) (data_block_at source rest) else None)
+    then (if may_be name is_function_block then option_map (λ r. (Some r.0, r.1)) (data_block_at source rest) else None)
     else Some (None, t ∷ rest)
 
 -- an instruction without actual parameters and without a label that is too long

@@ -289,7 +289,7 @@ fn is_udt(name: &BlockName) -> bool
     ensures { result ≡ is_udt name.now }
 {
     match name {
-        BlockName::Number { id } => matches!(id.kind, BlockKind::Udt),
+        BlockName::Number { id } => id.kind.is_data_type(),
         BlockName::Quoted { name: _ } => false,
     }
 }

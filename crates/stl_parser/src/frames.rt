@@ -5,7 +5,7 @@ ghost use Rattle.stl_parser.specs.Clauses.{level_at};
 ghost use Rattle.stl_parser.specs.Frame as frame;
 
 use crate::clauses::Clause;
-use crate::places::{ClausePlace, block_rank};
+use crate::places::ClausePlace;
 use plc_base::BlockKind;
 use stl_ast::{Bounds, Declaration, ElementType, Init, PartKind};
 
@@ -186,7 +186,7 @@ fn follow_head(kind: BlockKind, clause: &Clause) -> Option<ClausePlace>
             }
         }
         Clause::Based { name: _ } => {
-            if block_rank(kind) == 3 {
+            if kind.order() == 3 {
                 Some(ClausePlace::Shaped { kind })
             } else {
                 None
@@ -307,7 +307,7 @@ fn follow_body(kind: BlockKind, clause: &Clause) -> Option<ClausePlace>
             line: _,
             kind: ended,
         } => {
-            if block_rank(*ended) == block_rank(kind) {
+            if ended.order() == kind.order() {
                 Some(ClausePlace::Outside)
             } else {
                 None

@@ -22,7 +22,7 @@ use crate::clauses::{Clause, ReadClause};
 use crate::declarations::after_colon;
 use crate::keywords::{Key, has_kind, is_key, is_mark};
 use crate::lookups::simple_type_of;
-use crate::places::{ClausePlace, block_rank, in_head};
+use crate::places::{ClausePlace, in_head};
 use crate::tables::HeadWord;
 use plc_base::BlockKind;
 use std::alloc::{AllocError, Global};
@@ -64,7 +64,7 @@ fn is_of_kind(kind: BlockKind, name: &BlockName) -> bool
     ensures { result ≡ is_of_kind kind name.now }
 {
     match name {
-        BlockName::Number { id } => block_rank(id.kind) == block_rank(kind),
+        BlockName::Number { id } => id.kind.order() == kind.order(),
         BlockName::Quoted { name: _ } => true,
     }
 }

@@ -5,7 +5,6 @@ ghost use Rattle.stl_parser.specs.Clauses.{
   is_outer,
   level_at,
   takes_parameters,
-  block_rank,
 };
 
 use plc_base::BlockKind;
@@ -105,19 +104,5 @@ pub(crate) fn takes_parameters(at: ClausePlace) -> bool
             level: _,
         } => { matches!(part, PartKind::Input | PartKind::Output | PartKind::InOut) }
         _ => false,
-    }
-}
-
-/// The place of a kind in the list of kinds.
-pub(crate) fn block_rank(kind: BlockKind) -> u8
-    ensures { result ≡ block_rank kind }
-{
-    match kind {
-        BlockKind::Ob => 0,
-        BlockKind::Fc => 1,
-        BlockKind::Fb => 2,
-        BlockKind::Db => 3,
-        BlockKind::Sfc => 4,
-        BlockKind::Udt => 5,
     }
 }

@@ -1,9 +1,8 @@
 ghost use Rattle.std.specs.Prelude.{◌≡◌, ◌≤◌, ◌||◌, IfOk};
 ghost use Rattle.std.specs.Option.{option_map};
+ghost use Rattle.plc_base.specs.Kinds.{is_data_block, is_function_block};
 ghost use Rattle.stl_parser.specs.Statements.{
   may_be,
-  is_fb,
-  is_db,
   data_block_at,
   instance_at,
   plain,
@@ -31,7 +30,6 @@ use crate::lookups::{mnemonic_of, opening_mnemonic_of};
 use crate::operands::operand;
 use crate::parameters::actuals;
 use crate::tables::Form;
-use plc_base::BlockKind;
 use std::alloc::{AllocError, Global};
 use stl_ast::{Actual, BlockName, Mnemonic, Name, Operand, Sequence, Statement};
 use stl_lexer::{Mark, Token, TokenKind};
@@ -50,20 +48,20 @@ pub struct BareStatement {
 
 /// Whether the name may be that of a function block.
 fn may_be_fb(name: &BlockName) -> bool
-    ensures { result ≡ may_be name.now is_fb }
+    ensures { result ≡ may_be name.now is_function_block }
 {
     match name {
-        BlockName::Number { id } => matches!(id.kind, BlockKind::Fb),
+        BlockName::Number { id } => id.kind.is_function_block(),
         BlockName::Quoted { name: _ } => true,
     }
 }
 
 /// Whether the name may be that of a data block.
 fn may_be_db(name: &BlockName) -> bool
-    ensures { result ≡ may_be name.now is_db }
+    ensures { result ≡ may_be name.now is_data_block }
 {
     match name {
-        BlockName::Number { id } => matches!(id.kind, BlockKind::Db),
+        BlockName::Number { id } => id.kind.is_data_block(),
         BlockName::Quoted { name: _ } => true,
     }
 }

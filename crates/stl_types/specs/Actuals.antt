@@ -1,6 +1,7 @@
 -- Which actual parameters fit which parameters.
 use Rattle.std.specs.Prelude.{ℕ, nat_eq, Bool, true, false, ◌&&◌, ◌||◌, not, find, List, Option, Some, None}
 use Rattle.std.specs.Str.{bytes_eq}
+use Rattle.plc_base.specs.Widths.{width_number}
 use Rattle.plc_base.specs.declared.places.Width.{Width}
 use Rattle.plc_base.specs.declared.places.Width.TheVariants as width
 use Rattle.stl_ast.specs.declared.blocks.PartKind.{PartKind}
@@ -30,13 +31,6 @@ formal_named formals name = find (λ f. bytes_eq (folded name) f.name) formals
 abbrev pub is_input_section : PartKind → Bool
 is_input_section part.Input = true
 is_input_section _ = false
-
--- widths by number, as they rise
-abbrev pub width_number : Width → ℕ
-width_number width.Bit = 1
-width_number width.Byte = 2
-width_number width.Word = 3
-width_number width.Dword = 4
 
 -- two widths are equal
 abbrev pub is_same_width : Width → Width → Bool

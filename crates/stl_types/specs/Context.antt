@@ -2,11 +2,12 @@
 use Rattle.std.specs.Prelude.{ℕ, Bool, false, List, map, Option, Some, None}
 use Rattle.std.specs.List.{slice_get}
 use Rattle.std.specs.Option.{option_map, option_and_then}
+use Rattle.plc_base.specs.Kinds.{is_data_block, is_function}
 use Rattle.plc_base.specs.declared.blocks.BlockId.{BlockId}
 use Rattle.stl_ast.specs.declared.blocks.Block.{Block}
 use Rattle.stl_ast.specs.declared.names.BlockName.{BlockName}
 use Rattle.stl_symbols.specs.Symbol.{Symbol}
-use Rattle.block_layout.specs.Blocks.{found_block, is_data_block, is_function, known_block}
+use Rattle.block_layout.specs.Blocks.{found_block, known_block}
 use Rattle.block_layout.specs.Paths.{if_whole, whole_at}
 use Rattle.block_layout.specs.declared.blocks.BlockLayout.{BlockLayout}
 

@@ -1,12 +1,12 @@
 -- Kinds of operands.
 use Rattle.std.specs.Prelude.{Bool, true, false, ◌||◌, Option, Some, None}
+use Rattle.plc_base.specs.Kinds.{is_function, is_function_block, is_system_function}
 use Rattle.plc_base.specs.declared.blocks.BlockKind.{BlockKind}
 use Rattle.plc_base.specs.declared.places.Area.{Area}
 use Rattle.plc_base.specs.declared.places.Area.TheVariants as area
 use Rattle.plc_base.specs.declared.places.Width.{Width}
 use Rattle.plc_base.specs.declared.places.Width.TheVariants as width
 use Rattle.stl_ast.specs.declared.operands.Numbered.TheVariants as numbered
-use Rattle.block_layout.specs.Blocks.{is_function, is_function_block, is_system_function}
 use Rattle.block_layout.specs.Offsets.{width_of}
 use Rattle.stl_types.specs.declared.views.Register.TheVariants as register
 use Rattle.stl_types.specs.declared.views.View.{View}
@@ -79,10 +79,6 @@ abbrev pub is_loaded : View → Bool
 is_loaded (view.Register register.Ar2) = false
 is_loaded (view.Register which) = true
 is_loaded _ = false
-
--- a block of code that can be called
-abbrev pub is_callable : BlockKind → Bool
-is_callable k = is_function k || is_function_block k || is_system_function k
 
 -- a function, a function block or a system function; only a function block has an instance
 abbrev pub is_called : View → Bool

@@ -2,6 +2,7 @@
 use Rattle.std.specs.Prelude.{ℕ, nat_eq, Bool, true, false, List, [], ◌∷◌, codes, Option, Some, None, if◌then◌else◌}
 use Rattle.std.specs.List.{flat_map, list_all}
 use Rattle.std.specs.Option.{option_map, option_and_then}
+use Rattle.plc_base.specs.Kinds.{is_function, is_function_block, is_system_function}
 use Rattle.plc_base.specs.declared.blocks.BlockId.{BlockId}
 use Rattle.plc_base.specs.declared.blocks.BlockKind.{BlockKind}
 use Rattle.stl_ast.specs.declared.blocks.PartKind.{PartKind}
@@ -11,7 +12,7 @@ use Rattle.stl_ast.specs.declared.declarations.Simple.TheVariants as simple
 use Rattle.stl_ast.specs.declared.operands.Operand.{Operand}
 use Rattle.stl_ast.specs.declared.operands.Operand.TheVariants as operand
 use Rattle.stl_ast.specs.Blocks.{is_parameter}
-use Rattle.block_layout.specs.Blocks.{is_function, is_function_block, is_system_function, named_block}
+use Rattle.block_layout.specs.Blocks.{named_block}
 use Rattle.block_layout.specs.Paths.{cells_at}
 use Rattle.block_layout.specs.declared.cells.Cell.{Cell}
 use Rattle.block_layout.specs.declared.cells.Element.{Element}

@@ -1,6 +1,7 @@
 -- What an operand names.
 use Rattle.std.specs.Prelude.{ℕ, Bool, List, codes, Option, Some, None, if◌then◌else◌}
 use Rattle.std.specs.Option.{option_map}
+use Rattle.plc_base.specs.Kinds.{is_system_function}
 use Rattle.plc_base.specs.declared.blocks.BlockId.{BlockId}
 use Rattle.stl_ast.specs.declared.blocks.PathStep.{PathStep}
 use Rattle.stl_ast.specs.declared.names.BlockName.{BlockName}
@@ -13,7 +14,7 @@ use Rattle.plc_base.specs.Folding.{folded, is_same_name}
 use Rattle.stl_symbols.specs.Symbol.{Symbol, symbol_named}
 use Rattle.stl_symbols.specs.declared.targets.Target.{Target}
 use Rattle.stl_symbols.specs.declared.targets.Target.TheVariants as target
-use Rattle.block_layout.specs.Blocks.{is_system_function, named_block}
+use Rattle.block_layout.specs.Blocks.{named_block}
 use Rattle.block_layout.specs.Paths.{folded_path}
 use Rattle.plc_base.specs.declared.places.Width.{Width}
 use Rattle.stl_types.specs.Addresses.{address, address_in, area_left, area_of}

@@ -8,12 +8,11 @@ ghost use Rattle.stl_types.specs.Actuals.{
   takes_section,
   takes_side,
   type_number,
-  width_number,
 };
 
-use crate::kinds::width_of;
 use crate::parameters::Formal;
 use crate::views::{Side, View};
+use block_layout::width_of;
 use plc_base::Width;
 use stl_ast::{PartKind, Simple};
 
@@ -23,21 +22,10 @@ pub(crate) fn is_input_section(section: PartKind) -> bool
     matches!(section, PartKind::Input)
 }
 
-fn width_number(width: Width) -> u8
-    ensures { result ≡ width_number width }
-{
-    match width {
-        Width::Bit => 1,
-        Width::Byte => 2,
-        Width::Word => 3,
-        Width::Dword => 4,
-    }
-}
-
 fn is_same_width(a: Width, b: Width) -> bool
     ensures { result ≡ is_same_width a b }
 {
-    width_number(a) == width_number(b)
+    a.number() == b.number()
 }
 
 fn type_number(kind: Simple) -> u8

@@ -1,6 +1,6 @@
 ghost use Rattle.std.specs.Prelude.{◌≡◌};
 ghost use Rattle.std.specs.List.{slice_get};
-ghost use Rattle.block_layout.specs.Blocks.{is_function_block, is_system_function};
+ghost use Rattle.plc_base.specs.Kinds.{is_function_block, is_system_function};
 ghost use Rattle.stl_ast.specs.Statements.{has_actuals};
 ghost use Rattle.stl_types.specs.Calls.{
   calls_unknown,
@@ -18,20 +18,8 @@ use crate::parameters::{Callee, Formal};
 use crate::scopes::Scope;
 use crate::system_functions::is_known;
 use block_layout::{BlockLayout, Shape, named_block};
-use plc_base::{BlockId, BlockKind};
+use plc_base::BlockId;
 use stl_ast::{Mnemonic, Operand, Statement};
-
-fn is_function_block(kind: BlockKind) -> bool
-    ensures { result ≡ is_function_block kind }
-{
-    matches!(kind, BlockKind::Fb)
-}
-
-fn is_system_function(kind: BlockKind) -> bool
-    ensures { result ≡ is_system_function kind }
-{
-    matches!(kind, BlockKind::Sfc)
-}
 
 fn has_actuals(code: Mnemonic) -> bool
     ensures { result ≡ has_actuals code }
@@ -77,7 +65,7 @@ pub(crate) fn has_wrong_instance(scope: &Scope, callee: &Callee, operand: &Opera
             instance: Some(instance),
             ..
         } => {
-            is_function_block(callee.id.kind)
+            callee.id.kind.is_function_block()
                 && is_no_instance(scope, callee.place, scope.whole_data_place(instance))
         }
         _ => false,
@@ -101,7 +89,7 @@ pub(crate) fn is_bare_call(callee: &Callee, statement: &Statement) -> bool
     ensures { result ≡ is_bare_call callee.now statement.now }
 {
     let takes = has_actuals(statement.code);
-    takes && is_function_block(callee.id.kind) && has_no_instance(&statement.operand)
+    takes && callee.id.kind.is_function_block() && has_no_instance(&statement.operand)
         || !takes && has_formals(callee.formals.as_slice())
 }
 
@@ -110,7 +98,7 @@ fn is_unknown_function(id: Option<BlockId>) -> bool
 {
     match id {
         None => false,
-        Some(id) => is_system_function(id.kind) && !is_known(id.number),
+        Some(id) => id.kind.is_system_function() && !is_known(id.number),
     }
 }
 

@@ -1,8 +1,8 @@
 ghost use Rattle.std.specs.Prelude.{◌≡◌};
+ghost use Rattle.plc_base.specs.Kinds.{is_callable};
 ghost use Rattle.block_layout.specs.Offsets.{width_of};
 ghost use Rattle.stl_types.specs.Kinds.{
   is_bit,
-  is_callable,
   is_called,
   is_composite,
   is_condition,
@@ -22,20 +22,9 @@ ghost use Rattle.stl_types.specs.Kinds.{
 };
 
 use crate::views::{Register, View};
+use block_layout::width_of;
 use plc_base::{BlockKind, Width};
-use stl_ast::{Numbered, Simple};
-
-/// The width of a type.
-pub(crate) fn width_of(kind: Simple) -> Width
-    ensures { result ≡ width_of kind }
-{
-    match kind {
-        Simple::Bool => Width::Bit,
-        Simple::Byte | Simple::Char => Width::Byte,
-        Simple::Word | Simple::Int | Simple::S5time => Width::Word,
-        Simple::Dword | Simple::Dint | Simple::Time => Width::Dword,
-    }
-}
+use stl_ast::Numbered;
 
 pub(crate) fn is_nothing(view: View) -> bool
     ensures { result ≡ is_nothing view }
@@ -140,19 +129,13 @@ pub(crate) fn is_loaded(view: View) -> bool
     }
 }
 
-fn is_callable(kind: BlockKind) -> bool
-    ensures { result ≡ is_callable kind }
-{
-    matches!(kind, BlockKind::Fc | BlockKind::Fb | BlockKind::Sfc)
-}
-
 /// Whether a block can be called so: only a function block has an instance.
 pub(crate) fn is_called(view: View) -> bool
     ensures { result ≡ is_called view }
 {
     match view {
         View::Called { block, instance } => match instance {
-            None => is_callable(block.kind),
+            None => block.kind.is_callable(),
             Some(_) => matches!(block.kind, BlockKind::Fb),
         },
         _ => false,

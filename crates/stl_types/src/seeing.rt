@@ -1,7 +1,8 @@
 ghost use Rattle.std.specs.Prelude.{◌≡◌, IfOk};
 ghost use Rattle.std.specs.Str.{bytes_eq};
+ghost use Rattle.plc_base.specs.Kinds.{is_system_function};
 ghost use Rattle.stl_symbols.specs.Symbol.{symbol_named};
-ghost use Rattle.block_layout.specs.Blocks.{is_system_function, named_block};
+ghost use Rattle.block_layout.specs.Blocks.{named_block};
 ghost use Rattle.stl_types.specs.Addresses.{address, address_in, area_left, area_of, side_of};
 ghost use Rattle.stl_types.specs.Context.{data_number};
 ghost use Rattle.stl_types.specs.Seen.{
@@ -22,7 +23,7 @@ ghost use Rattle.stl_types.specs.declared.views.View.TheVariants as view;
 use crate::scopes::Scope;
 use crate::views::{Register, Seen, Side, View};
 use block_layout::{Path, named_block};
-use plc_base::{Area, BlockId, BlockKind, Place, Width};
+use plc_base::{Area, BlockId, Place, Width};
 use std::alloc::{AllocError, Global};
 use stl_ast::{BlockName, Letters, Name, Operand, PathHead, PathStep};
 use stl_symbols::Target;
@@ -161,12 +162,6 @@ fn opened_seen(di: bool, number: Option<u16>) -> Seen
     }
 }
 
-fn is_system_function(kind: BlockKind) -> bool
-    ensures { result ≡ is_system_function kind }
-{
-    matches!(kind, BlockKind::Sfc)
-}
-
 impl<'a> Scope<'a> {
     /// A quoted name that is the whole operand.
     fn symbol_seen(&self, name: &Name) -> Seen
@@ -227,7 +222,7 @@ impl<'a> Scope<'a> {
         ensures { result ≡ whole_block self.now id }
     {
         let id = id?;
-        if is_system_function(id.kind) {
+        if id.kind.is_system_function() {
             return Some(id);
         }
         match self.whole_place(id) {

@@ -4,6 +4,7 @@
 use Rattle.std.proofs.Common.{◌≡◌, ℕ, zero, suc, ◌+◌, Bool, true, false, List, [], ◌∷◌, ◌++◌, length, map, append_assoc, Option, Some, None, refl, sym, ap, subst, ◌∙◌, add-one, arith}
 use Rattle.std.specs.Prelude.{if◌then◌else◌, slice_get}
 use Rattle.std.specs.List.{AllByRecursion, flat_map}
+use Rattle.plc_base.specs.Kinds.{is_code, is_data_block}
 use Rattle.plc_base.specs.declared.blocks.BlockId.{BlockId}
 use Rattle.plc_base.specs.declared.refusals.Refusal.{Refusal}
 use Rattle.stl_ast.specs.Statements.{IsStatement}
@@ -20,7 +21,6 @@ use Rattle.stl_symbols.specs.Symbol.{Symbol}
 use Rattle.plc_base.proofs.LeastLemmas.{least_none}
 use Rattle.plc_base.proofs.ListLemmas.{all_append}
 use Rattle.block_layout.specs.Around.{in_block}
-use Rattle.block_layout.specs.Blocks.{is_code, is_data_block}
 use Rattle.block_layout.specs.ByPlace.{by_place}
 use Rattle.block_layout.specs.Heads.{on_heads}
 use Rattle.block_layout.specs.Layouts.{block_layout, layouts_by, layouts_from, layouts_of}

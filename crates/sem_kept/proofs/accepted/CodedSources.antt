@@ -5,6 +5,7 @@ use Rattle.std.specs.List.{AllByRecursion, count_by, list_all}
 use Rattle.std.proofs.lemmas.Bool.{eq-eqb, ltb-false}
 use Rattle.std.proofs.lemmas.Grind.{flat_map-append}
 use Rattle.std.proofs.lemmas.List.Sums.{sum_by-append}
+use Rattle.plc_base.specs.Kinds.{is_function, is_function_block, is_same_kind, is_system_function}
 use Rattle.plc_base.specs.declared.blocks.BlockId.{BlockId}
 use Rattle.plc_base.specs.declared.blocks.BlockKind.{BlockKind}
 use Rattle.plc_base.specs.declared.blocks.BlockKind.TheVariants as kinds
@@ -30,7 +31,7 @@ use Rattle.stl_ast.specs.declared.operands.Operand.TheVariants as operand
 use Rattle.stl_ast.specs.declared.statements.Statement.{Statement}
 use Rattle.stl_symbols.specs.Symbol.{Symbol}
 use Rattle.block_layout.specs.Around.{Outside, of_sections, of_structure, onto}
-use Rattle.block_layout.specs.Blocks.{id_of, is_function, is_function_block, is_same_kind, is_system_function, named_block, of_kind}
+use Rattle.block_layout.specs.Blocks.{id_of, named_block, of_kind}
 use Rattle.block_layout.specs.Cells.{cell_of, cells_of, components_of, is_temp, opened, returned_cells, section_cells}
 use Rattle.block_layout.specs.Layouts.{block_layout, layouts_by, layouts_from, layouts_of}
 use Rattle.block_layout.specs.Measures.{types_of, with_all_bits, with_all_depths}

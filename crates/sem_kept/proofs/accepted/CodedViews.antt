@@ -5,6 +5,7 @@ use Rattle.std.specs.List.{AllByRecursion}
 use Rattle.std.specs.Option.{option_map, option_and_then}
 use Rattle.std.proofs.lemmas.Bool.{and_from, le-leb, leb-true, lt-ltb}
 use Rattle.std.proofs.lemmas.Option.{slice_get_within}
+use Rattle.plc_base.specs.Kinds.{is_system_function}
 use Rattle.plc_base.specs.declared.blocks.BlockId.{BlockId}
 use Rattle.plc_base.specs.declared.flags.Flag.{Flag}
 use Rattle.plc_base.specs.declared.flags.Flag.TheVariants as flags
@@ -32,7 +33,7 @@ use Rattle.plc_base.specs.Folding.{folded, is_same_name}
 use Rattle.stl_symbols.specs.Symbol.{Symbol, symbol_named}
 use Rattle.stl_symbols.specs.declared.targets.Target.{Target}
 use Rattle.stl_symbols.specs.declared.targets.Target.TheVariants as target
-use Rattle.block_layout.specs.Blocks.{block_of, is_system_function, named_block}
+use Rattle.block_layout.specs.Blocks.{block_of, named_block}
 use Rattle.block_layout.specs.Offsets.{place_at, placed, width_of}
 use Rattle.block_layout.specs.Paths.{cells_at, elementary_at, folded_path, walked_data, walked_local, whole_at, whole_block as whole_layout}
 use Rattle.block_layout.specs.declared.blocks.BlockLayout.{BlockLayout}

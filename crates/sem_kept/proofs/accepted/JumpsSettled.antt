@@ -1,7 +1,7 @@
 -- In an accepted source the operand of each statement but a call is checked.
 use Rattle.std.proofs.Common.{◌≡◌, ◌≤◌, ℕ, Bool, true, false, List, [], ◌∷◌, map, Option, Some, None, refl, sym, ap, subst}
 use Rattle.std.specs.List.{AllByRecursion, slice_get}
-use Rattle.plc_base.specs.Kinds.{kind_number}
+use Rattle.plc_base.specs.Kinds.{kind_number, is_code}
 use Rattle.plc_base.specs.declared.blocks.BlockKind.{BlockKind}
 use Rattle.plc_base.specs.declared.blocks.BlockKind.TheVariants as kinds
 use Rattle.flat_code.specs.Blocks.{Around}
@@ -12,7 +12,6 @@ use Rattle.stl_ast.specs.declared.blocks.Block.{Block}
 use Rattle.stl_ast.specs.declared.blocks.Tree.{Tree}
 use Rattle.stl_ast.specs.declared.statements.Statement.{Statement}
 use Rattle.stl_symbols.specs.Symbol.{Symbol}
-use Rattle.block_layout.specs.Blocks.{is_code}
 use Rattle.block_layout.specs.Layouts.{block_layout}
 use Rattle.block_layout.specs.Lengths.{farthest, local_len}
 use Rattle.block_layout.specs.Measures.{types_of}

@@ -2,6 +2,7 @@
 use Rattle.std.proofs.Common.{ℕ, zero, suc, ◌≡◌, ◌<◌, ◌≤◌, ◌+◌, ◌/◌, ◌%◌, List, [], ◌∷◌, ◌++◌, Option, Some, None, Bool, true, false, ◌&&◌, ◌||◌, not, nat_eq, nat_lt, nat_le, refl, sym, ◌∙◌, ap, subst, arith, length, map, get_or, if◌then◌else◌, eqb-true, ltb-false, le-ltb, le-leb}
 use Rattle.std.specs.List.{AllByRecursion, flat_map, list_all, slice_get}
 use Rattle.std.specs.Option.{option_and_then, option_map}
+use Rattle.plc_base.specs.Kinds.{is_data_type, is_same_block, is_same_kind}
 use Rattle.plc_base.specs.declared.blocks.BlockId.{BlockId}
 use Rattle.plc_base.specs.declared.blocks.BlockKind.{BlockKind}
 use Rattle.plc_base.specs.declared.blocks.BlockKind.TheVariants as kinds
@@ -22,7 +23,7 @@ use Rattle.stl_ast.specs.declared.declarations.TypeTree.{TypeTree}
 use Rattle.stl_ast.specs.declared.names.BlockName.{BlockName}
 use Rattle.stl_symbols.specs.Symbol.{Symbol}
 use Rattle.block_layout.specs.Around.{Outside, around, in_list, in_rest, of_sections, of_structure, onto, section_declarations}
-use Rattle.block_layout.specs.Blocks.{block_place, found_block, id_of, ids_of, is_block_number, is_data_type, is_id, is_same_block, is_same_kind, known_block, named_block, of_kind}
+use Rattle.block_layout.specs.Blocks.{block_place, found_block, id_of, ids_of, is_block_number, is_id, known_block, named_block, of_kind}
 use Rattle.block_layout.specs.Cells.{breaks_rule, cell_of, cells_of, components_of, is_oversized, is_temp, laid, opened, returned_cells, section_cells, temps_of, udt_element, uses_oversized}
 use Rattle.block_layout.specs.Declarations.{has_upside_down, init_fits, is_unknown_type}
 use Rattle.block_layout.specs.Layouts.{block_layout, layouts_by, layouts_from, layouts_of}

@@ -1,7 +1,7 @@
 -- THE OPS OF AN ACCEPTED SOURCE have no fault by their operands, their end marks and their calls.
 use Rattle.std.proofs.Common.{ℕ, suc, ◌≡◌, ◌≤◌, Bool, true, false, List, [], ◌∷◌, map, Some, refl, sym, ◌∙◌, ap, subst, if◌then◌else◌}
 use Rattle.std.specs.List.{AllByRecursion}
-use Rattle.plc_base.specs.Kinds.{kind_number}
+use Rattle.plc_base.specs.Kinds.{kind_number, is_code}
 use Rattle.plc_base.specs.declared.blocks.BlockId.{BlockId}
 use Rattle.plc_base.proofs.ListLemmas.{all_append}
 use Rattle.flat_code.specs.Blocks.{Around}
@@ -14,7 +14,6 @@ use Rattle.stl_ast.specs.declared.blocks.Block.{Block}
 use Rattle.stl_ast.specs.declared.blocks.Tree.{Tree}
 use Rattle.stl_ast.specs.declared.statements.Statement.{Statement}
 use Rattle.stl_symbols.specs.Symbol.{Symbol}
-use Rattle.block_layout.specs.Blocks.{is_code}
 use Rattle.block_layout.specs.Layouts.{block_layout, layouts_of}
 use Rattle.block_layout.specs.Lengths.{farthest, local_len}
 use Rattle.block_layout.specs.Measures.{types_of}

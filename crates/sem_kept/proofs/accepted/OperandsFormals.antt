@@ -7,6 +7,7 @@ use Rattle.std.specs.Bool.{Decides}
 use Rattle.std.proofs.lemmas.List.{map-append}
 use Rattle.std.proofs.lemmas.Grind.{flat_map-append}
 use Rattle.std.proofs.lemmas.Slice.Eq.{bytes_eq-Decides}
+use Rattle.plc_base.specs.Kinds.{is_function_block}
 use Rattle.plc_base.specs.Widths.{width_number}
 use Rattle.plc_base.specs.declared.blocks.BlockKind.{BlockKind}
 use Rattle.flat_code.specs.Blocks.{input, output, system_params}
@@ -31,7 +32,6 @@ use Rattle.plc_base.specs.Folding.{folded}
 use Rattle.plc_base.proofs.ListLemmas.{all_append}
 use Rattle.stl_symbols.specs.Names.{place_of}
 use Rattle.block_layout.specs.Around.{Outside, of_sections, of_structure, onto, returned_names}
-use Rattle.block_layout.specs.Blocks.{is_function_block}
 use Rattle.block_layout.specs.Cells.{breaks_rule, cell_of, cells_of, components_of, is_temp, laid, opened, returned_cells, section_cells}
 use Rattle.block_layout.specs.Offsets.{width_of}
 use Rattle.block_layout.specs.Rule21.{is_twice, name_here, names_before}

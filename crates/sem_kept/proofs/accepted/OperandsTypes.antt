@@ -2,6 +2,7 @@
 -- in the ninth round the bits that their cells take.
 use Rattle.std.proofs.Common.{ℕ, zero, suc, ◌≡◌, ◌<◌, ◌≤◌, ◌+◌, max, List, [], ◌∷◌, Option, Some, None, Bool, true, false, ◌&&◌, ◌||◌, not, nat_lt, nat_le, refl, sym, ◌∙◌, ap, ap₂, subst, arith, length, map, get_or, if◌then◌else◌}
 use Rattle.std.specs.List.{AllByRecursion, list_all, slice_get}
+use Rattle.plc_base.specs.Kinds.{is_data_type}
 use Rattle.stl_ast.specs.declared.blocks.Block.{Block}
 use Rattle.stl_ast.specs.declared.blocks.PartKind.{PartKind}
 use Rattle.stl_ast.specs.declared.blocks.PartKind.TheVariants as part
@@ -10,7 +11,6 @@ use Rattle.stl_ast.specs.declared.declarations.ElementType.{ElementType}
 use Rattle.stl_ast.specs.declared.declarations.ElementType.TheVariants as element
 use Rattle.plc_base.specs.Folding.{folded}
 use Rattle.block_layout.specs.Around.{Holder, Outside, around, of_structure}
-use Rattle.block_layout.specs.Blocks.{is_data_type}
 use Rattle.block_layout.specs.Cells.{breaks_rule, cell_of, cells_of, is_oversized, is_sound, laid, preset, udt_element, uses_oversized}
 use Rattle.block_layout.specs.Declarations.{has_upside_down, init_fits, is_unknown_type}
 use Rattle.block_layout.specs.Measures.{bits_after, deep, deepest, depths_after, type_bits, type_depth, with_bits, with_depths}

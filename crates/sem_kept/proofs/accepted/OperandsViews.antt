@@ -4,7 +4,7 @@ use Rattle.std.specs.Prelude.{◌==◌}
 use Rattle.std.specs.List.{AllByRecursion, flat_map, slice_get}
 use Rattle.std.specs.Option.{is_none, option_and_then}
 use Rattle.std.proofs.lemmas.Bool.{or_from}
-use Rattle.plc_base.specs.Kinds.{kind_number}
+use Rattle.plc_base.specs.Kinds.{kind_number, is_code, is_data_block, is_function, is_function_block}
 use Rattle.plc_base.specs.Widths.{byte_count, width_number}
 use Rattle.plc_base.specs.declared.blocks.BlockId.{BlockId}
 use Rattle.plc_base.specs.declared.blocks.BlockKind.{BlockKind}
@@ -43,7 +43,7 @@ use Rattle.stl_symbols.specs.Symbol.{Symbol, symbol_named}
 use Rattle.stl_symbols.specs.declared.targets.Target.{Target}
 use Rattle.stl_symbols.specs.declared.targets.Target.TheVariants as target
 use Rattle.block_layout.specs.Around.{Outside, of_sections, of_structure, onto}
-use Rattle.block_layout.specs.Blocks.{found_block, has_structure, id_of, is_code, is_data_block, is_function, is_function_block}
+use Rattle.block_layout.specs.Blocks.{found_block, has_structure, id_of}
 use Rattle.block_layout.specs.Cells.{cells_of, components_of, is_temp, returned_cells, section_cells, temps_of}
 use Rattle.block_layout.specs.Layouts.{block_layout, layouts_by, layouts_from, layouts_of}
 use Rattle.block_layout.specs.Lengths.{actuals_end, block_bits, farthest, is_local, least_local, length_of, local_end, local_len, named_type, referred, shape_at, shape_bits, shape_named, shape_of}

@@ -7,7 +7,7 @@ use Rattle.std.proofs.lemmas.Bool.{and_from, and_parts, eq-eqb, eqb-true, le-leb
 use Rattle.std.proofs.lemmas.Bool.Decides.{nat_tests}
 use Rattle.std.proofs.lemmas.List.{length-map, map-append}
 use Rattle.std.proofs.lemmas.Option.{slice_get-map}
-use Rattle.plc_base.specs.Kinds.{kind_number}
+use Rattle.plc_base.specs.Kinds.{kind_number, is_code, is_data_block, is_function_block, is_same_block, is_same_kind}
 use Rattle.plc_base.specs.declared.blocks.BlockId.{BlockId}
 use Rattle.plc_base.specs.declared.blocks.BlockKind.{BlockKind}
 use Rattle.plc_base.specs.declared.blocks.BlockKind.TheVariants as kinds
@@ -19,7 +19,7 @@ use Rattle.stl_ast.specs.declared.statements.Statement.{Statement}
 use Rattle.stl_parser.specs.Lines.{Rises, lines_of}
 use Rattle.stl_parser.proofs.OptionLemmas.{some_holds}
 use Rattle.stl_symbols.specs.Symbol.{Symbol}
-use Rattle.block_layout.specs.Blocks.{block_place, id_of, ids_of, is_block_number, is_code, is_data_block, is_function_block, is_id, is_same_block, is_same_kind}
+use Rattle.block_layout.specs.Blocks.{block_place, id_of, ids_of, is_block_number, is_id}
 use Rattle.block_layout.specs.Layouts.{block_layout, layouts_of}
 use Rattle.block_layout.specs.Lengths.{length_of, local_len}
 use Rattle.block_layout.specs.Measures.{types_of, with_all_bits, with_all_depths}

@@ -8,7 +8,7 @@ use Rattle.std.specs.Str.{bytes_eq}
 use Rattle.std.proofs.lemmas.Bool.{and_from, eq-eqb, eqb-true, le-leb, lt-ltb, ltb-false}
 use Rattle.std.proofs.lemmas.Bool.Decides.{nat_tests}
 use Rattle.std.proofs.lemmas.List.Sums.{sum_by-cons, sum_by-append}
-use Rattle.plc_base.specs.Kinds.{kind_number}
+use Rattle.plc_base.specs.Kinds.{kind_number, is_code, is_function_block, is_same_kind}
 use Rattle.plc_base.specs.declared.blocks.BlockId.{BlockId}
 use Rattle.plc_base.specs.declared.blocks.BlockKind.{BlockKind}
 use Rattle.plc_base.specs.declared.blocks.BlockKind.TheVariants as kinds
@@ -38,7 +38,7 @@ use Rattle.plc_base.proofs.ListLemmas.{all_front, all_back, all_append}
 use Rattle.stl_symbols.specs.Names.{place_of}
 use Rattle.stl_symbols.specs.Symbol.{Symbol}
 use Rattle.block_layout.specs.Around.{Outside, around, onto, of_sections, of_structure, returned_names, section_declarations, in_block, in_list}
-use Rattle.block_layout.specs.Blocks.{id_of, is_code, is_function_block, is_same_kind, named_block, of_kind}
+use Rattle.block_layout.specs.Blocks.{id_of, named_block, of_kind}
 use Rattle.block_layout.specs.Cells.{cell_of, cells_of, components_of, is_sound, is_temp, opened, returned_cells, section_cells}
 use Rattle.block_layout.specs.Declarations.{init_fits}
 use Rattle.block_layout.specs.Layouts.{block_layout}

@@ -7,6 +7,7 @@ use Rattle.std.proofs.lemmas.Bool.Decides.{nat_tests}
 use Rattle.std.proofs.lemmas.List.{length-map, length-replicate}
 use Rattle.std.proofs.lemmas.List.Sums.{sum_by-cons}
 use Rattle.std.proofs.lemmas.Option.{same_Some}
+use Rattle.plc_base.specs.Kinds.{is_code, is_data_block, is_function_block, is_same_kind}
 use Rattle.plc_base.specs.declared.blocks.BlockId.{BlockId}
 use Rattle.plc_base.specs.declared.blocks.BlockKind.{BlockKind}
 use Rattle.plc_base.specs.declared.blocks.BlockKind.TheVariants as kinds
@@ -30,7 +31,7 @@ use Rattle.stl_ast.specs.declared.operands.Operand.TheVariants as operand
 use Rattle.stl_ast.specs.declared.statements.Statement.{Statement}
 use Rattle.stl_symbols.specs.Symbol.{Symbol}
 use Rattle.block_layout.specs.Around.{Outside, in_block, of_sections, of_structure, onto}
-use Rattle.block_layout.specs.Blocks.{block_place, found_block, id_of, is_block_number, is_code, is_data_block, is_function_block, is_id, is_same_kind, known_block, named_block, of_kind}
+use Rattle.block_layout.specs.Blocks.{block_place, found_block, id_of, is_block_number, is_id, known_block, named_block, of_kind}
 use Rattle.block_layout.specs.Cells.{cell_of, cells_of, components_of, is_temp, laid, opened, returned_cells, section_cells, udt_element}
 use Rattle.block_layout.specs.InitialBytes.{Write, bytes_of, initial_bytes, length_at, put, setting_writes, settings_at, structure_writes, with_bit, with_bytes}
 use Rattle.block_layout.specs.Layouts.{block_layout, layouts_by, layouts_from, layouts_of}

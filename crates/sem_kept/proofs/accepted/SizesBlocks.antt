@@ -6,12 +6,13 @@ use Rattle.std.specs.Option.{option_and_then, option_map}
 use Rattle.std.proofs.lemmas.Bool.Decides.{nat_tests}
 use Rattle.std.proofs.lemmas.List.Sums.{sum_by-cons}
 use Rattle.std.proofs.lemmas.Bool.{and_parts, lt-ltb, not-false}
+use Rattle.plc_base.specs.Kinds.{is_code, is_data_block, is_same_block, is_same_kind}
 use Rattle.plc_base.specs.declared.blocks.BlockId.{BlockId}
 use Rattle.plc_base.specs.declared.blocks.BlockKind.{BlockKind}
 use Rattle.plc_base.specs.declared.blocks.BlockKind.TheVariants as kinds
 use Rattle.stl_ast.specs.declared.blocks.Block.{Block}
 use Rattle.stl_symbols.specs.Symbol.{Symbol}
-use Rattle.block_layout.specs.Blocks.{block_place, id_of, is_block_number, is_code, is_data_block, is_id, is_ob_number, is_same_block, is_same_kind}
+use Rattle.block_layout.specs.Blocks.{block_place, id_of, is_block_number, is_id, is_ob_number}
 use Rattle.block_layout.specs.Lengths.{length_of}
 use Rattle.block_layout.specs.Rule22.{is_block_twice, is_earlier}
 use Rattle.block_layout.specs.Rule44.{has_wrong_number, is_beyond}

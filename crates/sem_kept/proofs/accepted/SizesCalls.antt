@@ -7,6 +7,7 @@ use Rattle.std.specs.Str.{bytes_eq}
 use Rattle.std.proofs.lemmas.Bool.Decides.{nat_tests}
 use Rattle.std.proofs.lemmas.List.Sums.{sum_by-append, sum_by-cons}
 use Rattle.std.proofs.lemmas.Slice.Eq.{bytes_eq-Decides}
+use Rattle.plc_base.specs.Kinds.{is_function, is_function_block, is_system_function}
 use Rattle.plc_base.specs.declared.blocks.BlockId.{BlockId}
 use Rattle.plc_base.specs.declared.blocks.BlockKind.{BlockKind}
 use Rattle.flat_code.specs.declared.operands.Passed.{Passed}
@@ -31,7 +32,7 @@ use Rattle.plc_base.specs.Folding.{folded}
 use Rattle.plc_base.specs.Gathered.{gathered}
 use Rattle.stl_symbols.specs.Names.{place_of}
 use Rattle.block_layout.specs.Around.{Outside, in_block, of_sections, of_structure, onto, ret_val, returned_names, section_declarations}
-use Rattle.block_layout.specs.Blocks.{is_function, is_function_block, is_system_function, named_block}
+use Rattle.block_layout.specs.Blocks.{named_block}
 use Rattle.block_layout.specs.Cells.{cell_of, cells_of, components_of, is_temp, laid, opened, returned_cells, section_cells}
 use Rattle.block_layout.specs.Layouts.{block_layout, layouts_from}
 use Rattle.block_layout.specs.Paths.{cells_at}

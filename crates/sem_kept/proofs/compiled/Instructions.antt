@@ -3,6 +3,7 @@ use Rattle.std.proofs.Common.{◌≡◌, ℕ, zero, suc, ◌-◌, ◌≤◌, Boo
 use Rattle.std.specs.Prelude.{not}
 use Rattle.std.specs.Option.{is_none}
 use Rattle.std.proofs.lemmas.Bool.Decides.{nat_tests}
+use Rattle.plc_base.specs.Kinds.{is_data_block, is_function_block, is_callable}
 use Rattle.plc_base.specs.declared.blocks.BlockId.{BlockId}
 use Rattle.plc_base.specs.declared.blocks.BlockKind.{BlockKind}
 use Rattle.plc_base.specs.declared.blocks.BlockKind.TheVariants as kinds
@@ -33,7 +34,7 @@ use Rattle.stl_symbols.specs.Symbol.{Symbol, symbol_named}
 use Rattle.plc_base.specs.Folding.{folded}
 use Rattle.stl_symbols.specs.declared.targets.Target.{Target}
 use Rattle.stl_symbols.specs.declared.targets.Target.TheVariants as target
-use Rattle.block_layout.specs.Blocks.{is_data_block, is_function_block, is_id, is_block_number, block_place, known_block, of_kind, named_block}
+use Rattle.block_layout.specs.Blocks.{is_id, is_block_number, block_place, known_block, of_kind, named_block}
 use Rattle.block_layout.specs.Paths.{cells_at, elementary_at, walked_data, walked_local, whole_at, whole_block, folded_path}
 use Rattle.block_layout.specs.Offsets.{placed}
 use Rattle.block_layout.specs.declared.blocks.BlockLayout.{BlockLayout}
@@ -46,7 +47,6 @@ use Rattle.block_layout.specs.declared.walks.Walk.TheVariants as walk
 use Rattle.stl_types.specs.Addresses.{address_in}
 use Rattle.stl_types.specs.Context.{Context, ids, number_of, data_place, data_number, in_function}
 use Rattle.stl_types.specs.Forms.{form_of}
-use Rattle.stl_types.specs.Kinds.{is_callable}
 use Rattle.stl_types.specs.Operands.{takes, rule_of, rule_seen, operand_rule, statement_rule}
 use Rattle.stl_types.specs.Resolved.{seen_view, resolved}
 use Rattle.stl_types.specs.Seen.{target_view, symbol_seen, path_seen, direct_seen, opened_seen, called_seen, instance_number, whole_block as whole_called, seen}

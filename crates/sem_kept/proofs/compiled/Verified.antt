@@ -5,6 +5,7 @@ use Rattle.std.specs.Prelude.{◌||◌, not}
 use Rattle.std.specs.List.{AllByRecursion}
 use Rattle.std.proofs.lemmas.Bool.{eqb-true, eqb-false}
 use Rattle.std.proofs.lemmas.List.{length-map}
+use Rattle.plc_base.specs.Kinds.{is_code}
 use Rattle.flat_code.specs.Blocks.{Around, is_ju as is_ju_operand, leads, is_bad_list, jump_fault, call_fault, mark_fault, bracket_fault, at_offset, op_faults, faults_over, block_faults}
 use Rattle.flat_code.specs.Codes.{size, overlong, first_of, is_nowhere, are_ops, code_bytes, ends as ends_right, last_place, stop_at, code_of}
 use Rattle.flat_code.specs.Image.{IsRight, record_of_block, raw_block, plain_block, code_block as whole_block, code_and_lines, after_block, code_blocks, raw_records, records, body}
@@ -29,7 +30,6 @@ use Rattle.stl_ast.specs.declared.blocks.Block.{Block}
 use Rattle.stl_ast.specs.declared.blocks.Tree.{Tree}
 use Rattle.stl_ast.specs.declared.statements.Statement.{Statement}
 use Rattle.stl_symbols.specs.Symbol.{Symbol}
-use Rattle.block_layout.specs.Blocks.{is_code}
 use Rattle.block_layout.specs.declared.blocks.BlockLayout.{BlockLayout}
 use Rattle.plc_base.specs.declared.blocks.BlockId.{BlockId}
 use Rattle.plc_base.proofs.ListLemmas.{all_append}

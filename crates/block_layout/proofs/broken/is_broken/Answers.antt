@@ -1,5 +1,5 @@
 use Rattle.std.proofs.Common.{◌≡◌, ◌+◌, ◌&&◌, ℕ, nat_lt, ap, sym, ◌∙◌, if◌then◌else◌}
-use Rattle.block_layout.specs.Blocks.{is_data_block}
+use Rattle.plc_base.specs.Kinds.{is_data_block}
 use Rattle.block_layout.specs.Rule44.{has_wrong_number}
 use Rattle.block_layout.specs.Rule54.{data_length, exceeds_total, total}
 use Rattle.block_layout.specs.Types.{Types}

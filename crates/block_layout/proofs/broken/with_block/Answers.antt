@@ -1,5 +1,5 @@
 use Rattle.std.proofs.Common.{◌≡◌, ℕ, ap, sym, ◌∙◌, arith, if◌then◌else◌}
-use Rattle.block_layout.specs.Blocks.{is_data_block}
+use Rattle.plc_base.specs.Kinds.{is_data_block}
 use Rattle.block_layout.specs.Rule54.{data_length}
 use Rattle.block_layout.proofs.HeadLemmas.{one_block_more, total_more}
 use Rattle.block_layout.proofs.broken.with_block.Goals as goal

@@ -1,7 +1,7 @@
 use Rattle.std.proofs.Common.{◌≡◌, ◌+◌, ◌&&◌, ℕ, Bool, [], ◌∷◌, nat_lt, refl, ◌∙◌, ap, if◌then◌else◌}
+use Rattle.plc_base.specs.Kinds.{is_data_block}
 use Rattle.plc_base.specs.Least.{broken_if, least}
 use Rattle.plc_base.proofs.LeastLemmas.{lesser_first}
-use Rattle.block_layout.specs.Blocks.{is_data_block}
 use Rattle.block_layout.specs.Lengths.{length_of}
 use Rattle.block_layout.specs.Rule54.{data_length, exceeds_total, rule_54, total}
 use Rattle.block_layout.proofs.HeadLemmas.{heads_end, heads_turn, mapped_at, total_more}

@@ -1,7 +1,7 @@
 use Rattle.std.proofs.Common.{Bool, [], ◌∷◌, refl, ◌∙◌, ap, arith}
+use Rattle.plc_base.specs.Kinds.{is_data_block}
 use Rattle.plc_base.specs.Least.{broken_if, least}
 use Rattle.plc_base.proofs.LeastLemmas.{lesser_first}
-use Rattle.block_layout.specs.Blocks.{is_data_block}
 use Rattle.block_layout.specs.Rule53.{is_one_too_many, rule_53}
 use Rattle.block_layout.proofs.HeadLemmas.{at_most_one, heads_end, heads_turn, one_block_more}
 use Rattle.block_layout.proofs.heads.least_data_block_too_many.Goals as goal
