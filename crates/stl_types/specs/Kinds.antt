@@ -1,6 +1,6 @@
 -- Kinds of operands.
 use Rattle.std.specs.Prelude.{Bool, true, false, ◌||◌, Option, Some, None}
-use Rattle.plc_base.specs.Kinds.{is_function, is_function_block, is_system_function}
+use Rattle.plc_base.specs.Kinds.{is_callable, is_function_block}
 use Rattle.plc_base.specs.declared.blocks.BlockKind.{BlockKind}
 use Rattle.plc_base.specs.declared.places.Area.{Area}
 use Rattle.plc_base.specs.declared.places.Area.TheVariants as area
