@@ -1,4 +1,7 @@
 """tools/compare over the program. What differs is worked out by hand from docs/SEMANTICS.md."""
+import os
+import unittest.mock
+
 from tests.calling import TOP, ToolTest
 
 HEAD = "ORGANIZATION_BLOCK OB 1\nBEGIN\n"
@@ -65,6 +68,11 @@ class Comparisons(ToolTest):
         words = ["compare", "old", "old", "steps", "--symbols", "one"]
         self.expect(0, "no difference\n", *words)
         self.expect(1, "0.200 s to the end  Q 4.0: old 1, new 0\n", *words, "--new-symbols", "other")
+
+    def test_without_a_program(self):
+        with unittest.mock.patch.dict(os.environ, {"S7": "nowhere"}):
+            self.expect_refused("nowhere, which S7 names, is no program", "compare", "old", "old", "steps")
+            self.expect_refused("nowhere, which S7 names, is no program", "refusals", "old")
 
     def test_refusals(self):
         self.write("new", DELAY.replace("A I 0.0", "A I 0.8"))

@@ -40,11 +40,13 @@ def lines_of_differences(old, new, symbols):
     """A line for each time in which an output or the mode differs, by time, and for each byte of a data block at the end.
     `old` and `new` are runs with what happened in them."""
     found = []
-    for signal in outputs_that_change((old.happened, new.happened), symbols):
-        pair = [values_by_time(it.happened, signal) for it in (old, new)]
-        found += [(begin, end, str(signal), signal.shown(one), signal.shown(other)) for begin, end, one, other in differences(*pair)]
-    pair = [modes_by_time(it.happened) for it in (old, new)]
-    found += [(begin, end, "the mode", one, other) for begin, end, one, other in differences(*pair)]
+    signals = outputs_that_change((old.happened, new.happened), symbols)
+    old_values, new_values = (values_by_time(it.happened, signals) for it in (old, new))
+    for signal in signals:
+        differing = differences(old_values[signal], new_values[signal])
+        found += [(begin, end, str(signal), signal.shown(one), signal.shown(other)) for begin, end, one, other in differing]
+    modes = differences(modes_by_time(old.happened), modes_by_time(new.happened))
+    found += [(begin, end, "the mode", one, other) for begin, end, one, other in modes]
     for begin, end, what, one, other in sorted(found, key=lambda it: it[0]):
         until = time_text(end) if end is not None else "the end"
         yield f"{time_text(begin)} to {until}  {what}: old {one}, new {other}"

@@ -11,17 +11,12 @@ from texts.tool import Refused
 
 
 class Change(NamedTuple):
-    """An entry changed bytes of the inputs or of the outputs, from `old` to `new`, which are whole images."""
+    """An entry gave bytes of the inputs or of the outputs these values."""
 
     time: int
     entry: int
     is_output: bool
-    old: dict
-    new: dict
-
-    def touches(self, operand):
-        """Whether the operand has another value by this change."""
-        return operand.is_output == self.is_output and operand.value(self.old) != operand.value(self.new)
+    written: dict
 
 
 class Event(NamedTuple):
@@ -48,20 +43,13 @@ def happenings(history, run):
     for shown in run.shown:
         shown_by_entry.setdefault(shown.entry, []).append(shown)
     entries_that_show = sorted(shown_by_entry)
-    found, images = [], {False: {}, True: {}}
-    time, entry, next_shown = 0, 0, 0
-
-    def change(at, is_output, written):
-        old = images[is_output]
-        images[is_output] = {**old, **written}
-        found.append(Change(time, at, is_output, old, images[is_output]))
-
+    found, time, entry, next_shown = [], 0, 0, 0
     for item in history.items:
         entry += item.count
         if item.kind == "tick":
             time += item.number
         elif item.kind == "in":
-            change(entry, False, {item.number: item.value})
+            found.append(Change(time, entry, False, {item.number: item.value}))
         elif item.kind == "arrive":
             value = f" with 16#{item.value:08X}" if item.value else ""
             found.append(Event(time, entry, f"OB {item.number} is requested{value}"))
@@ -70,7 +58,7 @@ def happenings(history, run):
             next_shown += 1
             written = {shown.byte: shown.value for shown in shown_by_entry[at] if shown.kind == "output"}
             if written:
-                change(at, True, written)
+                found.append(Change(time, at, True, written))
             for shown in shown_by_entry[at]:
                 if shown.kind == "mode":
                     place = f" at {shown.place}" if shown.place else ""
@@ -80,48 +68,56 @@ def happenings(history, run):
     return Happenings(found, time)
 
 
+def replayed(happened, signals):
+    """Each happening with those of the signals that it changed, in their order, each with its old and new value."""
+    by_byte = {}
+    for place, signal in enumerate(signals):
+        for byte in signal.operand.bytes():
+            by_byte.setdefault((signal.operand.is_output, byte), []).append((place, signal))
+    images = {False: {}, True: {}}
+    for it in happened.list:
+        changed = []
+        if isinstance(it, Change):
+            image = images[it.is_output]
+            concerned = sorted({place: signal for byte in it.written for place, signal in by_byte.get((it.is_output, byte), ())}.items())
+            old = [signal.operand.value(image) for _, signal in concerned]
+            image.update(it.written)
+            new = [signal.operand.value(image) for _, signal in concerned]
+            changed = [(signal, one, other) for (_, signal), one, other in zip(concerned, old, new) if one != other]
+        yield it, changed
+
+
 def signals_that_change(happened, symbols):
     """A signal for each symbol that changes, and for each bit, or byte of the periphery, that changes and that no symbol
     holds: inputs first, by address."""
-    signals = set()
-    for change in changes(happened):
-        named = [signal for signal in symbols.signals if signal.operand.is_output == change.is_output]
-        signals.update(signal for signal in named if change.touches(signal.operand))
-        held = {place for signal in named for place in places(signal.operand)}
-        signals.update(Signal(operand) for operand in unnamed(change) if held.isdisjoint(places(operand)))
-    return sorted(signals, key=lambda it: (it.operand.is_output, it.operand.byte, it.operand.bit, it.operand.size, it.name))
+    held = {place for signal in symbols.signals for place in places(signal.operand)}
+    written = {(it.is_output, byte) for it in happened.list if isinstance(it, Change) for byte in it.written}
+    unnamed = [Signal(operand) for is_output, byte in written for operand in single_operands(is_output, byte)]
+    candidates = symbols.signals + [it for it in unnamed if held.isdisjoint(places(it.operand))]
+    found = {signal for _, changed in replayed(happened, candidates) for signal, _, _ in changed}
+    return sorted(found, key=lambda it: (it.operand.is_output, it.operand.byte, it.operand.bit, it.operand.size, it.name))
 
 
-def changes(happened):
-    return [it for it in happened.list if isinstance(it, Change)]
+def single_operands(is_output, byte):
+    """The bits of a byte, or the byte itself where it lies beyond the process image."""
+    if byte in IMAGE_BYTES:
+        return [Operand(is_output, False, 0, byte, bit) for bit in range(8)]
+    return [Operand(is_output, True, 1, byte, 0)]
 
 
 def places(operand):
     """The bits that an operand holds."""
-    if operand.size == 0:
-        return [(operand.byte, operand.bit)]
-    return [(byte, bit) for byte in operand.bytes() for bit in range(8)]
+    bits = [operand.bit] if operand.size == 0 else range(8)
+    return [(operand.is_output, byte, bit) for byte in operand.bytes() for bit in bits]
 
 
-def unnamed(change):
-    """The bits that a change touches, and whole bytes beyond the process image."""
-    for byte in sorted(change.new):
-        differing = change.old.get(byte, 0) ^ change.new[byte]
-        if differing and byte in IMAGE_BYTES:
-            for bit in range(8):
-                if differing >> bit & 1:
-                    yield Operand(change.is_output, False, 0, byte, bit)
-        elif differing:
-            yield Operand(change.is_output, True, 1, byte, 0)
-
-
-def values_by_time(happened, signal):
-    """The value at the end of each millisecond in which the signal has changed, from 0 on."""
-    values = {0: 0}
-    for change in changes(happened):
-        if change.touches(signal.operand):
-            values[change.time] = signal.operand.value(change.new)
-    return without_repeats(values)
+def values_by_time(happened, signals):
+    """For each signal its value at the end of each millisecond in which it has changed, from 0 on."""
+    values = {signal: {0: 0} for signal in signals}
+    for it, changed in replayed(happened, signals):
+        for signal, _, new in changed:
+            values[signal][it.time] = new
+    return {signal: without_repeats(by_time) for signal, by_time in values.items()}
 
 
 def modes_by_time(happened):

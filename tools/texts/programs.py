@@ -19,12 +19,15 @@ def program():
     """The program that the variable S7 names, else the proved one."""
     named = os.environ.get("S7")
     path = named or str(PROVED)
-    if not os.access(path, os.X_OK) or os.path.isdir(path):
-        raise Refused(f"{path}, which S7 names, is no program" if named else f"there is no {path}: ./build makes it, or S7 names another one")
-    return os.path.abspath(path)
+    if os.access(path, os.X_OK) and not os.path.isdir(path):
+        return os.path.abspath(path)
+    if named:
+        raise Refused(f"{path}, which S7 names, is no program")
+    raise Refused("no proved program is built: ./build makes it, and with S7=./s7 each call is answered without the proof, in minutes")
 
 
 def call(*words):
     """The answer of a call of the program with these words."""
-    ran = subprocess.run([program(), *map(str, words)], stdin=subprocess.DEVNULL, stdout=subprocess.PIPE)
+    environment = {**os.environ, "S7_EXPLAIN": "0"}
+    ran = subprocess.run([program(), *map(str, words)], env=environment, stdin=subprocess.DEVNULL, stdout=subprocess.PIPE)
     return Answer(ran.returncode, decoded(ran.stdout))

@@ -119,9 +119,9 @@ def diagram(happened, signals, title=""):
         x = scale.x(time)
         shapes.append(f'<path class="grid" d="M{x},{top} V{bottom + 4}"/>')
         shapes.append(f'<text class="time" x="{x}" y="{bottom + 20}" text-anchor="middle">{seconds(time)}</text>')
+    values_of = values_by_time(happened, signals)
     for number, (signal, label) in enumerate(zip(signals, labels)):
-        row, kind = top + ROW * number, "output" if signal.operand.is_output else "input"
-        values = values_by_time(happened, signal)
+        row, kind, values = top + ROW * number, "output" if signal.operand.is_output else "input", values_of[signal]
         shapes.append(f'<text x="{MARGIN}" y="{row + LOW - 5}">{escape(label)}</text>')
         if signal.operand.size:
             shapes += number_row(values, scale, row, kind, signal.shown)

@@ -1,5 +1,5 @@
 """A run as lines that a person reads."""
-from texts.happenings import Change
+from texts.happenings import Event, replayed
 
 
 def time_text(milliseconds):
@@ -13,14 +13,11 @@ def lines_of_run(happened, run, signals):
     def line(time, text):
         return f"{time_text(time):>{width}}  {text}"
 
-    for it in happened.list:
-        if not isinstance(it, Change):
+    for it, changed in replayed(happened, signals):
+        if isinstance(it, Event):
             yield line(it.time, it.text)
-            continue
-        for signal in signals:
-            if it.touches(signal.operand):
-                old, new = (signal.shown(signal.operand.value(image)) for image in (it.old, it.new))
-                yield line(it.time, f"{signal} {old} -> {new}")
+        for signal, old, new in changed:
+            yield line(it.time, f"{signal} {signal.shown(old)} -> {signal.shown(new)}")
     yield line(happened.length, f"the end, in {run.mode}, after {run.entries:,} entries")
     for number, data in sorted(run.blocks.items()):
         for at in range(0, len(data), 16):

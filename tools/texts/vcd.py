@@ -18,12 +18,12 @@ def mark_of(number):
 
 def dump(happened, signals):
     lines = ["$timescale 1 ms $end", "$scope module s7 $end"]
-    at_times = {}
+    at_times, values = {}, values_by_time(happened, signals)
     for number, signal in enumerate(signals):
         mark, bits = mark_of(number), signal.operand.bits()
         name = re.sub(r"[^!-~]", "_", str(signal.operand).replace(" ", "") + (f"_{signal.name}" if signal.name else ""))
         lines.append(f"$var wire {bits} {mark} {name} $end")
-        for time, value in values_by_time(happened, signal):
+        for time, value in values[signal]:
             at_times.setdefault(time, []).append(f"{value}{mark}" if bits == 1 else f"b{value:b} {mark}")
     lines += ["$upscope $end", "$enddefinitions $end"]
     for time in sorted({0, happened.length, *at_times}):
