@@ -85,7 +85,7 @@ fn program_in(
 
 /// The program of a source that breaks no rule: its code blocks with a statement at each line, its
 /// data blocks with their initial bytes, and the names of its variables in I, Q and M. It has an
-/// image (`IsProgram`): so it is with every source that breaks no rule, by a law of `accepted_code`.
+/// image (`IsProgram`): so it is with every source that breaks no rule, by a law of `sem_kept`.
 ///
 /// # Errors
 ///
