@@ -14,6 +14,7 @@ use Rattle.plc_mem.specs.Areas.{Areas}
 use Rattle.plc_mem.specs.Fresh.{fresh}
 use Rattle.plc_mem.specs.Peripherals.{with_input, outputs_cleared}
 use Rattle.plc_mem.specs.Refresh.{refreshed}
+use Rattle.plc_mem.specs.Restart.{bits_retained, memory_cleared}
 use Rattle.frames.specs.Activations.{begun, with_local_byte}
 use Rattle.frames.specs.declared.Activation.{Activation}
 use Rattle.frames.specs.declared.bindings.Binding.{Binding}
@@ -53,7 +54,7 @@ use Rattle.controller.specs.Requests.{stopped_if, course_taken, arrived}
 use Rattle.controller.specs.Serving.{Served, Returns, Passes, Stops as Halts, input, served, result_given, after_service}
 use Rattle.controller.specs.Settling.{may_start, request_taken, request_started, best_started, settled}
 use Rattle.controller.specs.Stack.{IsStack, IsStanding, MayBegin}
-use Rattle.controller.specs.Start.{bits_retained, before_start, cleared, loaded_obs, memory_cleared, restarted, start, started_up, startup_info, startup_ob}
+use Rattle.controller.specs.Start.{before_start, cleared, loaded_obs, restarted, start, started_up, startup_info, startup_ob}
 use Rattle.controller.specs.State.{State, is_stop, diagnosed, each_diagnosed}
 use Rattle.controller.specs.Stepping.{stepped, stepped_on, after_statement, run_starts, ob_ended, with_activations}
 use Rattle.controller.specs.Stopping.{halted, halted_at, spot, spot_of}
@@ -653,14 +654,14 @@ before_fits profile l p = record {
 }
 
 -- a restart changes no size
-bits_length : (m : Profile) (bits : List ℕ) → length bits ≡ bit_memory_size m
+bits_length : (profile : Profile) (bits : List ℕ) → length bits ≡ bit_memory_size profile
     → length (bits_retained bits) ≡ length bits
-bits_length m bits is =
+bits_length profile bits is =
     let cut : List ℕ = replicate (length bits - 16) 0 in
     let count : length cut ≡ length bits - 16 = length-replicate {A = ℕ} (length bits - 16) 0 in
-    omega (arith, length-append (take 16 bits) cut, length-take 16 bits, count, some m bits is)
+    omega (arith, length-append (take 16 bits) cut, length-take 16 bits, count, some profile bits is)
   where
-    some : (m : Profile) (bits : List ℕ) → length bits ≡ bit_memory_size m → 16 ≤ length bits
+    some : (profile : Profile) (bits : List ℕ) → length bits ≡ bit_memory_size profile → 16 ≤ length bits
     some Small bits is = omega (arith, is)
     some Large bits is = omega (arith, is)
 
