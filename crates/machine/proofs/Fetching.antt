@@ -17,7 +17,7 @@ use Rattle.machine.specs.Code.{Code, Fetched}
 use Rattle.frames.specs.Bound.{set_at}
 use Rattle.machine.specs.Parts.{Own, then_ok}
 use Rattle.machine.specs.Bindings.{bound_params, bound_for}
-use Rattle.machine.specs.Flat.{Run, run_at, run_with, with_op, most_ops, passings_of, with_passing, use_db_of, fetched_of, statement_at, instr_of}
+use Rattle.machine.specs.Flat.{Run, run_at, run_with, with_op, most_ops, passings_of, with_passing, fetched_of, statement_at, instr_of}
 use Rattle.machine.specs.Statement.{World, fetched, performed, Goes}
 use Rattle.machine.specs.Walking.{Walk, walk_with, bound_from, bound_by, bound_next, Passes}
 

@@ -1,6 +1,6 @@
 -- CALL, UC and CC of a function or function block: bindings, then depth and local data, then the
 -- block is entered, and the parameters of a function block are copied into its instance.
-use Rattle.std.specs.Prelude.{ℕ, ◌≡◌, true, false, List, [], Option, Some, None, Result, Ok, Err}
+use Rattle.std.specs.Prelude.{ℕ, ◌≡◌, true, false, List, Option, Some, None, Result, Ok, Err}
 use Rattle.plc_base.specs.declared.BlockId.{BlockId}
 use Rattle.plc_mem.specs.Areas.{Areas}
 use Rattle.status_word.specs.declared.Regs.{Regs}
