@@ -125,6 +125,7 @@ class Refusals(ToolTest):
         self.write("source", FUNCTION)
         answer = self.call("refusals", "source", "--most", "2")
         self.assertEqual(answer.stdout.count(": rule "), 2)
+        self.expect_refused("a number from 1 on", "refusals", "source", "--most", "0")
         self.assertTrue(answer.stdout.endswith("--most 2 ends here; there may be more\n"))
 
     def test_what_cannot_be_checked(self):
