@@ -24,7 +24,7 @@ pub use decoding::{BadOp, decode_op};
 pub use encoding::encode_op;
 pub use image_fields::{Field, OpenBracket, ParameterRecord};
 pub use kinds::{CONDITIONS, JUMPS, JumpWord, condition_of, flag_of, jump_of};
-pub use names::{NameEntry, Names, ends_blank, is_name_before, is_upper_case};
+pub use names::{NameEntry, Names, ends_blank, is_name_before, is_upper_case, order_of};
 pub use operands::{Operand, Passed};
 pub use ops::Op;
 pub use programs::{CodeBlock, DataBlock, Param, Program};

@@ -73,7 +73,7 @@ pub fn ends_blank(name: &[u8]) -> bool
 }
 
 /// How a name in upper case compares with a name in any case.
-fn order_of(upper: &[u8], name: &[u8]) -> Ordering
+pub fn order_of(upper: &[u8], name: &[u8]) -> Ordering
     ensures { result ≡ slice_cmp nat_cmp upper.now (folded name.now) }
 {
     upper

@@ -1,7 +1,5 @@
 ghost use Rattle.std.specs.Prelude.{◌≡◌, IfOk, [], ◌∷◌, find};
-ghost use Rattle.std.specs.Cmp.Lexicographic.{slice_cmp};
 ghost use Rattle.std.specs.Option.{option_copied};
-ghost use Rattle.std.specs.Ordering.{nat_cmp};
 ghost use Rattle.std.specs.Str.{bytes_eq};
 ghost use Rattle.plc_base.specs.Folding.{folded};
 ghost use Rattle.stl_types.specs.Seen.{seen};
@@ -20,10 +18,9 @@ ghost use Rattle.stl_codegen.specs.Passed.{
 use crate::emitting::{append_passed_parameter, append_passing};
 use crate::operands::{constant_bits, is_in_named_block};
 use block_layout::width_of;
-use flat_code::{Op, Passed};
+use flat_code::{Op, Passed, order_of};
 use plc_base::{Place, Width};
 use std::alloc::{AllocError, Global};
-use std::cmp::Ordering;
 use stl_ast::{Actual, Operand};
 use stl_types::{Formal, Scope, Seen, View};
 
@@ -91,16 +88,6 @@ fn append_seen(
         Seen::Sees { view } => append_view(ops, index, operand, view),
         Seen::Unknown | Seen::Rests => Ok(Some(())),
     }
-}
-
-/// How a name in upper case compares with a name in any case.
-fn order_of(upper: &[u8], name: &[u8]) -> Ordering
-    ensures { result ≡ slice_cmp nat_cmp upper.now (folded name.now) }
-{
-    upper
-        .iter()
-        .copied()
-        .cmp(name.iter().map(|byte: &u8| byte.to_ascii_uppercase()))
 }
 
 /// Whether a name is this one in upper case.
