@@ -30,7 +30,6 @@ exit "$(cat "$here/status")"
 BUILDING_RT = """\
 #!/usr/bin/env bash
 echo 'logic=proved crate'
-sleep 1
 mkdir -p out && printf '#!/bin/sh\\necho built\\n' > out/s7 && chmod +x out/s7
 """
 PROGRAM = """\
