@@ -5,6 +5,7 @@ use Rattle.std.specs.declared.alloc.Global.{Global}
 use Rattle.std.specs.List.{AllByRecursion, IsDistinct}
 use Rattle.std.proofs.lemmas.Bool.{and_parts, ltb-true}
 use Rattle.std.proofs.lemmas.Bool.Decides.{nat_tests}
+use Rattle.plc_base.specs.Kinds as of_kind
 use Rattle.plc_base.specs.Kinds.{kind_number}
 use Rattle.plc_base.specs.declared.BlockId.{BlockId}
 use Rattle.plc_base.specs.declared.blocks.BlockKind.{BlockKind}
@@ -18,7 +19,7 @@ use Rattle.image_file.specs.Readers.{bytes_of, data_id, ids_of}
 use Rattle.image_file.proofs.ImageLemmas.{chain_parts, record_parts_of, records_parts, unless_fine}
 use Rattle.plc_mem.specs.Blocks as owned
 use Rattle.machine.specs.Flat.{numbered_bytes}
-use Rattle.controller.specs.Starting.{is_data_kind, is_data_block, numbers_in, read_block, numbers_of}
+use Rattle.controller.specs.Starting.{is_data_block, numbers_in, read_block, numbers_of}
 
 -- ---- numbers rise
 
@@ -56,7 +57,7 @@ numbers_rise p h = datas_are _ p.data_blocks (records_parts true (records_of p) 
 
 -- ---- code blocks are no data blocks
 
-kind_right : (k : BlockKind) → lies_within 1 3 (kind_number k) ≡ true → is_data_kind k ≡ false
+kind_right : (k : BlockKind) → lies_within 1 3 (kind_number k) ≡ true → of_kind.is_data_block k ≡ false
 kind_right kinds.Ob h = refl
 kind_right kinds.Fc h = refl
 kind_right kinds.Fb h = refl

@@ -1,19 +1,13 @@
 -- What the code of the start reads of a program.
-use Rattle.std.specs.Prelude.{ℕ, Bool, true, false, List, [], map, filter, unwrap_or}
+use Rattle.std.specs.Prelude.{ℕ, Bool, List, [], map, filter, unwrap_or}
+use Rattle.plc_base.specs.Kinds as of_kind
 use Rattle.plc_base.specs.declared.BlockId.{BlockId}
-use Rattle.plc_base.specs.declared.blocks.BlockKind.{BlockKind}
-use Rattle.plc_base.specs.declared.blocks.BlockKind.TheVariants as kinds
 use Rattle.flat_code.specs.Programs.{DataBlock}
 use Rattle.image_file.specs.Readers.{bytes_of}
 
--- the kind of data blocks
-abbrev pub is_data_kind : BlockKind → Bool
-is_data_kind kinds.Db = true
-is_data_kind _ = false
-
 -- a block is a data block
 abbrev pub is_data_block : BlockId → Bool
-is_data_block id = is_data_kind id.kind
+is_data_block id = of_kind.is_data_block id.kind
 
 -- the numbers of the data blocks among blocks
 abbrev pub numbers_in : List BlockId → List ℕ

@@ -14,7 +14,7 @@ use crate::cpus::Cpu;
 use crate::diagnostics::Diagnostics;
 use image_file::Loaded;
 use ob_sched::{Sched, StartEvent, StartInfo};
-use plc_base::{BlockId, BlockKind, Mode, NoMemory, Profile};
+use plc_base::{BlockId, Mode, NoMemory, Profile};
 use plc_mem::Memory;
 use std::alloc::Global;
 use timers_counters::{Counters, Timers};
@@ -48,7 +48,7 @@ fn loaded_obs(alloc: Global, program: &Loaded) -> Result<Vec<u16>, NoMemory>
 fn is_data_block(id: &BlockId) -> bool
     ensures { result ≡ is_data_block_of id.now }
 {
-    matches!(id.kind, BlockKind::Db)
+    id.kind.is_data_block()
 }
 
 fn numbers_in(alloc: Global, ids: &[BlockId]) -> Result<Vec<u16>, NoMemory>
