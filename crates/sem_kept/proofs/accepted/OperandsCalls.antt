@@ -649,10 +649,6 @@ instance_number_right symbols t q d =
         ap (λ (ss : List Symbol). id_of ss d.block) (measured_symbols symbols t.blocks)
         ∙ sym (layout_id symbols t q d.block d.layout d.sound) ∙ d.is
 
-    not-false : (x : Bool) → not x ≡ false → x ≡ true
-    not-false true e = refl
-    not-false false e = absurd cc
-
     number : is_block_number d.id.kind d.id.number ≡ true
     number = not-false (is_block_number d.id.kind d.id.number)
         (ap is_beyond (sym named) ∙ d.sound.head.by_44)
