@@ -1,5 +1,5 @@
-use crate::symbol_calls::{read, verdict};
 use crate::compare::same;
+use crate::symbol_calls::{read, verdict};
 use std::alloc::{AllocError, Global};
 use std::test::Fail;
 use stl_symbols::{SYMBOLS_LIMIT, Target};

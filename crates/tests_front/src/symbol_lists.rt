@@ -1,5 +1,5 @@
-use crate::symbol_calls::read;
 use crate::compare::same;
+use crate::symbol_calls::read;
 use plc_base::{Area, BlockId, BlockKind, Place, Width};
 use std::test::Fail;
 use stl_symbols::Target;

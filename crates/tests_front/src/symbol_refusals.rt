@@ -1,5 +1,5 @@
-use crate::symbol_calls::verdict;
 use crate::compare::same;
+use crate::symbol_calls::verdict;
 use csv::{ByteRecord, ReaderBuilder};
 use std::alloc::Global;
 use std::process::Abort;
