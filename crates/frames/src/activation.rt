@@ -42,13 +42,13 @@ const BELOW: usize = 23;
 /// Why a block can't be entered.
 #[derive(Clone, Copy, Debug, PartialEq, Eq)]
 pub enum FrameFault {
-    /// Sixteen frames stand.
+    /// As many frames stand as the profile has.
     Depth,
     /// Its local bytes have no room in the 1,024 of the activation.
     LocalFull,
 }
 
-/// The frames below the innermost one, 15 at most. A contract sees the list of them, the innermost one
+/// The frames below the innermost one, 23 at most. A contract sees the list of them, the innermost one
 /// first. They stay where they are: a frame is copied in when a block is entered, and out when it is
 /// left, and of its bindings only those that there are.
 #[derive(Drop)]

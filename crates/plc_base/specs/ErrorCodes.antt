@@ -6,11 +6,11 @@ use Rattle.std.specs.Prelude.{ℕ}
 abbrev pub bad_bcd : ℕ
 bad_bcd = 0x21
 
--- no such place in I, Q, M, L, DB or DI, to read; to write 23
+-- no such place in I, Q, M, L, DB or DI, to read; to write 16#23
 abbrev pub no_place : ℕ
 no_place = 0x22
 
--- a pointer to no area, or to a bit in the peripheral area, to read; to write 25
+-- a pointer to no area, or to a bit in the peripheral area, to read; to write 16#25
 abbrev pub bad_area : ℕ
 bad_area = 0x24
 
@@ -22,7 +22,7 @@ no_timer = 0x26
 abbrev pub no_counter : ℕ
 no_counter = 0x27
 
--- a byte, word or double word at a pointer whose bit isn't 0, to read; to write 29
+-- a byte, word or double word at a pointer whose bit isn't 0, to read; to write 16#29
 abbrev pub unaligned : ℕ
 unaligned = 0x28
 
