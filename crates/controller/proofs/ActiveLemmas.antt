@@ -1,6 +1,6 @@
 -- The activations that stand, in the front of a list.
-use Rattle.std.proofs.Common.{◌≡◌, ℕ, ◌+◌, ◌<◌, ◌≤◌, List, [], ◌∷◌, ◌++◌, length, take, set, get_or, Option, Some, None, Bool, true, false, refl, sym, ap, ◌∙◌, rules, arith}
-use Rattle.std.specs.Prelude.{map, reverse, min, slice_get, IfSome}
+use Rattle.std.proofs.Common.{◌≡◌, ℕ, ◌+◌, ◌<◌, ◌≤◌, List, [], ◌∷◌, ◌++◌, length, take, set, get_or, Option, Some, None, true, false, refl, sym, ap, ◌∙◌, rules}
+use Rattle.std.specs.Prelude.{map, reverse, min, IfSome}
 use Rattle.std.specs.Option.{option_map}
 use Rattle.std.proofs.lemmas.List.{length-reverse, length-take-le, take_more_set, take_more, reverse-append, reverse-reverse}
 use Rattle.plc_base.specs.declared.Profile.{Profile}

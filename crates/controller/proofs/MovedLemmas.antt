@@ -1,12 +1,10 @@
 -- Entries do the same at other positions.
-use Rattle.std.proofs.Common.{◌≡◌, ℕ, zero, suc, ◌+◌, Bool, true, false, if◌then◌else◌, ◌==◌, ◌&&◌, not, nat_le, ◌-◌, List, [], ◌∷◌, ◌++◌, length, map, reverse, filter, Option, Some, None, is_some, option_map, unwrap_or, refl, sym, ap, ◌∙◌}
+use Rattle.std.proofs.Common.{◌≡◌, ℕ, ◌+◌, Bool, true, false, if◌then◌else◌, ◌==◌, ◌&&◌, not, nat_le, ◌-◌, List, [], ◌∷◌, ◌++◌, map, reverse, filter, Option, Some, None, is_some, option_map, unwrap_or, refl, sym, ap, ◌∙◌}
 use Rattle.std.proofs.lemmas.List.{reverse-append}
 use Rattle.plc_base.specs.StopCauses as causes
 use Rattle.plc_base.specs.declared.Profile.{Profile}
 use Rattle.plc_base.specs.declared.BlockId.{BlockId}
 use Rattle.plc_base.specs.declared.Spot.{Spot}
-use Rattle.plc_base.specs.declared.modes.Mode.{Mode}
-use Rattle.plc_mem.specs.Areas.{Areas}
 use Rattle.frames.specs.Activations.{begun, with_local_byte}
 use Rattle.frames.specs.Locals.{LocalData, byte_set}
 use Rattle.frames.specs.declared.Activation.{Activation}
@@ -14,7 +12,7 @@ use Rattle.frames.specs.declared.bindings.Binding.{Binding}
 use Rattle.frames.specs.declared.frame.Frame.{Frame}
 use Rattle.machine.specs.Code.{Code, Fetched, Head}
 use Rattle.machine.specs.Moved.{Follows, moved, moved_fetched, moved_frame, moved_step, StatementsMove}
-use Rattle.machine.specs.Statement.{World, Step, Went, Ended, SyncError, SysCall, Stop, Stuck, statement}
+use Rattle.machine.specs.Statement.{Step, Went, Ended, SyncError, SysCall, Stop, Stuck, statement}
 use Rattle.machine.specs.SystemCalls.{Given}
 use Rattle.ob_sched.specs.Course.{Course, requested}
 use Rattle.ob_sched.specs.Scheduler.{Scheduler, retriggered, delay_of, delay_started, delay_cancelled}
@@ -34,13 +32,13 @@ use Rattle.controller.specs.Beginning.{ob_block, ob_frame, told_from, ob_begun, 
 use Rattle.controller.specs.CyclePoint.{cycle_point, cycle_info, cycle_passed}
 use Rattle.controller.specs.Errors.{copied_from, error_in, error_answered, failed, failure, is_synchronous}
 use Rattle.controller.specs.Event.{counted, effect, state_after}
-use Rattle.controller.specs.Moved.{moved_state, moved_happened, EntriesMove, HistoriesMove}
+use Rattle.controller.specs.Moved.{moved_state, EntriesMove, HistoriesMove}
 use Rattle.controller.specs.Replay.{happens, run_from, replay, happened_to}
 use Rattle.controller.specs.Requests.{stopped_if, course_taken, arrived}
-use Rattle.controller.specs.Serving.{Served, Returns, Passes, Stops, served, result_given, after_service, system_called, input}
+use Rattle.controller.specs.Serving.{Served, Returns, Passes, Stops, served, after_service, system_called, input}
 use Rattle.controller.specs.Settling.{may_start, request_taken, request_started, best_started, settled}
 use Rattle.controller.specs.Shown.{shown}
-use Rattle.controller.specs.Start.{loaded_obs, world_at_rest, all_obs, before_start, startup_ob, startup_info, started_up, start}
+use Rattle.controller.specs.Start.{all_obs, before_start, startup_ob, startup_info, started_up, start}
 use Rattle.controller.specs.State.{State, is_stop, diagnosed, each_diagnosed}
 use Rattle.controller.specs.Stepping.{run_starts, ob_ended, after_statement, stepped_on, stepped}
 use Rattle.controller.specs.Stopping.{spot_of, spot, halted_at, halted}

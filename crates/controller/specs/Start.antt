@@ -1,5 +1,5 @@
 -- The start of the CPU: the first one, and a warm restart.
-use Rattle.std.specs.Prelude.{length, ◌-◌, ℕ, true, List, [], ◌∷◌, ◌++◌, filter, take, replicate, is_some, Option, Some, None}
+use Rattle.std.specs.Prelude.{ℕ, true, List, [], ◌∷◌, length, filter, replicate, is_some, Option, Some, None}
 use Rattle.plc_base.specs.declared.Profile.{Profile}
 use Rattle.plc_base.specs.Profiles.{timer_count, counter_count}
 use Rattle.plc_base.specs.declared.Mode.TheVariants.{Run, Startup}

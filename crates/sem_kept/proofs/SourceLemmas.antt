@@ -1,5 +1,5 @@
 -- A source is checked in one way.
-use Rattle.std.proofs.Common.{◌≡◌, refl, sym, ◌∙◌, ℕ, List, Option, Some, None, Result, Ok, Err, ◌⊎◌, inl, inr}
+use Rattle.std.proofs.Common.{◌≡◌, refl, sym, ◌∙◌, ℕ, List, Result, Ok, Err, ◌⊎◌, inl, inr}
 use Rattle.plc_base.specs.declared.refusals.Refusal.{Refusal}
 use Rattle.machine.specs.Code.{Code}
 use Rattle.stl_lexer.specs.declared.kinds.Token.{Token}

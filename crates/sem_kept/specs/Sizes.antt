@@ -1,5 +1,5 @@
 -- That a program is small enough for an image.
-use Rattle.std.specs.Prelude.{◌≡◌, ℕ, ◌≤◌, ◌<◌, true, List, [], length, Option}
+use Rattle.std.specs.Prelude.{◌≡◌, ℕ, ◌≤◌, ◌<◌, true, List, [], length}
 use Rattle.std.specs.List.{AllByRecursion}
 use Rattle.flat_code.specs.Checking.{good_blocks, good_counts, good_datas, good_names, image_size}
 use Rattle.flat_code.specs.Codes.{code_bytes}

@@ -1,5 +1,5 @@
 -- In an accepted source the operand of each statement but a call is checked.
-use Rattle.std.proofs.Common.{◌≡◌, ◌≤◌, ℕ, Bool, true, false, List, [], ◌∷◌, map, Option, Some, None, refl, sym, ap, subst}
+use Rattle.std.proofs.Common.{◌≡◌, ◌≤◌, ℕ, Bool, true, false, List, [], ◌∷◌, map, Some, None, refl, sym, ap, subst}
 use Rattle.std.specs.List.{AllByRecursion, slice_get}
 use Rattle.plc_base.specs.Kinds.{kind_number, is_code}
 use Rattle.plc_base.specs.declared.blocks.BlockKind.{BlockKind}

@@ -1,5 +1,5 @@
 -- The variables of a symbols file lie in I, Q, M or the peripheral area, and have no odd bit.
-use Rattle.std.proofs.Common.{ℕ, ◌≡◌, ◌+◌, List, [], ◌∷◌, ◌++◌, Option, Some, None, Result, Ok, Err, Bool, true, false, not, nat_eq, find, is_some, bytes_eq, refl, sym, subst, length, take, drop, if◌then◌else◌}
+use Rattle.std.proofs.Common.{ℕ, ◌≡◌, ◌+◌, List, [], ◌∷◌, ◌++◌, Option, Some, None, Result, Ok, Err, Bool, true, false, not, nat_eq, find, is_some, bytes_eq, refl, subst, length, take, drop, if◌then◌else◌}
 use Rattle.std.specs.List.{AllByRecursion, prefix_len}
 use Rattle.std.specs.Char.{is_ascii_digit}
 use Rattle.std.specs.Prelude.{◌==◌}

@@ -1,6 +1,6 @@
 -- THE PROGRAM OF AN ACCEPTED SOURCE has an image and verifies: no field of its records has a fault, and no op of a
 -- block has one, by its operand, its jump, its brackets or its call.
-use Rattle.std.proofs.Common.{◌≡◌, ℕ, ◌+◌, ◌<◌, zero, suc, true, false, List, [], ◌∷◌, length, map, get_or, Option, Some, None, refl, arith}
+use Rattle.std.proofs.Common.{◌≡◌, ℕ, ◌+◌, ◌<◌, zero, suc, true, false, List, [], ◌∷◌, length, map, get_or, Some, refl, arith}
 use Rattle.std.specs.List.{AllByRecursion}
 use Rattle.flat_code.specs.Checking.{good_blocks}
 use Rattle.flat_code.specs.Image.{record_of_block}
