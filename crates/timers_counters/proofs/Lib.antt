@@ -1,1 +1,2 @@
 pub mod Milliseconds
+pub mod SizeLemmas

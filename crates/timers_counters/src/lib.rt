@@ -4,6 +4,7 @@
 mod counter_table;
 mod counting;
 mod faults;
+pub mod laws;
 mod timer_table;
 mod timing;
 
