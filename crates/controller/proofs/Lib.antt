@@ -6,6 +6,7 @@ pub mod FittingLemmas
 pub mod KeptLemmas
 mod MovedLemmas
 pub mod ObservingLemmas
+pub mod ProfileLemmas
 pub mod QuietLemmas
 pub mod ReadyLemmas
 pub mod ReplayLemmas

@@ -83,3 +83,13 @@ CountsEntries =
 abbrev pub CountsHistory : Type 0
 CountsHistory =
     (profile : Profile) (code : Code) (history : List What) → (replay profile code history).entries ≡ length history
+
+-- no entry changes the profile
+abbrev pub EntriesKeepProfile : Type 0
+EntriesKeepProfile =
+    (code : Code) (s : State) (what : What) → (happens code s what).state.profile ≡ s.profile
+
+-- so after each history it is that of the start
+abbrev pub HistoriesKeepProfile : Type 0
+HistoriesKeepProfile =
+    (profile : Profile) (code : Code) (history : List What) → (replay profile code history).profile ≡ profile

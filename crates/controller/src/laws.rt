@@ -2,7 +2,7 @@
 ghost use Rattle.controller.specs.Fitting.{EntriesKeepFit, FitIsReady, HistoriesAreFit, RestartKeepsFit, StartIsFit};
 ghost use Rattle.controller.specs.MachineLaws.{MachineLaws};
 ghost use Rattle.controller.specs.Moved.{EntriesMove, HistoriesMove};
-ghost use Rattle.controller.specs.Replay.{ContinuesByMore, ContinuesReplay, ContinuesSeen, CountsEntries, CountsHistory, SeenByMore};
+ghost use Rattle.controller.specs.Replay.{ContinuesByMore, ContinuesReplay, ContinuesSeen, CountsEntries, CountsHistory, EntriesKeepProfile, HistoriesKeepProfile, SeenByMore};
 ghost use Rattle.controller.specs.Stack.{AtMost48};
 
 /// A history with one entry more continues the replay: the entry happens in the state after the
@@ -20,6 +20,13 @@ pub fn continues_replay()
 pub fn counts_entries()
     ensures entry { CountsEntries }
     ensures history { CountsHistory }
+{}
+
+/// No entry changes the profile, so after each history it is that of the start.
+#[tactic(auto, using(crate::proofs::ProfileLemmas::entries_keep, crate::proofs::ProfileLemmas::histories_keep))]
+pub fn profile_stays()
+    ensures entry { EntriesKeepProfile }
+    ensures history { HistoriesKeepProfile }
 {}
 
 /// At most 48 activations stand.

@@ -1,0 +1,178 @@
+-- Nothing that an entry does changes the profile.
+use Rattle.std.proofs.Common.{◌≡◌, ℕ, Bool, true, false, List, [], ◌∷◌, Option, Some, None, refl, ◌∙◌, if◌then◌else◌}
+use Rattle.plc_base.specs.StopCauses as causes
+use Rattle.plc_base.specs.declared.Profile.{Profile}
+use Rattle.plc_base.specs.declared.Spot.{Spot}
+use Rattle.frames.specs.declared.Activation.{Activation}
+use Rattle.frames.specs.declared.bindings.Binding.{Binding}
+use Rattle.machine.specs.Code.{Code}
+use Rattle.machine.specs.Statement.{Step, Went, Ended, SyncError, SysCall, Stop, Stuck, statement}
+use Rattle.ob_sched.specs.Course.{Course, requested}
+use Rattle.ob_sched.specs.Millisecond.{begun, ticked}
+use Rattle.ob_sched.specs.OrganizationBlock.{class_in}
+use Rattle.ob_sched.specs.Request.{best_of}
+use Rattle.ob_sched.specs.StartInformation.{start_info}
+use Rattle.ob_sched.specs.declared.requests.Pending.{Pending}
+use Rattle.ob_sched.specs.declared.start_infos.StartEvent.TheVariants.{Arrival}
+use Rattle.var_access.specs.declared.What.{What}
+use Rattle.var_access.specs.declared.What.TheVariants as what
+use Rattle.controller.specs.Beginning.{ob_in, begun_above}
+use Rattle.controller.specs.CyclePoint.{cycle_point, cycle_info, cycle_passed}
+use Rattle.controller.specs.Errors.{failed, error_answered, error_in, is_synchronous}
+use Rattle.controller.specs.Event.{counted, effect, state_after}
+use Rattle.controller.specs.Replay.{happens, run_from, replay, EntriesKeepProfile, HistoriesKeepProfile}
+use Rattle.controller.specs.Requests.{stopped_if, course_taken, arrived}
+use Rattle.controller.specs.Serving.{Served, Returns, Passes, Stops, after_service, served}
+use Rattle.controller.specs.Settling.{settled, best_started, request_started, request_taken, may_start}
+use Rattle.controller.specs.Start.{start, started_up, startup_ob, before_start}
+use Rattle.controller.specs.State.{State, is_stop, diagnosed, each_diagnosed}
+use Rattle.controller.specs.Stepping.{stepped, stepped_on, after_statement, run_starts, with_activations}
+use Rattle.controller.specs.Stopping.{halted, halted_at, spot_of}
+use Rattle.controller.specs.Ticking.{time_passed, tick_taken, active, timers_moved}
+
+if_stays : (test : Bool) (s t : State) (profile : Profile) → s.profile ≡ profile → t.profile ≡ profile
+    → (if test then s else t).profile ≡ profile
+if_stays true s t profile one other = one
+if_stays false s t profile one other = other
+
+diagnosed_stays : (records : List (ℕ × ℕ)) (s : State)
+    → (each_diagnosed records s).profile ≡ s.profile
+diagnosed_stays [] s = refl
+diagnosed_stays (one ∷ rest) s = diagnosed_stays rest (diagnosed one.0 one.1 s)
+
+begun_stays : (begun : Option Activation) (s : State)
+    → (begun_above begun s).profile ≡ s.profile
+begun_stays None s = refl
+begun_stays (Some a) s = refl
+
+halted_stays : (code : Code) (cause : ℕ) (s : State) → (halted code cause s).profile ≡ s.profile
+unfolding halted
+halted_stays code cause s = refl
+
+best_stays : (code : Code) (best : Option Pending) (s : State)
+    → (best_started code best s).profile ≡ s.profile
+best_stays code None s = refl
+best_stays code (Some best) s =
+    if_stays (may_start best.class s.activations) (request_started code best s) s s.profile
+    (begun_stays (ob_in s.profile code best.class best.ob best.info) (request_taken s)) refl
+
+settled_stays : (code : Code) (s : State) → (settled code s).profile ≡ s.profile
+unfolding settled
+settled_stays code s =
+    if_stays (is_stop s.mode) s (best_started code (best_of s.mode s.sched.pending) s) s.profile
+    refl (best_stays code (best_of s.mode s.sched.pending) s)
+
+cycle_stays : (code : Code) (s : State) → (cycle_point code s).profile ≡ s.profile
+unfolding cycle_point
+cycle_stays code s =
+    begun_stays (ob_in s.profile code (class_in s.mode 1) 1 (cycle_info s)) (cycle_passed s)
+
+answered_stays : (fresh : Option Activation) (error : ℕ) (at : Option Spot) (a : Activation)
+    (below : List Activation) (s : State) → (error_answered fresh error at a below s).profile ≡ s.profile
+answered_stays None error at a below s = refl
+answered_stays (Some fresh) error at a below s = refl
+
+failed_stays : (code : Code) (error : ℕ) (at : Option Spot) (a : Activation)
+    (below : List Activation) (s : State) → (failed code error at a below s).profile ≡ s.profile
+unfolding failed
+failed_stays code error at a below s =
+    if_stays (is_synchronous a.ob) (halted_at at causes.in_error_ob (diagnosed 4 error s))
+    (error_answered (error_in code error at a) error at a below (diagnosed 4 error s))
+    s.profile refl
+    (answered_stays (error_in code error at a) error at a below (diagnosed 4 error s))
+
+service_stays : (call : Option Spot) (served : Served) (to : Option Binding)
+    (below : List Activation) (s : State) → (after_service call served to below s).profile ≡ s.profile
+service_stays call (Returns r) to below s = refl
+service_stays call (Passes sched a) to below s = refl
+service_stays call (Stops cause) to below s = refl
+
+statement_stays : (code : Code) (step : Step) (ob : ℕ) (at : Option Spot)
+    (below : List Activation) (s : State)
+    → (after_statement code step ob at below s).profile ≡ s.profile
+statement_stays code (Went a w) ob at below s = refl
+statement_stays code (Ended regs w) ob at below s =
+    if_stays _ (run_starts (with_activations w below s)) (with_activations w below s) s.profile
+    refl refl
+statement_stays code (SyncError error a) ob at below s = failed_stays code error at a below s
+statement_stays code (SysCall number given a) ob at below s =
+    service_stays at (served number given.inputs s.sched a) given.result below s
+statement_stays code (Stop cause) ob at below s = refl
+statement_stays code Stuck ob at below s = refl
+
+stepped_on_stays : (code : Code) (activations : List Activation) (s : State)
+    → (stepped_on code activations s).profile ≡ s.profile
+stepped_on_stays code [] s = cycle_stays code s
+stepped_on_stays code (a ∷ below) s =
+    statement_stays code (statement code a s.world) a.ob (spot_of code a.running.frame) below s
+
+stepped_stays : (code : Code) (s : State) → (stepped code s).profile ≡ s.profile
+unfolding stepped
+stepped_stays code s = stepped_on_stays code s.activations s
+
+stopped_stays : (code : Code) (cause : Option ℕ) (s : State)
+    → (stopped_if code cause s).profile ≡ s.profile
+stopped_stays code None s = refl
+stopped_stays code (Some cause) s = halted_stays code cause s
+
+course_stays : (code : Code) (c : Course) (s : State)
+    → (course_taken code c s).profile ≡ s.profile
+course_stays code c s =
+    stopped_stays code c.passed.stop
+    (each_diagnosed c.passed.records.items (record s { sched = c.sched }))
+    ∙ diagnosed_stays c.passed.records.items (record s { sched = c.sched })
+
+arrived_stays : (code : Code) (ob value : ℕ) (s : State)
+    → (arrived code ob value s).profile ≡ s.profile
+unfolding arrived
+arrived_stays code ob value s =
+    if_stays (is_stop s.mode) s
+    (course_taken code
+    (requested s.mode ob (start_info (Arrival ob value) (class_in s.mode ob)) (begun s.sched)) s)
+    s.profile refl
+    (course_stays code
+    (requested s.mode ob (start_info (Arrival ob value) (class_in s.mode ob)) (begun s.sched)) s)
+
+tick_stays : (code : Code) (c : Course) (s : State) → (tick_taken code c s).profile ≡ s.profile
+tick_stays code c s =
+    course_stays code c (record s { world = timers_moved c.passed.ms s.world })
+
+passed_stays : (code : Code) (ms : ℕ) (s : State) → (time_passed code ms s).profile ≡ s.profile
+unfolding time_passed
+passed_stays code ms s =
+    tick_stays code (ticked s.mode (active s.activations) ms s.sched) s
+
+effect_stays : (code : Code) (e : What) (s : State) → (effect code e s).profile ≡ s.profile
+effect_stays code what.Step s =
+    if_stays (is_stop s.mode) s (stepped code s) s.profile refl (stepped_stays code s)
+effect_stays code (what.Input byte value) s = refl
+effect_stays code (what.Arrive ob value) s = arrived_stays code ob value s
+effect_stays code (what.Tick ms) s = passed_stays code ms s
+
+after_stays : (code : Code) (e : What) (s : State)
+    → (state_after code e s).profile ≡ s.profile
+unfolding state_after
+after_stays code e s =
+    settled_stays code (effect code e (counted s)) ∙ effect_stays code e (counted s)
+
+pub entries_keep : EntriesKeepProfile
+unfolding happens
+entries_keep code s e = after_stays code e s
+
+run_stays : (code : Code) (s : State) (history : List What) → (run_from code s history).profile ≡ s.profile
+run_stays code s [] = refl
+run_stays code s (e ∷ rest) =
+    run_stays code (happens code s e).state rest ∙ entries_keep code s e
+
+started_stays : (begun : Option Activation) (s : State) → (started_up begun s).profile ≡ s.profile
+started_stays None s = refl
+started_stays (Some a) s = refl
+
+start_stays : (profile : Profile) (code : Code) → (start profile code).profile ≡ profile
+unfolding start
+start_stays profile code = started_stays (startup_ob profile code) (before_start profile code)
+
+pub histories_keep : HistoriesKeepProfile
+unfolding replay
+histories_keep profile code history =
+    run_stays code (start profile code) history ∙ start_stays profile code
