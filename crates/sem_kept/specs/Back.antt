@@ -3,8 +3,7 @@
 use Rattle.std.specs.Prelude.{◌≡◌, ◌≤◌, ℕ, suc, ◌+◌, Bool, true, false, List, [], ◌∷◌, length, take, Option, Some, None}
 use Rattle.std.specs.List.{slice_get, AllByRecursion}
 use Rattle.std.specs.Option.{option_map}
-use Rattle.plc_base.specs.declared.blocks.BlockKind.{BlockKind}
-use Rattle.plc_base.specs.declared.blocks.BlockKind.TheVariants as kinds
+use Rattle.plc_base.specs.Kinds.{is_callable}
 use Rattle.flat_code.specs.Instr.{Instr, Does, Jumps, JumpsByList, Calls, Returns}
 use Rattle.flat_code.specs.Programs.{CodeBlock}
 use Rattle.flat_code.specs.declared.kinds.JumpWord.TheVariants as jump
@@ -35,13 +34,6 @@ abbrev pub is_target : Operand → Bool
 is_target (operand.Jump kind target) = true
 is_target _ = false
 
--- functions, function blocks and system functions are called
-abbrev pub is_called : BlockKind → Bool
-is_called kinds.Fc = true
-is_called kinds.Fb = true
-is_called kinds.Sfc = true
-is_called _ = false
-
 -- no data block has the number 0
 abbrev pub IsInstance : Option ℕ → Type 0
 IsInstance None = Unit {0}
@@ -70,7 +62,7 @@ IsCompiled n (Does use_db w o) behind = (goes_on w ≡ true) × (is_target o ≡
 IsCompiled n (Jumps how target) behind = is_jl how ≡ false
 IsCompiled n (JumpsByList targets otherwise) behind = IsList n targets otherwise behind
 IsCompiled n (Calls how block instance passings) behind =
-    (is_called block.kind ≡ true) × IsInstance instance × (length passings ≤ 63)
+    (is_callable block.kind ≡ true) × IsInstance instance × (length passings ≤ 63)
 IsCompiled n (Returns how) behind = Unit {0}
 
 -- so is each of these statements, the first of which has this number

@@ -16,9 +16,10 @@ use Rattle.flat_code.specs.declared.words.CallWord.TheVariants as calls
 use Rattle.stl_ast.specs.Literals.{AreBytes}
 use Rattle.stl_ast.specs.declared.blocks.Tree.{Tree}
 use Rattle.stl_symbols.specs.Symbol.{Symbol}
-use Rattle.stl_codegen.specs.Emitted.{called_kind, ending, instance_number, passing}
+use Rattle.stl_codegen.specs.Emitted.{ending, instance_number, passing}
 use Rattle.stl_codegen.specs.Fitting.{IsStill}
 use Rattle.sem_kept.specs.Accepted.{IsAccepted, program_in}
+use Rattle.plc_base.specs.Kinds.{kind_number}
 
 -- ---- what fits
 
@@ -60,8 +61,8 @@ InstrFits a lens (Does use_db w o) =
     (prepares (code_of w) ≡ false) × IsRightOperand a (ending w o) o × IsOpenedFor o use_db
 InstrFits a lens (Calls how block instance ps) =
     PassesAlone how ps
-    × ArePassed a (callee a.blocks (called_kind block.kind) block.number) None ps
-    × (is_bad_call lens (callee a.blocks (called_kind block.kind) block.number)
+    × ArePassed a (callee a.blocks (kind_number block.kind) block.number) None ps
+    × (is_bad_call lens (callee a.blocks (kind_number block.kind) block.number)
     (instance_number instance) (passing ps) ≡ false)
 InstrFits a lens _ = Unit {0}
 

@@ -8,10 +8,11 @@ use Rattle.std.specs.Ordering.{is_lt, nat_cmp}
 use Rattle.std.proofs.lemmas.Bool.Decides.{nat_tests}
 use Rattle.std.proofs.lemmas.Cmp.{nat_list_cmp_total}
 use Rattle.std.proofs.lemmas.List.Sorted.{IsStrictWeakOrder-by_number, ranks_by, sorted_far}
+use Rattle.plc_base.specs.Kinds.{kind_number}
 use Rattle.flat_code.specs.Programs.{CodeBlock, NameEntry}
 use Rattle.flat_code.proofs.NameLemmas.{before_is_less}
 use Rattle.stl_codegen.specs.Compiled.{StatedBlock, compiled}
-use Rattle.stl_codegen.specs.Order.{rank, is_block_before, is_code_before, is_data_before, is_name_before, inserted, sorted}
+use Rattle.stl_codegen.specs.Order.{is_block_before, is_code_before, is_data_before, is_name_before, inserted, sorted}
 
 -- ---- in order, by recursion
 
@@ -183,8 +184,8 @@ pair_chain r n s m t k h g = grind (arith, nat_tests)
 
 pub blocks_ordered : IsStrictWeakOrder is_block_before
 blocks_ordered = record {
-  one_way = λ a b h. pair_one_way (rank a.id.kind) a.id.number (rank b.id.kind) b.id.number h;
-  chain = λ a b c h g. pair_chain (rank a.id.kind) a.id.number (rank b.id.kind) b.id.number (rank c.id.kind) c.id.number h g;
+  one_way = λ a b h. pair_one_way (kind_number a.id.kind) a.id.number (kind_number b.id.kind) b.id.number h;
+  chain = λ a b c h g. pair_chain (kind_number a.id.kind) a.id.number (kind_number b.id.kind) b.id.number (kind_number c.id.kind) c.id.number h g;
 }
 
 pub data_ordered : IsStrictWeakOrder is_data_before

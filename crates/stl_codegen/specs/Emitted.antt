@@ -1,8 +1,7 @@
 -- The ops of an instruction. Those before the last one only prepare; the last one has the end mark.
 use Rattle.std.specs.Prelude.{ℕ, true, false, List, [], ◌∷◌, ◌++◌, Option, Some, None}
+use Rattle.plc_base.specs.Kinds.{kind_number}
 use Rattle.plc_base.specs.declared.blocks.BlockId.{BlockId}
-use Rattle.plc_base.specs.declared.blocks.BlockKind.{BlockKind}
-use Rattle.plc_base.specs.declared.blocks.BlockKind.TheVariants as kinds
 use Rattle.flat_code.specs.Instr.{Instr, Passing, Does, Jumps, JumpsByList, Calls, Returns}
 use Rattle.flat_code.specs.Kinds.{kind_of}
 use Rattle.flat_code.specs.OpCodes.{code_of}
@@ -38,12 +37,6 @@ passing (p ∷ ps) = preparing word.Pass (operand.Pass p.index p.actual) ∷ pas
 abbrev pub jump_op : JumpWord → (target : ℕ) → OpData
 jump_op how target = ending word.Jump (operand.Jump (kind_of how) target)
 
--- the kinds of called blocks: 2 FC, 3 FB, 5 SFC; no other kind is called
-abbrev pub called_kind : BlockKind → ℕ
-called_kind kinds.Fc = 2
-called_kind kinds.Fb = 3
-called_kind _ = 5
-
 -- 0 stands for no instance
 abbrev pub instance_number : Option ℕ → ℕ
 instance_number None = 0
@@ -53,7 +46,7 @@ instance_number (Some number) = number
 abbrev pub call_op : CallWord → BlockId → (instance : Option ℕ) → OpData
 call_op how block instance =
     ending (word.Call how)
-    (operand.Called (called_kind block.kind) block.number (instance_number instance))
+    (operand.Called (kind_number block.kind) block.number (instance_number instance))
 
 -- BE, BEC or BEU, which have no operand
 abbrev pub end_op : EndWord → OpData

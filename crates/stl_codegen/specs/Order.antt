@@ -1,22 +1,15 @@
 -- The order of the records of an image.
-use Rattle.std.specs.Prelude.{ℕ, nat_eq, nat_lt, Bool, ◌&&◌, ◌||◌, List, [], ◌∷◌, if◌then◌else◌}
+use Rattle.std.specs.Prelude.{nat_eq, nat_lt, Bool, ◌&&◌, ◌||◌, List, [], ◌∷◌, if◌then◌else◌}
+use Rattle.plc_base.specs.Kinds.{kind_number}
 use Rattle.plc_base.specs.declared.blocks.BlockId.{BlockId}
-use Rattle.plc_base.specs.declared.blocks.BlockKind.{BlockKind}
-use Rattle.plc_base.specs.declared.blocks.BlockKind.TheVariants as kinds
 use Rattle.flat_code.specs.Faults.{is_before}
 use Rattle.flat_code.specs.Programs.{CodeBlock, DataBlock, NameEntry}
 use Rattle.stl_codegen.specs.Compiled.{StatedBlock}
 
--- kinds in the order of an image: organization blocks, functions, function blocks
-abbrev pub rank : BlockKind → ℕ
-rank kinds.Ob = 1
-rank kinds.Fc = 2
-rank _ = 3
-
--- a code block stands before another: by its kind, then by its number
+-- a code block stands before another: by the number of its kind, then by its own
 abbrev pub is_id_before : BlockId → BlockId → Bool
 is_id_before a b =
-    nat_lt (rank a.kind) (rank b.kind) || nat_eq (rank a.kind) (rank b.kind) && nat_lt a.number b.number
+    nat_lt (kind_number a.kind) (kind_number b.kind) || nat_eq (kind_number a.kind) (kind_number b.kind) && nat_lt a.number b.number
 
 -- code blocks by kind and number, as statements and as ops
 abbrev pub is_code_before : StatedBlock → StatedBlock → Bool

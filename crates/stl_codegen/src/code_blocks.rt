@@ -15,7 +15,7 @@ use crate::codes::{Code, code_of};
 use crate::params::params_of;
 use block_layout::BlockLayout;
 use flat_code::CodeBlock;
-use plc_base::{BlockId, BlockKind};
+use plc_base::BlockId;
 use std::alloc::{AllocError, Global};
 use stl_ast::Block;
 use stl_types::Scope;
@@ -35,7 +35,7 @@ fn field(bytes: u64) -> Option<u16>
 fn instance_len(block: &Block, layout: &BlockLayout) -> u64
     ensures { result ≡ instance_len block.now layout.now }
 {
-    if matches!(block.kind, BlockKind::Fb) {
+    if block.kind.is_function_block() {
         layout.length
     } else {
         0

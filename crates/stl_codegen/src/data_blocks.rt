@@ -10,7 +10,7 @@ ghost use Rattle.stl_codegen.specs.Generated.{
 
 use block_layout::{BlockLayout, Shape};
 use flat_code::DataBlock;
-use plc_base::{BlockId, BlockKind};
+use plc_base::BlockId;
 use std::alloc::{AllocError, Global};
 use stl_ast::Block;
 use stl_types::Scope;
@@ -22,7 +22,7 @@ fn function_block_number(id: Option<BlockId>) -> Option<u16>
     match id {
         None => None,
         Some(id) => {
-            if matches!(id.kind, BlockKind::Fb) {
+            if id.kind.is_function_block() {
                 Some(id.number)
             } else {
                 None
@@ -79,7 +79,7 @@ fn add_known(
     ensures { IfOk result (λ _. made.new.items
         ≡ made.old.items ++ data_block_of scope.now layout.now (Some id)) }
 {
-    if matches!(id.kind, BlockKind::Db) {
+    if id.kind.is_data_block() {
         made.push(data_block(alloc, scope, layout, id)?)?;
     }
     Ok(())

@@ -6,7 +6,6 @@ ghost use Rattle.flat_code.specs.declared.operands.Passed.TheVariants as passed;
 ghost use Rattle.flat_code.specs.declared.words.Word.TheVariants as words;
 ghost use Rattle.stl_codegen.specs.Emitted.{
   call_op,
-  called_kind,
   end_op,
   instance_number,
   jump_op,
@@ -17,7 +16,7 @@ ghost use Rattle.stl_codegen.specs.Fitting.{Appended, IsStill};
 
 use crate::operands::index_byte;
 use flat_code::{CallWord, EndWord, JumpWord, Op, Operand, Passed, Word};
-use plc_base::{BlockId, BlockKind, Width};
+use plc_base::{BlockId, Width};
 use std::alloc::AllocError;
 
 /// Appends an op, unless the word doesn't take the operand.
@@ -103,16 +102,6 @@ pub(crate) fn append_jump(
     Ok(Some(()))
 }
 
-fn called_kind(kind: BlockKind) -> u8
-    ensures { result ≡ called_kind kind }
-{
-    match kind {
-        BlockKind::Fc => 2,
-        BlockKind::Fb => 3,
-        _ => 5,
-    }
-}
-
 /// 0 stands for no instance.
 fn instance_number(instance: Option<u16>) -> u16
     ensures { result ≡ instance_number instance }
@@ -134,7 +123,7 @@ pub(crate) fn append_call(
         (call_op how block instance ∷ []) done) }
 {
     let operand = Operand::Called {
-        kind: called_kind(block.kind),
+        kind: block.kind.number(),
         number: block.number,
         instance: instance_number(instance),
     };

@@ -1,28 +1,18 @@
 //! The records of a program in the order of an image.
 ghost use Rattle.std.specs.Prelude.{◌≡◌, OnOk};
 ghost use Rattle.std.specs.Ordering.{is_lt};
-ghost use Rattle.stl_codegen.specs.Order.{is_block_before, is_data_before, is_name_before, rank, sorted};
+ghost use Rattle.stl_codegen.specs.Order.{is_block_before, is_data_before, is_name_before, sorted};
 
 use flat_code::{CodeBlock, DataBlock, NameEntry};
-use plc_base::{BlockKind, NoMemory};
+use plc_base::NoMemory;
 use std::cmp::Ordering;
-
-/// The place of a kind in the order of an image.
-fn rank(kind: BlockKind) -> u8
-    ensures { result ≡ rank kind }
-{
-    match kind {
-        BlockKind::Ob => 1,
-        BlockKind::Fc => 2,
-        _ => 3,
-    }
-}
 
 fn order_of_blocks(a: &CodeBlock, b: &CodeBlock) -> Ordering
     ensures { is_lt result ≡ is_block_before a.now b.now }
 {
-    rank(a.id.kind)
-        .cmp(&rank(b.id.kind))
+    a.id.kind
+        .number()
+        .cmp(&b.id.kind.number())
         .then(a.id.number.cmp(&b.id.number))
 }
 

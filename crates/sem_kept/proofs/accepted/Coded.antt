@@ -28,6 +28,7 @@ use Rattle.sem_kept.proofs.accepted.CodedOps.{IsGoodSource, IsGoodStatement, end
 use Rattle.sem_kept.proofs.accepted.CodedSources.{context_fit, formals_few, sum_cons}
 use Rattle.sem_kept.proofs.accepted.CodedSymbols.{symbols_fit}
 use Rattle.sem_kept.proofs.accepted.CodedViews.{IsFit, SymbolFits, got_holds}
+use Rattle.sem_kept.proofs.accepted.Shared.{stated_count}
 use Rattle.sem_kept.specs.Coded.{AreCoded, CodedIsGood, IsCoded, StatementHasBytes}
 
 -- ---- the statements of a body
@@ -46,26 +47,6 @@ stated_good c body n (s ∷ ss) fit h =
         ∷ stated_from c body (suc n) ss)
     by true e same next = same
     by false e same next = (statement_good c body n s fit h.0 e, next)
-
-stated_count : (c : Context) (body : List Statement) (n : ℕ) (ss : List Statement)
-    → length (stated_from c body n ss) ≡ count_by (λ s. not (is_empty s.code)) ss
-stated_count c body n [] = refl
-stated_count c body n (s ∷ ss) =
-    let all = sum_cons (λ s. cond (not (is_empty s.code)) 1 0) s ss in
-    let here = by (is_empty s.code) (stated_count c body n ss) (stated_count c body (suc n) ss) in
-    omega (arith, all, here)
-  where
-    rest : ℕ
-    rest = count_by (λ s. not (is_empty s.code)) ss
-
-    by : (b : Bool) → length (stated_from c body n ss) ≡ rest
-        → length (stated_from c body (suc n) ss) ≡ rest
-        → length (if b then stated_from c body n ss
-        else record { instr = instruction c body n s; line = s.line }
-        ∷ stated_from c body (suc n) ss)
-        ≡ cond (not b) 1 0 + rest
-    by true same next = omega (arith, same)
-    by false same next = omega (arith, next)
 
 -- ---- a block
 

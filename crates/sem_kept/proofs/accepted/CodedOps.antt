@@ -39,6 +39,7 @@ use Rattle.stl_ast.specs.declared.operands.Operand.TheVariants as operand
 use Rattle.stl_ast.specs.declared.statements.Actual.{Actual}
 use Rattle.stl_ast.specs.declared.statements.Statement.{Statement}
 use Rattle.plc_base.specs.Folding.{folded}
+use Rattle.plc_base.specs.Kinds.{is_callable as is_callable_kind, kind_number}
 use Rattle.stl_types.specs.Constants.{takes_constant}
 use Rattle.stl_types.specs.Context.{Context}
 use Rattle.stl_types.specs.Forms.{form_of}
@@ -48,6 +49,7 @@ use Rattle.stl_types.specs.Parameters.{Callee, callee_of}
 use Rattle.stl_types.specs.Resolved.{resolved, seen_view}
 use Rattle.stl_types.specs.Seen.{seen}
 use Rattle.stl_types.specs.declared.forms.Form.{Form}
+use Rattle.stl_types.specs.declared.forms.Form.TheVariants as form
 use Rattle.stl_types.specs.declared.parameters.Formal.{Formal}
 use Rattle.stl_types.specs.declared.views.Register.TheVariants as register
 use Rattle.stl_types.specs.declared.views.Seen.{Seen}
@@ -56,7 +58,7 @@ use Rattle.stl_types.specs.declared.views.View.{View}
 use Rattle.stl_types.specs.declared.views.View.TheVariants as view
 use Rattle.stl_codegen.proofs.OpLemmas.{jumps, jump_ops}
 use Rattle.stl_codegen.specs.Compiled.{aimed}
-use Rattle.stl_codegen.specs.Emitted.{call_op, called_kind, end_op, ending, instance_number, jump_op, opening, ops_of, passing, preparing}
+use Rattle.stl_codegen.specs.Emitted.{call_op, end_op, ending, instance_number, jump_op, opening, ops_of, passing, preparing}
 use Rattle.stl_codegen.specs.Instruction.{block_at, call_instr, end_instr, filler, in_order, instr_by, instruction, jump_instr, passings_to, resolved_instr, return_last, target_of, view_instr}
 use Rattle.stl_codegen.specs.Operands.{constant_bits, is_in_named_block, opened_by, operand_of}
 use Rattle.stl_codegen.specs.Passed.{passed_actual, passed_place, passed_seen, passed_view, passings_from, supplied, with_index}
@@ -65,6 +67,8 @@ use Rattle.sem_kept.proofs.accepted.CodedBits.{bits_small, constant_taken}
 use Rattle.sem_kept.proofs.accepted.CodedTables.{taken, word_is_op}
 use Rattle.sem_kept.proofs.accepted.CodedViews.{IsFit, IsWord, PlaceFits, SeenFits, ViewFits, direct_fits, found_holds, payload_right, pointer_fits, seen_fits, word_fits}
 use Rattle.sem_kept.specs.Coded.{HasBytes, OperandHasBytes, StatementHasBytes}
+use Rattle.sem_kept.proofs.accepted.OperandsWords.{allowed}
+use Rattle.sem_kept.proofs.accepted.Shared.{call_form, no_call_constant, rule_callable, rule_there}
 
 -- ---- ops that stay ops wherever they lead
 
@@ -115,29 +119,8 @@ record IsTaken (f : Form) (v : View) : Type 0 where
   takes : form_takes f v ≡ true
   side : is_on_wrong_side f v ≡ false
 
--- the rule that is broken, by its tests
-abbrev rule_by : (a b c d e : Bool) → Option ℕ
-rule_by a b c d e =
-    if a then Some 24
-    else if not b then Some 25
-    else if not c then Some 24
-    else if d then Some 25
-    else if e then Some 39
-    else None
-
 rule_parts : (f : Form) (v : View) → rule_of f v ≡ None → IsTaken f v
-unfolding rule_of
-rule_parts f v h =
-    by (is_composite v) (form_takes f v) (has_width f (width_in v)) (is_on_wrong_side f v)
-    (writes f && is_input v) refl refl h
-  where
-    by : (a b c d e : Bool) → form_takes f v ≡ b → is_on_wrong_side f v ≡ d
-        → rule_by a b c d e ≡ None → IsTaken f v
-    by true b c d e t s k = absurd cc
-    by false false c d e t s k = absurd cc
-    by false true false d e t s k = absurd cc
-    by false true true true e t s k = absurd cc
-    by false true true false e t s k = record { takes = t; side = s }
+rule_parts f v h = let all = allowed f v h in record { takes = all.taken; side = all.side }
 
 still_view : (o : Operand) (v : View) (f : ℕ → ℕ) → aimed f (operand_of o v) ≡ operand_of o v
 unfolding operand_of
@@ -289,10 +272,14 @@ opened_good (Some n) w o h good = record {
 
 -- ---- calls
 
-kind_called : (k : BlockKind) → (ltb (called_kind k) 256 && is_callable (called_kind k)) ≡ true
-kind_called kinds.Fc = refl
-kind_called kinds.Fb = refl
-kind_called _ = refl
+kind_called : (k : BlockKind) → is_callable_kind k ≡ true
+    → (ltb (kind_number k) 256 && is_callable (kind_number k)) ≡ true
+kind_called kinds.Fc h = refl
+kind_called kinds.Fb h = refl
+kind_called kinds.Sfc h = refl
+kind_called kinds.Ob h = absurd cc
+kind_called kinds.Db h = absurd cc
+kind_called kinds.Udt h = absurd cc
 
 instance_small : (instance : Option ℕ) → IfSome instance IsWord → IsWord (instance_number instance)
 instance_small None h = omega arith
@@ -306,13 +293,13 @@ call_takes how k n m h i j =
     and_from (ltb k 256 && is_callable k) _ h
     (and_from (ltb n 65536) (ltb m 65536) (word_fits n i) (word_fits m j))
 
-call_good : (how : CallWord) (id : BlockId) (instance : Option ℕ) → IsWord id.number
-    → IfSome instance IsWord → IsGood (call_op how id instance)
-call_good how id instance h k =
+call_good : (how : CallWord) (id : BlockId) (instance : Option ℕ) → is_callable_kind id.kind ≡ true
+    → IsWord id.number → IfSome instance IsWord → IsGood (call_op how id instance)
+call_good how id instance c h k =
     still_good (word.Call how) true
-    (flat.Called (called_kind id.kind) id.number (instance_number instance)) (λ f. refl)
-    (call_takes how (called_kind id.kind) id.number (instance_number instance)
-    (kind_called id.kind) h (instance_small instance k))
+    (flat.Called (kind_number id.kind) id.number (instance_number instance)) (λ f. refl)
+    (call_takes how (kind_number id.kind) id.number (instance_number instance)
+    (kind_called id.kind c) h (instance_small instance k))
 
 -- what is passed
 place_passed : (place : Place) (w : Width) → PlaceFits place
@@ -417,16 +404,16 @@ passings_good c s (Some callee) all few =
     record { parts = good.parts; few = omega (arith, good.few, same, few) }
 
 called_good : (how : CallWord) (id : BlockId) (instance : Option ℕ) (ps : List Passing)
-    → IsWord id.number → IfSome instance IsWord → IsGoodPassing 60 ps
+    → is_callable_kind id.kind ≡ true → IsWord id.number → IfSome instance IsWord → IsGoodPassing 60 ps
     → IsGoodStatement (ops_of (Calls how id instance ps))
 unfolding ops_of
-called_good how id instance ps h k good = record {
+called_good how id instance ps c h k good = record {
   front = passing ps;
   final = call_op how id instance;
   whole = refl;
   parts = good.parts;
   few = omega (arith, good.few);
-  good = call_good how id instance h k;
+  good = call_good how id instance c h k;
   last = refl;
 }
 
@@ -474,13 +461,23 @@ actual_seen c [] fit are has = tt
 actual_seen c (a ∷ actuals) fit are has =
     (seen_fits c a.value fit are.0.value has.0, actual_seen c actuals fit are.1 has.1)
 
+-- what is called can be
+abbrev CallsCallable : View → Type 0
+CallsCallable (view.Called id instance) = is_callable_kind id.kind ≡ true
+CallsCallable _ = Unit {0}
+
+calls_callable : (v : View) → rule_of form.Calls v ≡ None → CallsCallable v
+calls_callable (view.Called id instance) h = rule_callable id instance h
+calls_callable _ h = tt
+
 call_view_good : (c : Context) (s : Statement) (how : CallWord) (v : View) → IsFit c
-    → IsGoodSource c s → ViewFits s.operand v → IsGoodStatement (ops_of (call_instr c s how v))
-call_view_good c s how (view.Called id instance) fit good fits =
-    called_good how id instance (passings_to c s (callee_of c s.operand)) fits.0 fits.1
+    → IsGoodSource c s → ViewFits s.operand v → CallsCallable v
+    → IsGoodStatement (ops_of (call_instr c s how v))
+call_view_good c s how (view.Called id instance) fit good fits calls =
+    called_good how id instance (passings_to c s (callee_of c s.operand)) calls fits.0 fits.1
     (passings_good c s (callee_of c s.operand)
     (actual_seen c s.actuals fit good.formed.actuals good.has.actuals) good.callee)
-call_view_good c s how _ fit good fits = filler_good
+call_view_good c s how _ fit good fits calls = filler_good
 
 view_good : (c : Context) (s : Statement) (v : View) → IsFit c → IsGoodSource c s
     → is_empty s.code ≡ false → jump_of s.code ≡ None → statement_rule c s ≡ None
@@ -504,7 +501,11 @@ view_good c s v fit good some no_jump rule e = by (call_of s.code) refl
 
     by : (how : Option CallWord) → call_of s.code ≡ how
         → IsGoodStatement (ops_of (view_instr c s v how))
-    by (Some how) is = call_view_good c s how v fit good fits
+    by (Some how) is =
+        call_view_good c s how v fit good fits
+        (calls_callable v
+        (rule_there c form.Calls s.operand v no_call_constant
+        (ap (λ (f : Form). operand_rule c f s.operand) (sym (call_form s.code how is)) ∙ rule) e))
     by None is = ended (end_of s.code) is refl
 
 record IsResolved (c : Context) (s : Statement) (v : View) : Type 0 where

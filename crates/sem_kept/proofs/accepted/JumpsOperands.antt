@@ -46,7 +46,8 @@ use Rattle.stl_types.specs.declared.views.View.{View}
 use Rattle.stl_types.specs.declared.views.View.TheVariants as view
 use Rattle.stl_codegen.specs.Words.{jump_of}
 use Rattle.sem_kept.proofs.accepted.Accepted.{IsSoundStatement}
-use Rattle.sem_kept.proofs.accepted.JumpsWords.{TakesRight, is_bracket}
+use Rattle.sem_kept.proofs.accepted.JumpsWords.{TakesRight, is_bracket, bracket_form}
+use Rattle.sem_kept.proofs.accepted.Shared.{jump_form}
 
 -- an operand is judged: it stands on nothing that breaks a rule itself or is absent
 abbrev pub Settles : Seen → Type 0
@@ -212,39 +213,6 @@ nothing_of_bracket c (operand.Called name instance) none h known e = absurd cc
 nothing_of_bracket c _ none h known e = absurd cc
 
 -- ---- a statement
-
-jump_form : (m : Mnemonic) (how : JumpWord) → jump_of m ≡ Some how → form_of m ≡ form.Jumps
-unfolding form_of
-jump_form code.Ju how e = refl
-jump_form code.Jl how e = refl
-jump_form code.Jc how e = refl
-jump_form code.Jcn how e = refl
-jump_form code.Jcb how e = refl
-jump_form code.Jnb how e = refl
-jump_form code.Jbi how e = refl
-jump_form code.Jnbi how e = refl
-jump_form code.Jo how e = refl
-jump_form code.Jos how e = refl
-jump_form code.Jz how e = refl
-jump_form code.Jn how e = refl
-jump_form code.Jp how e = refl
-jump_form code.Jm how e = refl
-jump_form code.Jpz how e = refl
-jump_form code.Jmz how e = refl
-jump_form code.Juo how e = refl
-jump_form code.Loop how e = refl
-jump_form _ how e = absurd cc
-
-bracket_form : (m : Mnemonic) → is_bracket m ≡ true → form_of m ≡ form.Bare
-unfolding opening closes form_of
-bracket_form code.AOpen e = refl
-bracket_form code.AnOpen e = refl
-bracket_form code.OOpen e = refl
-bracket_form code.OnOpen e = refl
-bracket_form code.XOpen e = refl
-bracket_form code.XnOpen e = refl
-bracket_form code.Close e = refl
-bracket_form _ e = absurd cc
 
 jump_calls : (m : Mnemonic) (how : JumpWord) → jump_of m ≡ Some how → is_call m ≡ false
 jump_calls code.Call how e = absurd cc

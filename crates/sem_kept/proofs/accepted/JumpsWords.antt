@@ -202,7 +202,7 @@ last_view c s v None is = last_end s v (end_of s.code) refl
 last_view c s v (Some how) is = last_call c s how v is
 
 -- a bracket stands with nothing, and is taken
-bracket_form : (m : Mnemonic) → is_bracket m ≡ true → form_of m ≡ form.Bare
+pub bracket_form : (m : Mnemonic) → is_bracket m ≡ true → form_of m ≡ form.Bare
 unfolding opening closes form_of
 bracket_form code.AOpen e = refl
 bracket_form code.AnOpen e = refl

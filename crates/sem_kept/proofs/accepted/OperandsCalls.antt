@@ -68,7 +68,7 @@ use Rattle.stl_types.specs.declared.views.Seen.TheVariants.{Sees}
 use Rattle.stl_types.specs.declared.views.View.{View}
 use Rattle.stl_types.specs.declared.views.View.TheVariants as view
 use Rattle.stl_codegen.specs.Compiled.{compiled}
-use Rattle.stl_codegen.specs.Emitted.{called_kind, instance_number, passing, preparing}
+use Rattle.stl_codegen.specs.Emitted.{instance_number, passing, preparing}
 use Rattle.stl_codegen.specs.Generated.{code_blocks_of, data_blocks_of, instance_len, params_of}
 use Rattle.stl_codegen.specs.Instruction.{block_at, in_order, passings_to, return_last}
 use Rattle.stl_codegen.specs.Passed.{passed_actual, passings_from, supplied, with_index}
@@ -84,6 +84,7 @@ use Rattle.sem_kept.proofs.accepted.OperandsPassed.{IsGoodActual, Passes, passed
 use Rattle.sem_kept.proofs.accepted.OperandsSymbols.{SymbolFits}
 use Rattle.sem_kept.proofs.accepted.OperandsViews.{EndsBy, IsData, IsThere, Surrounds, block_own, data_block_kind, data_length, data_there, id_there, id_there_is, ids_same, instance_length, layout_id, layout_shape, operand_seen, whole_is}
 use Rattle.sem_kept.proofs.accepted.OperandsWords.{allowed}
+use Rattle.sem_kept.proofs.accepted.Shared.{callable_by, calls_called, or_first, or_second}
 
 -- ---- what is passed stands among the ops
 
@@ -273,7 +274,7 @@ record IsCallee (symbols : List Symbol) (t : Tree) (k : ℕ) (blocks : List Sign
   same : of_source.id ≡ id
   il : ℕ
   params : List ParameterRecord
-  flat : flat_callee blocks (called_kind id.kind) id.number ≡ Some (called_kind id.kind, il, params)
+  flat : flat_callee blocks (kind_number id.kind) id.number ≡ Some (kind_number id.kind, il, params)
   matched : Matched (in_order (block_at t.blocks of_source.place) of_source.formals) params
   found : AllByRecursion (IsFoundIn of_source.formals)
       (in_order (block_at t.blocks of_source.place) of_source.formals)
@@ -306,10 +307,10 @@ known_function n k is e = by (system_formals n) (ap (λ (j : BlockKind). is_syst
 
 system_flat : (blocks : List Signature) (id : BlockId) (params : List ParameterRecord)
     → id.kind ≡ kinds.Sfc → system_params id.number ≡ Some params
-    → flat_callee blocks (called_kind id.kind) id.number ≡ Some (called_kind id.kind, 0, params)
+    → flat_callee blocks (kind_number id.kind) id.number ≡ Some (kind_number id.kind, 0, params)
 unfolding flat_callee
 system_flat blocks id params is e =
-    subst (λ (j : BlockKind). flat_callee blocks (called_kind j) id.number ≡ Some (called_kind j, 0, params)) (sym is)
+    subst (λ (j : BlockKind). flat_callee blocks (kind_number j) id.number ≡ Some (kind_number j, 0, params)) (sym is)
     (ap (λ (o : Option (List ParameterRecord)). option_map system_function o) e)
 
 system_called : (symbols : List Symbol) (t : Tree) (k : ℕ) (blocks : List Signature)
@@ -362,23 +363,16 @@ source_kind kinds.Udt e f = absurd cc
 source_code : (k : BlockKind) → (k ≡ kinds.Fc) ⊎ (k ≡ kinds.Fb) → is_code k ≡ true
 source_code k h = ⊎_elim (λ e. ap is_code e) (λ e. ap is_code e) h
 
-source_called_kind : (k : BlockKind) → (k ≡ kinds.Fc) ⊎ (k ≡ kinds.Fb)
-    → called_kind k ≡ kind_number k
-source_called_kind k h =
-    ⊎_elim (λ e. ap called_kind e ∙ sym (ap kind_number e))
-    (λ e. ap called_kind e ∙ sym (ap kind_number e)) h
-
-not_five : (k : BlockKind) → (k ≡ kinds.Fc) ⊎ (k ≡ kinds.Fb) → (called_kind k == 5) ≡ false
+not_five : (k : BlockKind) → (k ≡ kinds.Fc) ⊎ (k ≡ kinds.Fb) → (kind_number k == 5) ≡ false
 not_five k h =
-    ⊎_elim (λ e. ap (λ (j : BlockKind). called_kind j == 5) e) (λ e. ap (λ (j : BlockKind). called_kind j == 5) e) h
+    ⊎_elim (λ e. ap (λ (j : BlockKind). kind_number j == 5) e) (λ e. ap (λ (j : BlockKind). kind_number j == 5) e) h
 
 source_flat : (blocks : List Signature) (k : BlockKind) (number : ℕ) → (k ≡ kinds.Fc) ⊎ (k ≡ kinds.Fb)
-    → flat_callee blocks (called_kind k) number ≡ block_with (kind_number k) number blocks
+    → flat_callee blocks (kind_number k) number ≡ block_with (kind_number k) number blocks
 unfolding flat_callee
 source_flat blocks k number h =
-    ap (λ (t' : Bool). if t' then option_map system_function (system_params number) else block_with (called_kind k) number blocks)
+    ap (λ (t' : Bool). if t' then option_map system_function (system_params number) else block_with (kind_number k) number blocks)
     (not_five k h)
-    ∙ ap (λ (n : ℕ). block_with n number blocks) (source_called_kind k h)
 
 sound_all : (cells : List Cell)
     → ((place : ℕ) (c : Cell) → slice_get cells place ≡ Some c → c.sound ≡ true)
@@ -445,9 +439,7 @@ source_called symbols t tree k name inst id p named kind whole = record {
   params = map record_of_param (params_of there.block there.layout);
   flat =
       source_flat (map signature_of (map record_of_block (map compiled (code_blocks_of t symbols (layouts_of t symbols))))) id.kind id.number kind
-      ∙ called_block symbols t tree p there.block there.layout id there.sound is_there (source_code id.kind kind)
-      ∙ ap (λ (n : ℕ). Some (n, instance_len there.block there.layout, map record_of_param (params_of there.block there.layout)))
-      (sym (source_called_kind id.kind kind));
+      ∙ called_block symbols t tree p there.block there.layout id there.sound is_there (source_code id.kind kind);
   matched = subst (λ (o : Option Block). Matched (in_order o (formals_of (cells_at (layouts_of t symbols) p false))) (map record_of_param (params_of there.block there.layout)))
       (sym there.sound.block_there)
       (source_matched there.block there.layout (cells_at (layouts_of t symbols) p false)
@@ -598,14 +590,6 @@ lacking true false false e f g = absurd cc
 lacking true true all e f g = absurd cc
 lacking false fb all e f g = absurd cc
 
-either_first : (a b : Bool) → (a || b) ≡ false → a ≡ false
-either_first true b e = absurd cc
-either_first false b e = refl
-
-either_second : (a b : Bool) → (a || b) ≡ false → b ≡ false
-either_second true b e = absurd cc
-either_second false b e = e
-
 -- how a call's instance is checked
 no_instance_right : (lens : List (ℕ × ℕ)) (kind il : ℕ) (params : List ParameterRecord)
     → (kind == 3) ≡ false → is_bad_instance lens (kind, il, params) 0 ≡ false
@@ -702,23 +686,6 @@ operand_called (operand.OfStatus f) e = absurd cc
 operand_called (operand.Other n) e = absurd cc
 operand_called (operand.OpenBlock d n) e = absurd cc
 
-taken_call : (v : View) → rule_of form.Calls v ≡ None → is_called_view v ≡ true
-unfolding takes
-taken_call v e = (allowed form.Calls v e).taken
-
-callable_by : (id : BlockId) (instance : Option ℕ) → is_called_view (view.Called id instance) ≡ true
-    → is_callable id.kind ≡ true
-callable_by id None e = e
-callable_by id (Some n) e = by id.kind e
-  where
-    by : (k : BlockKind) → is_function_block k ≡ true → is_callable k ≡ true
-    by kinds.Fb e = refl
-    by kinds.Ob e = absurd cc
-    by kinds.Fc e = absurd cc
-    by kinds.Db e = absurd cc
-    by kinds.Sfc e = absurd cc
-    by kinds.Udt e = absurd cc
-
 good_actuals : (symbols : List Symbol) (t : Tree) → IsSoundTree symbols t
     → AllByRecursion SymbolFits symbols → (k : ℕ) (b : Block) (l : BlockLayout)
     → IsSound symbols t k b l → is_code b.kind ≡ true → (a : Around) → Surrounds symbols t b l a
@@ -768,7 +735,7 @@ second_false true b e f = e
 second_false false b e f = absurd cc
 
 other_than_three : (k : BlockKind) → is_callable k ≡ true → is_function_block k ≡ false
-    → (called_kind k == 3) ≡ false
+    → (kind_number k == 3) ≡ false
 other_than_three kinds.Fc e f = refl
 other_than_three kinds.Sfc e f = refl
 other_than_three kinds.Fb e f = absurd cc
@@ -776,7 +743,7 @@ other_than_three kinds.Ob e f = absurd cc
 other_than_three kinds.Db e f = absurd cc
 other_than_three kinds.Udt e f = absurd cc
 
-block_three : (k : BlockKind) → is_function_block k ≡ true → called_kind k ≡ 3
+block_three : (k : BlockKind) → is_function_block k ≡ true → kind_number k ≡ 3
 block_three kinds.Fb e = refl
 block_three kinds.Ob e = absurd cc
 block_three kinds.Fc e = absurd cc
@@ -833,7 +800,7 @@ module _ (symbols : List Symbol) (t : Tree) (tree : IsSoundTree symbols t)
           ∙ sound.allowed
 
       by_view : is_called_view (view.Called id instance) ≡ true
-      by_view = taken_call (view.Called id instance) rule
+      by_view = calls_called (view.Called id instance) rule
 
       cal : IsCallee symbols t k (map signature_of (map record_of_block (map compiled (code_blocks_of t symbols (layouts_of t symbols))))) (operand.Called o.0 o.1) id
       cal = callee_there symbols t tree k o.0 o.1 id instance call (callable_by id instance by_view)
@@ -853,11 +820,11 @@ module _ (symbols : List Symbol) (t : Tree) (tree : IsSoundTree symbols t)
       sound.well_formed.actuals sound.actuals ends.1 bytes.actuals m.rules.fits
 
   passes_right : (how : CallWord) (id : BlockId) (instance : Option ℕ) (m : IsMade how id instance)
-      → ArePassed a (Some (called_kind id.kind, m.cal.il, m.cal.params)) None
+      → ArePassed a (Some (kind_number id.kind, m.cal.il, m.cal.params)) None
       (passings_from (context_at symbols t k) s.actuals 0 (in_order (block_at t.blocks m.cal.of_source.place) m.cal.of_source.formals))
   passes_right how id instance m =
       passed_from a (context_at symbols t k) m.cal.of_source.formals s.actuals (goods how id instance m)
-      (called_kind id.kind) m.cal.il m.cal.params None 0
+      (kind_number id.kind) m.cal.il m.cal.params None 0
       (in_order (block_at t.blocks m.cal.of_source.place) m.cal.of_source.formals) [] m.cal.params
       (λ n e. refl) m.cal.matched m.cal.found refl refl
 
@@ -869,7 +836,7 @@ module _ (symbols : List Symbol) (t : Tree) (tree : IsSoundTree symbols t)
       (m.cal.order ∙ no_order m.cal.result m.cal.of_source.formals
       (no_formals m.cal.of_source.formals
       (none_owed (has_actuals s.code) (has_formals m.cal.of_source.formals) e
-      (either_second (has_actuals s.code && is_function_block m.cal.of_source.id.kind && has_no_instance s.operand)
+      (or_second (has_actuals s.code && is_function_block m.cal.of_source.id.kind && has_no_instance s.operand)
       (not (has_actuals s.code) && has_formals m.cal.of_source.formals) m.rules.bare))))
       m.cal.matched
 
@@ -916,7 +883,7 @@ module _ (symbols : List Symbol) (t : Tree) (tree : IsSoundTree symbols t)
 
       d : IsData symbols t k at.0
       d = data_there symbols t tree k at.0
-          (either_second (is_unknown_called (types_of symbols t.blocks) m.name)
+          (or_second (is_unknown_called (types_of symbols t.blocks) m.name)
           (is_unknown_instance (types_of symbols t.blocks) (Some at.0))
           (ap (names_unknown (types_of symbols t.blocks)) (sym operand_is) ∙ sound.there))
 
@@ -966,7 +933,7 @@ module _ (symbols : List Symbol) (t : Tree) (tree : IsSoundTree symbols t)
       by false e = nothing_owed how id None m e
       by true e =
           absurd (three_true (has_actuals s.code) (is_function_block m.cal.of_source.id.kind) (has_no_instance s.operand)
-          (either_first (has_actuals s.code && is_function_block m.cal.of_source.id.kind && has_no_instance s.operand)
+          (or_first (has_actuals s.code && is_function_block m.cal.of_source.id.kind && has_no_instance s.operand)
           (not (has_actuals s.code) && has_formals m.cal.of_source.formals) m.rules.bare) e
           (ap (λ (z : BlockId). is_function_block z.kind) m.cal.same ∙ fb)
           (ap has_no_instance (m.operand_is ∙ ap (λ (i : Option BlockName). operand.Called m.name i)
@@ -974,18 +941,18 @@ module _ (symbols : List Symbol) (t : Tree) (tree : IsSoundTree symbols t)
 
   call_bad : (how : CallWord) (id : BlockId) (instance : Option ℕ) (m : IsMade how id instance)
       → is_bad_call (lens_of (data_blocks_of t symbols (layouts_of t symbols)))
-      (Some (called_kind id.kind, m.cal.il, m.cal.params)) (instance_number instance)
+      (Some (kind_number id.kind, m.cal.il, m.cal.params)) (instance_number instance)
       (passing (passings_from (context_at symbols t k) s.actuals 0
       (in_order (block_at t.blocks m.cal.of_source.place) m.cal.of_source.formals))) ≡ false
   call_bad how id instance m = by instance m (is_function_block id.kind) refl
     where
       by : (instance : Option ℕ) (m : IsMade how id instance) (fb : Bool) → is_function_block id.kind ≡ fb
           → is_bad_call (lens_of (data_blocks_of t symbols (layouts_of t symbols)))
-          (Some (called_kind id.kind, m.cal.il, m.cal.params)) (instance_number instance)
+          (Some (kind_number id.kind, m.cal.il, m.cal.params)) (instance_number instance)
           (passing (passings_from (context_at symbols t k) s.actuals 0
           (in_order (block_at t.blocks m.cal.of_source.place) m.cal.of_source.formals))) ≡ false
       by None m false e =
-          call_right (lens_of (data_blocks_of t symbols (layouts_of t symbols))) (called_kind id.kind) m.cal.il m.cal.params
+          call_right (lens_of (data_blocks_of t symbols (layouts_of t symbols))) (kind_number id.kind) m.cal.il m.cal.params
           (passing (passings_from (context_at symbols t k) s.actuals 0
           (in_order (block_at t.blocks m.cal.of_source.place) m.cal.of_source.formals)))
           (other_than_three id.kind (callable_by id None m.by_view) e) (all_owed how id None m e)
@@ -1026,5 +993,5 @@ module _ (symbols : List Symbol) (t : Tree) (tree : IsSoundTree symbols t)
           (sound.well_formed.no_actuals none)
           ∙ none_passed (context_at symbols t k) 0 (in_order (block_at t.blocks m.cal.of_source.place) m.cal.of_source.formals))
 
-      flat_is : flat_callee a.blocks (called_kind id.kind) id.number ≡ Some (called_kind id.kind, m.cal.il, m.cal.params)
-      flat_is = ap (λ (sg : List Signature). flat_callee sg (called_kind id.kind) id.number) blocks ∙ m.cal.flat
+      flat_is : flat_callee a.blocks (kind_number id.kind) id.number ≡ Some (kind_number id.kind, m.cal.il, m.cal.params)
+      flat_is = ap (λ (sg : List Signature). flat_callee sg (kind_number id.kind) id.number) blocks ∙ m.cal.flat

@@ -44,6 +44,7 @@ use Rattle.block_layout.specs.declared.cells.Cell.{Cell}
 use Rattle.sem_kept.proofs.accepted.Accepted.{AreSoundDeclarations, IsSound, IsSoundTree, none_left, none_right, not_broken, sound_at}
 use Rattle.sem_kept.proofs.accepted.OperandsTypes.{type_settled}
 use Rattle.sem_kept.proofs.accepted.OperandsWalks.{AreRight, IsRightCell, IsSettled, structure_even}
+use Rattle.sem_kept.proofs.accepted.Shared.{or_second, same_kind}
 
 -- ---- declarations of which none breaks a rule
 
@@ -97,10 +98,6 @@ past_onto y o before [] p h = p
 past_onto y o before (x ∷ xs) p h = past_onto y o (x ∷ before) xs (h.0, p) h.1
 
 -- ---- depths
-
-or_second : (a b : Bool) → (a || b) ≡ false → b ≡ false
-or_second true b e = absurd cc
-or_second false b e = e
 
 not_deep : (y : Types) (o : Outside) (before : List Declaration) (d : Declaration)
     → breaks_rule y o before d ≡ false → is_too_deep y o before d ≡ false
@@ -262,20 +259,6 @@ temps_right l y b s h =
     sections_right l y (of_sections b) is_temp [] b.parts (omega arith) s tt h.sections
 
 -- ---- blocks by number and name
-
-pub same_kind : (a b : BlockKind) → is_same_kind a b ≡ true → a ≡ b
-same_kind kinds.Ob kinds.Ob e = refl
-same_kind kinds.Fc kinds.Fc e = refl
-same_kind kinds.Fb kinds.Fb e = refl
-same_kind kinds.Db kinds.Db e = refl
-same_kind kinds.Sfc kinds.Sfc e = refl
-same_kind kinds.Udt kinds.Udt e = refl
-same_kind kinds.Ob _ e = absurd cc
-same_kind kinds.Fc _ e = absurd cc
-same_kind kinds.Fb _ e = absurd cc
-same_kind kinds.Db _ e = absurd cc
-same_kind kinds.Sfc _ e = absurd cc
-same_kind kinds.Udt _ e = absurd cc
 
 pub same_block : (a b : BlockId) → is_same_block a b ≡ true → a ≡ b
 same_block a b e =

@@ -46,6 +46,7 @@ use Rattle.stl_codegen.specs.Generated.{param_here, param_of, params_of, section
 use Rattle.stl_codegen.specs.Instruction.{in_order, return_last}
 use Rattle.sem_kept.proofs.accepted.Accepted.{all_both, all_mapped}
 use Rattle.sem_kept.proofs.accepted.OperandsCells.{IsUnbroken, Unbroken}
+use Rattle.sem_kept.proofs.accepted.Shared.{or_first}
 
 -- ---- as the source has them, and the code
 
@@ -296,10 +297,6 @@ record AreFresh (names outer : List (List ℕ)) (before : List Declaration) (fs 
   behind : List (List ℕ)
   named : behind ≡ names ++ map (λ (f : Formal). f.name) fs
   within : Within behind (names_before outer 0 before)
-
-or_first : (a b : Bool) → (a || b) ≡ false → a ≡ false
-or_first true b e = absurd cc
-or_first false b e = refl
 
 untwice : (y : Types) (o : Outside) (before : List Declaration) (d : Declaration)
     → breaks_rule y o before d ≡ false → is_twice o before d ≡ false

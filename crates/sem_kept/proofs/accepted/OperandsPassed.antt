@@ -50,6 +50,7 @@ use Rattle.sem_kept.proofs.accepted.CodedBits.{constant_taken}
 use Rattle.sem_kept.proofs.accepted.OperandsFormals.{IsFoundIn, IsRecordOf, Matched}
 use Rattle.sem_kept.proofs.accepted.OperandsViews.{IsSeen}
 use Rattle.sem_kept.proofs.accepted.OperandsWords.{HasWidth, ViewFits}
+use Rattle.sem_kept.proofs.accepted.Shared.{or_first}
 
 -- ---- literals
 
@@ -171,10 +172,6 @@ width_same : (r : ParameterRecord) (f : Formal) (w : Width) → IsRecordOf f r �
     → not (r.width == width_number w) ≡ false
 width_same r f w h e = ap not (eq-eqb r.width (width_number w) (h.1 ∙ ap width_number (sym e)))
 
-first_none : (a b : Bool) → (a || b) ≡ false → a ≡ false
-first_none true b e = absurd cc
-first_none false b e = refl
-
 -- a place
 place_passes : (a : Around) (r : ParameterRecord) (ar : Area) (number byte bit : ℕ) (w : Width)
     → is_bad_place a ar w byte bit ≡ false → not (r.width == width_number w) ≡ false
@@ -186,7 +183,7 @@ place_passes a r area.Db number byte bit w fits same = by (nat_eq number 0)
         → (is_bad_actual a (if true && not t then passed.InBlock number area.Db w byte bit else passed.Direct area.Db w byte bit) ≡ false)
         × (misfits_parameter a r (if true && not t then passed.InBlock number area.Db w byte bit else passed.Direct area.Db w byte bit) ≡ false)
     by true = (fits, same)
-    by false = (first_none (is_odd_bit w bit) (is_past_locals a area.Db w byte) fits, same)
+    by false = (or_first (is_odd_bit w bit) (is_past_locals a area.Db w byte) fits, same)
 place_passes a r area.I number byte bit w fits same = (fits, same)
 place_passes a r area.Q number byte bit w fits same = (fits, same)
 place_passes a r area.M number byte bit w fits same = (fits, same)

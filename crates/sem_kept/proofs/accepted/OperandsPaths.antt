@@ -19,14 +19,7 @@ use Rattle.block_layout.specs.declared.walks.Spot.{Spot}
 use Rattle.block_layout.specs.declared.walks.Walk.{Walk}
 use Rattle.block_layout.specs.declared.walks.Walk.TheVariants as walk
 use Rattle.sem_kept.proofs.accepted.OperandsWalks.{AreRight, Goes, IsSettled, Lies, Meets, element_within, found_lies, index_meets, inner_even, outermost_lies, settled_even, structure_ends}
-
-or_left : (a b : Bool) → (a || b) ≡ false → a ≡ false
-or_left true b e = absurd cc
-or_left false b e = refl
-
-or_right : (a b : Bool) → (a || b) ≡ false → b ≡ false
-or_right true b e = absurd cc
-or_right false b e = e
+use Rattle.sem_kept.proofs.accepted.Shared.{or_first, or_second}
 
 -- ---- no path rests
 
@@ -175,8 +168,8 @@ not_upside low high at above below = grind arith
 index_counts : (b : Bounds) (at : ℤ) → is_beyond b at ≡ false
     → unsigned_abs (at -ℤ b.low) < count b
 index_counts b at e =
-    let above = or_left (int_lt at b.low) (int_lt b.high at) e in
-    let below = or_right (int_lt at b.low) (int_lt b.high at) e in
+    let above = or_first (int_lt at b.low) (int_lt b.high at) e in
+    let below = or_second (int_lt at b.low) (int_lt b.high at) e in
     let near = nearer b.low b.high at above below in
     by (is_upside_down b) (not_upside b.low b.high at above below)
     (omega (arith, near))
@@ -362,8 +355,8 @@ module _ (l : List BlockLayout) (limit : ℕ) (right : AreRight l) (near : limit
   walked_goes [] s h inside = h
   walked_goes (p ∷ ps) s h inside =
       on_goes (step_of l s p) (λ next. walked l next ps) (λ next. leaves l next ps)
-      (step_goes s p h (or_left (step_is_beyond l s p) (further (step_of l s p) (λ next. leaves l next ps)) inside))
-      (or_right (step_is_beyond l s p) (further (step_of l s p) (λ next. leaves l next ps)) inside)
+      (step_goes s p h (or_first (step_is_beyond l s p) (further (step_of l s p) (λ next. leaves l next ps)) inside))
+      (or_second (step_is_beyond l s p) (further (step_of l s p) (λ next. leaves l next ps)) inside)
       (λ next lies stays. walked_goes ps next lies stays)
 
   outer_goes : (block : ℕ) (temporary : Bool) (name : List ℕ) (ps : List PathStep)

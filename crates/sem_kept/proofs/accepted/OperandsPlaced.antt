@@ -6,6 +6,7 @@ use Rattle.std.specs.List.{AllByRecursion}
 use Rattle.std.proofs.lemmas.List.{map-append}
 use Rattle.std.proofs.lemmas.Bool.{or_from}
 use Rattle.plc_base.specs.declared.blocks.BlockId.{BlockId}
+use Rattle.plc_base.specs.Kinds.{kind_number}
 use Rattle.flat_code.specs.Blocks.{Around, callee, call_fault_among, is_above, is_bad_actual, is_bad_call, is_bad_place, is_in_db, is_stray_pass, is_stray_use_db, lacks_width, mark_fault, misfits_call, misfits_callee, operand_fault, pass_before, pass_index, prepares, seven_if}
 use Rattle.flat_code.specs.Codes.{first_of, size}
 use Rattle.flat_code.specs.Instr.{Instr, Passing, Does, Jumps, JumpsByList, Calls, Returns}
@@ -23,7 +24,7 @@ use Rattle.flat_code.specs.declared.words.EndWord.TheVariants as ends
 use Rattle.flat_code.specs.declared.words.Word.{Word}
 use Rattle.flat_code.specs.declared.words.Word.TheVariants as word
 use Rattle.stl_codegen.specs.Compiled.{Stated, aimed, aimed_op, ops_in, placed_ops}
-use Rattle.stl_codegen.specs.Emitted.{call_op, called_kind, end_op, ending, instance_number, ops_of, passing, preparing}
+use Rattle.stl_codegen.specs.Emitted.{call_op, end_op, ending, instance_number, ops_of, passing, preparing}
 use Rattle.sem_kept.specs.Operands.{ArePassed, AreFine, InstrFits, IsFine, IsRightOperand}
 
 seven_none : (b : Bool) → b ≡ false → seven_if b ≡ None
@@ -192,7 +193,7 @@ pass_fine : (a : Around) (lens : List (ℕ × ℕ)) (ss : List Spot) (at : ℕ)
     (brackets : List OpenBracket) (before : List OpData) (p : Passing) (ps : List Passing)
     (block : BlockId) (instance : Option ℕ) (rest : List OpData)
     → is_above p.index (pass_before None before) ≡ true → is_bad_actual a p.actual ≡ false
-    → misfits_callee a (callee a.blocks (called_kind block.kind) block.number) p.index p.actual ≡ false
+    → misfits_callee a (callee a.blocks (kind_number block.kind) block.number) p.index p.actual ≡ false
     → IsFine a lens ss (record {
       at = at;
       brackets = brackets;
@@ -232,7 +233,7 @@ pass_fine a lens ss at brackets before p ps block instance rest above bad misfit
 call_fine : (a : Around) (lens : List (ℕ × ℕ)) (ss : List Spot) (at : ℕ)
     (brackets : List OpenBracket) (before : List OpData) (how : CallWord) (block : BlockId)
     (instance : Option ℕ) (rest : List OpData)
-    → is_bad_call lens (callee a.blocks (called_kind block.kind) block.number)
+    → is_bad_call lens (callee a.blocks (kind_number block.kind) block.number)
     (instance_number instance) before ≡ false
     → FineBehind a lens ss rest
     → AreFine a lens ss (placed at brackets before (call_op how block instance ∷ rest))
@@ -248,14 +249,14 @@ call_fine a lens ss at brackets before how block instance rest bad behind =
 calls_fine : (a : Around) (lens : List (ℕ × ℕ)) (ss : List Spot) (at : ℕ)
     (brackets : List OpenBracket) (done : List OpData) (block : BlockId)
     (instance : Option ℕ) (left : List Passing) (rest : List OpData)
-    → ArePassed a (callee a.blocks (called_kind block.kind) block.number) (pass_before None done) left
-    → is_bad_call lens (callee a.blocks (called_kind block.kind) block.number)
+    → ArePassed a (callee a.blocks (kind_number block.kind) block.number) (pass_before None done) left
+    → is_bad_call lens (callee a.blocks (kind_number block.kind) block.number)
     (instance_number instance) (done ++ passing left) ≡ false
     → FineBehind a lens ss rest
     → AreFine a lens ss (placed at brackets done (passing left ++ call_op calls.Call block instance ∷ rest))
 calls_fine a lens ss at brackets done block instance [] rest passed bad behind =
     call_fine a lens ss at brackets done calls.Call block instance rest
-    (subst (λ (z : List OpData). is_bad_call lens (callee a.blocks (called_kind block.kind) block.number)
+    (subst (λ (z : List OpData). is_bad_call lens (callee a.blocks (kind_number block.kind) block.number)
     (instance_number instance) z ≡ false) (append_nothing done) bad) behind
   where
     append_nothing : (ops : List OpData) → ops ++ [] ≡ ops
@@ -264,9 +265,9 @@ calls_fine a lens ss at brackets done block instance [] rest passed bad behind =
 calls_fine a lens ss at brackets done block instance (p ∷ ps) rest passed bad behind = (
   pass_fine a lens ss at brackets done p ps block instance rest passed.0 passed.1 passed.2,
   calls_fine a lens ss (at + size op) (opened at op.code brackets) (done ++ op ∷ []) block instance ps rest
-      (subst (λ (o : Option ℕ). ArePassed a (callee a.blocks (called_kind block.kind) block.number) o ps)
+      (subst (λ (o : Option ℕ). ArePassed a (callee a.blocks (kind_number block.kind) block.number) o ps)
       (sym (pass_last None done op)) passed.3)
-      (subst (λ (z : List OpData). is_bad_call lens (callee a.blocks (called_kind block.kind) block.number)
+      (subst (λ (z : List OpData). is_bad_call lens (callee a.blocks (kind_number block.kind) block.number)
       (instance_number instance) z ≡ false) (sym (append_assoc done (op ∷ []) (passing ps))) bad)
       behind,
 )

@@ -86,6 +86,7 @@ use Rattle.sem_kept.proofs.accepted.OperandsPlaces.{AreParameters, GivesOne, IsE
 use Rattle.sem_kept.proofs.accepted.OperandsSymbols.{SymbolFits, TargetFits, is_symbols_area, named_fits}
 use Rattle.sem_kept.proofs.accepted.OperandsWalks.{AreRight, Goes, Lies, structure_even}
 use Rattle.sem_kept.proofs.accepted.OperandsWords.{ViewFits}
+use Rattle.sem_kept.proofs.accepted.Shared.{or_second}
 
 -- ---- what surrounds a block
 
@@ -788,10 +789,6 @@ pub record IsStructured (symbols : List Symbol) (t : Tree) (p : ℕ) : Type 0 wh
   pub is : structure_of (layouts_of t symbols) p ≡ Some inside
   pub small : structure_bits (cells_at (layouts_of t symbols) inside false) ≤ 131072
 
-or_last : (a b : Bool) → (a || b) ≡ false → b ≡ false
-or_last true b e = absurd cc
-or_last false b e = e
-
 pub data_length : (y : Types) (blocks : List Block) (b : Block) → b.kind ≡ kinds.Db
     → length_of y blocks b ≡ shape_bits y blocks b (shape_of y b) / 8
 unfolding length_of
@@ -869,7 +866,7 @@ structured symbols t tree p d = by (shape_of (types_of symbols t.blocks) d.block
         there : IsThere symbols t has_structure other
         there = block_there symbols t tree has_structure found.0 other found.1
     by shape.Unknown e =
-        let known = or_last (is_none (id_of (types_of symbols t.blocks).symbols d.block))
+        let known = or_second (is_none (id_of (types_of symbols t.blocks).symbols d.block))
         (is_unknown_shape (shape_of (types_of symbols t.blocks) d.block)) d.sound.head.by_23 in
         let never : is_unknown_shape shape.Unknown ≡ false
         = ap is_unknown_shape (sym e) ∙ known in

@@ -43,7 +43,7 @@ use Rattle.stl_codegen.specs.Compiled.{Stated, StatedBlock, aimed_op, compiled, 
 use Rattle.stl_codegen.specs.Emitted.{call_op, ops_of, passing}
 use Rattle.stl_codegen.specs.Generated.{code_block, code_block_of, code_blocks_of, data_block, data_block_of, data_blocks_of, each_block, instance_len, returning, stated_from, statements_of}
 use Rattle.stl_codegen.specs.Instruction.{instruction}
-use Rattle.stl_codegen.specs.Order.{is_code_before, is_data_before, is_id_before, rank}
+use Rattle.stl_codegen.specs.Order.{is_code_before, is_data_before, is_id_before}
 use Rattle.sem_kept.specs.Records.{HasCode}
 use Rattle.sem_kept.proofs.accepted.Accepted.{AllLaid, IsSound, IsSoundTree, context_at}
 use Rattle.sem_kept.proofs.accepted.RecordData.{got, id_there, length_there, types_symbols}
@@ -165,7 +165,7 @@ ids_differ i j h g other = by i.kind j.kind h g other
     numbers r n m other = grind (arith, nat_tests)
 
     by : (p q : BlockKind) → is_code p ≡ true → is_code q ≡ true → (is_same_kind q p && nat_eq j.number i.number) ≡ false
-        → ((ltb (rank p) (rank q) || eqb (rank p) (rank q) && ltb i.number j.number) || (ltb (rank q) (rank p) || eqb (rank q) (rank p) && ltb j.number i.number)) ≡ true
+        → ((ltb (kind_number p) (kind_number q) || eqb (kind_number p) (kind_number q) && ltb i.number j.number) || (ltb (kind_number q) (kind_number p) || eqb (kind_number q) (kind_number p) && ltb j.number i.number)) ≡ true
     by kinds.Ob kinds.Ob h g other = numbers 1 i.number j.number other
     by kinds.Ob kinds.Fc h g other = refl
     by kinds.Ob kinds.Fb h g other = refl
@@ -389,10 +389,10 @@ number_there kinds.Db n code h = absurd cc
 number_there kinds.Udt n code h = absurd cc
 number_there kinds.Sfc n code h = absurd cc
 
-kind_within : (k : BlockKind) → is_code k ≡ true → (1 ≤ kind_number k) × (kind_number k ≤ 3) × (kind_number k ≡ rank k)
-kind_within kinds.Ob h = (omega arith, omega arith, refl)
-kind_within kinds.Fc h = (omega arith, omega arith, refl)
-kind_within kinds.Fb h = (omega arith, omega arith, refl)
+kind_within : (k : BlockKind) → is_code k ≡ true → (1 ≤ kind_number k) × (kind_number k ≤ 3)
+kind_within kinds.Ob h = (omega arith, omega arith)
+kind_within kinds.Fc h = (omega arith, omega arith)
+kind_within kinds.Fb h = (omega arith, omega arith)
 kind_within kinds.Db h = absurd cc
 kind_within kinds.Udt h = absurd cc
 kind_within kinds.Sfc h = absurd cc
@@ -514,9 +514,5 @@ first_good last judged x near h =
 pub next_good : (last : ℕ) (judged : Bool) (x y : StatedBlock) → last < 4294967296 → is_code x.id.kind ≡ true → is_code_before x y ≡ true → IsRightBlock last y
     → (block_layout_of judged (kind_number x.id.kind, x.id.number)).good (record_of_block (compiled y)) ≡ true
 next_good last judged x y near code rises h =
-    let front = (kind_within x.id.kind code).2 in
-    let behind = (kind_within y.id.kind h.0.code).2 in
-    let pair : (ltb (kind_number x.id.kind) (kind_number y.id.kind) || eqb (kind_number x.id.kind) (kind_number y.id.kind) && ltb x.id.number y.id.number) ≡ true
-    = rw front (rw behind rises) in
-    let low = pair_low (kind_number x.id.kind) x.id.number (kind_number y.id.kind) y.id.number pair in
+    let low = pair_low (kind_number x.id.kind) x.id.number (kind_number y.id.kind) y.id.number rises in
     block_good last judged (kind_number x.id.kind, x.id.number) (compiled y) near h.0 h.1 (marks_there y) low.0 low.1

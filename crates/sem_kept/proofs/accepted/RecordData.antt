@@ -39,6 +39,7 @@ use Rattle.sem_kept.proofs.accepted.Accepted.{AllHeads, AllLaid, IsSound, IsSoun
 use Rattle.sem_kept.proofs.accepted.RecordNames.{IsByte, OfBytes}
 use Rattle.sem_kept.proofs.accepted.RecordParams.{kind_there}
 use Rattle.sem_kept.proofs.accepted.RecordOrder.{Rise, RiseFrom, sum_sorted}
+use Rattle.sem_kept.proofs.accepted.Shared.{written_length}
 
 -- ---- bytes
 
@@ -70,10 +71,6 @@ bytes_put : (bytes : List ℕ) (at : ℕ) (new : List ℕ) → OfBytes bytes →
 bytes_put bytes at [] h k = h
 bytes_put bytes at (b ∷ bs) h k = bytes_put (set bytes at b) (at + 1) bs (all_set IsByte bytes at b k.0 h) k.1
 
-length_put_bytes : (bytes : List ℕ) (at : ℕ) (new : List ℕ) → length (with_bytes bytes at new) ≡ length bytes
-length_put_bytes bytes at [] = refl
-length_put_bytes bytes at (b ∷ bs) = length_put_bytes (set bytes at b) (at + 1) bs ∙ length-set bytes at b
-
 bit_low : (n : ℕ) → n % 8 < 8
 bit_low n = omega arith
 
@@ -87,21 +84,9 @@ put_bytes bytes w h = by (nat_eq w.width 1)
         (bit_byte (w.offset % 8) w.value (get_or bytes (w.offset / 8) 0) (bit_low w.offset) (byte_at bytes (w.offset / 8) h)) h
     by false = bytes_put bytes (w.offset / 8) (bytes_of (w.width / 8) w.value) h (are_bytes (w.width / 8) w.value)
 
-put_length : (bytes : List ℕ) (w : Write) → length (put bytes w) ≡ length bytes
-put_length bytes w = by (nat_eq w.width 1)
-  where
-    by : (t : Bool) → length (if t then set bytes (w.offset / 8) (with_bit (w.offset % 8) w.value (get_or bytes (w.offset / 8) 0))
-        else with_bytes bytes (w.offset / 8) (bytes_of (w.width / 8) w.value)) ≡ length bytes
-    by true = length-set bytes (w.offset / 8) (with_bit (w.offset % 8) w.value (get_or bytes (w.offset / 8) 0))
-    by false = length_put_bytes bytes (w.offset / 8) (bytes_of (w.width / 8) w.value)
-
 written_bytes : (bytes : List ℕ) (ws : List Write) → OfBytes bytes → OfBytes (fold put bytes ws)
 written_bytes bytes [] h = h
 written_bytes bytes (w ∷ ws) h = written_bytes (put bytes w) ws (put_bytes bytes w h)
-
-written_length : (bytes : List ℕ) (ws : List Write) → length (fold put bytes ws) ≡ length bytes
-written_length bytes [] = refl
-written_length bytes (w ∷ ws) = written_length (put bytes w) ws ∙ put_length bytes w
 
 zero_bytes : (n : ℕ) → OfBytes (replicate n 0)
 zero_bytes zero = tt

@@ -66,6 +66,7 @@ use Rattle.stl_codegen.specs.Generated.{instance_len, offset_named, param_here, 
 use Rattle.stl_codegen.specs.Instruction.{return_last}
 use Rattle.sem_kept.proofs.accepted.Accepted.{IsSound, none_left, none_right, not_broken}
 use Rattle.sem_kept.proofs.accepted.RecordNames.{width_good}
+use Rattle.sem_kept.proofs.accepted.Shared.{same_kind}
 
 -- ---- what holds of each declaration of a list, with those before it
 
@@ -819,15 +820,6 @@ instance_params symbols t k b l h kind =
     structure_len y blocks b kind shape instance = rw kind (rw shape (rw instance refl))
 
 -- ---- whatever block it is
-
-same_kind : (j k : BlockKind) → is_same_kind j k ≡ true → j ≡ k
-same_kind kinds.Ob kinds.Ob h = refl
-same_kind kinds.Fc kinds.Fc h = refl
-same_kind kinds.Fb kinds.Fb h = refl
-same_kind kinds.Db kinds.Db h = refl
-same_kind kinds.Udt kinds.Udt h = refl
-same_kind kinds.Sfc kinds.Sfc h = refl
-same_kind j k h = absurd cc
 
 -- a block has the kind of its head
 pub kind_there : (symbols : List Symbol) (b : Block) (id : BlockId) → id_of symbols b ≡ Some id → b.kind ≡ id.kind

@@ -60,6 +60,7 @@ use Rattle.sem_kept.proofs.accepted.SizesNames.{IsFine, names_count, names_size,
 use Rattle.sem_kept.proofs.accepted.SizesOps.{IsTaken, Opens, bytes_in, whole_count, whole_fits}
 use Rattle.sem_kept.proofs.accepted.SizesSums.{each_sum, mapped_sum, sorted_length, sorted_sum, summed_22, summed_8, summed_ones, summed_two}
 use Rattle.sem_kept.proofs.accepted.SizesTokens.{bounded_by_source, declared_size, element_size, part_size, parts_size, whole_size}
+use Rattle.sem_kept.proofs.accepted.Shared.{written_length}
 
 -- ---- parameters
 
@@ -472,26 +473,6 @@ codes_size symbols t ready sound =
     )
 
 -- ---- data blocks
-
-bytes_length : (bytes : List ℕ) (at : ℕ) (bs : List ℕ)
-    → length (with_bytes bytes at bs) ≡ length bytes
-bytes_length bytes at [] = refl
-bytes_length bytes at (b ∷ bs) =
-    bytes_length (set bytes at b) (at + 1) bs ∙ length-set bytes at b
-
-put_length : (bytes : List ℕ) (w : Write) → length (put bytes w) ≡ length bytes
-put_length bytes w = by (nat_eq w.width 1)
-  where
-    by : (one : Bool) → length (if one
-        then set bytes (w.offset / 8)
-        (with_bit (w.offset % 8) w.value (get_or bytes (w.offset / 8) 0))
-        else with_bytes bytes (w.offset / 8) (bytes_of (w.width / 8) w.value)) ≡ length bytes
-    by true = length-set bytes (w.offset / 8) _
-    by false = bytes_length bytes (w.offset / 8) (bytes_of (w.width / 8) w.value)
-
-written_length : (bytes : List ℕ) (ws : List Write) → length (fold put bytes ws) ≡ length bytes
-written_length bytes [] = refl
-written_length bytes (w ∷ ws) = written_length (put bytes w) ws ∙ put_length bytes w
 
 initial_length : (ls : List BlockLayout) (blocks : List Block) (k : ℕ) (l : BlockLayout)
     → slice_get ls k ≡ Some l → length (initial_bytes ls blocks k) ≡ l.length

@@ -21,20 +21,12 @@ use Rattle.block_layout.specs.Rule54.{data_length, exceeds_total}
 use Rattle.block_layout.specs.Types.{Types}
 use Rattle.sem_kept.proofs.accepted.Accepted.{AllHeads}
 use Rattle.sem_kept.proofs.accepted.SizesSums.{every, summed_le, summed_two}
+use Rattle.sem_kept.proofs.accepted.Shared.{same_kind}
 
 abbrev pub bit : Bool → ℕ
 bit b = cond b 1 0
 
 -- ---- no kind and number twice
-
-same_kind : (k j : BlockKind) → is_same_kind k j ≡ true → k ≡ j
-same_kind kinds.Ob kinds.Ob h = refl
-same_kind kinds.Fc kinds.Fc h = refl
-same_kind kinds.Fb kinds.Fb h = refl
-same_kind kinds.Db kinds.Db h = refl
-same_kind kinds.Sfc kinds.Sfc h = refl
-same_kind kinds.Udt kinds.Udt h = refl
-same_kind _ _ h = cc
 
 same_number : (m n : ℕ) → nat_eq m n ≡ true → m ≡ n
 same_number m n h = grind (arith, nat_tests)

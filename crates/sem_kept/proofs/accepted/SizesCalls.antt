@@ -7,6 +7,7 @@ use Rattle.std.specs.Str.{bytes_eq}
 use Rattle.std.proofs.lemmas.Bool.Decides.{nat_tests}
 use Rattle.std.proofs.lemmas.List.Sums.{sum_by-append, sum_by-cons}
 use Rattle.std.proofs.lemmas.Slice.Eq.{bytes_eq-Decides}
+use Rattle.std.proofs.lemmas.Bool.{or_parts}
 use Rattle.plc_base.specs.Kinds.{is_function, is_function_block, is_system_function}
 use Rattle.plc_base.specs.declared.blocks.BlockId.{BlockId}
 use Rattle.plc_base.specs.declared.blocks.BlockKind.{BlockKind}
@@ -164,12 +165,8 @@ none_of : (n : List ℕ) (fs : List Formal) → list_any (λ g. bytes_eq n g.nam
     → sum_by (named_so n) fs ≡ 0
 none_of n [] h = refl
 none_of n (f ∷ fs) h =
-    let parts = either (bytes_eq n f.name) (list_any (λ g. bytes_eq n g.name) fs) h in
+    let parts = or_parts (bytes_eq n f.name) (list_any (λ g. bytes_eq n g.name) fs) h in
     omega (arith, ap bit parts.0, none_of n fs parts.1, sum_by-cons (named_so n) f fs)
-  where
-    either : (a b : Bool) → (a || b) ≡ false → (a ≡ false) × (b ≡ false)
-    either true b h = absurd cc
-    either false b h = (refl, h)
 
 differ_once : (n : List ℕ) (fs : List Formal) → differ fs ≡ true → sum_by (named_so n) fs ≤ 1
 differ_once n [] h = omega arith

@@ -77,6 +77,7 @@ use Rattle.stl_codegen.specs.Generated.{returning, stated_from, statements_of}
 use Rattle.stl_codegen.specs.Instruction.{call_instr, end_instr, filler, instr_by, instruction, jump_instr, passings_to, resolved_instr, target_of, view_instr}
 use Rattle.stl_codegen.specs.Operands.{is_db, is_in_named_block, numbered_operand, opened_by, opened_by_place, operand_of, register_operand}
 use Rattle.stl_codegen.specs.Words.{call_of, end_of, jump_of, word_of}
+use Rattle.sem_kept.proofs.accepted.Shared.{call_form, calls_called, jump_form, no_call_constant, no_jump_constant, rule_there, stated_count}
 use Rattle.sem_kept.proofs.accepted.SizesNames.{IsApart, IsFine}
 
 -- ---- the bytes of ops
@@ -536,68 +537,6 @@ jumps_wide view.Label h = tt
 jumps_wide (view.Called id instance) h = tt
 jumps_wide _ h = absurd cc
 
-abbrev refused_if : Bool → Option ℕ
-refused_if b = if b then Some 25 else None
-
-abbrev allowed_if : Bool → Option ℕ
-allowed_if b = if b then None else Some 25
-
-calls_called : (v : View) → rule_of form.Calls v ≡ None → is_called v ≡ true
-unfolding rule_of takes
-calls_called (view.Called id instance) h = by (is_called (view.Called id instance)) h
-  where
-    by : (b : Bool) → refused_if (not b) ≡ None → b ≡ true
-    by true h = refl
-    by false h = absurd cc
-calls_called _ h = absurd cc
-
-rule_there : (c : Context) (f : Form) (o : Operand) (v : View)
-    → ((value : Literal) → takes_constant f value ≡ false) → operand_rule c f o ≡ None
-    → seen c o ≡ Sees v → rule_of f v ≡ None
-rule_there c f (operand.Constant value) v never h e = by (takes_constant f value) (never value) h
-  where
-    by : (b : Bool) → b ≡ false → allowed_if b ≡ None → rule_of f v ≡ None
-    by true e h = absurd cc
-    by false e h = absurd cc
-rule_there c f _ v never h e = sym (ap (λ (s : Seen). rule_seen f s) e) ∙ h
-
-no_jump_constant : (value : Literal) → takes_constant form.Jumps value ≡ false
-unfolding takes_constant
-no_jump_constant value = refl
-
-no_call_constant : (value : Literal) → takes_constant form.Calls value ≡ false
-unfolding takes_constant
-no_call_constant value = refl
-
-jump_form : (m : Mnemonic) (how : JumpWord) → jump_of m ≡ Some how → form_of m ≡ form.Jumps
-unfolding form_of
-jump_form code.Ju how h = refl
-jump_form code.Jl how h = refl
-jump_form code.Jc how h = refl
-jump_form code.Jcn how h = refl
-jump_form code.Jcb how h = refl
-jump_form code.Jnb how h = refl
-jump_form code.Jbi how h = refl
-jump_form code.Jnbi how h = refl
-jump_form code.Jo how h = refl
-jump_form code.Jos how h = refl
-jump_form code.Jz how h = refl
-jump_form code.Jn how h = refl
-jump_form code.Jp how h = refl
-jump_form code.Jm how h = refl
-jump_form code.Jpz how h = refl
-jump_form code.Jmz how h = refl
-jump_form code.Juo how h = refl
-jump_form code.Loop how h = refl
-jump_form _ how h = absurd cc
-
-call_form : (m : Mnemonic) (how : CallWord) → call_of m ≡ Some how → form_of m ≡ form.Calls
-unfolding form_of
-call_form code.Call how h = refl
-call_form code.Uc how h = refl
-call_form code.Cc how h = refl
-call_form _ how h = absurd cc
-
 seen_holds : (n : ℕ) (s : Seen) (v : View) → s ≡ Sees v → SeenWide n s
     → IsWide v → 7 ≤ n
 seen_holds n s v e h wide = subst (λ (s : Seen). SeenWide n s) e h wide
@@ -764,23 +703,6 @@ body_fits c body n (s ∷ ss) fine h =
           code_sized s.code s.operand (length s.actuals) e,
           bytes_both (ops_of one.instr) (ops_in (stated_from c body (suc n) ss)),
         )
-
--- as many as aren't empty
-pub stated_count : (c : Context) (body : List Statement) (n : ℕ) (ss : List Statement)
-    → length (stated_from c body n ss) ≡ count_by (λ s. not (is_empty s.code)) ss
-stated_count c body n [] = refl
-stated_count c body n (s ∷ ss) =
-    by (is_empty s.code) (stated_count c body n ss) (stated_count c body (suc n) ss)
-    ∙ sym (sum_by-cons (λ (s : Statement). cond (not (is_empty s.code)) 1 0) s ss)
-  where
-    by : (empty : Bool)
-        → length (stated_from c body n ss) ≡ count_by (λ s. not (is_empty s.code)) ss
-        → length (stated_from c body (suc n) ss) ≡ count_by (λ s. not (is_empty s.code)) ss
-        → length (if empty then stated_from c body n ss
-        else record { instr = instruction c body n s; line = s.line } ∷ stated_from c body (suc n) ss)
-        ≡ cond (not empty) 1 0 + count_by (λ s. not (is_empty s.code)) ss
-    by true same next = omega (arith, same)
-    by false same next = omega (arith, next)
 
 -- with the statement that returns
 ops_both : (xs ys : List Stated) → bytes_in (ops_in (xs ++ ys)) ≡ bytes_in (ops_in xs ++ ops_in ys)

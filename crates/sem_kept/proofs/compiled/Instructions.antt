@@ -62,14 +62,15 @@ use Rattle.stl_types.specs.declared.views.View.TheVariants as view
 use Rattle.stl_codegen.specs.Instruction.{numbers_from, jump_instr, target_of, call_instr, end_instr, view_instr, resolved_instr, instr_by, instruction}
 use Rattle.stl_codegen.specs.Operands.{numbered_operand, register_operand, operand_of}
 use Rattle.stl_codegen.specs.Words.{jump_of, call_of, end_of, or_word, load_word, transfer_word, load_pointer_word, store_pointer_word, add_word, word_of}
-use Rattle.sem_kept.specs.Back.{goes_on, is_target, is_called, IsInstance}
+use Rattle.sem_kept.specs.Back.{goes_on, is_target, IsInstance}
+use Rattle.sem_kept.proofs.accepted.Shared.{call_form, rule_callable}
 
 abbrev pub IsMade : (n : ℕ) → Instr → Type 0
 IsMade n (Does use_db w o) = (goes_on w ≡ true) × (is_target o ≡ false)
 IsMade n (Jumps how target) = is_jl how ≡ false
 IsMade n (JumpsByList targets otherwise) = targets ≡ numbers_from (suc n) (otherwise - suc n)
 IsMade n (Calls how block instance passings) =
-    (is_called block.kind ≡ true) × IsInstance instance
+    (is_callable block.kind ≡ true) × IsInstance instance
 IsMade n (Returns how) = Unit {0}
 
 -- ---- words and operands of instructions that go on
@@ -147,45 +148,6 @@ rule_none : (c : Context) (f : Form) (o : Operand) (id : BlockId) (i : Option �
 unfolding seen
 rule_none c f (operand.Constant value) id i e s = absurd cc
 rule_none c f _ id i e s = ap (rule_seen f) (sym s) ∙ e
-
-callable : (k : BlockKind) → is_callable k ≡ true → is_called k ≡ true
-callable kinds.Fc e = refl
-callable kinds.Fb e = refl
-callable kinds.Sfc e = refl
-callable kinds.Ob e = absurd cc
-callable kinds.Db e = absurd cc
-callable kinds.Udt e = absurd cc
-
-function_block_called : (k : BlockKind) → is_function_block k ≡ true → is_called k ≡ true
-function_block_called kinds.Fb e = refl
-function_block_called kinds.Fc e = absurd cc
-function_block_called kinds.Sfc e = absurd cc
-function_block_called kinds.Ob e = absurd cc
-function_block_called kinds.Db e = absurd cc
-function_block_called kinds.Udt e = absurd cc
-
-called_kind : (id : BlockId) (i : Option ℕ) → rule_of form.Calls (view.Called id i) ≡ None
-    → is_called id.kind ≡ true
-unfolding rule_of takes
-called_kind id None e = by (is_callable id.kind) refl e
-  where
-    by : (t : Bool) → is_callable id.kind ≡ t
-        → ◌≡◌ {A = Option ℕ} (if not t then Some 25 else None) None → is_called id.kind ≡ true
-    by true is h = callable id.kind is
-    by false is h = absurd cc
-called_kind id (Some number) e = by (is_function_block id.kind) refl e
-  where
-    by : (t : Bool) → is_function_block id.kind ≡ t
-        → ◌≡◌ {A = Option ℕ} (if not t then Some 25 else None) None → is_called id.kind ≡ true
-    by true is h = function_block_called id.kind is
-    by false is h = absurd cc
-
-call_form : (m : Mnemonic) (how : CallWord) → call_of m ≡ Some how → form_of m ≡ form.Calls
-unfolding form_of
-call_form code.Call how e = refl
-call_form code.Uc how e = refl
-call_form code.Cc how e = refl
-call_form _ how e = absurd cc
 
 -- ---- its instance
 
@@ -439,7 +401,7 @@ called_made c n s how (view.Called id i) is e =
     let rule : rule_of (form_of s.code) (view.Called id i) ≡ None =
     rule_none c (form_of s.code) s.operand id i t.0 t.1 in
     let calls_form : form_of s.code ≡ form.Calls = call_form s.code how e in (
-      called_kind id i (ap (λ (f : Form). rule_of f (view.Called id i)) (sym calls_form) ∙ rule),
+      rule_callable id i (ap (λ (f : Form). rule_of f (view.Called id i)) (sym calls_form) ∙ rule),
       instance_is c s.operand id i t.1,
     )
 called_made c n s how _ is e = (refl, refl)

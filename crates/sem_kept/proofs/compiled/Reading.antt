@@ -6,6 +6,7 @@ use Rattle.std.proofs.lemmas.List.{length-map, take-append-drop, length-take-le}
 use Rattle.std.specs.List.{AllByRecursion}
 use Rattle.plc_base.specs.declared.blocks.BlockKind.{BlockKind}
 use Rattle.plc_base.specs.declared.blocks.BlockKind.TheVariants as kinds
+use Rattle.plc_base.specs.Kinds.{is_callable, kind_number}
 use Rattle.flat_code.specs.Codes.{size}
 use Rattle.flat_code.specs.Instr.{Instr, Passing, Does, Jumps, JumpsByList, Calls, Returns}
 use Rattle.flat_code.specs.Laws.{WordsHaveTheirCodes, JumpsHaveTheirKinds}
@@ -19,11 +20,11 @@ use Rattle.flat_code.specs.declared.operands.Operand.TheVariants as operand
 use Rattle.flat_code.specs.declared.words.Word.{Word}
 use Rattle.flat_code.specs.declared.words.Word.TheVariants as word
 use Rattle.machine.specs.Flat.{Run, run_at, with_op, most_ops, use_db_of, passings_of, list_of, most_listed, kind_called, instance_named, instr_of, fetched_of, statement_at}
-use Rattle.stl_codegen.specs.Emitted.{ops_of, ending, opening, passing, jump_op, call_op, end_op, called_kind, instance_number}
+use Rattle.stl_codegen.specs.Emitted.{ops_of, ending, opening, passing, jump_op, call_op, end_op, instance_number}
 use Rattle.stl_codegen.specs.Compiled.{Stated, ops_in, offset_from, offset_of, aimed, aimed_op, placed_ops, code_in, lines_in}
 use Rattle.stl_codegen.specs.Instruction.{numbers_from}
 use Rattle.machine.specs.Moved.{aimed_instr}
-use Rattle.sem_kept.specs.Back.{aimed_statement, goes_on, is_target, is_called, IsInstance, is_ju, IsJu, IsList, IsCompiled, AreCompiled, IsReadBack}
+use Rattle.sem_kept.specs.Back.{aimed_statement, goes_on, is_target, IsInstance, is_ju, IsJu, IsList, IsCompiled, AreCompiled, IsReadBack}
 use Rattle.sem_kept.proofs.compiled.Runs.{total, total_append, op_behind, op_at_end, size_aimed, total_aimed, Parted, IsPreparing, IsStatement, AreStatements, flat, bytes_of, bytes_long, extent, total_flat, extent_append, flat_append, line_at, line_at_end, offset_is, offset_past}
 
 -- ---- the ops of a statement, in parts
@@ -264,7 +265,7 @@ does_back (word.End how) o use_db passings next ops h = absurd cc
 does_back word.OpenBlock o use_db passings next ops h = refl
 does_back word.Exchange o use_db passings next ops h = refl
 
-kind_back : (kind : BlockKind) → is_called kind ≡ true → kind_called (called_kind kind) ≡ Some kind
+kind_back : (kind : BlockKind) → is_callable kind ≡ true → kind_called (kind_number kind) ≡ Some kind
 kind_back kinds.Fc h = refl
 kind_back kinds.Fb h = refl
 kind_back kinds.Sfc h = refl

@@ -1,0 +1,169 @@
+-- What several parts need: truth values, kinds of blocks, writes, counts of statements, and what the
+-- rules leave of an operand.
+use Rattle.std.proofs.Common.{◌≡◌, ℕ, suc, ◌+◌, Bool, true, false, cond, not, ◌||◌, List, [], ◌∷◌, length, length-set, set, get_or, Option, Some, None, refl, sym, ap, ◌∙◌, arith}
+use Rattle.std.specs.Prelude.{◌/◌, ◌%◌, nat_eq, if◌then◌else◌}
+use Rattle.std.specs.List.{count_by, fold}
+use Rattle.std.proofs.lemmas.Bool.{or_parts}
+use Rattle.std.proofs.lemmas.List.Sums.{sum_by-cons}
+use Rattle.plc_base.specs.Kinds.{is_callable, is_function_block, is_same_kind}
+use Rattle.plc_base.specs.declared.blocks.BlockId.{BlockId}
+use Rattle.plc_base.specs.declared.blocks.BlockKind.{BlockKind}
+use Rattle.plc_base.specs.declared.blocks.BlockKind.TheVariants as kinds
+use Rattle.flat_code.specs.declared.kinds.JumpWord.{JumpWord}
+use Rattle.flat_code.specs.declared.words.CallWord.{CallWord}
+use Rattle.stl_ast.specs.Statements.{is_empty}
+use Rattle.stl_ast.specs.declared.literals.Literal.{Literal}
+use Rattle.stl_ast.specs.declared.mnemonics.Mnemonic.{Mnemonic}
+use Rattle.stl_ast.specs.declared.mnemonics.Mnemonic.TheVariants as code
+use Rattle.stl_ast.specs.declared.operands.Operand.{Operand}
+use Rattle.stl_ast.specs.declared.operands.Operand.TheVariants as operand
+use Rattle.stl_ast.specs.declared.statements.Statement.{Statement}
+use Rattle.block_layout.specs.InitialBytes.{Write, bytes_of, put, with_bit, with_bytes}
+use Rattle.stl_types.specs.Constants.{takes_constant}
+use Rattle.stl_types.specs.Context.{Context}
+use Rattle.stl_types.specs.Forms.{form_of}
+use Rattle.stl_types.specs.Kinds.{is_called}
+use Rattle.stl_types.specs.Operands.{operand_rule, rule_of, rule_seen, takes}
+use Rattle.stl_types.specs.Seen.{seen}
+use Rattle.stl_types.specs.declared.forms.Form.{Form}
+use Rattle.stl_types.specs.declared.forms.Form.TheVariants as form
+use Rattle.stl_types.specs.declared.views.Seen.{Seen}
+use Rattle.stl_types.specs.declared.views.Seen.TheVariants.{Sees}
+use Rattle.stl_types.specs.declared.views.View.{View}
+use Rattle.stl_types.specs.declared.views.View.TheVariants as view
+use Rattle.stl_codegen.specs.Generated.{stated_from}
+use Rattle.stl_codegen.specs.Instruction.{instruction}
+use Rattle.stl_codegen.specs.Words.{call_of, jump_of}
+use Rattle.sem_kept.proofs.accepted.OperandsWords.{allowed}
+
+-- ---- truth values
+
+pub or_first : (a b : Bool) → (a || b) ≡ false → a ≡ false
+or_first a b h = (or_parts a b h).0
+
+pub or_second : (a b : Bool) → (a || b) ≡ false → b ≡ false
+or_second a b h = (or_parts a b h).1
+
+-- ---- kinds of blocks
+
+pub same_kind : (j k : BlockKind) → is_same_kind j k ≡ true → j ≡ k
+same_kind kinds.Ob kinds.Ob h = refl
+same_kind kinds.Fc kinds.Fc h = refl
+same_kind kinds.Fb kinds.Fb h = refl
+same_kind kinds.Db kinds.Db h = refl
+same_kind kinds.Udt kinds.Udt h = refl
+same_kind kinds.Sfc kinds.Sfc h = refl
+same_kind j k h = absurd cc
+
+-- ---- writes
+
+length_put_bytes : (bytes : List ℕ) (at : ℕ) (new : List ℕ) → length (with_bytes bytes at new) ≡ length bytes
+length_put_bytes bytes at [] = refl
+length_put_bytes bytes at (b ∷ bs) = length_put_bytes (set bytes at b) (at + 1) bs ∙ length-set bytes at b
+
+put_length : (bytes : List ℕ) (w : Write) → length (put bytes w) ≡ length bytes
+put_length bytes w = by (nat_eq w.width 1)
+  where
+    by : (t : Bool) → length (if t then set bytes (w.offset / 8) (with_bit (w.offset % 8) w.value (get_or bytes (w.offset / 8) 0))
+        else with_bytes bytes (w.offset / 8) (bytes_of (w.width / 8) w.value)) ≡ length bytes
+    by true = length-set bytes (w.offset / 8) (with_bit (w.offset % 8) w.value (get_or bytes (w.offset / 8) 0))
+    by false = length_put_bytes bytes (w.offset / 8) (bytes_of (w.width / 8) w.value)
+
+pub written_length : (bytes : List ℕ) (ws : List Write) → length (fold put bytes ws) ≡ length bytes
+written_length bytes [] = refl
+written_length bytes (w ∷ ws) = written_length (put bytes w) ws ∙ put_length bytes w
+
+-- ---- statements
+
+-- as many as aren't empty
+pub stated_count : (c : Context) (body : List Statement) (n : ℕ) (ss : List Statement)
+    → length (stated_from c body n ss) ≡ count_by (λ s. not (is_empty s.code)) ss
+stated_count c body n [] = refl
+stated_count c body n (s ∷ ss) =
+    by (is_empty s.code) (stated_count c body n ss) (stated_count c body (suc n) ss)
+    ∙ sym (sum_by-cons (λ (s : Statement). cond (not (is_empty s.code)) 1 0) s ss)
+  where
+    by : (empty : Bool)
+        → length (stated_from c body n ss) ≡ count_by (λ s. not (is_empty s.code)) ss
+        → length (stated_from c body (suc n) ss) ≡ count_by (λ s. not (is_empty s.code)) ss
+        → length (if empty then stated_from c body n ss
+        else record { instr = instruction c body n s; line = s.line } ∷ stated_from c body (suc n) ss)
+        ≡ cond (not empty) 1 0 + count_by (λ s. not (is_empty s.code)) ss
+    by true same next = omega (arith, same)
+    by false same next = omega (arith, next)
+
+-- ---- the forms of instructions
+
+pub jump_form : (m : Mnemonic) (how : JumpWord) → jump_of m ≡ Some how → form_of m ≡ form.Jumps
+unfolding form_of
+jump_form code.Ju how h = refl
+jump_form code.Jl how h = refl
+jump_form code.Jc how h = refl
+jump_form code.Jcn how h = refl
+jump_form code.Jcb how h = refl
+jump_form code.Jnb how h = refl
+jump_form code.Jbi how h = refl
+jump_form code.Jnbi how h = refl
+jump_form code.Jo how h = refl
+jump_form code.Jos how h = refl
+jump_form code.Jz how h = refl
+jump_form code.Jn how h = refl
+jump_form code.Jp how h = refl
+jump_form code.Jm how h = refl
+jump_form code.Jpz how h = refl
+jump_form code.Jmz how h = refl
+jump_form code.Juo how h = refl
+jump_form code.Loop how h = refl
+jump_form _ how h = absurd cc
+
+pub call_form : (m : Mnemonic) (how : CallWord) → call_of m ≡ Some how → form_of m ≡ form.Calls
+unfolding form_of
+call_form code.Call how h = refl
+call_form code.Uc how h = refl
+call_form code.Cc how h = refl
+call_form _ how h = absurd cc
+
+-- ---- what the rules of operands leave
+
+abbrev allowed_if : Bool → Option ℕ
+allowed_if b = if b then None else Some 25
+
+pub rule_there : (c : Context) (f : Form) (o : Operand) (v : View)
+    → ((value : Literal) → takes_constant f value ≡ false) → operand_rule c f o ≡ None
+    → seen c o ≡ Sees v → rule_of f v ≡ None
+rule_there c f (operand.Constant value) v never h e = by (takes_constant f value) (never value) h
+  where
+    by : (b : Bool) → b ≡ false → allowed_if b ≡ None → rule_of f v ≡ None
+    by true e h = absurd cc
+    by false e h = absurd cc
+rule_there c f _ v never h e = sym (ap (λ (s : Seen). rule_seen f s) e) ∙ h
+
+pub no_jump_constant : (value : Literal) → takes_constant form.Jumps value ≡ false
+unfolding takes_constant
+no_jump_constant value = refl
+
+pub no_call_constant : (value : Literal) → takes_constant form.Calls value ≡ false
+unfolding takes_constant
+no_call_constant value = refl
+
+-- what is called can be
+pub calls_called : (v : View) → rule_of form.Calls v ≡ None → is_called v ≡ true
+unfolding takes
+calls_called v e = (allowed form.Calls v e).taken
+
+pub callable_by : (id : BlockId) (instance : Option ℕ) → is_called (view.Called id instance) ≡ true
+    → is_callable id.kind ≡ true
+callable_by id None e = e
+callable_by id (Some n) e = by id.kind e
+  where
+    by : (k : BlockKind) → is_function_block k ≡ true → is_callable k ≡ true
+    by kinds.Fb e = refl
+    by kinds.Ob e = absurd cc
+    by kinds.Fc e = absurd cc
+    by kinds.Db e = absurd cc
+    by kinds.Sfc e = absurd cc
+    by kinds.Udt e = absurd cc
+
+pub rule_callable : (id : BlockId) (instance : Option ℕ)
+    → rule_of form.Calls (view.Called id instance) ≡ None → is_callable id.kind ≡ true
+rule_callable id instance e = callable_by id instance (calls_called (view.Called id instance) e)
