@@ -1,6 +1,6 @@
 -- The code of each block of an accepted source is made of ops of the table.
-use Rattle.std.proofs.Common.{◌≡◌, ℕ, suc, ◌+◌, ◌≤◌, Bool, true, false, eqb, ◌&&◌, List, [], ◌∷◌, length, length-append, map, Option, Some, refl, ap, subst, arith}
-use Rattle.std.specs.Prelude.{IfSome, cond, not, slice_get, if◌then◌else◌}
+use Rattle.std.proofs.Common.{◌≡◌, ℕ, suc, ◌≤◌, Bool, true, false, eqb, ◌&&◌, List, [], ◌∷◌, length, length-append, map, Option, Some, refl, ap, subst, arith}
+use Rattle.std.specs.Prelude.{IfSome, not, slice_get, if◌then◌else◌}
 use Rattle.std.specs.List.{AllByRecursion, count_by}
 use Rattle.std.proofs.lemmas.Bool.{and_from, eq-eqb, ltb-false}
 use Rattle.plc_base.specs.declared.blocks.BlockId.{BlockId}
@@ -25,7 +25,7 @@ use Rattle.sem_kept.proofs.accepted.Accepted.{IsSound, IsSoundStatement, IsSound
 use Rattle.sem_kept.proofs.accepted.CodedBlocks.{AreGood, block_coded}
 use Rattle.sem_kept.proofs.accepted.CodedBytes.{tree_has}
 use Rattle.sem_kept.proofs.accepted.CodedOps.{IsGoodSource, IsGoodStatement, end_good, statement_good}
-use Rattle.sem_kept.proofs.accepted.CodedSources.{context_fit, formals_few, sum_cons}
+use Rattle.sem_kept.proofs.accepted.CodedSources.{context_fit, formals_few}
 use Rattle.sem_kept.proofs.accepted.CodedSymbols.{symbols_fit}
 use Rattle.sem_kept.proofs.accepted.CodedViews.{IsFit, SymbolFits, got_holds}
 use Rattle.sem_kept.proofs.accepted.Shared.{stated_count}

@@ -1,6 +1,6 @@
 -- The ops of a statement are ops of the table, wherever its targets lead, and at most 64.
 use Rattle.std.proofs.Common.{◌≡◌, ℕ, suc, ◌+◌, ◌<◌, ◌≤◌, Bool, true, false, ltb, ◌&&◌, List, [], ◌∷◌, ◌++◌, length, length-append, take, drop, take-append-drop, Option, Some, None, refl, sym, ap, subst, ◌∙◌, arith}
-use Rattle.std.specs.Prelude.{IfSome, is_none, not, if◌then◌else◌}
+use Rattle.std.specs.Prelude.{IfSome, is_none, if◌then◌else◌}
 use Rattle.std.specs.List.{AllByRecursion}
 use Rattle.std.specs.Str.{bytes_eq}
 use Rattle.std.proofs.lemmas.Bool.{and_from, lt-ltb}
@@ -43,8 +43,7 @@ use Rattle.plc_base.specs.Kinds.{is_callable as is_callable_kind, kind_number}
 use Rattle.stl_types.specs.Constants.{takes_constant}
 use Rattle.stl_types.specs.Context.{Context}
 use Rattle.stl_types.specs.Forms.{form_of}
-use Rattle.stl_types.specs.Kinds.{is_composite, width_in}
-use Rattle.stl_types.specs.Operands.{has_width, is_input, is_on_wrong_side, operand_rule, rule_of, rule_seen, statement_rule, takes as form_takes, writes}
+use Rattle.stl_types.specs.Operands.{is_on_wrong_side, operand_rule, rule_of, rule_seen, statement_rule, takes as form_takes}
 use Rattle.stl_types.specs.Parameters.{Callee, callee_of}
 use Rattle.stl_types.specs.Resolved.{resolved, seen_view}
 use Rattle.stl_types.specs.Seen.{seen}

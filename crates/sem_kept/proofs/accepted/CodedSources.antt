@@ -4,7 +4,7 @@ use Rattle.std.specs.Prelude.{IfSome, nat_eq, not, slice_get, sum_by, cond, if�
 use Rattle.std.specs.List.{AllByRecursion, count_by, list_all}
 use Rattle.std.proofs.lemmas.Bool.{eq-eqb, ltb-false}
 use Rattle.std.proofs.lemmas.Grind.{flat_map-append}
-use Rattle.std.proofs.lemmas.List.Sums.{sum_by-append}
+use Rattle.std.proofs.lemmas.List.Sums.{sum_by-cons}
 use Rattle.plc_base.specs.Kinds.{is_function, is_function_block, is_same_kind, is_system_function}
 use Rattle.plc_base.specs.declared.blocks.BlockId.{BlockId}
 use Rattle.plc_base.specs.declared.blocks.BlockKind.{BlockKind}
@@ -50,11 +50,6 @@ use Rattle.sem_kept.proofs.accepted.Accepted.{AllLaid, IsSound, IsSoundTree, con
 use Rattle.sem_kept.proofs.accepted.CodedOps.{HasFewFormals}
 use Rattle.sem_kept.proofs.accepted.CodedViews.{IsFit, IsWord, LayoutFits, SymbolFits, block_fits, got_holds}
 
-pub sum_cons : {X : Type 0} (f : X → ℕ) (x : X) (xs : List X) → sum_by f (x ∷ xs) ≡ f x + sum_by f xs
-sum_cons f x xs =
-    let h : sum_by f (x ∷ xs) ≡ (0 + f x) + sum_by f xs = sum_by-append f (x ∷ []) xs in
-    omega (arith, h)
-
 -- ---- parameters stand in no structure
 
 plain_level : (d : Declaration) → is_elementary d ≡ true → level_behind d.level d.of.of ≡ d.level
@@ -82,7 +77,7 @@ elementary_count k p (d ∷ items) is outline declared =
     let more = elementary_count k p items is
     (subst (λ (n : ℕ). IsOutline n items) behind outline.1) declared.1 in
     let one : one_if (eqb d.level 0) ≡ 1 = ap one_if (eq-eqb d.level 0 level) in
-    let all = sum_cons (λ d. cond (nat_eq d.level 0) 1 0) d items in
+    let all = sum_by-cons (λ d. cond (nat_eq d.level 0) 1 0) d items in
     omega (arith, one, more, all)
 
 -- ---- how many formals cells are
@@ -178,9 +173,9 @@ sections_formals y o k before (p ∷ parts) h =
     by true more =
         let one = section_formals y o k before p h.0 in
         let both = formals_append (opened (cells_of y o p.kind before p.items)) rest in
-        let all = sum_cons declared_in p parts in
+        let all = sum_by-cons declared_in p parts in
         omega (arith, one, more, both, all)
-    by false more = let all = sum_cons declared_in p parts in omega (arith, more, all)
+    by false more = let all = sum_by-cons declared_in p parts in omega (arith, more, all)
 
 returned_count : (result : Option Simple) → length (returned_cells result) ≡ returned result
 returned_count None = refl
@@ -248,11 +243,11 @@ sections_count y o before (p ∷ parts) h =
         → length
         ((if not b then opened (cells_of y o p.kind before p.items) else []) ++ rest)
         ≤ sum_by declared_in (p ∷ parts)
-    by true e more = let all = sum_cons declared_in p parts in omega (arith, more, all)
+    by true e more = let all = sum_by-cons declared_in p parts in omega (arith, more, all)
     by false e more =
         let one = section_count y o before p h.0 e in
         let both = length-append (opened (cells_of y o p.kind before p.items)) rest in
-        let all = sum_cons declared_in p parts in
+        let all = sum_by-cons declared_in p parts in
         omega (arith, one, more, both, all)
 
 is_fc : (k : BlockKind) → is_function k ≡ true → k ≡ kinds.Fc

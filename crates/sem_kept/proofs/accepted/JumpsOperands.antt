@@ -33,7 +33,6 @@ use Rattle.stl_types.specs.Addresses.{address_in}
 use Rattle.stl_types.specs.Brackets.{closes, opening}
 use Rattle.stl_types.specs.Constants.{takes_constant}
 use Rattle.stl_types.specs.Context.{Context, data_number, data_place, in_function}
-use Rattle.stl_types.specs.Forms.{form_of}
 use Rattle.stl_types.specs.Operands.{operand_rule, rule_of, rule_seen, takes}
 use Rattle.stl_types.specs.Seen.{direct_seen, opened_seen, path_seen, seen, symbol_seen, target_view}
 use Rattle.stl_types.specs.Unknown.{is_unknown}

@@ -57,7 +57,7 @@ use Rattle.stl_types.specs.Calls.{calls_unknown, has_formals, has_no_instance, h
 use Rattle.stl_types.specs.Context.{Context, data_number, ids, whole_data_place, whole_place}
 use Rattle.stl_types.specs.Forms.{form_of}
 use Rattle.stl_types.specs.Kinds.{is_called as is_called_view}
-use Rattle.stl_types.specs.Operands.{operand_rule, rule_of, rule_seen, takes}
+use Rattle.stl_types.specs.Operands.{operand_rule, rule_of, rule_seen}
 use Rattle.stl_types.specs.Parameters.{Callee, callee_at, callee_by, callee_of, formals_of, is_sound_formal, source_callee, system_callee, system_formals}
 use Rattle.stl_types.specs.Seen.{called_seen, id_at, instance_number as instance_of_name, seen, whole_block}
 use Rattle.stl_types.specs.declared.forms.Form.{Form}
@@ -65,7 +65,6 @@ use Rattle.stl_types.specs.declared.forms.Form.TheVariants as form
 use Rattle.stl_types.specs.declared.parameters.Formal.{Formal}
 use Rattle.stl_types.specs.declared.views.Seen.{Seen}
 use Rattle.stl_types.specs.declared.views.Seen.TheVariants.{Sees}
-use Rattle.stl_types.specs.declared.views.View.{View}
 use Rattle.stl_types.specs.declared.views.View.TheVariants as view
 use Rattle.stl_codegen.specs.Compiled.{compiled}
 use Rattle.stl_codegen.specs.Emitted.{instance_number, passing, preparing}

@@ -44,7 +44,7 @@ use Rattle.block_layout.specs.declared.cells.Cell.{Cell}
 use Rattle.sem_kept.proofs.accepted.Accepted.{AreSoundDeclarations, IsSound, IsSoundTree, none_left, none_right, not_broken, sound_at}
 use Rattle.sem_kept.proofs.accepted.OperandsTypes.{type_settled}
 use Rattle.sem_kept.proofs.accepted.OperandsWalks.{AreRight, IsRightCell, IsSettled, structure_even}
-use Rattle.sem_kept.proofs.accepted.Shared.{or_second, same_kind}
+use Rattle.sem_kept.proofs.accepted.Shared.{or_second, same_kind, kind_there}
 
 -- ---- declarations of which none breaks a rule
 
@@ -342,24 +342,6 @@ origin f (x ∷ xs) (suc k) y e =
     let more = origin f xs k y e in
     record { of = more.of; there = more.there; image = more.image }
 
--- the id of a block of the source has its kind
-pub id_kind : (symbols : List Symbol) (b : Block) (id : BlockId) → id_of symbols b ≡ Some id
-    → b.kind ≡ id.kind
-id_kind symbols b id e = by (named_block symbols b.name) e
-  where
-    some_same : (x z : BlockId) → Some x ≡ Some z → x ≡ z
-    some_same x z h = cc
-
-    whether : (x : BlockId) (t : Bool) → is_same_kind b.kind x.kind ≡ t
-        → (if t then Some x else None) ≡ Some id → b.kind ≡ id.kind
-    whether x true is h =
-        same_kind b.kind x.kind is ∙ ap (λ (z : BlockId). z.kind) (some_same x id h)
-    whether x false is h = absurd cc
-
-    by : (o : Option BlockId) → of_kind (is_same_kind b.kind) o ≡ Some id → b.kind ≡ id.kind
-    by None h = absurd cc
-    by (Some x) h = whether x (is_same_kind b.kind x.kind) refl h
-
 -- ---- the layouts of the blocks
 
 pub measured_ids : (symbols : List Symbol) (blocks : List Block)
@@ -543,7 +525,7 @@ settles symbols t h (element.Udt name) few = by (udt_of (types_of symbols t.bloc
             (ap (λ (ids : List (Option BlockId)). slice_get ids v) (sym (measured_ids symbols t.blocks)) ∙ found.there)
 
         kind : from.of.kind ≡ kinds.Udt
-        kind = id_kind symbols from.of found.id from.image ∙ data_type found.id.kind found.kind
+        kind = kind_there symbols from.of found.id from.image ∙ data_type found.id.kind found.kind
 
         laid : (l : BlockLayout) × (slice_get (layouts_of t symbols) v ≡ Some l) × IsSound symbols t v from.of l
         laid = layout_of_block symbols t h v from.of from.there

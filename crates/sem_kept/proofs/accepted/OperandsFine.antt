@@ -27,11 +27,12 @@ use Rattle.sem_kept.specs.Operands.{BlockIsFine, InstrFits, OperandsAreFine}
 use Rattle.sem_kept.proofs.accepted.Accepted.{IsSound, IsSoundStatement, IsSoundTree, context_at, right_tree, sound_code_blocks}
 use Rattle.sem_kept.proofs.accepted.CodedBytes.{tree_has}
 use Rattle.sem_kept.proofs.accepted.OperandsCalls.{call_fits}
-use Rattle.sem_kept.proofs.accepted.OperandsCells.{all_there, id_kind}
+use Rattle.sem_kept.proofs.accepted.OperandsCells.{all_there}
 use Rattle.sem_kept.proofs.accepted.OperandsInstr.{instr_fits}
 use Rattle.sem_kept.proofs.accepted.OperandsPlaced.{code_fine}
 use Rattle.sem_kept.proofs.accepted.OperandsSymbols.{SymbolFits, symbols_fit}
 use Rattle.sem_kept.proofs.accepted.OperandsViews.{EndsBy, Surrounds, ends_by, holds_locals, layout_id, operand_seen}
+use Rattle.sem_kept.proofs.accepted.Shared.{kind_there}
 
 -- ---- a block
 
@@ -51,7 +52,7 @@ module _ (symbols : List Symbol) (t : Tree) (tree : IsSoundTree symbols t)
       (record_of_block (compiled (code_block (context_at symbols t k) b l id)))
 
   kind_is : b.kind ≡ id.kind
-  kind_is = id_kind symbols b id (sym (layout_id symbols t k b l block) ∙ named)
+  kind_is = kind_there symbols b id (sym (layout_id symbols t k b l block) ∙ named)
 
   is_code_here : is_code b.kind ≡ true
   is_code_here = ap is_code kind_is ∙ code

@@ -1,5 +1,5 @@
 -- Whole paths: where they lead, they lead within the structure that they begin in.
-use Rattle.std.proofs.Common.{ℕ, zero, suc, ◌≡◌, ◌<◌, ◌≤◌, ◌+◌, ◌*◌, ◌%◌, ℤ, ◌-ℤ◌, int_lt, unsigned_abs, List, [], ◌∷◌, Option, Some, None, is_some, Bool, true, false, ◌&&◌, ◌||◌, not, nat_eq, refl, sym, ◌∙◌, ap, subst, arith, length, drop, drop_of_length-le, add-one, if◌then◌else◌, eqb-true}
+use Rattle.std.proofs.Common.{ℕ, zero, suc, ◌≡◌, ◌<◌, ◌≤◌, ◌+◌, ◌*◌, ◌%◌, ℤ, ◌-ℤ◌, int_lt, unsigned_abs, List, [], ◌∷◌, Option, Some, None, is_some, Bool, true, false, ◌&&◌, not, nat_eq, refl, sym, ◌∙◌, ap, subst, arith, length, drop, drop_of_length-le, add-one, if◌then◌else◌, eqb-true}
 use Rattle.std.specs.List.{slice_get}
 use Rattle.stl_ast.specs.declared.blocks.PathStep.{PathStep}
 use Rattle.stl_ast.specs.declared.blocks.PathStep.TheVariants as step

@@ -48,7 +48,8 @@ use Rattle.sem_kept.specs.Records.{HasCode}
 use Rattle.sem_kept.proofs.accepted.Accepted.{AllLaid, IsSound, IsSoundTree, context_at}
 use Rattle.sem_kept.proofs.accepted.RecordData.{got, id_there, length_there, types_symbols}
 use Rattle.sem_kept.proofs.accepted.RecordOrder.{AreApart, Differ, Rise, rise_sorted}
-use Rattle.sem_kept.proofs.accepted.RecordParams.{HasParams, kind_there, params_right}
+use Rattle.sem_kept.proofs.accepted.RecordParams.{HasParams, params_right}
+use Rattle.sem_kept.proofs.accepted.Shared.{kind_there}
 
 -- ---- no two blocks are alike
 
@@ -511,8 +512,8 @@ first_good last judged x near h =
     first : (kind : ℕ) → 1 ≤ kind → (not (eqb kind 0) || ltb 0 x.id.number) ≡ true
     first kind some = grind (arith, nat_tests)
 
-pub next_good : (last : ℕ) (judged : Bool) (x y : StatedBlock) → last < 4294967296 → is_code x.id.kind ≡ true → is_code_before x y ≡ true → IsRightBlock last y
+pub next_good : (last : ℕ) (judged : Bool) (x y : StatedBlock) → last < 4294967296 → is_code_before x y ≡ true → IsRightBlock last y
     → (block_layout_of judged (kind_number x.id.kind, x.id.number)).good (record_of_block (compiled y)) ≡ true
-next_good last judged x y near code rises h =
+next_good last judged x y near rises h =
     let low = pair_low (kind_number x.id.kind) x.id.number (kind_number y.id.kind) y.id.number rises in
     block_good last judged (kind_number x.id.kind, x.id.number) (compiled y) near h.0 h.1 (marks_there y) low.0 low.1

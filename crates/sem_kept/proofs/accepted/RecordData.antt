@@ -1,5 +1,5 @@
 -- The data blocks of a program: their numbers, their instances, their bytes and how many these are together.
-use Rattle.std.proofs.Common.{◌≡◌, ℕ, zero, suc, ◌+◌, ◌-◌, ◌/◌, ◌%◌, ◌^◌, ◌≤◌, ◌<◌, Bool, true, false, not, ltb, ◌&&◌, List, [], ◌∷◌, ◌++◌, length, length-set, set, get_or, replicate, fold, sum_by, Option, Some, None, bit_and, bit_or, slice_get, refl, sym, ap, ◌∙◌, arith}
+use Rattle.std.proofs.Common.{◌≡◌, ℕ, zero, suc, ◌+◌, ◌-◌, ◌/◌, ◌%◌, ◌^◌, ◌≤◌, ◌<◌, Bool, true, false, not, ltb, ◌&&◌, List, [], ◌∷◌, ◌++◌, length, set, get_or, replicate, fold, sum_by, Option, Some, None, bit_and, bit_or, slice_get, refl, sym, ap, ◌∙◌, arith}
 use Rattle.std.specs.Prelude.{if◌then◌else◌, nat_eq, IfSome}
 use Rattle.std.specs.List.{AllByRecursion}
 use Rattle.std.specs.Option.{option_and_then}
@@ -37,9 +37,8 @@ use Rattle.stl_codegen.specs.Generated.{data_block, data_block_of, data_blocks_o
 use Rattle.stl_codegen.specs.Order.{is_data_before}
 use Rattle.sem_kept.proofs.accepted.Accepted.{AllHeads, AllLaid, IsSound, IsSoundTree, context_at, heads_none, sound_data_blocks}
 use Rattle.sem_kept.proofs.accepted.RecordNames.{IsByte, OfBytes}
-use Rattle.sem_kept.proofs.accepted.RecordParams.{kind_there}
 use Rattle.sem_kept.proofs.accepted.RecordOrder.{Rise, RiseFrom, sum_sorted}
-use Rattle.sem_kept.proofs.accepted.Shared.{written_length}
+use Rattle.sem_kept.proofs.accepted.Shared.{written_length, kind_there}
 
 -- ---- bytes
 

@@ -8,8 +8,7 @@ use Rattle.std.specs.Str.{bytes_eq}
 use Rattle.std.proofs.lemmas.Bool.{and_from, eq-eqb, eqb-true, le-leb, lt-ltb, ltb-false}
 use Rattle.std.proofs.lemmas.Bool.Decides.{nat_tests}
 use Rattle.std.proofs.lemmas.List.Sums.{sum_by-cons, sum_by-append}
-use Rattle.plc_base.specs.Kinds.{kind_number, is_code, is_function_block, is_same_kind}
-use Rattle.plc_base.specs.declared.blocks.BlockId.{BlockId}
+use Rattle.plc_base.specs.Kinds.{kind_number, is_code, is_function_block}
 use Rattle.plc_base.specs.declared.blocks.BlockKind.{BlockKind}
 use Rattle.plc_base.specs.declared.blocks.BlockKind.TheVariants as kinds
 use Rattle.plc_base.specs.Widths.{byte_count, width_number}
@@ -38,7 +37,6 @@ use Rattle.plc_base.proofs.ListLemmas.{all_front, all_back, all_append}
 use Rattle.stl_symbols.specs.Names.{place_of}
 use Rattle.stl_symbols.specs.Symbol.{Symbol}
 use Rattle.block_layout.specs.Around.{Outside, around, onto, of_sections, of_structure, returned_names, section_declarations, in_block, in_list}
-use Rattle.block_layout.specs.Blocks.{id_of, named_block, of_kind}
 use Rattle.block_layout.specs.Cells.{cell_of, cells_of, components_of, is_sound, is_temp, opened, returned_cells, section_cells}
 use Rattle.block_layout.specs.Declarations.{init_fits}
 use Rattle.block_layout.specs.Layouts.{block_layout}
@@ -66,7 +64,6 @@ use Rattle.stl_codegen.specs.Generated.{instance_len, offset_named, param_here, 
 use Rattle.stl_codegen.specs.Instruction.{return_last}
 use Rattle.sem_kept.proofs.accepted.Accepted.{IsSound, none_left, none_right, not_broken}
 use Rattle.sem_kept.proofs.accepted.RecordNames.{width_good}
-use Rattle.sem_kept.proofs.accepted.Shared.{same_kind}
 
 -- ---- what holds of each declaration of a list, with those before it
 
@@ -820,18 +817,6 @@ instance_params symbols t k b l h kind =
     structure_len y blocks b kind shape instance = rw kind (rw shape (rw instance refl))
 
 -- ---- whatever block it is
-
--- a block has the kind of its head
-pub kind_there : (symbols : List Symbol) (b : Block) (id : BlockId) → id_of symbols b ≡ Some id → b.kind ≡ id.kind
-kind_there symbols b id e = by (named_block symbols b.name) e
-  where
-    whether : (i : BlockId) (t : Bool) → is_same_kind b.kind i.kind ≡ t → (if t then Some i else None) ≡ Some id → b.kind ≡ id.kind
-    whether i true is e = let one : i ≡ id = cc in same_kind b.kind i.kind is ∙ ap (λ (x : BlockId). x.kind) one
-    whether i false is e = absurd cc
-
-    by : (o : Option BlockId) → of_kind (is_same_kind b.kind) o ≡ Some id → b.kind ≡ id.kind
-    by None e = absurd cc
-    by (Some i) e = whether i (is_same_kind b.kind i.kind) refl e
 
 other_params : (kind instance : ℕ) (b : Block) (l : BlockLayout) → eqb kind 3 ≡ false → is_function_block b.kind ≡ false
     → AllByRecursion (IsGood kind instance) (params_of b l)

@@ -62,7 +62,7 @@ code_blocks_right symbols t last judged h near rise codes =
     let blocks = code_blocks_of t symbols (layouts_of t symbols) in
     ap (λ z. all_good (code_block judged) after_block (0, 0) z) (map_twice compiled record_of_block blocks)
     ∙ good_all (code_block judged) after_block (λ x. record_of_block (compiled x)) (λ x. (kind_number x.id.kind, x.id.number)) is_code_before (IsRightBlock last) (0, 0)
-    (λ s x. refl) (λ x is. first_good last judged x near is) (λ x y there rises is. next_good last judged x y near there.0.code rises is)
+    (λ s x. refl) (λ x is. first_good last judged x near is) (λ x y there rises is. next_good last judged x y near rises is)
     blocks (code_blocks_rise symbols t h)
     (all_both (λ x. HasFields last (compiled x)) (λ x. HasCode (compiled x)) blocks
     (sound_code_blocks symbols t (λ x. HasFields last (compiled x)) h (fields_of last symbols t rise))

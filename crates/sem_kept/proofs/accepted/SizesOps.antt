@@ -1,5 +1,5 @@
 -- The bytes of ops, and that those of a statement fit its size.
-use Rattle.std.proofs.Common.{◌≡◌, ℕ, suc, ◌+◌, ◌*◌, ◌≤◌, Bool, true, false, cond, not, ◌&&◌, List, [], ◌∷◌, ◌++◌, length, length-append, map, Option, Some, None, refl, sym, ap, subst, ◌∙◌, arith}
+use Rattle.std.proofs.Common.{◌≡◌, ℕ, suc, ◌+◌, ◌*◌, ◌≤◌, Bool, true, false, not, ◌&&◌, List, [], ◌∷◌, ◌++◌, length, length-append, map, Option, Some, None, refl, sym, ap, subst, ◌∙◌, arith}
 use Rattle.std.specs.Prelude.{◌/◌, find, is_some, nat_eq, nat_le, if◌then◌else◌}
 use Rattle.std.specs.List.{AllByRecursion, count_by, sum_by}
 use Rattle.std.specs.Option.{IfSome}
@@ -55,10 +55,8 @@ use Rattle.block_layout.specs.declared.walks.Walk.{Walk}
 use Rattle.block_layout.specs.declared.walks.Walk.TheVariants as walk
 use Rattle.stl_types.specs.Addresses.{address_in, area_of}
 use Rattle.stl_types.specs.Context.{Context, data_number, in_function}
-use Rattle.stl_types.specs.Constants.{takes_constant}
-use Rattle.stl_types.specs.Forms.{form_of}
 use Rattle.stl_types.specs.Kinds.{is_called}
-use Rattle.stl_types.specs.Operands.{operand_rule, rule_of, rule_seen, statement_rule, takes}
+use Rattle.stl_types.specs.Operands.{operand_rule, rule_of, statement_rule, takes}
 use Rattle.stl_types.specs.Parameters.{callee_of}
 use Rattle.stl_types.specs.Resolved.{resolved, seen_view}
 use Rattle.stl_types.specs.Seen.{called_seen, direct_seen, opened_seen, path_seen, register_of, seen, symbol_seen, target_view}

@@ -1,9 +1,8 @@
 -- What the instruction of a statement is in every source, whatever rule it breaks.
 use Rattle.std.proofs.Common.{◌≡◌, ℕ, zero, suc, ◌-◌, ◌≤◌, Bool, true, false, if◌then◌else◌, List, [], ◌∷◌, length, map, slice_get, Option, Some, None, option_map, option_and_then, refl, sym, ap, ◌∙◌, arith}
-use Rattle.std.specs.Prelude.{not}
 use Rattle.std.specs.Option.{is_none}
 use Rattle.std.proofs.lemmas.Bool.Decides.{nat_tests}
-use Rattle.plc_base.specs.Kinds.{is_data_block, is_function_block, is_callable}
+use Rattle.plc_base.specs.Kinds.{is_data_block, is_callable}
 use Rattle.plc_base.specs.declared.blocks.BlockId.{BlockId}
 use Rattle.plc_base.specs.declared.blocks.BlockKind.{BlockKind}
 use Rattle.plc_base.specs.declared.blocks.BlockKind.TheVariants as kinds
@@ -47,7 +46,7 @@ use Rattle.block_layout.specs.declared.walks.Walk.TheVariants as walk
 use Rattle.stl_types.specs.Addresses.{address_in}
 use Rattle.stl_types.specs.Context.{Context, ids, number_of, data_place, data_number, in_function}
 use Rattle.stl_types.specs.Forms.{form_of}
-use Rattle.stl_types.specs.Operands.{takes, rule_of, rule_seen, operand_rule, statement_rule}
+use Rattle.stl_types.specs.Operands.{rule_of, rule_seen, operand_rule, statement_rule}
 use Rattle.stl_types.specs.Resolved.{seen_view, resolved}
 use Rattle.stl_types.specs.Seen.{target_view, symbol_seen, path_seen, direct_seen, opened_seen, called_seen, instance_number, whole_block as whole_called, seen}
 use Rattle.stl_types.specs.Variables.{date_or_composite, composite, in_area, parameter, parameter_index, parameter_at, is_temporary, own_elementary, own_at, own_walked, data_at, data_walked, data_path}
