@@ -17,7 +17,7 @@ pub fn capped_decimal(digits: &[u8], cap: u64) -> u64
 }
 
 /// Whether each of these bytes is a decimal digit.
-pub fn are_digits(bytes: &[u8]) -> bool
+fn are_digits(bytes: &[u8]) -> bool
     ensures { result ≡ list_all is_ascii_digit bytes.now }
 {
     bytes.iter().all(|byte| byte.is_ascii_digit())
