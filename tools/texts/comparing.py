@@ -45,7 +45,7 @@ def lines_of_differences(old, new, symbols):
     for signal in signals:
         differing = differences(old_values[signal], new_values[signal])
         found += [(begin, end, str(signal), signal.shown(one), signal.shown(other)) for begin, end, one, other in differing]
-    modes = differences(modes_by_time(old.happened), modes_by_time(new.happened))
+    modes = differences(*(modes_by_time(it.happened, it.run.mode) for it in (old, new)))
     found += [(begin, end, "the mode", one, other) for begin, end, one, other in modes]
     for begin, end, what, one, other in sorted(found, key=lambda it: it[0]):
         until = time_text(end) if end is not None else "the end"

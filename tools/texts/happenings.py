@@ -120,10 +120,13 @@ def values_by_time(happened, signals):
     return {signal: without_repeats(by_time) for signal, by_time in values.items()}
 
 
-def modes_by_time(happened):
-    """The mode at the end of each millisecond in which it has changed, without the place; from 0 on, where it isn't told."""
-    modes = {0: "as at the start"}
-    modes.update((it.time, it.mode) for it in happened.list if isinstance(it, Event) and it.mode)
+def modes_by_time(happened, at_end="RUN"):
+    """The mode at the end of each millisecond in which it has changed, without the place; from 0 on. A run tells the one that
+    it begins with by the change to RUN, which follows STARTUP alone; where it tells no change that is the one at the end."""
+    told = [it for it in happened.list if isinstance(it, Event) and it.mode]
+    first = told[0].mode if told else at_end
+    modes = {0: ("STARTUP" if first == "RUN" else "RUN") if told else first}
+    modes.update((it.time, it.mode) for it in told)
     return without_repeats(modes)
 
 

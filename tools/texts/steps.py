@@ -13,6 +13,21 @@ SETTING = re.compile(r'("[^"]+"|[A-Za-z]+\s*[0-9.]+)\s+(\S+)')
 ARRIVAL = re.compile(r"OB\s*([0-9]+)(?:\s+(?:DW#)?16#([0-9A-Fa-f]{1,8}))?", re.IGNORECASE)
 
 
+class Cycles(NamedTuple):
+    """So many whole cycles at least, and how many steps surely hold one: 0 where no line has said it yet."""
+
+    count: int
+    steps: int
+
+
+class Part(NamedTuple):
+    """A line of a person, and what it stands for: lines of a history, and cycles."""
+
+    line: int
+    text: str
+    entries: list
+
+
 class Sizes(NamedTuple):
     """How many steps surely hold a whole cycle, 0 where no line has said it yet, and the longest tick of a wait."""
 
@@ -38,18 +53,17 @@ def count_of(text, most, what):
 
 
 class Writer:
-    """Writes the entries of lines one after the other, and knows the inputs, the sizes and the steps so far."""
+    """Tells what lines stand for, one after the other, and knows the inputs, the sizes and the time so far."""
 
     def __init__(self, symbols):
         self.symbols = symbols
         self.inputs = {}
         self.sizes = Sizes()
         self.time = 0
-        self.steps = 0
         self.is_settled = False
 
-    def lines_by(self, text):
-        """The lines of the history that a line of a person stands for."""
+    def entries_by(self, text):
+        """The lines of a history, and the cycles, that a line of a person stands for."""
         words = text.split(None, 1)
         kind, rest = words[0], (words[1:] or [""])[0].strip()
         if kind == "cycle":
@@ -74,11 +88,8 @@ class Writer:
         raise Refused(f"this line says nothing that is known: {text}")
 
     def cycles(self, count):
-        if not self.sizes.cycle:
-            raise Refused("how many steps a cycle takes isn't said: a line as `cycle 5000` above this one says it")
-        self.add_steps(count * self.sizes.cycle)
         self.is_settled = True
-        return [f"step {count * self.sizes.cycle}"]
+        return [Cycles(count, self.sizes.cycle)]
 
     def wait(self, length):
         """Ticks with a cycle in front of the first, behind the last, and between them: what changed before is seen at
@@ -102,9 +113,7 @@ class Writer:
         item = item_of(0, text)
         if isinstance(item, str):
             raise Refused(f"{item}: {text}")
-        if item.kind == "step":
-            self.add_steps(item.count)
-        elif item.kind == "in":
+        if item.kind == "in":
             self.inputs[item.number] = item.value
         elif item.kind == "tick":
             self.time += item.number
@@ -120,11 +129,6 @@ class Writer:
         self.is_settled = False
         return [f"in {byte} {written[byte]:02X}" for byte in sorted(written)]
 
-    def add_steps(self, count):
-        self.steps += count
-        if self.steps > MOST_STEPS:
-            raise Refused(f"up to here the history has {self.steps:,} steps, and it may have {MOST_STEPS:,}: take less time, or a smaller `cycle`")
-
 
 def uncommented(line):
     """A line without its comment, which begins with // outside of a quoted name."""
@@ -132,16 +136,40 @@ def uncommented(line):
     return (comment[1] if comment else line).strip()
 
 
-def history_of(path, text, symbols):
-    """The history that the lines stand for, with each line as a comment over its entries."""
-    writer, history = Writer(symbols), []
+def parts_of(path, text, symbols):
+    """What each line that isn't empty stands for."""
+    writer, parts = Writer(symbols), []
     for number, line in lines_of(text):
         said = uncommented(line)
         try:
-            lines = writer.lines_by(said) if said else []
+            entries = writer.entries_by(said) if said else []
         except Refused as refusal:
             raise Refused(f"{path}, line {number}: {refusal}") from None
         if line.strip():
-            history.append(line.strip() if line.strip().startswith("//") else f"// {line.strip()}")
-        history += lines
+            parts.append(Part(number, line.strip(), entries))
+    return parts
+
+
+def history_of(path, parts):
+    """The history that the parts stand for, with cycles by their steps, and each line as a comment over its entries."""
+    history, steps = [], 0
+    for part in parts:
+        history.append(part.text if part.text.startswith("//") else f"// {part.text}")
+        for entry in part.entries:
+            if isinstance(entry, Cycles) and not entry.steps:
+                raise Refused(f"{path}, line {part.line}: how many steps a cycle takes isn't said: a line as `cycle 5000` above this one says it")
+            line = f"step {entry.count * entry.steps}" if isinstance(entry, Cycles) else entry
+            steps += steps_of(line)
+            if steps > MOST_STEPS:
+                raise Refused(
+                    f"{path}, line {part.line}: up to here the history has {steps:,} steps, and it may have {MOST_STEPS:,}: "
+                    "take less time, or a smaller `cycle`"
+                )
+            history.append(line)
     return "".join(line + "\n" for line in history)
+
+
+def steps_of(line):
+    """How many steps a right line of a history is."""
+    words = line.split()
+    return int((words[1:] or ["1"])[0]) if words[0] == "step" else 0

@@ -1,11 +1,13 @@
 """A symbols file (docs/FORMATS.md, "Symbols file"): the names of inputs and outputs."""
 import csv
+import re
 from typing import NamedTuple
 
 from texts.operands import Operand, operand_of
 from texts.tool import Refused, lines_of, on_one_line, read_text
 
 BYTE_ORDER_MARK = "\ufeff"
+BLOCK = re.compile(r"[ \t]*(OB|FB|FC|SFC|DB|UDT)[ \t]*([0-9]{1,9})")
 
 
 class Signal(NamedTuple):
@@ -51,20 +53,25 @@ def same_place(one, other):
     return one._replace(is_peripheral=False) == other._replace(is_peripheral=False)
 
 
-def read_symbols(path):
-    """The symbols of a file; without one there are none. A line that isn't four fields refuses the file, as it does in
-    the program (rule 14); the other rules are the program's to judge."""
-    if path is None:
-        return Symbols()
-    signals = []
-    for number, line in lines_of(read_text(path)):
+def records(path):
+    """Name, address and type of each line of a file; without one there are none. A line that isn't four fields refuses the
+    file, as it does in the program (rule 14); the other rules are the program's to judge."""
+    for number, line in lines_of(read_text(path)) if path else []:
         if not line:
             continue
         fields = next(csv.reader([line.lstrip(BYTE_ORDER_MARK)]), [])
         if len(fields) != 4:
             raise Refused(f"{path}, line {number}: a symbol has four fields: name, address, type, comment")
-        name, address, type_name = (field.rstrip(" \t") for field in fields[:3])
-        operand = operand_of(address)
-        if operand:
-            signals.append(Signal(operand, name, type_name))
-    return Symbols(signals)
+        yield tuple(field.rstrip(" \t") for field in fields[:3])
+
+
+def read_symbols(path):
+    """The symbols of a file that name inputs and outputs."""
+    operands = ((operand_of(address), name, type_name) for name, address, type_name in records(path))
+    return Symbols(Signal(*it) for it in operands if it[0])
+
+
+def read_blocks(path):
+    """The symbols of a file that name blocks: the blocks, as OB 1, by their folded names."""
+    addresses = ((folded(name), BLOCK.fullmatch(address)) for name, address, _ in records(path))
+    return {name: f"{block[1]} {int(block[2])}" for name, block in addresses if block}
