@@ -115,7 +115,7 @@ class Comparisons(ToolTest):
 
     def test_lines_of_steps(self):
         self.write("steps", "in 0 01\nstep 20\n")
-        self.expect_refused("steps, line 2: both programs are given the same cycles here", "compare", "old", "old", "steps")
+        self.expect_refused("steps, line 2: whole cycles are counted here, so `step 20` says nothing", "compare", "old", "old", "steps")
 
     def test_a_shorter_time(self):
         self.write("new", DELAY.replace("200MS", "100MS"))

@@ -65,6 +65,35 @@ class Histories(ToolTest):
             "history", "steps", "--symbols", "symbols",
         )
 
+    def test_cycles_are_measured(self):
+        # the cycle point, three statements and the end of OB 1; then a call with two statements and an end more
+        self.write("source", "ORGANIZATION_BLOCK OB 1\nBEGIN\nA I 0.0;\nAN I 0.1;\n= Q 4.0;\nEND_ORGANIZATION_BLOCK\n")
+        self.write("steps", "I 0.0 1\nwait 100ms\n")
+        told = "// cycle {}: the longest of 4 cycles of source had {} steps\n// I 0.0 1\nin 0 01\n// wait 100ms\nstep {}\ntick 100\nstep {}\n"
+        self.expect(0, told.format(10, 5, 10, 10), "history", "steps", "--source", "source")
+        function = "FUNCTION FC 1 : VOID\nBEGIN\nNOP 0;\nNOP 1;\nEND_FUNCTION\n"
+        self.write("source", self.read("source").replace("= Q", "UC FC 1;\n= Q") + function)
+        self.expect(0, told.format(18, 9, 18, 18), "history", "steps", "--source", "source")
+        # with interrupts there is room for each statement once more: eight of them
+        self.write("source", self.read("source") + "ORGANIZATION_BLOCK OB 40\nBEGIN\nNOP 0;\nNOP 0;\nEND_ORGANIZATION_BLOCK\n")
+        self.expect(0, told.format(26, 9, 26, 26), "history", "steps", "--source", "source")
+
+    def test_a_cycle_that_is_too_small(self):
+        self.write("source", "ORGANIZATION_BLOCK OB 1\nBEGIN\nA I 0.0;\nAN I 0.1;\n= Q 4.0;\nEND_ORGANIZATION_BLOCK\n")
+        self.write("steps", "cycle 9\nwait 100ms\n")
+        said = "steps, line 2: the `cycle` above this line is too small: a cycle has 5 steps here, so say `cycle 10`"
+        self.expect_refused(said, "history", "steps", "--source", "source")
+        self.write("steps", "cycle 20\ncycles 1\n")
+        answer = self.call("history", "steps", "--source", "source")
+        self.assertTrue(answer.stdout.endswith("// cycle 20\n// cycles 1\nstep 20\n"), answer.stdout)
+        self.write("steps", "I 0.0 1\n")
+        self.expect_refused("source ends no cycle along steps", "history", "steps", "--source", "source")
+        self.write("steps", "step 20\n")
+        self.expect_refused("line 1: whole cycles are counted here, so `step 20` says nothing", "history", "steps", "--source", "source")
+        self.write("wrong", "nothing\n")
+        self.write("steps", "wait 1s\n")
+        self.assertIn("wrong: source refused: line 1", self.call("history", "steps", "--source", "wrong").stderr)
+
     def test_refusals(self):
         self.write("symbols", SYMBOLS)
         for lines, said in (

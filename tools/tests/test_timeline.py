@@ -35,6 +35,11 @@ class Timelines(ToolTest):
             "timeline", "run", "history", *NAMES,
         )
 
+    def test_a_time_error(self):
+        self.write("run", RUN.replace("STOP 8", "STOP 9"))
+        said = "0.150 s  STOP 9 at OB 1 LINE 3 (is `cycle` in the steps too small? docs/FORMATS.md has every reason of cause 9)\n"
+        self.assertIn(said, self.call("timeline", "run", "history").stdout)
+
     def test_without_symbols_bits_are_shown(self):
         answer = self.call("timeline", "run", "history")
         self.assertIn("0.100 s  Q 6.7 0 -> 1\n", answer.stdout)

@@ -58,11 +58,17 @@ class Sizes(NamedTuple):
 
 
 class Measured(NamedTuple):
-    """A run by whole cycles: its history, the run without the gate's output, and the steps of each cycle."""
+    """A run by whole cycles: its history, the run without the gate's output, the steps of each cycle without the gate's, and the
+    statements of the source where it has interrupts, else 0."""
 
     history: str
     run: Run
     cycles: list
+    interrupting: int
+
+    def enough(self):
+        """Steps that hold the rest of a cycle and a whole one, and each statement that interrupts may have, if none is in a loop."""
+        return 2 * max(self.cycles) + self.interrupting
 
 
 def free_gate(texts, parts):
@@ -140,8 +146,8 @@ def script_of(path, parts, gate, sizes, has_interrupts):
             if not isinstance(entry, Cycles):
                 if steps_of(entry):
                     raise Refused(
-                        f"{path}, line {part.line}: both programs are given the same cycles here, so `{entry}` says nothing: "
-                        "write `wait 2s` or `cycles 3` (tools/history --help) in place of steps"
+                        f"{path}, line {part.line}: whole cycles are counted here, so `{entry}` says nothing: "
+                        "write `wait 2s` or `cycles 3` in its place (tools/history --help)"
                     )
                 script.add(entry)
                 is_open = True
@@ -222,7 +228,7 @@ def run_by_cycles(source_path, symbols_path, steps_path, parts, gate):
             run = run_of(source_path, path, symbols_path, text, os.path.join(room, "history"))
             cycles, failed = check(run, gate, written.openings)
             if failed is None:
-                return Measured(text, without_gate(run, gate), cycles)
+                return Measured(text, without_gate(run, gate), cycles, source.count(b";") if heads.has_others else 0)
             if not pace.grow(failed):
                 raise Refused(
                     f"{source_path}: of the cycles of {steps_path}, line {written.openings[failed].line}, one doesn't end within "

@@ -150,6 +150,19 @@ def parts_of(path, text, symbols):
     return parts
 
 
+def with_steps(path, parts, longest, enough):
+    """The parts with so many steps for a cycle where none are said. Those that are said are refused where they can't surely hold
+    a whole cycle, of which the longest has `longest`."""
+    for part in parts:
+        if any(isinstance(entry, Cycles) and 0 < entry.steps < 2 * longest for entry in part.entries):
+            raise Refused(
+                f"{path}, line {part.line}: the `cycle` above this line is too small: a cycle has {longest:,} steps here, so say "
+                f"`cycle {enough}`, or leave that line out"
+            )
+    sized = [[it._replace(steps=it.steps or enough) if isinstance(it, Cycles) else it for it in part.entries] for part in parts]
+    return [part._replace(entries=entries) for part, entries in zip(parts, sized)]
+
+
 def history_of(path, parts):
     """The history that the parts stand for, with cycles by their steps, and each line as a comment over its entries."""
     history, steps = [], 0
@@ -157,7 +170,7 @@ def history_of(path, parts):
         history.append(part.text if part.text.startswith("//") else f"// {part.text}")
         for entry in part.entries:
             if isinstance(entry, Cycles) and not entry.steps:
-                raise Refused(f"{path}, line {part.line}: how many steps a cycle takes isn't said: a line as `cycle 5000` above this one says it")
+                raise Refused(f"{path}, line {part.line}: how many steps a cycle takes isn't said: a line as `cycle 5000` above this one says it, or --source measures it")
             line = f"step {entry.count * entry.steps}" if isinstance(entry, Cycles) else entry
             steps += steps_of(line)
             if steps > MOST_STEPS:

@@ -6,6 +6,9 @@ def time_text(milliseconds):
     return f"{milliseconds // 1000}.{milliseconds % 1000:03d} s"
 
 
+HINTS = {"STOP 9": " (is `cycle` in the steps too small? docs/FORMATS.md has every reason of cause 9)"}
+
+
 def lines_of_run(happened, run, signals):
     """One line for each change of a signal and each event, by time, and how it ended with the data blocks."""
     width = len(time_text(happened.length))
@@ -15,7 +18,7 @@ def lines_of_run(happened, run, signals):
 
     for it, changed in replayed(happened, signals):
         if isinstance(it, Event):
-            yield line(it.time, it.text)
+            yield line(it.time, it.text + HINTS.get(it.mode, ""))
         for signal, old, new in changed:
             yield line(it.time, f"{signal} {signal.shown(old)} -> {signal.shown(new)}")
     yield line(happened.length, f"the end, in {run.mode}, after {run.entries:,} entries")
