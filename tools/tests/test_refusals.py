@@ -112,10 +112,10 @@ class Refusals(ToolTest):
     def test_symbols(self):
         self.write("symbols", "Go,I 0.8,BOOL,\nStop,I 0.1,BOOL\nLamp,Q 4.0,BOOL,\nLAMP,Q 4.1,BOOL,\n")
         source = 'ORGANIZATION_BLOCK OB 1\nBEGIN\nA "Go";\nA "Halt";\n= "Lamp";\nEND_ORGANIZATION_BLOCK\n'
-        self.assertEqual(
-            self.found(source, "symbols"),
-            [("symbols", 1, 15, 0), ("symbols", 2, 14, 0), ("symbols", 4, 16, 0), ("source", 3, 20, 1), ("source", 4, 20, 0)],
-        )
+        expected = [("symbols", 1, 15, 0), ("symbols", 2, 14, 0), ("symbols", 4, 16, 0), ("source", 3, 20, 1), ("source", 4, 20, 0)]
+        self.assertEqual(self.found(source, "symbols"), expected)
+        self.assertEqual(self.found(source, "--symbols", "symbols"), expected)
+        self.expect_refused("symbols are named twice", "refusals", "source", "symbols", "--symbols", "symbols")
 
     def test_windows_line_ends_and_code_page(self):
         source = TOKENS.replace("\n", "\r\n").encode() + b"// F\xf6rderband\r\n"

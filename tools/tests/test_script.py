@@ -66,9 +66,10 @@ class ScriptTest(ToolTest):
         path.write_text(text, encoding="utf-8")
         path.chmod(0o755)
 
-    def run_script(self, script, *words, explain="1", **how):
+    def run_script(self, script, *words, explain="1", named=None, **how):
         how = {"stdin": subprocess.DEVNULL, "stdout": subprocess.PIPE, "cwd": self.folder, **how}
         environment = {"PATH": str(self.bin), "HOME": os.environ.get("HOME", "/"), "S7_EXPLAIN": explain}
+        environment.update({"S7": named} if named is not None else {})
         return subprocess.run([script, *words], env=environment, stderr=subprocess.PIPE, text=True, **how)
 
     def s7(self, *words, **how):
@@ -246,6 +247,19 @@ class Proved(ScriptTest):
         answer = self.s7("check", "source", explain="0")
         self.assertEqual((answer.returncode, answer.stdout, answer.stderr), (2, "source refused: line 1 rule 10\n", ""))
         self.assertEqual(self.calls(), 1)
+
+    def test_another_program_may_be_named(self):
+        self.executable(self.folder / "other" / "s7", PROGRAM)
+        for name, text in (("answer", "other\n"), ("status", "0\n")):
+            (self.folder / "other" / name).write_text(text, encoding="utf-8")
+        self.assertEqual(self.s7("go", named="other/s7").stdout, "other\n")
+        # the script itself is no other one
+        for itself in ("", str(self.top / "s7"), "repository/s7"):
+            self.assertEqual(self.s7("go", named=itself).stdout, "OK\n")
+        for nothing in ("nowhere", "other", "source"):
+            answer = self.s7("go", named=nothing)
+            self.assertEqual((answer.returncode, answer.stdout), (70, ""))
+            self.assertEqual(answer.stderr, f"s7: {nothing}, which S7 names, is no program\n")
 
     def test_a_program_that_is_out_of_date_answers_no_more(self):
         later = time.time() + 10

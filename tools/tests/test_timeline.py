@@ -80,6 +80,21 @@ class Timelines(ToolTest):
         self.expect(0, "", "timeline", "run", "history", "--vcd", "dump")
         self.assertTrue(self.read("dump").endswith("#0\n0!\n#1\n1!\n"), self.read("dump"))
 
+    def test_a_pulse_within_a_millisecond(self):
+        # Q 0.0 is 1 for some entries and 0 again, Q 0.1 changes three times and stays 1; the axis holds 10 ms and 1 more
+        self.write("history", "tick 5\nstep 4\ntick 5\n")
+        self.write("run", "@2 PQ 0 = 03\n@3 PQ 0 = 00\n@4 PQ 0 = 02\nEND 6 RUN\n")
+        self.expect(0, "", "timeline", "run", "history", "--svg", "picture", "--signals", "Q 0.0,Q 0.1")
+        pulses = re.findall(r'<path class="output" style="stroke-width: 1" d="M([0-9.]+),(\d+) V(\d+)"/>', self.read("picture"))
+        left = 16 + round(5 * 7.85) + 14
+        self.assertEqual(pulses, [(str(round(left + (944 - left) * 5 / 11, 1)), "24", "44")])
+
+    def test_entries(self):
+        self.write("history", "tick 5\nstep 4\ntick 5\n")
+        self.write("run", "@2 PQ 0 = 01\n@3 PQ 0 = 00\n@4 MODE STOP 1 AT OB 1 LINE 2\nEND 6 STOP 1\n")
+        lines = ["0.005 s  @2  Q 0.0 0 -> 1", "0.005 s  @3  Q 0.0 1 -> 0", "0.005 s  @4  STOP 1 at OB 1 LINE 2", "0.010 s  @6  the end, in STOP 1, after 6 entries"]
+        self.expect(0, "".join(line + "\n" for line in lines), "timeline", "run", "history", "--entries")
+
     def test_diagram(self):
         self.expect(0, "", "timeline", "run", "history", *NAMES, "--svg", "picture", "--signals", "Start,Speed", "--title", "Fast & slow")
         tree = xml.etree.ElementTree.fromstring(self.read("picture"))

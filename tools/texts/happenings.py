@@ -120,6 +120,19 @@ def values_by_time(happened, signals):
     return {signal: without_repeats(by_time) for signal, by_time in values.items()}
 
 
+def pulses_by_time(happened, signals):
+    """For each signal the milliseconds in which it has changed and at whose end it is what it was before."""
+    before, pulses = {}, {signal: [] for signal in signals}
+    for it, changed in replayed(happened, signals):
+        for signal, old, new in changed:
+            began = before.setdefault((signal, it.time), old)
+            if new == began:
+                pulses[signal].append(it.time)
+            elif pulses[signal][-1:] == [it.time]:
+                pulses[signal].pop()
+    return pulses
+
+
 def modes_by_time(happened, at_end="RUN"):
     """The mode at the end of each millisecond in which it has changed, without the place; from 0 on. A run tells the one that
     it begins with by the change to RUN, which follows STARTUP alone; where it tells no change that is the one at the end."""

@@ -8,6 +8,9 @@ BYTES_BY_LETTER = {"": 0, "B": 1, "W": 2, "D": 4}
 SPELLED = re.compile(r"(PI|PQ|I|Q)\s*([BWD]?)\s*(\d{1,5})(?:\.([0-7]))?", re.IGNORECASE)
 IMAGE_BYTES = range(0, 128)
 PERIPHERAL_BYTES = (*range(0, 128), *range(256, 768))
+BITS = {"0": 0, "1": 1, "FALSE": 0, "TRUE": 1, "2#0": 0, "2#1": 1, "16#0": 0, "16#1": 1}
+NEARLY = re.compile(r"(P?)(E|A|I|Q|M|T|C|Z|DB|DI|L)\s*([BWDX]?)\s*([0-9]+)(?:\.(?:D[BI][BWDX])?\s*([0-9]*)[.0-9]*)?", re.IGNORECASE)
+GERMAN = {"E": "I", "A": "Q"}
 SIGNED_TYPES = ("INT", "DINT", "TIME")
 
 
@@ -70,20 +73,40 @@ def operand_of(text):
     return operand if all(byte in there for byte in operand.bytes()) else None
 
 
+def hint_for(text):
+    """What is wrong with a text that looks like an operand and isn't one of inputs or outputs, or nothing."""
+    match = NEARLY.fullmatch(text.strip())
+    if not match:
+        return ""
+    peripheral, area, letter, byte, bit = match.groups()
+    area = area.upper()
+    if area in GERMAN:
+        return f"{area} is a German address, the English one begins with {peripheral.upper()}{GERMAN[area]}"
+    if area not in ("I", "Q"):
+        return "only inputs come from outside, and only inputs and outputs are shown"
+    if bit and int(bit) > 7:
+        return "bits are 0 to 7"
+    if peripheral:
+        return "peripheral places are bytes, words and double words among the bytes 0 to 127 and 256 to 767"
+    return "the bytes are 0 to 127" if bit or letter else "a bit has two numbers, as I 0.1"
+
+
 def value_of(text, operand):
     """The number that a text spells for an operand: `1`, `-5`, `16#07`, `W#16#0007`, `2#101`, TRUE or FALSE."""
     word = text.strip().upper().replace("_", "")
+    if operand.size == 0 and word not in BITS:
+        raise Refused(f"{text} is no value of {operand}: a bit is 0 or 1")
     based = re.fullmatch(r"(?:(?:B|BYTE|W|WORD|DW|DWORD)#)?(16|2)#([0-9A-F]+)", word)
     try:
-        if based:
+        if operand.size == 0:
+            value = BITS[word]
+        elif based:
             value = int(based[2], int(based[1]))
-        elif operand.size == 0 and word in ("TRUE", "FALSE"):
-            value = int(word == "TRUE")
         else:
             value = int(re.fullmatch(r"[+-]?[0-9]+", word)[0])
     except (TypeError, ValueError):
         raise Refused(f"{text} is no value: 1, -5, 16#07 or 2#101 is one") from None
-    least = -(1 << (operand.bits() - 1)) if operand.size else 0
+    least = -(1 << operand.bits()) // 2
     if not least <= value < 1 << operand.bits():
         raise Refused(f"{text} doesn't fit into {operand}, which has {operand.bits()} bits")
     return value % (1 << operand.bits())

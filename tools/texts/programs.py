@@ -23,7 +23,7 @@ def program():
         return os.path.abspath(path)
     if named:
         raise Refused(f"{path}, which S7 names, is no program")
-    raise Refused("no proved program is built: ./build makes it, and with S7=./s7 each call is answered without the proof, in minutes")
+    raise Refused("no proved program is built: ./build makes it, and with S7=./s7 each call is answered without the proof, in about two minutes")
 
 
 def call(*words):

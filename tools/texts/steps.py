@@ -10,6 +10,8 @@ LONGEST_WAIT = 100
 UNITS = {"ms": 1, "s": 1000, "m": 60_000, "min": 60_000, "h": 3_600_000}
 COMMENT = re.compile(r'((?:[^"/]|"[^"]*"|/(?!/))*)//')
 SETTING = re.compile(r'("[^"]+"|[A-Za-z]+\s*[0-9.]+)\s+(\S+)')
+UNQUOTED = re.compile(r'([^"]+?)\s+([0-9+-]\S*|TRUE|FALSE)', re.IGNORECASE)
+WORDS = ("cycle", "cycles", "wait", "ticks", "ob", "step", "in", "arrive", "tick")
 ARRIVAL = re.compile(r"OB\s*([0-9]+)(?:\s+(?:DW#)?16#([0-9A-Fa-f]{1,8}))?", re.IGNORECASE)
 
 
@@ -85,6 +87,9 @@ class Writer:
         setting = SETTING.fullmatch(text)
         if setting:
             return self.inputs_by(setting[1], setting[2])
+        unquoted = UNQUOTED.fullmatch(text)
+        if unquoted and kind.lower() not in WORDS:
+            raise Refused(f'this line says nothing that is known: {text}; symbols stand in quotes: "{unquoted[1]}" {unquoted[2]}')
         raise Refused(f"this line says nothing that is known: {text}")
 
     def cycles(self, count):

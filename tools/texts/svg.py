@@ -5,7 +5,7 @@ reader asks for that.
 """
 from xml.sax.saxutils import escape
 
-from texts.happenings import modes_by_time, values_by_time
+from texts.happenings import modes_by_time, pulses_by_time, values_by_time
 from texts.tool import Refused
 
 WIDTH = 960
@@ -68,9 +68,10 @@ def spans(values, end):
     return [(begin, until, value) for (begin, value), until in zip(values, times)]
 
 
-def bit_row(values, scale, top, kind):
-    """A line that is high where the bit is 1, over a shade."""
+def bit_row(values, pulses, scale, top, kind):
+    """A line that is high where the bit is 1, over a shade, and a thin mark where it was another one within a millisecond."""
     shapes, path = [], ""
+    shapes += [f'<path class="{kind}" style="stroke-width: 1" d="M{scale.x(time)},{top + HIGH} V{top + LOW}"/>' for time in pulses]
     for begin, until, value in spans(values, scale.end):
         left, right, level = scale.x(begin), scale.x(until), top + (HIGH if value else LOW)
         if value:
@@ -119,7 +120,7 @@ def diagram(happened, signals, title=""):
         x = scale.x(time)
         shapes.append(f'<path class="grid" d="M{x},{top} V{bottom + 4}"/>')
         shapes.append(f'<text class="time" x="{x}" y="{bottom + 20}" text-anchor="middle">{seconds(time)}</text>')
-    values_of = values_by_time(happened, signals)
+    values_of, pulses_of = values_by_time(happened, signals), pulses_by_time(happened, signals)
     for number, (signal, label) in enumerate(zip(signals, labels)):
         row, kind, values = top + ROW * number, "output" if signal.operand.is_output else "input", values_of[signal]
         shapes.append(f'<text x="{MARGIN}" y="{row + LOW - 5}">{escape(label)}</text>')
@@ -127,7 +128,7 @@ def diagram(happened, signals, title=""):
             shapes += number_row(values, scale, row, kind, signal.shown)
         else:
             shapes.append(f'<path class="rest" d="M{scale.left},{row + LOW} H{scale.right}"/>')
-            shapes += bit_row(values, scale, row, kind)
+            shapes += bit_row(values, pulses_of[signal], scale, row, kind)
     for time, mode in stops:
         x = scale.x(time)
         shapes.append(f'<path class="stop" d="M{x},{top} V{bottom + 6}"/>')

@@ -3,7 +3,7 @@ import csv
 import re
 from typing import NamedTuple
 
-from texts.operands import Operand, operand_of
+from texts.operands import Operand, hint_for, operand_of
 from texts.tool import Refused, lines_of, on_one_line, read_text
 
 BYTE_ORDER_MARK = "\ufeff"
@@ -40,7 +40,8 @@ class Symbols:
         if len(name) > 1 and name[0] == name[-1] == '"':
             name = name[1:-1]
         if folded(name) not in self.by_name:
-            raise Refused(f"{text} is neither an input or output, as I 0.1 or QW 4, nor a symbol of one")
+            hint = hint_for(text)
+            raise Refused(f"{text} is neither an input or output, as I 0.1 or QW 4, nor a symbol of one{': ' * bool(hint)}{hint}")
         return self.by_name[folded(name)]
 
 
