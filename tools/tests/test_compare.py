@@ -109,6 +109,14 @@ class Comparisons(ToolTest):
         self.write("new", HEAD + "L 7;\nT QB 4;\n" + END)
         self.expect(0, "no difference\n", "compare", "old", "new", "steps")
 
+    def test_peripheral_bytes_that_the_sources_name(self):
+        self.write("old", HEAD + "L PIW 766;\nT PQW 766;\n" + END)
+        self.write("new", HEAD + "L PIW 766;\n+ 1;\nT PQW 766;\n" + END)
+        self.write("steps", "PIW 766 5\nwait 100ms\n")
+        self.expect(1, "0.000 s to the end  PQB 767: old 16#05, new 16#06\n", "compare", "old", "new", "steps")
+        self.write("new", HEAD + "".join(f"L PID {byte};\nT PQD {byte};\n" for byte in range(256, 768, 4)) + END)
+        self.expect_refused("one has to be free to tell where a cycle ends", "compare", "old", "new", "steps")
+
     def test_a_cycle_without_end(self):
         self.write("new", HEAD + "n: AN I 0.7;\nJC n;\n" + END)
         self.expect_refused("new: of the cycles of steps, line 2, one doesn't end within 100,000 steps", "compare", "old", "new", "steps")

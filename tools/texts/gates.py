@@ -22,13 +22,13 @@ from texts.tool import Refused
 # INC makes ACCU 1 of 0 the 1 that shows. LOOP takes 1 from what was read and goes back unless that gives 0, and touches no bit of
 # the status word; PUSH then makes ACCU 2 a 0 as well.
 GATE = "INC 1; T PQB {output}; {label}: L PIB {input}; LOOP {label}; T PQB {output}; PUSH;"
-NAMED = re.compile(rb"\bP([IQ])([BWD])[ \t]*([0-9]{1,5})", re.IGNORECASE)
+NAMED = re.compile(rb"\bP([IQ])([BWD])\s*([0-9]{1,5})", re.IGNORECASE)
 LENGTHS = {b"B": 1, b"W": 2, b"D": 4}
 BYTES = range(767, 255, -1)
-# as long as it is open, the loop sees it in one of its rounds, and no cycle comes back to it: that takes seven steps
+# so many steps it is open: enough for the loop to see it wherever it is, and for one cycle alone to pass
 OPEN = 4
 LEAST, LARGEST = 20, 100_000
-# behind the one that waits at the gate already, whose inputs were read before they changed, a cycle with the new inputs
+# the cycle that waits at the gate has read its inputs already, so one more brings what has changed since
 BEHIND_STALE = 1
 
 
