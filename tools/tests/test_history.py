@@ -25,7 +25,7 @@ class Histories(ToolTest):
         self.assertEqual(self.entries('"START" 1', '"Speed" 1500', '"Lamp // left" 1'), ["in 0 01", "in 256 05", "in 257 DC", "in 7 80"])
 
     def test_cycles_are_steps(self):
-        self.assertEqual(self.entries("cycle 20", "cycles 3", "cycles", "cycle 7", "cycles 2"), ["step 60", "step 20", "step 14"])
+        self.assertEqual(self.entries("cycle 20", "cycles 3", "cycles", "Cycle 7", "CYCLES 2"), ["step 60", "step 20", "step 14"])
 
     def test_a_wait_is_ticks_with_cycles_around(self):
         self.assertEqual(
@@ -123,6 +123,10 @@ class Histories(ToolTest):
             ("ticks 200ms\n", "a number from 1 to 100"),
             ("OB 35\n", "OB 35 doesn't arrive"),
             ("step 0\n", "a number of steps is 1 to 1,000,000"),
+            ("DB10.DBX 0.0 1\n", "DB10.DBX 0.0 1; only inputs come from outside"),
+            ("I 0.0\n", "I 0.0; a value stands behind it"),
+            ('"Start"\n', '"Start"; a value stands behind it'),
+            ('"Start"=1\n', "tools/history --help has each kind of line"),
             ("press start\n", "line 1: this line says nothing that is known: press start"),
         ):
             self.expect_refused(said, "history", "-", "--symbols", "symbols", given=lines)

@@ -32,6 +32,14 @@ LEAST, LARGEST = 20, 100_000
 BEHIND_STALE = 1
 
 
+class Source(NamedTuple):
+    """A source that is read once, and the path of its symbols, or None."""
+
+    path: str
+    data: bytes
+    symbols: Optional[str]
+
+
 class Gate(NamedTuple):
     """The peripheral input byte that opens it, the output byte that is 1 at it, and the label of its loop."""
 
@@ -71,8 +79,13 @@ class Measured(NamedTuple):
         return 2 * max(self.cycles) + self.interrupting
 
 
-def free_gate(texts, parts):
-    """A gate of bytes that none of these texts names, nor the lines of a person."""
+def read_source(path, symbols):
+    return Source(path, tool.read_bytes(path), symbols)
+
+
+def free_gate(sources, parts):
+    """A gate of bytes that none of these sources names, nor their symbols, nor the lines of a person."""
+    texts = [it.data for it in sources] + [tool.read_bytes(it.symbols) for it in sources if it.symbols]
     taken = {b"I": set(), b"Q": set()}
     for text in texts:
         for area, width, number in NAMED.findall(text):
@@ -208,30 +221,29 @@ class Pace:
         return room > 0
 
 
-def run_by_cycles(source_path, symbols_path, steps_path, parts, gate):
+def run_by_cycles(source, steps_path, parts, gate):
     """The run of a source along the parts by whole cycles: as many in each place as for every other source."""
-    source = tool.read_bytes(source_path)
-    clauses = clauses_of(source)
-    heads = heads_of(clauses, read_blocks(symbols_path))
+    clauses = clauses_of(source.data)
+    heads = heads_of(clauses, read_blocks(source.symbols))
 
     def script(sizes):
         return script_of(steps_path, parts, gate, sizes, heads.has_others)
 
-    pace = Pace(source.count(b";") + LEAST, lambda sizes: script(sizes).steps)
+    pace = Pace(source.data.count(b";") + LEAST, lambda sizes: script(sizes).steps)
     with tempfile.TemporaryDirectory(prefix="s7-gate-") as room:
         path = os.path.join(room, "source")
         with open(path, "wb") as file:
-            file.write(with_gate(source, clauses, heads.cycle, gate))
+            file.write(with_gate(source.data, clauses, heads.cycle, gate))
         while True:
             written = script(pace.sizes)
             text = "".join(line + "\n" for line in written.lines)
-            run = run_of(source_path, path, symbols_path, text, os.path.join(room, "history"))
+            run = run_of(source, path, text, os.path.join(room, "history"))
             cycles, failed = check(run, gate, written.openings)
             if failed is None:
-                return Measured(text, without_gate(run, gate), cycles, source.count(b";") if heads.has_others else 0)
+                return Measured(text, without_gate(run, gate), cycles, source.data.count(b";") if heads.has_others else 0)
             if not pace.grow(failed):
                 raise Refused(
-                    f"{source_path}: of the cycles of {steps_path}, line {written.openings[failed].line}, one doesn't end within "
+                    f"{source.path}: of the cycles of {steps_path}, line {written.openings[failed].line}, one doesn't end within "
                     f"{pace.size(failed):,} steps, and there is no room for more: does a loop wait there, or is it too much time for "
                     f"{MOST_STEPS:,} steps in all?"
                 )
@@ -241,15 +253,15 @@ def without_gate(run, gate):
     return run._replace(shown=[it for it in run.shown if not (it.kind == "output" and it.byte == gate.output)])
 
 
-def run_of(source_path, path, symbols_path, history, history_path):
-    """The run of the source at `path`, which stands for that at `source_path`; one that is refused is told by the latter."""
+def run_of(source, path, history, history_path):
+    """The run of the file at `path`, which stands for the source; one that is refused is told by the source itself."""
     tool.write_text(history_path, history)
-    symbols = ["--symbols", symbols_path] if symbols_path else []
+    symbols = ["--symbols", source.symbols] if source.symbols else []
     answer = programs.call("go", path, history_path, *symbols)
     if answer.status:
-        words = ["check", source_path, *symbols]
+        words = ["check", source.path, *symbols]
         own = programs.call(*words)
         told = own if own.status else answer
         said = told.text.strip() or f"the program ended with status {told.status}"
-        raise Refused("\n".join([f"{source_path}: {said}", *explained(told, words)]))
-    return read_run(source_path, answer.text)
+        raise Refused("\n".join([f"{source.path}: {said}", *explained(told, words)]))
+    return read_run(source.path, answer.text)

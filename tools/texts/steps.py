@@ -3,7 +3,7 @@ import re
 from typing import NamedTuple
 
 from texts.histories import ARRIVING, MOST_STEPS, item_of
-from texts.operands import value_of
+from texts.operands import hint_for, operand_of, value_of
 from texts.tool import Refused, lines_of
 
 LONGEST_WAIT = 100
@@ -11,7 +11,7 @@ UNITS = {"ms": 1, "s": 1000, "m": 60_000, "min": 60_000, "h": 3_600_000}
 COMMENT = re.compile(r'((?:[^"/]|"[^"]*"|/(?!/))*)//')
 SETTING = re.compile(r'("[^"]+"|[A-Za-z]+\s*[0-9.]+)\s+(\S+)')
 UNQUOTED = re.compile(r'([^"]+?)\s+([0-9+-]\S*|TRUE|FALSE)', re.IGNORECASE)
-WORDS = ("cycle", "cycles", "wait", "ticks", "ob", "step", "in", "arrive", "tick")
+OWN_WORDS = ("cycle", "cycles", "wait", "ticks")
 ARRIVAL = re.compile(r"OB\s*([0-9]+)(?:\s+(?:DW#)?16#([0-9A-Fa-f]{1,8}))?", re.IGNORECASE)
 
 
@@ -50,8 +50,19 @@ def milliseconds_of(text):
 
 def count_of(text, most, what):
     if not re.fullmatch(r"[0-9]{1,9}", text) or not 1 <= int(text) <= most:
-        raise Refused(f"{what} is a number from 1 to {most:,}, not {text}")
+        raise Refused(f"{what} is a number from 1 to {most:,}, not {text or 'nothing'}")
     return int(text)
+
+
+def hint_on(text):
+    """What is perhaps meant by a line that says nothing that is known."""
+    unquoted = UNQUOTED.fullmatch(text)
+    if operand_of(text) or text.startswith('"') and text.endswith('"'):
+        return "; a value stands behind it, as in I 0.0 1"
+    if not unquoted:
+        return "; tools/history --help has each kind of line"
+    hint = hint_for(unquoted[1])
+    return f"; {hint}" if hint else f'; symbols stand in quotes: "{unquoted[1]}" {unquoted[2]}'
 
 
 class Writer:
@@ -68,6 +79,7 @@ class Writer:
         """The lines of a history, and the cycles, that a line of a person stands for."""
         words = text.split(None, 1)
         kind, rest = words[0], (words[1:] or [""])[0].strip()
+        kind = kind.lower() if kind.lower() in OWN_WORDS else kind
         if kind == "cycle":
             self.sizes = self.sizes._replace(cycle=count_of(rest, MOST_STEPS, "the steps of a cycle"))
             return []
@@ -87,10 +99,7 @@ class Writer:
         setting = SETTING.fullmatch(text)
         if setting:
             return self.inputs_by(setting[1], setting[2])
-        unquoted = UNQUOTED.fullmatch(text)
-        if unquoted and kind.lower() not in WORDS:
-            raise Refused(f'this line says nothing that is known: {text}; symbols stand in quotes: "{unquoted[1]}" {unquoted[2]}')
-        raise Refused(f"this line says nothing that is known: {text}")
+        raise Refused(f"this line says nothing that is known: {text}{hint_on(text)}")
 
     def cycles(self, count):
         self.is_settled = True
