@@ -153,7 +153,7 @@ class Script:
 
 def script_of(path, parts, gate, sizes, has_interrupts):
     """The script of the parts. Where a source has interrupts they may run before the gate is opened."""
-    script, is_open = Script(gate, sizes), True
+    script, is_settled = Script(gate, sizes), False
     for part in parts:
         for entry in part.entries:
             if not isinstance(entry, Cycles):
@@ -163,11 +163,11 @@ def script_of(path, parts, gate, sizes, has_interrupts):
                         "write `wait 2s` or `cycles 3` in its place (tools/history --help)"
                     )
                 script.add(entry)
-                is_open = True
+                is_settled = False
                 continue
-            if not script.openings or is_open and has_interrupts:
+            if not script.openings or has_interrupts and not is_settled:
                 script.settle()
-            is_open = False
+            is_settled = True
             for _ in range(entry.count + BEHIND_STALE):
                 script.open(part.line)
     return script
