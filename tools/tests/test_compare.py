@@ -116,6 +116,9 @@ class Comparisons(ToolTest):
         self.expect(1, "0.000 s to the end  PQB 767: old 16#05, new 16#06\n", "compare", "old", "new", "steps")
         self.write("new", HEAD + "".join(f"L PID {byte};\nT PQD {byte};\n" for byte in range(256, 768, 4)) + END)
         self.expect_refused("one has to be free to tell where a cycle ends", "compare", "old", "new", "steps")
+        # a pointer to byte 767 of the peripheral area
+        self.write("old", HEAD + "L DW#16#800017F8;\nLAR1;\nL 5;\nT B[AR1, P#0.0];\n" + END)
+        self.expect_refused("old writes PQB 767 by a pointer", "compare", "old", "old", "steps")
 
     def test_a_cycle_without_end(self):
         self.write("new", HEAD + "n: AN I 0.7;\nJC n;\n" + END)

@@ -173,16 +173,18 @@ def script_of(path, parts, gate, sizes, has_interrupts):
     return script
 
 
-def seen(run, gate):
+def seen(source, run, gate):
     """What the gate showed, as entries and whether a cycle stands at it, and the entry that stopped the controller, if one did."""
+    if any(it.value > 1 for it in run.shown if it.kind == "output" and it.byte == gate.output):
+        raise Refused(f"{source.path} writes PQB {gate.output} by a pointer, the byte that tells here where a cycle ends")
     shown = [(it.entry, it.value == 1) for it in run.shown if it.kind == "output" and it.byte == gate.output]
     stop = next((it.entry for it in run.shown if it.kind == "mode" and it.text.startswith("STOP")), None)
     return shown, stop
 
 
-def check(run, gate, openings):
+def check(source, run, gate, openings):
     """The steps of each cycle, and the number of the opening whose cycle hasn't ended in time, if there is one."""
-    shown, stop = seen(run, gate)
+    shown, stop = seen(source, run, gate)
     at, cycles, is_there = 0, [], False
     for number, opening in enumerate(openings):
         while at < len(shown) and shown[at][0] <= opening.entry:
@@ -238,7 +240,7 @@ def run_by_cycles(source, steps_path, parts, gate):
             written = script(pace.sizes)
             text = "".join(line + "\n" for line in written.lines)
             run = run_of(source, path, text, os.path.join(room, "history"))
-            cycles, failed = check(run, gate, written.openings)
+            cycles, failed = check(source, run, gate, written.openings)
             if failed is None:
                 return Measured(text, without_gate(run, gate), cycles, source.data.count(b";") if heads.has_others else 0)
             if not pace.grow(failed):
