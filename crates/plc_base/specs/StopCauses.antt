@@ -5,6 +5,10 @@ use Rattle.std.specs.Prelude.{ℕ}
 abbrev pub by_program : ℕ
 by_program = 1
 
+-- the operator stops the controller
+abbrev pub by_operator : ℕ
+by_operator = 2
+
 -- a synchronous error for which OB 121 isn't loaded
 abbrev pub no_ob_121 : ℕ
 no_ob_121 = 3

@@ -16,8 +16,8 @@ pub fn capped_decimal(digits: &[u8], cap: u64) -> u64
     value
 }
 
-/// Whether each of these bytes is a decimal digit.
-fn are_digits(bytes: &[u8]) -> bool
+/// Whether each of these bytes is a decimal digit of ASCII.
+pub fn are_digits(bytes: &[u8]) -> bool
     ensures { result ≡ list_all is_ascii_digit bytes.now }
 {
     bytes.iter().all(|byte| byte.is_ascii_digit())

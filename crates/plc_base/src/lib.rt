@@ -25,7 +25,7 @@ pub use bcd::{
 };
 pub use bits::has_bit;
 pub use blocks::{BlockId, BlockKind};
-pub use decimals::{capped_decimal, decimal_up_to};
+pub use decimals::{are_digits, capped_decimal, decimal_up_to};
 pub use faults::NoMemory;
 pub use flags::Flag;
 pub use instructions::{Check, Compare, TimerKind};

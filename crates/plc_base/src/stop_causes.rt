@@ -3,6 +3,9 @@
 /// The program stops the controller by SFC 46.
 pub const BY_PROGRAM: u8 = 1;
 
+/// The operator stops the controller.
+pub const BY_OPERATOR: u8 = 2;
+
 /// A synchronous error for which OB 121 isn't loaded.
 pub const NO_OB_121: u8 = 3;
 
