@@ -7,3 +7,5 @@ pub mod RequestLemmas
 pub mod EntryLineLemmas
 pub mod RoundTripLemmas
 pub mod WritingLemmas
+pub mod ReadingLemmas
+pub mod LineLemmas

@@ -1,6 +1,7 @@
 pub mod Workers
 pub mod Lines
 pub mod Texts
+pub mod LineEntries
 pub mod TextFault
 pub mod Written
 pub mod Regular

@@ -5,7 +5,11 @@ mod addresses;
 mod faults;
 mod kinds;
 pub mod laws;
+mod lines;
+mod texts;
 mod writing;
 
+pub use lines::MOST_STEPS;
 pub use faults::TextFault;
+pub use texts::{read_history, read_script, read_stimuli};
 pub use writing::write_runs;
