@@ -1,5 +1,5 @@
 -- What a text spells is valid.
-use Rattle.std.proofs.Common.{◌≡◌, ◌≤◌, ◌<◌, ◌*◌, ◌^◌, ℕ, suc, Bool, true, false, ◌&&◌, List, [], ◌∷◌, length, take, drop, map, reverse, Option, Some, None, Result, Ok, Err, refl, sym, ap, ◌∙◌, arith, bytes_eq, codes, subst}
+use Rattle.std.proofs.Common.{◌≡◌, ◌≤◌, ◌<◌, ◌^◌, ℕ, suc, Bool, true, false, ◌&&◌, List, [], ◌∷◌, length, take, drop, map, Option, Some, None, Ok, Err, refl, sym, ap, arith, bytes_eq, codes, subst}
 use Rattle.std.specs.Prelude.{IfOk, IfSome, ◌==◌, nat_le, if◌then◌else◌}
 use Rattle.std.specs.List.{list_all, slice_split}
 use Rattle.std.proofs.lemmas.Bool.{and_parts, le-leb, leb-true, eqb-true}
@@ -10,18 +10,17 @@ use Rattle.std.specs.Str.Parse.{AllDigits, digits_value}
 use Rattle.std.specs.Char.{digit_value, is_ascii_hexdigit}
 use Rattle.plc_base.specs.Decimal.{decimal_value, is_decimal}
 use Rattle.plc_base.specs.Kinds.{is_code}
-use Rattle.plc_base.specs.Widths.{bit_count, byte_count}
-use Rattle.plc_base.specs.declared.blocks.BlockKind.{BlockKind}
+use Rattle.plc_base.specs.Widths.{bit_count}
 use Rattle.plc_base.specs.declared.places.Area.{Area}
 use Rattle.plc_base.specs.declared.places.Place.{Place}
 use Rattle.plc_base.specs.declared.places.Width.{Width}
 use Rattle.plc_base.specs.declared.places.Width.TheVariants.{Bit, Byte, Word, Dword}
 use Rattle.var_access.specs.Entry.{has_bit, has_variables, is_var, IsRequest}
 use Rattle.var_access.specs.Readings.{Reading, address_number, all_read, both, first_word, hex_of, is_hex, number_in, reading_map, trim, words_of}
-use Rattle.var_access.specs.Requests.{few_vars, kind_of_word, monitor_of, monitor_on, one_word, parts_from, read_of, request_by, request_line, request_of, write_in, write_of, write_to}
-use Rattle.var_access.specs.Variables.{Names, area_of_letters, behind_letters, bit_number, bit_value, bit_var, block_bit, block_var, closed_name, db_width_of, is_point, is_quote, letters_of, named_var, symbol_var, two_parts, var_at, var_of, var_of_parts, wide_in, wide_of, wide_var, width_of_letters, width_value}
+use Rattle.var_access.specs.Requests.{few_vars, kind_of_word, monitor_of, monitor_on, one_word, parts_from, read_of, request_by, request_line, request_of, write_of, write_to}
+use Rattle.var_access.specs.Variables.{Names, area_of_letters, behind_letters, bit_number, bit_value, bit_var, block_bit, block_var, closed_name, db_width_of, is_point, is_quote, letters_of, named_var, two_parts, var_at, var_of, var_of_parts, wide_in, wide_of, wide_var, width_of_letters, width_value}
 use Rattle.var_access.specs.declared.requests.Request.{Request}
-use Rattle.var_access.specs.declared.requests.Request.TheVariants.{ReadVars, WriteVar, Stop, Restart, MonitorOn, MonitorOff, Diag}
+use Rattle.var_access.specs.declared.requests.Request.TheVariants.{ReadVars, WriteVar, Stop, Restart, MonitorOff, Diag}
 use Rattle.var_access.specs.declared.requests.Var.{Var}
 use Rattle.var_access.proofs.PartLemmas.{parts_some}
 
