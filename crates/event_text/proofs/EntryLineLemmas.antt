@@ -1,12 +1,12 @@
 -- The line of an entry, as it is written, is read as that entry.
-use Rattle.std.proofs.Common.{◌≡◌, ◌≤◌, ◌<◌, ◌+◌, ◌-◌, ◌^◌, ℕ, zero, suc, Bool, true, false, ◌&&◌, ◌||◌, cond, eqb, List, [], ◌∷◌, ◌++◌, length, replicate, Some, Ok, refl, ap, sym, ◌∙◌, arith, decimal, nat_le, nat_eq, codes, append-nil, subst}
+use Rattle.std.proofs.Common.{◌≡◌, ◌≤◌, ◌<◌, ◌+◌, ◌-◌, ◌^◌, ℕ, zero, suc, Bool, true, false, eqb, List, [], ◌∷◌, ◌++◌, length, replicate, Some, Ok, refl, ap, sym, ◌∙◌, arith, decimal, nat_le, nat_eq, codes, append-nil}
 use Rattle.std.specs.List.{starts_with}
 use Rattle.std.proofs.lemmas.Bool.Decides.{nat_tests}
 use Rattle.std.proofs.lemmas.Grind.{common_steps}
 use Rattle.plc_base.specs.AreaBytes.{is_peripheral_byte}
 use Rattle.monitor.specs.LineText.{hex_text}
 use Rattle.var_access.specs.Entry.{is_arrivable}
-use Rattle.var_access.specs.Readings.{Reading, both, reading_map, number_in, address_number, hex_of, first_word, words_of}
+use Rattle.var_access.specs.Readings.{Reading, reading_map, number_in, address_number, hex_of}
 use Rattle.var_access.specs.Requests.{request_line}
 use Rattle.var_access.specs.Runs.{is_step}
 use Rattle.var_access.specs.Variables.{Names}

@@ -9,3 +9,5 @@ pub mod RoundTripLemmas
 pub mod WritingLemmas
 pub mod ReadingLemmas
 pub mod LineLemmas
+pub mod SizeLemmas
+pub mod ReplyLemmas

@@ -1,5 +1,5 @@
 -- What a line was read as.
-use Rattle.std.specs.Prelude.{◌≡◌, ◌≤◌, ◌+◌, ℕ, true, false, List, [], ◌∷◌, replicate}
+use Rattle.std.specs.Prelude.{◌≡◌, ◌≤◌, ◌+◌, ℕ, true, false, List, []}
 use Rattle.var_access.specs.Entry.{IsValid}
 use Rattle.var_access.specs.Runs.{is_step}
 use Rattle.var_access.specs.declared.entries.Entry.{Entry}

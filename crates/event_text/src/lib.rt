@@ -6,10 +6,12 @@ mod faults;
 mod kinds;
 pub mod laws;
 mod lines;
+mod replies;
 mod texts;
 mod writing;
 
-pub use lines::MOST_STEPS;
 pub use faults::TextFault;
+pub use lines::MOST_STEPS;
+pub use replies::reply_lines;
 pub use texts::{read_history, read_script, read_stimuli};
 pub use writing::write_runs;

@@ -32,7 +32,8 @@ use var_access::text_rules::{
     NO_OPERATOR, NOT_IN_GRAMMAR, OTHER_FILE, OUT_OF_RANGE, TOO_MANY_STEPS,
 };
 use var_access::{
-    Entry, Request, What, address_number, both, first_word, hex_of, is_arrivable, number_in, request_of,
+    Entry, Request, What, address_number, both, first_word, hex_of, is_arrivable, number_in,
+    request_of,
 };
 
 /// The most steps of a history.

@@ -167,6 +167,7 @@ fn read_entries(
     ensures spelled { IfOk result (λ entries.
         text_read kind (find names.now) bytes.now ≡ Ok entries.items) }
     ensures valid { IfOk result (λ entries. HasWorker kind → All IsValid entries.items) }
+    ensures few { IfOk result (λ entries. 4 * length entries.items ≤ length bytes.now) }
     ensures refused { IfErr result (IsTextFault (text_read kind (find names.now) bytes.now)) }
 {
     let mut entries = Vec::new(alloc);

@@ -1,4 +1,4 @@
-use Rattle.std.proofs.Common.{refl, ◌∙◌, sym, rules, subst, ◌≤◌}
+use Rattle.std.proofs.Common.{refl, ◌∙◌, sym}
 use Rattle.var_access.specs.Entry.{IsRequest}
 use Rattle.event_text.proofs.LineLemmas.{standing_ok, worker_some}
 use Rattle.event_text.proofs.lines.read_script_line.Goals as goal
