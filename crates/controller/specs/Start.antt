@@ -38,7 +38,8 @@ world_at_rest profile code = record {
   counters = replicate (counter_count profile) counter_at_rest;
 }
 
--- before the first start: RUN, nothing runs, nothing is pending, and no entry or record was made
+-- before the first start: RUN, nothing runs, nothing is pending, nothing is monitored, and no entry or
+-- record was made
 abbrev pub before_start : Profile → Code → State
 before_start profile code = record {
   profile = profile;
@@ -47,6 +48,7 @@ before_start profile code = record {
   activations = [];
   sched = at_rest (loaded_obs code);
   first_cycle = true;
+  monitored = None;
   diagnostics = [];
   entries = 0;
 }
@@ -77,7 +79,7 @@ world_cleared w = record w {
 }
 
 -- disabling, the clock, the cycle counter and its mark are cleared too, and the first cycle is to
--- come again
+-- come again; the monitored block and the records of diagnostics stay
 abbrev pub cleared : State → State
 cleared s =
     record s {
