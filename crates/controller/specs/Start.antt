@@ -1,5 +1,5 @@
 -- The start of the CPU: the first one, and a warm restart.
-use Rattle.std.specs.Prelude.{ℕ, true, List, [], ◌∷◌, length, filter, replicate, is_some, Option, Some, None}
+use Rattle.std.specs.Prelude.{ℕ, true, List, [], ◌∷◌, filter, replicate, is_some, Option, Some, None}
 use Rattle.plc_base.specs.declared.Profile.{Profile}
 use Rattle.plc_base.specs.Profiles.{timer_count, counter_count}
 use Rattle.plc_base.specs.declared.Mode.TheVariants.{Run, Startup}
@@ -70,11 +70,11 @@ started_up (Some a) s = begun_above (Some a) (record s { mode = Startup })
 unfoldable pub start : Profile → Code → State
 start profile code = started_up (startup_ob profile code) (before_start profile code)
 
--- of memory and counters what is retained stays, and all timers are at rest again
-abbrev pub world_cleared : World → World
-world_cleared w = record w {
+-- of memory and counters what is retained stays, and all timers of the profile are at rest again
+abbrev pub world_cleared : Profile → World → World
+world_cleared profile w = record w {
   memory = memory_cleared w.memory;
-  timers = replicate (length w.timers) timer_at_rest;
+  timers = replicate (timer_count profile) timer_at_rest;
   counters = counters_retained w.counters;
 }
 
@@ -83,7 +83,7 @@ world_cleared w = record w {
 abbrev pub cleared : State → State
 cleared s =
     record s {
-      world = world_cleared s.world;
+      world = world_cleared s.profile s.world;
       sched = sched_restarted s.sched;
       first_cycle = true;
     }
