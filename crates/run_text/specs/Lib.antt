@@ -1,3 +1,2 @@
-pub mod LineText
 pub mod RunText
 pub mod Behind

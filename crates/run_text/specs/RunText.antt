@@ -14,7 +14,7 @@ use Rattle.controller.specs.Replay.{Happened, happens, replay}
 use Rattle.controller.specs.Start.{start}
 use Rattle.controller.specs.State.{State}
 use Rattle.controller.specs.Replayed.{events}
-use Rattle.run_text.specs.LineText.{output_text, mode_text, end_text, row_text}
+use Rattle.monitor.specs.LineText.{output_text, mode_text, end_text, row_text}
 
 -- the mode that entry n began, if it began one
 abbrev pub changed_mode_text : ℕ → Option Mode → List ℕ

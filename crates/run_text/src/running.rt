@@ -8,12 +8,12 @@ ghost use Rattle.machine.specs.Flat.{code_of};
 ghost use Rattle.var_access.specs.declared.What.TheVariants.{Step};
 ghost use Rattle.controller.specs.Replayed.{data_blocks as blocks_after, events, next_happens, replayed, seen};
 ghost use Rattle.run_text.specs.Behind.{closing_of, lines_behind};
-ghost use Rattle.run_text.specs.LineText.{end_text, output_text};
+ghost use Rattle.monitor.specs.LineText.{end_text, output_text};
 ghost use Rattle.run_text.specs.RunText.{block_text, changed_mode_text, run_text, shown_text};
 
-use crate::texts::{ROW_BYTES, end_line, mode_line, output_line, row_line};
 use controller::{Controller, Observed, leading_steps};
 use image_file::Loaded;
+use monitor::{ROW_BYTES, end_text, mode_text, output_text, row_text};
 use plc_base::Mode;
 use plc_io::{IoFault, Sink, push_all};
 use std::alloc::Global;
@@ -25,7 +25,7 @@ fn write_outputs<K: Sink>(out: &mut K, n: u64, outputs: &[(u16, u8)]) -> Result<
         (flat_map (output_text n) outputs.now) result }
 {
     for output in outputs {
-        push_all(out, output_line(n, *output).as_slice())?;
+        push_all(out, output_text(n, *output).as_slice())?;
     }
     Ok(())
 }
@@ -35,7 +35,7 @@ fn write_mode<K: Sink>(out: &mut K, n: u64, mode: Option<Mode>) -> Result<(), Io
     ensures { Wrote (K.shown out.old) (K.shown out.new) (changed_mode_text n mode) result }
 {
     match mode {
-        Some(mode) => push_all(out, mode_line(n, mode).as_slice()),
+        Some(mode) => push_all(out, mode_text(n, mode).as_slice()),
         None => Ok(()),
     }
 }
@@ -144,7 +144,7 @@ fn write_block<K: Sink>(out: &mut K, number: u16, bytes: &[u8]) -> Result<(), Io
 {
     for row in 0..bytes.len().div_ceil(ROW_BYTES) {
         let at = ROW_BYTES * row;
-        push_all(out, row_line(number, at, row_bytes(bytes, at)).as_slice())?;
+        push_all(out, row_text(number, at, row_bytes(bytes, at)).as_slice())?;
     }
     Ok(())
 }
@@ -169,7 +169,7 @@ fn write_blocks<K: Sink>(out: &mut K, controller: &Controller) -> Result<(), IoF
 fn write_closing<K: Sink>(out: &mut K, controller: &Controller) -> Result<(), IoFault>
     ensures { Wrote (K.shown out.old) (K.shown out.new) (closing_of controller.now) result }
 {
-    let end = end_line(controller.history_len(), controller.mode());
+    let end = end_text(controller.history_len(), controller.mode());
     push_all(out, end.as_slice())?;
     write_blocks(out, controller)
 }

@@ -2,7 +2,7 @@ use Rattle.std.proofs.Common.{◌<◌, ◌≤◌, ◌*◌, ◌∙◌, ap, subst,
 use Rattle.std.specs.Int.{div_ceil}
 use Rattle.std.proofs.lemmas.Result.{err_from_is_err_and}
 use Rattle.plc_io.specs.Taken.{Wrote}
-use Rattle.run_text.specs.LineText.{row_text}
+use Rattle.monitor.specs.LineText.{row_text}
 use Rattle.run_text.specs.RunText.{row_of}
 use Rattle.run_text.proofs.ListLemmas.{block-is, counted-end, counted-next}
 use Rattle.run_text.proofs.WritingLemmas.{goes-cut, goes-end, goes-next}
@@ -17,7 +17,7 @@ returns-in_err-push_all g c =
     (sym (block-is c.args.number c.args.bytes.now))
     (goes-cut _ _ _ _ _ _ _ _ _ _ c.loop-row.invariant
     (counted-next (row_of c.args.number c.args.bytes.now) c.loop-row.row _ within)
-    (c.as_slice.ensures ∙ c.row_line.ensures ∙ ap (row_text c.args.number (32 * c.loop-row.row)) c.row_bytes.ensures.value)
+    (c.as_slice.ensures ∙ c.row_text.ensures ∙ ap (row_text c.args.number (32 * c.loop-row.row)) c.row_bytes.ensures.value)
     c.in_err-push_all.ensures
     (handed.1 ∙ ap Err handed.2))
 
@@ -26,7 +26,7 @@ loop-row-preserved g c =
     let within : c.loop-row.row < div_ceil (length c.args.bytes.now) 32 = omega (arith, c.loop-row-test.true, c.div_ceil-row-end.ensures) in
     goes-next _ _ _ _ _ _ _ _ _ c.loop-row.invariant
     (counted-next (row_of c.args.number c.args.bytes.now) c.loop-row.row _ within)
-    (c.as_slice.ensures ∙ c.row_line.ensures ∙ ap (row_text c.args.number (32 * c.loop-row.row)) c.row_bytes.ensures.value)
+    (c.as_slice.ensures ∙ c.row_text.ensures ∙ ap (row_text c.args.number (32 * c.loop-row.row)) c.row_bytes.ensures.value)
     c.in_ok-push_all.ensures
 
 pub returns : goal.returns

@@ -1,7 +1,7 @@
 use Rattle.std.proofs.Common.{◌∙◌, ap, ap₂, refl, Err}
 use Rattle.std.proofs.lemmas.Result.{err_from_is_err_and}
 use Rattle.run_text.specs.Behind.{closing_of}
-use Rattle.run_text.specs.LineText.{end_text}
+use Rattle.monitor.specs.LineText.{end_text}
 use Rattle.run_text.proofs.WritingLemmas.{goes-cut, goes-first, goes-last, goes-next}
 use Rattle.run_text.proofs.running.write_closing.Goals as goal
 
@@ -9,7 +9,7 @@ pub returns-in_err-push_all : goal.returns-in_err-push_all
 returns-in_err-push_all g c =
     let handed = err_from_is_err_and c.from_residual.result c.from_residual.ensures.1 in
     goes-cut _ _ _ _ _ _ _ _ _ _ (goes-first (closing_of c.args.controller.now) _) refl
-    (c.as_slice.ensures ∙ c.end_line-end.ensures ∙ ap₂ end_text c.history_len.ensures.len c.mode.ensures)
+    (c.as_slice.ensures ∙ c.end_text-end.ensures ∙ ap₂ end_text c.history_len.ensures.len c.mode.ensures)
     c.in_err-push_all.ensures
     (handed.1 ∙ ap Err handed.2)
 
@@ -17,7 +17,7 @@ pub returns : goal.returns
 returns g c =
     goes-last _ _ _ _ _ _ _
     (goes-next _ _ _ _ _ _ _ _ _ (goes-first (closing_of c.args.controller.now) _) refl
-    (c.as_slice.ensures ∙ c.end_line-end.ensures ∙ ap₂ end_text c.history_len.ensures.len c.mode.ensures)
+    (c.as_slice.ensures ∙ c.end_text-end.ensures ∙ ap₂ end_text c.history_len.ensures.len c.mode.ensures)
     c.in_ok-push_all.ensures)
     refl
     c.write_blocks.ensures

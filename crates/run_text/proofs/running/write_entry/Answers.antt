@@ -1,7 +1,7 @@
 use Rattle.std.proofs.Common.{◌∙◌, ap, refl, Err}
 use Rattle.std.specs.List.{flat_map}
 use Rattle.std.proofs.lemmas.Result.{err_from_is_err_and}
-use Rattle.run_text.specs.LineText.{output_text}
+use Rattle.monitor.specs.LineText.{output_text}
 use Rattle.run_text.specs.RunText.{shown_text}
 use Rattle.run_text.proofs.WritingLemmas.{goes-cut, goes-first, goes-last, goes-next}
 use Rattle.run_text.proofs.running.write_entry.Goals as goal

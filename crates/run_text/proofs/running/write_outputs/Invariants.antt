@@ -1,6 +1,6 @@
 use Rattle.std.proofs.Common.{drop}
 use Rattle.std.specs.List.{flat_map}
-use Rattle.run_text.specs.LineText.{output_text}
+use Rattle.monitor.specs.LineText.{output_text}
 use Rattle.run_text.proofs.WritingLemmas.{GoesOn}
 use Rattle.run_text.proofs.running.write_outputs.Given as goal
 

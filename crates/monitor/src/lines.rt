@@ -1,9 +1,24 @@
+ghost use Rattle.std.specs.Prelude.{◌≡◌, ◌<◌};
+ghost use Rattle.monitor.specs.LineText.{hex_digit};
+
 use arrayvec::ArrayVec;
 use itoa::Buffer;
 use std::marker::Model;
 
 /// The most bytes of a line. No line of a fixed form is longer.
-pub const LINE_LIMIT: usize = 256;
+const LINE_LIMIT: usize = 256;
+
+/// A hexadecimal digit in upper case.
+pub(crate) fn hex_digit(digit: u8) -> u8
+    requires { digit < 16 }
+    ensures { result ≡ hex_digit digit }
+{
+    if digit < 10 {
+        b'0' + digit
+    } else {
+        b'A' + (digit - 10)
+    }
+}
 
 /// One line of text, kept without memory from an allocator.
 #[derive(Drop)]
@@ -21,6 +36,7 @@ impl Model for Line {
 
 impl Line {
     ghost use Rattle.std.specs.Prelude.{◌≡◌, ◌+◌, ◌≤◌, [], ◌++◌, length, decimal};
+    ghost use Rattle.monitor.specs.LineText.{hex_text};
 
     /// An empty line.
     pub fn new() -> Line
@@ -57,5 +73,18 @@ impl Line {
     {
         let mut digits = Buffer::new();
         self.add(digits.format(number).as_bytes());
+    }
+
+    /// Appends the lowest hexadecimal digits of a number, 8 at most, in upper case.
+    pub fn add_hex(&mut self, number: u32, digits: u32)
+        requires few { digits ≤ 8 }
+        requires room { length self.old + digits ≤ 256 }
+        ensures value { self.new ≡ self.old ++ hex_text digits number }
+        ensures len { length self.new ≡ length self.old + digits }
+    {
+        for place in (0..digits).rev() {
+            let digit = (number >> (4 * place)) % 16;
+            self.bytes.push(hex_digit(digit as u8));
+        }
     }
 }

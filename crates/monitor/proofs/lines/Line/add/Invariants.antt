@@ -1,5 +1,5 @@
 use Rattle.std.proofs.Common.{◌≡◌, ◌++◌, take}
-use Rattle.run_text.proofs.lines.Line.add.Given as goal
+use Rattle.monitor.proofs.lines.Line.add.Given as goal
 
 -- the bytes so far stand behind the line
 abbrev pub invariant-loop-byte : goal.invariant-loop-byte
