@@ -2,5 +2,14 @@
 #![tactic(auto)]
 
 mod entries;
+mod readings;
+mod replies;
+mod requests;
+mod runs;
+pub mod text_rules;
 
-pub use entries::{Entry, Reply, What};
+pub use entries::{Entry, What, is_arrivable};
+pub use readings::{address_number, both, first_word, hex_of, number_in};
+pub use replies::{Numbers, Reply};
+pub use requests::{MOST_VARS, Request, Var, Vars};
+pub use runs::{Entries, Run};
