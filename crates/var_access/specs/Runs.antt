@@ -44,6 +44,12 @@ abbrev pub StandApart : List Run → Type 0
 StandApart [] = Unit {0}
 StandApart (r ∷ rest) = StandsApart r rest × StandApart rest
 
+-- an entry doesn't join the last of these runs
+abbrev pub EndsApart : List Run → Entry → Type 0
+EndsApart [] next = Unit {0}
+EndsApart (r ∷ []) next = joins r.entry next ≡ false
+EndsApart (r ∷ rest) next = EndsApart rest next
+
 -- the runs of a history, whose numbers are counted from 0
 pub record AreRuns (runs : List Run) : Type 0 where
   pub each : AllByRecursion IsRun runs
