@@ -1,15 +1,24 @@
 -- Calls of system functions.
 use Rattle.std.proofs.Common.{◌≡◌, ℕ, Bool, true, false, List, [], ◌∷◌, Option, Some, None, refl, sym, ap, ◌∙◌, subst, if◌then◌else◌}
-use Rattle.std.specs.Prelude.{◌==◌, not, nat_le, ◌&&◌, is_some, ◌-◌, unwrap_or}
+use Rattle.std.specs.Prelude.{◌==◌, not, nat_le, ◌&&◌, is_some, ◌-◌, ◌%◌, ◌^◌, ok_or, unwrap_or}
 use Rattle.std.specs.Option.{option_map}
 use Rattle.plc_base.specs.declared.Mode.{Mode}
 use Rattle.plc_base.specs.declared.Spot.{Spot}
+use Rattle.plc_base.specs.Widths.{bit_count}
 use Rattle.plc_mem.specs.Areas.{Areas}
+use Rattle.plc_mem.specs.Writing.{written}
 use Rattle.status_word.specs.declared.Regs.{Regs}
+use Rattle.frames.specs.Locals.{LocalData, local_written}
 use Rattle.frames.specs.declared.Activation.{Activation}
 use Rattle.frames.specs.declared.bindings.Binding.{Binding}
+use Rattle.frames.specs.declared.bindings.Binding.TheVariants as binding
 use Rattle.machine.specs.Code.{Code}
+use Rattle.machine.specs.Copies.{scene_or}
+use Rattle.machine.specs.Parts.{Scene, scene_of}
+use Rattle.machine.specs.Places.{is_local}
+use Rattle.machine.specs.Results.{with_result}
 use Rattle.machine.specs.Statement.{with_memory}
+use Rattle.machine.specs.Values.{with_locals, write}
 use Rattle.ob_sched.specs.OrganizationBlock.{is_delay}
 use Rattle.ob_sched.specs.Scheduler.{Scheduler, delay_of, delay_started, delay_cancelled, retriggered}
 use Rattle.sys_funcs.specs.Disabling.{refusal}
@@ -198,10 +207,34 @@ abbrev regs_of : List Activation → Regs → Regs
 regs_of activations regs =
     unwrap_or (option_map (λ (a : Activation). a.running.regs) (running_of activations)) regs
 
+-- a write changes none of them
+put_regs : (is_in_locals : Bool) (locals : Option LocalData) (memory : Option Areas) (error : ℕ)
+    (c : Scene)
+    → (scene_or c
+    (ok_or
+    (if is_in_locals
+    then option_map (λ (l : LocalData). record { own = with_locals c.own l; memory = c.memory }) locals
+    else option_map (λ (m : Areas). record { own = c.own; memory = m }) memory)
+    error)).own.regs
+    ≡ c.own.regs
+put_regs true None memory error c = refl
+put_regs true (Some l) memory error c = refl
+put_regs false locals None error c = refl
+put_regs false locals (Some m) error c = refl
+
+bound_regs : (to : Binding) (value : ℕ) (c : Scene) → (with_result to value c).own.regs ≡ c.own.regs
+unfolding write
+bound_regs (binding.Bound place width frame) value c =
+    put_regs (is_local place.area)
+    (local_written c.own.locals frame place.byte place.bit width (value % 2 ^ bit_count width))
+    (written c.memory place width (value % 2 ^ bit_count width)) _ c
+bound_regs (binding.Constant n) value c = refl
+bound_regs binding.Unsupplied value c = refl
+
 given_regs : (to : Option Binding) (value : ℕ) (a : Activation) (m : Areas)
     → (result_given to value a m).activation.running.regs ≡ a.running.regs
 given_regs None value a m = refl
-given_regs (Some to) value a m = bound_regs to value a m
+given_regs (Some to) value a m = bound_regs to value (scene_of a.running m)
 
 regs_to : (sv : Served) (to : Option Binding) (below new : List Activation) (m m' : Areas)
     (s s' : Scheduler) (answer : Option ℕ) (regs : Regs) → ServesTo sv to below new m m' s s' answer

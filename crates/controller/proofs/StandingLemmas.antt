@@ -19,8 +19,8 @@ use Rattle.controller.specs.Beginning.{ob_begun, ob_block, ob_frame, ob_in}
 use Rattle.controller.specs.Errors.{is_synchronous}
 use Rattle.controller.specs.Settling.{may_start}
 use Rattle.controller.specs.Stack.{IsAbove, IsStarted, StandsOn, IsStack, RunsInStartup, IsStanding, MayBegin}
-use Rattle.controller.specs.Start.{cleared, restarted, started_up, startup_info, startup_ob}
-use Rattle.controller.specs.State.{State, diagnosed, is_stop}
+use Rattle.controller.specs.Start.{started_up, startup_info, startup_ob}
+use Rattle.controller.specs.State.{State, is_stop}
 use Rattle.controller.proofs.SameLemmas.{told_class, told_ob}
 use Rattle.controller.proofs.StackLemmas.{at_most_48, no_stack, startup_class}
 
@@ -199,10 +199,8 @@ started_stands (Some a) s is idle =
     subst (λ (acts : List Activation). IsStanding Startup (a ∷ acts)) (sym idle)
     (first_stands a is.0 is.1)
 
-pub restarted_stands : (code : Code) (s t : State) → t ≡ restarted code s → s.activations ≡ []
-    → IsStanding t.mode t.activations
-unfolding restarted
-restarted_stands code s t is idle =
+pub start_stands : (profile : Profile) (code : Code) (s t : State) → s.activations ≡ []
+    → t ≡ started_up (startup_ob profile code) s → IsStanding t.mode t.activations
+start_stands profile code s t idle is =
     subst (λ (u : State). IsStanding u.mode u.activations) (sym is)
-    (started_stands (startup_ob s.profile code) (cleared (diagnosed 6 0 s))
-    (ob_is s.profile code 27 100 startup_info) idle)
+    (started_stands (startup_ob profile code) s (ob_is profile code 27 100 startup_info) idle)

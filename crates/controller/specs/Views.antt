@@ -1,8 +1,7 @@
 -- What the code's types stand for.
-use Rattle.std.specs.Prelude.{List, take, reverse, ℕ, Option}
+use Rattle.std.specs.Prelude.{List, take, reverse, ℕ}
 use Rattle.frames.specs.declared.Activation.{Activation}
 use Rattle.machine.specs.Statement.{world}
-use Rattle.monitor.specs.declared.MonRecord.{MonRecord}
 use Rattle.ob_sched.specs.Views.{scheduler_of}
 use Rattle.controller.specs.State.{State}
 use Rattle.controller.specs.declared.cpus.Cpu.{Cpu}
@@ -25,7 +24,3 @@ state_of p = record {
   diagnostics = p.diagnostics;
   entries = p.entries;
 }
-
--- what was recorded of the last entry
-abbrev pub record_of : Cpu → Option MonRecord
-record_of p = p.record

@@ -1,5 +1,6 @@
 //! Requests of operators: what each does, and what it is answered.
 ghost use Rattle.std.specs.Prelude.{◌≡◌, ◌≤◌, ◌<◌, ◌^◌, length, is_some, Some, Ok, Err, MatchResult, if◌then◌else◌};
+ghost use Rattle.plc_base.specs.StopCauses.{by_operator};
 ghost use Rattle.plc_base.specs.Widths.{bit_count};
 ghost use Rattle.machine.specs.Flat.{code_of};
 ghost use Rattle.var_access.specs.Entry.{IsRequest};
@@ -20,7 +21,7 @@ use plc_mem::Memory;
 use var_access::{Numbers, Reply, Request, Var};
 
 // The values of variables, or the index, from 1, of the first one that doesn't exist.
-#[tactic(auto, using(crate::proofs::AskingLemmas::one_more_value, crate::proofs::AskingLemmas::one_absent, crate::proofs::AskingLemmas::all_values))]
+#[tactic(auto, using(crate::proofs::AskingLemmas::one_more_value, crate::proofs::AskingLemmas::no_value_yet, crate::proofs::AskingLemmas::one_absent, crate::proofs::AskingLemmas::all_values))]
 fn read_vars(memory: &Memory, vars: &[Var]) -> Result<Numbers, u8>
     requires { length vars.now ≤ 8 }
     ensures { MatchResult result
@@ -70,7 +71,7 @@ impl Cpu {
         requires stack { IsStanding self.old.mode self.old.activations }
         ensures state { state_of self.new
             ≡ (if is_stop_of self.old.mode then state_of self.old
-            else halted (code_of program.now.program) 2 (state_of self.old)) }
+            else halted (code_of program.now.program) by_operator (state_of self.old)) }
         ensures stack { IsStanding self.new.mode self.new.activations }
     {
         if !is_stop(self.mode) {

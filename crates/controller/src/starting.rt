@@ -158,7 +158,7 @@ impl Cpu {
 
     /// A warm restart out of STOP: what isn't retained is cleared, and with OB 100 STARTUP begins, else
     /// RUN.
-    #[tactic(auto, unfolding(crate::specs::Start::restarted), using(crate::proofs::StandingLemmas::stop_idle, crate::proofs::StandingLemmas::restarted_stands))]
+    #[tactic(auto, unfolding(crate::specs::Start::restarted), using(crate::proofs::StandingLemmas::stop_idle))]
     pub(crate) fn restart(&mut self, program: &Loaded)
         requires stopped { is_stop self.old.mode ≡ true }
         requires stack { IsStanding self.old.mode self.old.activations }

@@ -121,9 +121,9 @@ impl Cpu {
                 self.reach_cycle_point(program);
                 None
             }
-            Some((stand, outcome)) => {
-                let monitored = self.monitored;
-                let regs = self.finish(program, &stand, outcome);
+            Some(done) => {
+                let (monitored, stand) = (self.monitored, done.0);
+                let regs = self.finish(program, &stand, done.1);
                 record_at(program, monitored, &stand, &regs)
             }
         }
