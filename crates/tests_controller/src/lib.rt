@@ -15,6 +15,8 @@ mod interrupt_rows;
 #[cfg(test)]
 mod quiet_rows;
 #[cfg(test)]
+mod run_rows;
+#[cfg(test)]
 mod tick_rows;
 #[cfg(test)]
 mod watched_rows;
