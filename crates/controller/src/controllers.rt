@@ -1,12 +1,12 @@
 //! The controller: a program and its history.
-ghost use Rattle.std.specs.Prelude.{◌≡◌, ◌+◌, ◌-◌, ◌^◌, ◌<◌, ◌≤◌, ◌↔◌, [], ◌∷◌, ◌++◌, length, max, slice_get, is_some, replicate, false, true, IfOk, OnOk, OnErr, IsNone};
+ghost use Rattle.std.specs.Prelude.{◌≡◌, ◌+◌, ◌-◌, ◌^◌, ◌<◌, ◌≤◌, ◌↔◌, [], ◌∷◌, ◌++◌, length, max, slice_get, is_some, replicate, false, IfOk, OnOk, OnErr, IsNone};
 ghost use Rattle.std.specs.Option.{option_copied, option_map};
 ghost use Rattle.std.specs.FinMap as finmap;
 ghost use Rattle.plc_base.specs.declared.Profile.TheVariants.{Small};
 ghost use Rattle.image_file.specs.Readers.{bytes_of};
 ghost use Rattle.machine.specs.Flat.{code_of};
 ghost use Rattle.var_access.specs.Entry.{IsRequest, IsValid};
-ghost use Rattle.var_access.specs.Runs.{AreRuns, is_step, written_out};
+ghost use Rattle.var_access.specs.Runs.{AreRuns, written_out};
 ghost use Rattle.var_access.specs.declared.What.TheVariants.{Step};
 ghost use Rattle.controller.specs.Asking.{answered};
 ghost use Rattle.controller.specs.Quiet.{ShowNothing, steps_quietly};
@@ -156,7 +156,7 @@ impl Controller {
     /// (`machine::quiet_statements`) with which the running activation goes on, in STOP, where a block
     /// is monitored, or where a request waits: what it leaves is for `enter`. Takes no memory.
     pub fn step_quietly(&mut self, step: &Entry, most: u64) -> u64
-        requires step { is_step step.now ≡ true }
+        requires step { step.now.what ≡ Step }
         requires room { most ≤ self.old.spare }
         ensures few { result ≤ most }
         ensures history { self.new ≡ record self.old {
