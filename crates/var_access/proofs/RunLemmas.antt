@@ -1,17 +1,16 @@
 -- Runs of a history.
-use Rattle.std.proofs.Common.{◌≡◌, ℕ, zero, suc, ◌+◌, ◌≤◌, ◌<◌, Bool, true, false, List, [], ◌∷◌, ◌++◌, length, Option, Some, None, refl, sym, ap, ◌∙◌, subst, arith, if◌then◌else◌, slice_get, take, drop, length-append}
-use Rattle.std.specs.Prelude.{◌==◌, ◌&&◌, ◌-◌, replicate, nat_le, nat_lt}
+use Rattle.std.proofs.Common.{◌≡◌, ℕ, zero, suc, ◌+◌, ◌≤◌, ◌<◌, Bool, true, false, List, [], ◌∷◌, ◌++◌, length, Option, Some, None, refl, sym, ap, ◌∙◌, subst, arith, if◌then◌else◌, slice_get, length-append}
+use Rattle.std.specs.Prelude.{◌==◌, ◌&&◌, ◌-◌, replicate, nat_le, nat_lt, slice_set, take}
 use Rattle.std.specs.Option.{IfSome}
-use Rattle.std.specs.List.{AllByRecursion, slice_index_or, slice_set}
+use Rattle.std.specs.List.{AllByRecursion, slice_index_or}
 use Rattle.std.specs.List.Sorted.{IsNonDecreasingBy, IsPartitionPoint}
 use Rattle.std.proofs.lemmas.Bool.{ltb-true, ltb-false, lt-ltb, leb-true, leb-false, le-leb, and_parts, eqb-true}
-use Rattle.std.proofs.lemmas.List.{append_assoc, append-nil, replicate-append-replicate, length-replicate, take_all, take_more}
-use Rattle.std.proofs.Math.Seq.{set-append_seam, take-append_seam}
+use Rattle.std.proofs.lemmas.List.{append_assoc, append-nil, replicate-append-replicate, length-replicate}
 use Rattle.var_access.specs.declared.entries.Entry.{Entry}
 use Rattle.var_access.specs.declared.entries.What.{What}
 use Rattle.var_access.specs.declared.entries.What.TheVariants.{Step, Input, Arrive, Tick, Ask}
 use Rattle.var_access.specs.declared.runs.Run.{Run}
-use Rattle.var_access.specs.Runs.{written_out, FollowFrom, is_step, is_step_what, joins, IsRun, StandsApart, StandApart, EndsApart, AreRuns, run_behind, run_at, entry_by}
+use Rattle.var_access.specs.Runs.{written_out, FollowFrom, is_step, is_step_what, joins, IsRun, StandApart, AreRuns, run_behind, run_at, entry_by}
 
 abbrev pub one_run : (e : Entry) (first count : ℕ) → Run
 one_run e first count = record { entry = e; first = first; count = count }
@@ -242,12 +241,12 @@ apart_same [] r count apart = apart
 apart_same (f ∷ []) r count apart = apart
 apart_same (f ∷ g ∷ rest) r count apart = (apart.0, apart_same (g ∷ rest) r count apart.1)
 
--- a further run whose entry doesn't join the last one
-apart_more : (runs : List Run) (next : Run) → StandApart runs → EndsApart runs next.entry
-    → StandApart (runs ++ next ∷ [])
-apart_more [] next apart ends = (tt, tt)
-apart_more (r ∷ []) next apart ends = (ends, (tt, tt))
-apart_more (r ∷ f ∷ rest) next apart ends = (apart.0, apart_more (f ∷ rest) next apart.1 ends)
+-- a further run that doesn't join the last one
+apart_more : (front : List Run) (r next : Run) → StandApart (front ++ r ∷ [])
+    → joins r.entry next.entry ≡ false → StandApart ((front ++ r ∷ []) ++ next ∷ [])
+apart_more [] r next apart not = (not, (tt, tt))
+apart_more (f ∷ []) r next apart not = (apart.0, (not, (tt, tt)))
+apart_more (f ∷ g ∷ rest) r next apart not = (apart.0, apart_more (g ∷ rest) r next apart.1 not)
 
 entry_is : (e : Entry) (who : ℕ) (what : What) → e.who ≡ who → e.what ≡ what
     → e ≡ record { who = who; what = what }
@@ -266,7 +265,11 @@ joined_step one next is =
     let parts = and_parts (is_step one && is_step next) (one.who == next.who) is in
     (and_parts (is_step one) (is_step next) parts.0).0
 
--- what is written out of a run that was joined, and of one more
+-- what is written out of the first run, of a run that was joined, and of one more
+first_written : (e : Entry) (first count : ℕ)
+    → written_out (one_run e first count ∷ []) ≡ replicate count e
+first_written e first count = written_one (one_run e first count)
+
 joined_written : (front : List Run) (r : Run) (e : Entry) (count : ℕ) → joins r.entry e ≡ true
     → written_out (front ++ record r { count = r.count + count } ∷ [])
     ≡ written_out (front ++ r ∷ []) ++ replicate count e
@@ -285,7 +288,7 @@ pub apart_written : (runs : List Run) (e : Entry) (first count : ℕ)
     → written_out (runs ++ one_run e first count ∷ []) ≡ written_out runs ++ replicate count e
 apart_written runs e first count =
     written_more runs (one_run e first count ∷ [])
-    ∙ ap (λ (es : List Entry). written_out runs ++ es) (written_one (one_run e first count))
+    ∙ ap (λ (es : List Entry). written_out runs ++ es) (first_written e first count)
 
 run_is : (e : Entry) (first count : ℕ) → 1 ≤ count → (is_step e ≡ false → count ≡ 1)
     → IsRun (one_run e first count)
@@ -314,15 +317,26 @@ joined_runs front r e count is are =
     cc-step : is_step r.entry ≡ true → is_step r.entry ≡ false → ⊥
     cc-step so not = absurd cc
 
-pub apart_runs : (runs : List Run) (e : Entry) (first count : ℕ) → EndsApart runs e
-    → first ≡ length (written_out runs) → 1 ≤ count → (is_step e ≡ false → count ≡ 1) → AreRuns runs
-    → AreRuns (runs ++ one_run e first count ∷ [])
-apart_runs runs e first count ends is some one are = record {
-  each = each_more runs (one_run e first count ∷ []) are.each (run_is e first count some one, tt);
+first_runs : (e : Entry) (first count : ℕ) → first ≡ 0 → 1 ≤ count
+    → (is_step e ≡ false → count ≡ 1) → AreRuns (one_run e first count ∷ [])
+first_runs e first count is some one = record {
+  each = (run_is e first count some one, tt);
+  follow = (is, tt);
+  apart = (tt, tt);
+}
+
+apart_runs : (front : List Run) (r : Run) (e : Entry) (first count : ℕ)
+    → joins r.entry e ≡ false → first ≡ length (written_out (front ++ r ∷ [])) → 1 ≤ count
+    → (is_step e ≡ false → count ≡ 1) → AreRuns (front ++ r ∷ [])
+    → AreRuns ((front ++ r ∷ []) ++ one_run e first count ∷ [])
+apart_runs front r e first count not is some one are = record {
+  each =
+      each_more (front ++ r ∷ []) (one_run e first count ∷ []) are.each
+      (run_is e first count some one, tt);
   follow =
-      follow_more 0 runs (one_run e first count ∷ []) are.follow
-      (is ∙ sym (zero_more (length (written_out runs))), tt);
-  apart = apart_more runs (one_run e first count) are.apart ends;
+      follow_more 0 (front ++ r ∷ []) (one_run e first count ∷ []) are.follow
+      (is ∙ sym (zero_more (length (written_out (front ++ r ∷ [])))), tt);
+  apart = apart_more front r (one_run e first count) are.apart not;
 }
 
 -- no run is longer than what is written out
@@ -335,71 +349,64 @@ few front r =
     ∙ ap (λ (n : ℕ). length (written_out front) + n) (length-replicate r.count r.entry) in
     omega (arith, len)
 
--- ---- the last run, by the number of runs
+-- ---- the last run in its place
 
-ends_with : (runs : List Run) (d : Run) → 1 ≤ length runs
-    → runs ≡ take (length runs - 1) runs ++ slice_index_or runs (length runs - 1) d ∷ []
-ends_with runs d some =
-    sym (take_all (length runs - 1 + 1) runs (omega (arith, some)))
-    ∙ take_more runs (length runs - 1) d (omega (arith, some))
+front_last : (runs : List Run) (k : ℕ) (r : Run) → length runs ≡ suc k → r ≡ slice_index_or runs k r
+    → runs ≡ take k runs ++ r ∷ []
+front_last [] k r len is = absurd (omega (arith, len))
+front_last (x ∷ []) zero r len is = ap (λ (y : Run). y ∷ []) (sym is)
+front_last (x ∷ []) (suc k) r len is = absurd (omega (arith, len))
+front_last (x ∷ y ∷ rest) zero r len is = absurd (omega (arith, len))
+front_last (x ∷ y ∷ rest) (suc k) r len is =
+    ap (λ (rs : List Run). x ∷ rs) (front_last (y ∷ rest) k r (omega (arith, len)) is)
 
-last_set : (front : List Run) (r next : Run)
-    → slice_set (front ++ r ∷ []) (length (front ++ r ∷ []) - 1) next ≡ front ++ next ∷ []
-last_set front r next =
-    ap (λ (n : ℕ). slice_set (front ++ r ∷ []) n next) (omega (arith, length-append front (r ∷ [])))
-    ∙ set-append_seam front r [] next
+front_set : (runs : List Run) (k : ℕ) (r : Run) → length runs ≡ suc k
+    → slice_set runs k r ≡ take k runs ++ r ∷ []
+front_set [] k r len = absurd (omega (arith, len))
+front_set (x ∷ []) zero r len = refl
+front_set (x ∷ []) (suc k) r len = absurd (omega (arith, len))
+front_set (x ∷ y ∷ rest) zero r len = absurd (omega (arith, len))
+front_set (x ∷ y ∷ rest) (suc k) r len =
+    ap (λ (rs : List Run). x ∷ rs) (front_set (y ∷ rest) k r (omega (arith, len)))
 
--- another run in place of the last one
-in_place : (runs : List Run) (d next : Run) → 1 ≤ length runs
-    → slice_set runs (length runs - 1) next ≡ take (length runs - 1) runs ++ next ∷ []
-in_place runs d next some =
-    ap (λ (l : List Run). slice_set l (length l - 1) next) (ends_with runs d some)
-    ∙ last_set (take (length runs - 1) runs) (slice_index_or runs (length runs - 1) d) next
+abbrev pub IsLast : List Run → ℕ → Run → Type 0
+IsLast runs k r = (length runs ≡ suc k) × (r ≡ slice_index_or runs k r)
 
--- the last run, longer by so many
-abbrev longer : List Run → (d : Run) → (count : ℕ) → Run
-longer runs d count =
-    let r : Run = slice_index_or runs (length runs - 1) d in record r { count = r.count + count }
+-- a run that is put in its own place
+pub last_kept : (runs : List Run) (k : ℕ) (r : Run) → IsLast runs k r → slice_set runs k r ≡ runs
+last_kept runs k r is = front_set runs k r is.0 ∙ sym (front_last runs k r is.0 is.1)
 
-pub longer_runs : (runs : List Run) (d : Run) (e : Entry) (count : ℕ) → 1 ≤ length runs
-    → joins (slice_index_or runs (length runs - 1) d).entry e ≡ true → AreRuns runs
-    → AreRuns (slice_set runs (length runs - 1) (longer runs d count))
-    × (written_out (slice_set runs (length runs - 1) (longer runs d count))
-    ≡ written_out runs ++ replicate count e)
-longer_runs runs d e count some is are =
-    let front : List Run = take (length runs - 1) runs in
-    let r : Run = slice_index_or runs (length runs - 1) d in
-    let new = in_place runs d (longer runs d count) some in (
-      subst (λ (l : List Run). AreRuns l) (sym new)
-          (joined_runs front r e count is (subst (λ (l : List Run). AreRuns l) (ends_with runs d some) are)),
-      ap written_out new ∙ joined_written front r e count is
-          ∙ ap (λ (l : List Run). written_out l ++ replicate count e) (sym (ends_with runs d some)),
-    )
+pub none_there : (n : ℕ) → (0 < n → false ≡ true) → n ≡ 0
+none_there zero none = refl
+none_there (suc n) none = let so = none (omega arith) in absurd cc
 
-ends_at : (runs : List Run) (k : ℕ) (d : Run) (e : Entry) → length runs ≡ suc k
-    → joins (slice_index_or runs k d).entry e ≡ false → EndsApart runs e
-ends_at [] k d e last not = tt
-ends_at (r ∷ []) zero d e last not = not
-ends_at (r ∷ []) (suc k) d e last not = absurd (omega (arith, last))
-ends_at (r ∷ f ∷ rest) zero d e last not = absurd (omega (arith, last))
-ends_at (r ∷ f ∷ rest) (suc k) d e last not = ends_at (f ∷ rest) k d e (omega (arith, last)) not
+pub last_few : (runs : List Run) (k : ℕ) (r : Run) → IsLast runs k r → r.count ≤ length (written_out runs)
+last_few runs k r is =
+    subst (λ (rs : List Run). r.count ≤ length (written_out rs)) (sym (front_last runs k r is.0 is.1)) (few (take k runs) r)
 
-pub ends_apart : (runs : List Run) (d : Run) (e : Entry) → 1 ≤ length runs
-    → joins (slice_index_or runs (length runs - 1) d).entry e ≡ false → EndsApart runs e
-ends_apart runs d e some not = ends_at runs (length runs - 1) d e (omega (arith, some)) not
+pub last_written : (runs : List Run) (k : ℕ) (r : Run) (e : Entry) (count : ℕ) → IsLast runs k r → joins r.entry e ≡ true
+    → written_out (slice_set runs k (record r { count = r.count + count })) ≡ written_out runs ++ replicate count e
+last_written runs k r e count is one =
+    ap (λ (rs : List Run). written_out rs) (front_set runs k (record r { count = r.count + count }) is.0)
+    ∙ joined_written (take k runs) r e count one
+    ∙ ap (λ (rs : List Run). written_out rs ++ replicate count e) (sym (front_last runs k r is.0 is.1))
 
--- the last run isn't longer than what is written out
-pub last_few : (runs : List Run) (d : Run) → 1 ≤ length runs
-    → (slice_index_or runs (length runs - 1) d).count ≤ length (written_out runs)
-last_few runs d some =
-    subst (λ (l : List Run). (slice_index_or runs (length runs - 1) d).count ≤ length (written_out l))
-    (sym (ends_with runs d some))
-    (few (take (length runs - 1) runs) (slice_index_or runs (length runs - 1) d))
+pub last_runs : (runs : List Run) (k : ℕ) (r : Run) (e : Entry) (count : ℕ) → IsLast runs k r → joins r.entry e ≡ true
+    → AreRuns runs → AreRuns (slice_set runs k (record r { count = r.count + count }))
+last_runs runs k r e count is one are =
+    subst AreRuns (sym (front_set runs k (record r { count = r.count + count }) is.0))
+    (joined_runs (take k runs) r e count one (subst AreRuns (front_last runs k r is.0 is.1) are))
 
--- runs that were lent and came back as they were
-pub lent_same : (runs back : List Run) (n : ℕ) → back ≡ runs → n ≡ length runs
-    → take n (back ++ drop (length back) runs) ≡ runs
-lent_same runs back n same len =
-    ap (λ (l : List Run). take n (l ++ drop (length l) runs)) same
-    ∙ ap (λ (k : ℕ). take k (runs ++ drop (length runs) runs)) len
-    ∙ take-append_seam runs (drop (length runs) runs)
+pub next_runs : (runs : List Run) (k : ℕ) (r : Run) (e : Entry) (first count : ℕ) → IsLast runs k r
+    → joins r.entry e ≡ false → first ≡ length (written_out runs) → 1 ≤ count → (is_step e ≡ false → count ≡ 1)
+    → AreRuns runs → AreRuns (runs ++ one_run e first count ∷ [])
+next_runs runs k r e first count is not at some one are =
+    let whole = front_last runs k r is.0 is.1 in
+    subst (λ (rs : List Run). AreRuns (rs ++ one_run e first count ∷ [])) (sym whole)
+    (apart_runs (take k runs) r e first count not (at ∙ ap (λ (rs : List Run). length (written_out rs)) whole) some one (subst AreRuns whole are))
+
+pub only_runs : (runs : List Run) (e : Entry) (first count : ℕ) → length runs ≡ 0
+    → first ≡ length (written_out runs) → 1 ≤ count → (is_step e ≡ false → count ≡ 1)
+    → AreRuns (runs ++ one_run e first count ∷ [])
+only_runs [] e first count none at some one = first_runs e first count at some one
+only_runs (r ∷ rest) e first count none at some one = absurd (omega (arith, none))

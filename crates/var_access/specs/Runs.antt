@@ -3,7 +3,7 @@ use Rattle.std.specs.Prelude.{◌≡◌, ℕ, ◌+◌, ◌-◌, ◌≤◌, ◌==
 use Rattle.std.specs.List.{AllByRecursion}
 use Rattle.var_access.specs.declared.entries.Entry.{Entry}
 use Rattle.var_access.specs.declared.entries.What.{What}
-use Rattle.var_access.specs.declared.entries.What.TheVariants.{Step, Input, Arrive, Tick}
+use Rattle.var_access.specs.declared.entries.What.TheVariants.{Step}
 use Rattle.var_access.specs.declared.runs.Run.{Run}
 
 -- the entries of runs, one run behind the other
@@ -43,12 +43,6 @@ StandsApart r (next ∷ rest) = joins r.entry next.entry ≡ false
 abbrev pub StandApart : List Run → Type 0
 StandApart [] = Unit {0}
 StandApart (r ∷ rest) = StandsApart r rest × StandApart rest
-
--- an entry doesn't join the last of these runs
-abbrev pub EndsApart : List Run → Entry → Type 0
-EndsApart [] next = Unit {0}
-EndsApart (r ∷ []) next = joins r.entry next ≡ false
-EndsApart (r ∷ rest) next = EndsApart rest next
 
 -- the runs of a history, whose numbers are counted from 0
 pub record AreRuns (runs : List Run) : Type 0 where

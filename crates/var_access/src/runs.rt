@@ -1,6 +1,5 @@
 ghost use Rattle.std.specs.Prelude.{◌≡◌, ◌+◌, ◌-◌, ◌^◌, ◌<◌, ◌≤◌, ◌++◌, ◌∷◌, [], length, max, replicate, slice_get, true, false, OnOk, OnErr, IfSome, vec_len, vec_capacity};
-ghost use Rattle.std.specs.Bool.{OnFalse, OnTrue};
-ghost use Rattle.var_access.specs.Runs.{AreRuns, EndsApart, entry_by as entry_of, is_step as is_step_of, joins, run_at as run_at_of, written_out};
+ghost use Rattle.var_access.specs.Runs.{AreRuns, entry_by as entry_of, is_step as is_step_of, joins, run_at as run_at_of, written_out};
 
 use crate::entries::Entry;
 use plc_base::NoMemory;
@@ -58,47 +57,34 @@ fn push_reserved<T: Copy>(list: &mut Vec<T>, element: T)
     list.push_reserved(element);
 }
 
-// Lengthens the last run by entries that join it, and says whether they do.
-fn lengthen_last(runs: &mut [Run], entry: &Entry, count: u64) -> bool
-    requires are { AreRuns runs.old }
-    requires bounded { length (written_out runs.old) + count < 2 ^ 64 }
-    ensures joined { OnTrue result (AreRuns runs.new
-        × (written_out runs.new ≡ written_out runs.old ++ replicate count entry.now)) }
-    ensures apart { OnFalse result ((runs.new ≡ runs.old) × EndsApart runs.old entry.now) }
-{
-    match runs {
-        [.., last] if last.joins(entry) => {
-            last.count += count;
-            true
-        }
-        _ => false,
-    }
-}
-
 // Adds equal entries behind those of runs.
-fn add(runs: &mut Vec<Run>, entry: &Entry, first: u64, count: u64)
+fn add(runs: &mut Vec<Run>, entry: Entry, first: u64, count: u64)
     requires are { AreRuns runs.old.items }
     requires first { first ≡ length (written_out runs.old.items) }
     requires some { 1 ≤ count }
-    requires one { is_step_of entry.now ≡ false → count ≡ 1 }
+    requires one { is_step_of entry ≡ false → count ≡ 1 }
     requires bounded { first + count < 2 ^ 64 }
     requires room { vec_len runs.old < vec_capacity runs.old }
     ensures written { written_out runs.new.items
-        ≡ written_out runs.old.items ++ replicate count entry.now }
+        ≡ written_out runs.old.items ++ replicate count entry }
     ensures are { AreRuns runs.new.items }
     ensures len { vec_len runs.new ≤ vec_len runs.old + 1 }
     ensures capacity { vec_capacity runs.new ≡ vec_capacity runs.old }
 {
-    if !lengthen_last(runs.as_mut_slice(), entry, count) {
-        push_reserved(
-            runs,
-            Run {
-                entry: *entry,
-                first,
-                count,
-            },
-        );
+    if let Some(last) = runs.last_mut() {
+        if last.joins(&entry) {
+            last.count += count;
+            return;
+        }
     }
+    push_reserved(
+        runs,
+        Run {
+            entry,
+            first,
+            count,
+        },
+    );
 }
 
 // A run by its place among the runs.
@@ -174,12 +160,12 @@ impl Entries {
 
     /// Adds an entry `count` times, a step so often as there is room, another entry once. It takes no
     /// memory.
-    pub fn push(&mut self, entry: &Entry, count: u64)
+    pub fn push(&mut self, entry: Entry, count: u64)
         requires some { 1 ≤ count }
-        requires one { is_step_of entry.now ≡ false → count ≡ 1 }
+        requires one { is_step_of entry ≡ false → count ≡ 1 }
         requires room { count ≤ self.old.spare }
         ensures { self.new ≡ record self.old {
-          entries = self.old.entries ++ replicate count entry.now;
+          entries = self.old.entries ++ replicate count entry;
           spare = self.old.spare - count;
         } }
     {
@@ -194,12 +180,12 @@ impl Entries {
     /// # Errors
     ///
     /// `NoMemory` for want of memory. Nothing has changed then.
-    pub fn append(&mut self, entry: &Entry, count: u64) -> Result<(), NoMemory>
+    pub fn append(&mut self, entry: Entry, count: u64) -> Result<(), NoMemory>
         requires some { 1 ≤ count }
-        requires one { is_step_of entry.now ≡ false → count ≡ 1 }
+        requires one { is_step_of entry ≡ false → count ≡ 1 }
         requires bounded { length self.old.entries + self.old.spare + count < 2 ^ 64 }
         ensures ok { OnOk result (self.new ≡ record self.old {
-          entries = self.old.entries ++ replicate count entry.now;
+          entries = self.old.entries ++ replicate count entry;
         }) }
         ensures err { OnErr result (self.new ≡ self.old) }
     {
