@@ -123,6 +123,7 @@ impl Controller {
     {
         crate::laws::continues_replay();
         crate::laws::counts_entries();
+        self.history.law_of_room();
         crate::laws::what_runs_goes_on();
         let mon = self.cpu.enter(&self.program, &e.what);
         self.observer.look(&self.cpu, mon);
@@ -172,6 +173,7 @@ impl Controller {
     {
         crate::laws::continues_replay();
         crate::laws::counts_entries();
+        self.history.law_of_room();
         crate::laws::what_runs_goes_on();
         let made = self.cpu.step_quietly(&self.program, most);
         if made == 0 {

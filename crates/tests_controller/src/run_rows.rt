@@ -26,7 +26,12 @@ static ROWS: [Row; 6] = [
     },
     // steps of two workers, and a worker that comes again
     Row {
-        entries: &[(1, "step", 3), (2, "step", 2), (2, "step", 2), (1, "step", 1)],
+        entries: &[
+            (1, "step", 3),
+            (2, "step", 2),
+            (2, "step", 2),
+            (1, "step", 1),
+        ],
         runs: &[(0, 1, "step", 3), (3, 2, "step", 4), (7, 1, "step", 1)],
     },
     // equal entries that aren't steps
@@ -126,9 +131,23 @@ fn enter_in_a_row(
 fn has_run(rt: &impl Abort, controller: &Controller, got: &Run, want: &(u64, u8, &str, u64)) {
     let (first, who, word, count) = *want;
     let entry = entry_of(who, word);
-    same(rt, "a run", *got, Run { entry, first, count });
+    same(
+        rt,
+        "a run",
+        *got,
+        Run {
+            entry,
+            first,
+            count,
+        },
+    );
     same(rt, "its first entry", controller.entry(first), Some(entry));
-    same(rt, "its last entry", controller.entry(first + count - 1), Some(entry));
+    same(
+        rt,
+        "its last entry",
+        controller.entry(first + count - 1),
+        Some(entry),
+    );
 }
 
 /// The history has these runs.
@@ -138,7 +157,12 @@ fn has_runs(rt: &impl Abort, controller: &Controller, wanted: &[(u64, u8, &str, 
     for (got, want) in runs.iter().zip(wanted) {
         has_run(rt, controller, got, want);
     }
-    same(rt, "none further", controller.entry(controller.history_len()), None);
+    same(
+        rt,
+        "none further",
+        controller.entry(controller.history_len()),
+        None,
+    );
 }
 
 fn rows_hold(
@@ -173,7 +197,12 @@ fn a_million_steps_are_one_run(rt: HostRuntime) -> Result<(), Fail> {
     let step = entry_of(1, "step");
     enter_each(&rt, &mut controller, &step, 1)?;
     make_room(&rt, &mut controller, 999_999)?;
-    same(&rt, "made", controller.step_quietly(&step, 999_999), 999_999);
+    same(
+        &rt,
+        "made",
+        controller.step_quietly(&step, 999_999),
+        999_999,
+    );
     same(&rt, "entries", controller.history_len(), 1_000_000);
     has_runs(&rt, &controller, &[(0, 1, "step", 1_000_000)]);
     Ok(())
