@@ -1,1 +1,6 @@
+pub mod NumberLemmas
+pub mod PartLemmas
+pub mod RequestLemmas
 pub mod RunLemmas
+pub mod ValidLemmas
+pub mod WordLemmas

@@ -35,7 +35,7 @@ impl Model for Entries {
 }
 
 impl Run {
-    ghost use Rattle.std.specs.Prelude.{◌≡◌, ◌+◌, ◌^◌, ◌<◌};
+    ghost use Rattle.std.specs.Prelude.{◌≡◌};
     ghost use Rattle.var_access.specs.Runs.{joins};
 
     /// Whether an entry behind the run is one more of it: both are steps of one worker.
@@ -43,18 +43,6 @@ impl Run {
         ensures { result ≡ joins self.now.entry next.now }
     {
         self.entry.is_step() && next.is_step() && self.entry.who == next.who
-    }
-
-    /// The run with so many entries more.
-    fn longer(&self, more: u64) -> Run
-        requires { self.now.count + more < 2 ^ 64 }
-        ensures { result ≡ record self.now { count = self.now.count + more } }
-    {
-        Run {
-            entry: self.entry,
-            first: self.first,
-            count: self.count + more,
-        }
     }
 }
 
@@ -70,7 +58,6 @@ fn push_reserved<T: Copy>(list: &mut Vec<T>, element: T)
 }
 
 // Adds equal entries behind those of runs.
-#[tactic(auto, using(crate::proofs::RunLemmas::first_written, crate::proofs::RunLemmas::first_runs, crate::proofs::RunLemmas::joined_written, crate::proofs::RunLemmas::joined_runs, crate::proofs::RunLemmas::apart_written, crate::proofs::RunLemmas::apart_runs, crate::proofs::RunLemmas::few))]
 fn add(runs: &mut Vec<Run>, entry: Entry, first: u64, count: u64)
     requires are { AreRuns runs.old.items }
     requires first { first ≡ length (written_out runs.old.items) }
@@ -84,22 +71,20 @@ fn add(runs: &mut Vec<Run>, entry: Entry, first: u64, count: u64)
     ensures len { vec_len runs.new ≤ vec_len runs.old + 1 }
     ensures capacity { vec_capacity runs.new ≡ vec_capacity runs.old }
 {
-    let run = Run {
-        entry,
-        first,
-        count,
-    };
-    match runs.pop() {
-        None => push_reserved(runs, run),
-        Some(last) => {
-            if last.joins(&entry) {
-                push_reserved(runs, last.longer(count));
-            } else {
-                push_reserved(runs, last);
-                push_reserved(runs, run);
-            }
+    if let Some(last) = runs.last_mut() {
+        if last.joins(&entry) {
+            last.count += count;
+            return;
         }
     }
+    push_reserved(
+        runs,
+        Run {
+            entry,
+            first,
+            count,
+        },
+    );
 }
 
 // A run by its place among the runs.
