@@ -11,8 +11,8 @@ use Rattle.controller.specs.Replay.{ContinuesReplay, happens, replay}
 use Rattle.controller.specs.State.{State}
 use Rattle.controller.specs.Replayed.{events}
 use Rattle.sem_kept.specs.Kept.{IsKept}
-use Rattle.run_text.specs.LineText.{end_text}
-use Rattle.run_text.specs.RunText.{blocks_text, lines_from, run_text, shown_text}
+use Rattle.monitor.specs.LineText.{end_text}
+use Rattle.s7_cli.specs.run_text.RunText.{blocks_text, lines_from, run_text, shown_text}
 
 lines-kept : ContinuesReplay → (profile : Profile) (c d : Code) → IsKept c d → (before : List What) (n : ℕ) (es : List Entry)
     → lines_from d n (replay profile d before) es ≡ lines_from c n (replay profile c before) es

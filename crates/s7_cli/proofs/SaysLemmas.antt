@@ -12,7 +12,7 @@ use Rattle.event_text.specs.History.{history_of}
 use Rattle.event_text.specs.HistoryFault.{IsHistoryFault}
 use Rattle.event_text.specs.declared.HistoryFault.{HistoryFault}
 use Rattle.event_text.specs.declared.HistoryFault.TheVariants as history
-use Rattle.run_text.specs.RunText.{run_text}
+use Rattle.s7_cli.specs.run_text.RunText.{run_text}
 use Rattle.s7_cli.specs.Compiling.{RefusesBy}
 use Rattle.s7_cli.specs.declared.faults.CompileFault.{CompileFault}
 use Rattle.s7_cli.specs.declared.faults.CompileFault.TheVariants as compiling

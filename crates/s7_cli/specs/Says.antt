@@ -6,7 +6,7 @@ use Rattle.var_access.specs.declared.Entry.{Entry}
 use Rattle.machine.specs.Code.{Code}
 use Rattle.sem_kept.specs.Meaning.{IsJudged, Refused, InSymbols, InSource}
 use Rattle.event_text.specs.History.{history_of}
-use Rattle.run_text.specs.RunText.{run_text}
+use Rattle.s7_cli.specs.run_text.RunText.{run_text}
 use Rattle.s7_cli.specs.declared.failures.File.TheVariants.{Source, Symbols, History}
 use Rattle.s7_cli.specs.Answer.{Answer, done, refused}
 use Rattle.s7_cli.specs.Command.{Command, Go, Check}

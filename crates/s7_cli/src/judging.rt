@@ -1,7 +1,6 @@
 ghost use Rattle.std.specs.Prelude.{◌≡◌, All, IfOk, Ok};
 ghost use Rattle.var_access.specs.Entry.{IsValid};
-ghost use Rattle.machine.specs.Flat.{code_of};
-ghost use Rattle.sem_kept.specs.Agreement.{RunsAs};
+ghost use Rattle.sem_kept.specs.Agreement.{KeepsSource};
 ghost use Rattle.event_text.specs.History.{history_of};
 ghost use Rattle.s7_cli.specs.Compiling.{HasProgram};
 ghost use Rattle.s7_cli.specs.Inner.{RefusedBy};
@@ -33,8 +32,8 @@ pub fn judge(
     history: &[u8],
 ) -> Result<(Loaded, Vec<Entry>), Failure>
     requires { IsWithin text.now }
-    ensures runs { IfOk result
-        (λ v. RunsAs text.now.source.items (symbols_of text.now) (code_of v.0.program)) }
+    ensures keeps { IfOk result
+        (λ v. KeepsSource text.now.source.items (symbols_of text.now) v.0.program) }
     ensures spells { IfOk result (λ v. history_of history.now ≡ Ok v.1.items) }
     ensures valid { IfOk result (λ v. All IsValid v.1.items) }
     ensures refused { RefusedBy

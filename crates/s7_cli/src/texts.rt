@@ -9,8 +9,8 @@ ghost use Rattle.s7_cli.specs.Lines.{
 };
 
 use crate::failures::{Failure, File};
+use monitor::Line;
 use plc_base::Refusal;
-use run_text::Line;
 
 /// The word for a file.
 #[tactic(auto, unfolding(crate::specs::Lines::file_text))]

@@ -2,10 +2,10 @@
 use crate::calls::{ONE_RUN, RUNG};
 use crate::compare::same;
 use event_text::read_history;
+use monitor::Line;
 use plc_base::Refusal;
 use plc_io::MemSink;
-use run_text::{Line, replay_text};
-use s7_cli::{CompileFault, compiled, judged};
+use s7_cli::{CompileFault, compiled, judged, replay_text};
 use std::alloc::Global;
 use std::process::Abort;
 use std::test::Fail;

@@ -1,7 +1,7 @@
 use crate::compare::same;
 use event_text::{HistoryFault, read_history};
 use plc_base::{BlockId, BlockKind, Mode, Refusal, Spot};
-use run_text::{Line, end_line, mode_line, output_line, row_line};
+use monitor::{Line, db_line, end_line, mode_line, output_line};
 use s7_cli::{Failure, File, Status, failure_line};
 use std::process::Abort;
 use std::test::Fail;

@@ -7,7 +7,7 @@ use Rattle.image_file.specs.Loaded.{LoadedProgram}
 use Rattle.machine.specs.Flat.{code_of}
 use Rattle.var_access.specs.declared.Entry.{Entry}
 use Rattle.event_text.specs.History.{history_of}
-use Rattle.run_text.specs.RunText.{run_text}
+use Rattle.s7_cli.specs.run_text.RunText.{run_text}
 use Rattle.s7_cli.specs.declared.failures.File.TheVariants.{History}
 use Rattle.s7_cli.specs.Answer.{Answer}
 use Rattle.s7_cli.specs.Command.{Go, Input, program_inputs}
@@ -76,7 +76,7 @@ returns g c =
     let history : List ℕ = c.in_ok-history.history.items in
     let running = code_of c.in_ok-program.program.program in
     let entries : List Entry = c.in_ok-program.entries.items in
-    let runs = c.in_ok-program.ensures.runs in
+    let runs = c.in_ok-program.ensures.keeps.runs in
     let spells : history_of history ≡ Ok entries = ap history_of (sym c.deref.ensures.value) ∙ c.in_ok-program.ensures.spells in
     comes-written (Go c.args.src.now symbols c.args.hist.now) _ _ _ (contents_of text ++ history ∷ []) (run_text Small runs.0 entries) _ refl
     (read-then _ _ _ (program_inputs c.args.src.now symbols) (history_input c.args.hist.now ∷ []) (contents_of text) (history ∷ []) c.in_ok-text.ensures

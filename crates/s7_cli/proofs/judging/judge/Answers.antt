@@ -15,4 +15,4 @@ pub returns-in_err-entries-clause-refused : goal.returns-in_err-entries-clause-r
 returns-in_err-entries-clause-refused c =
     let fault = err_from_is_err_and c.from_residual-in_err-entries.result c.from_residual-in_err-entries.ensures.1 in
     history-refused (LoadedProgram × Vec Entry Global) _ _ _ _ _ c.args.history.now _ _ c.deref.ensures.value c.symbols.ensures
-    (fault.1 ∙ ap Err fault.2) c.in_ok-program.ensures.ok c.in_err-entries.ensures.refused
+    (fault.1 ∙ ap Err fault.2) c.in_ok-program.ensures.ok.runs c.in_err-entries.ensures.refused

@@ -1,3 +1,0 @@
-pub mod LineText
-pub mod RunText
-pub mod Behind
