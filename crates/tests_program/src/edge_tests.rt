@@ -1,7 +1,7 @@
 use crate::compare::same;
 use event_text::{HistoryFault, read_history};
-use plc_base::{BlockId, BlockKind, Mode, Refusal, Spot};
-use monitor::{Line, db_line, end_line, mode_line, output_line};
+use monitor::Line;
+use plc_base::Refusal;
 use s7_cli::{Failure, File, Status, failure_line};
 use std::process::Abort;
 use std::test::Fail;
@@ -119,46 +119,6 @@ fn entries_in_order(rt: HostRuntime) -> Result<(), Fail> {
 /// Compares a line with the text worked out by hand.
 fn spells(rt: &impl Abort, line: Line, text: &str) {
     same(rt, text, line.as_slice(), text.as_bytes());
-}
-
-#[test]
-fn lines_of_a_run(rt: HostRuntime) {
-    let at = Some(Spot {
-        block: BlockId {
-            kind: BlockKind::Ob,
-            number: 1,
-        },
-        line: 3,
-    });
-    let stopped = Mode::Stop { cause: 8, at };
-    let unplaced = Mode::Stop { cause: 9, at: None };
-    for (n, output, text) in [
-        (7, (4, 1), "@7 PQ 4 = 01\n"),
-        (10, (767, 175), "@10 PQ 767 = AF\n"),
-    ] {
-        spells(&rt, output_line(n, output), text);
-    }
-    for (n, mode, text) in [
-        (3, Mode::Run, "@3 MODE RUN\n"),
-        (7, Mode::Startup, "@7 MODE STARTUP\n"),
-        (8, stopped, "@8 MODE STOP 8 AT OB 1 LINE 3\n"),
-        (2, unplaced, "@2 MODE STOP 9 AT NONE\n"),
-    ] {
-        spells(&rt, mode_line(n, mode), text);
-    }
-    for (n, mode, text) in [
-        (7, Mode::Run, "END 7 RUN\n"),
-        (8, Mode::Startup, "END 8 STARTUP\n"),
-        (9, stopped, "END 9 STOP 8\n"),
-    ] {
-        spells(&rt, end_line(n, mode), text);
-    }
-    spells(
-        &rt,
-        row_line(10, 0, &[0, 9, 160, 255]),
-        "DB 10 0 0009A0FF\n",
-    );
-    spells(&rt, row_line(5, 32, b""), "DB 5 32 \n");
 }
 
 fn refused(file: File) -> Failure {

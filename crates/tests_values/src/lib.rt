@@ -5,6 +5,8 @@
 #[cfg(test)]
 mod bit_logic;
 #[cfg(test)]
+mod blocks_and_texts;
+#[cfg(test)]
 mod compare;
 #[cfg(test)]
 mod entries;

@@ -49,8 +49,8 @@ fn add_shown(n: u64, seen: &Observed, text: &mut Vec<u8>) -> Result<(), NoMemory
 fn write_applied<K: Sink>(
     controller: &mut Controller,
     entry: Entry,
-    text: &mut Vec<u8>,
     out: &mut K,
+    text: &mut Vec<u8>,
 ) -> Result<(), IoFault>
     requires room { 1 ≤ controller.old.spare }
     requires valid { IsValid entry }
@@ -73,8 +73,8 @@ fn write_applied<K: Sink>(
 fn write_steps<K: Sink>(
     controller: &mut Controller,
     steps: &[Entry],
-    text: &mut Vec<u8>,
     out: &mut K,
+    text: &mut Vec<u8>,
 ) -> Result<(), IoFault>
     requires room { length steps.now ≤ controller.old.spare }
     requires valid { All IsValid steps.now }
@@ -92,7 +92,7 @@ fn write_steps<K: Sink>(
         let Some(entry) = steps.get(at) else {
             return Ok(());
         };
-        write_applied(controller, *entry, text, out)?;
+        write_applied(controller, *entry, out, text)?;
         at += 1;
     }
 }
@@ -101,8 +101,8 @@ fn write_steps<K: Sink>(
 pub fn write_entries<K: Sink>(
     controller: &mut Controller,
     entries: &[Entry],
-    text: &mut Vec<u8>,
     out: &mut K,
+    text: &mut Vec<u8>,
 ) -> Result<(), IoFault>
     requires room { length entries.now ≤ controller.old.spare }
     requires valid { All IsValid entries.now }
@@ -118,12 +118,12 @@ pub fn write_entries<K: Sink>(
     loop {
         let rest = &entries[at..];
         let steps = leading_steps(rest);
-        write_steps(controller, &rest[..steps], text, out)?;
+        write_steps(controller, &rest[..steps], out, text)?;
         at += steps;
         let Some(entry) = entries.get(at) else {
             return Ok(());
         };
-        write_applied(controller, *entry, text, out)?;
+        write_applied(controller, *entry, out, text)?;
         at += 1;
     }
 }

@@ -50,6 +50,6 @@ pub fn replay_text<K: Sink>(
 {
     let mut controller = started(alloc, program, entries.len() as u64)?;
     let mut text = Vec::new(alloc);
-    write_entries(&mut controller, entries, &mut text, out)?;
-    write_closing(&controller, &mut text, out)
+    write_entries(&mut controller, entries, out, &mut text)?;
+    write_closing(out, &controller)
 }
