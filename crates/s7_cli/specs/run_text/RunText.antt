@@ -6,7 +6,11 @@ use Rattle.std.specs.Int.{div_ceil}
 use Rattle.std.specs.List.{flat_map, range_with_len}
 use Rattle.plc_base.specs.declared.Mode.{Mode}
 use Rattle.plc_base.specs.declared.Profile.{Profile}
+use Rattle.monitor.specs.declared.MonRecord.{MonRecord}
 use Rattle.var_access.specs.declared.Entry.{Entry}
+use Rattle.var_access.specs.declared.Reply.{Reply}
+use Rattle.var_access.specs.declared.What.{What}
+use Rattle.var_access.specs.declared.What.TheVariants.{Ask}
 use Rattle.machine.specs.Code.{Code}
 use Rattle.machine.specs.Statement.{World}
 use Rattle.controller.specs.declared.Observed.{Observed}
@@ -14,26 +18,39 @@ use Rattle.controller.specs.Replay.{Happened, happens, replay}
 use Rattle.controller.specs.Start.{start}
 use Rattle.controller.specs.State.{State}
 use Rattle.controller.specs.Replayed.{events}
-use Rattle.monitor.specs.LineText.{output_text, mode_text, end_text, row_text}
+use Rattle.monitor.specs.LineText.{end_text, mode_text, mon_text, output_text, row_text}
+use Rattle.event_text.specs.Replies.{reply_text}
 
 -- the mode that entry n began, if it began one
 abbrev pub changed_mode_text : ℕ → Option Mode → List ℕ
 changed_mode_text n None = []
 changed_mode_text n (Some mode) = mode_text n mode
 
--- what entry n showed
-unfoldable pub shown_text : ℕ → Observed → List ℕ
-shown_text n seen = flat_map (output_text n) seen.outputs ++ changed_mode_text n seen.mode
+-- the record of the monitored statement, if entry n made one
+abbrev pub monitored_text : ℕ → Option MonRecord → List ℕ
+monitored_text n None = []
+monitored_text n (Some one) = mon_text n one
 
--- what entry n did; its answer has no line
-abbrev pub entry_text : ℕ → Happened → List ℕ
-entry_text n happened = shown_text n happened.seen
+-- what entry n showed: the monitored statement, the outputs that changed, the mode that began
+unfoldable pub shown_text : ℕ → Observed → List ℕ
+shown_text n seen =
+    monitored_text n seen.mon ++ (flat_map (output_text n) seen.outputs ++ changed_mode_text n seen.mode)
+
+-- the reply to a request, which is entry n; the other entries have none
+abbrev pub replied_text : (n who : ℕ) → What → Reply → List ℕ
+replied_text n who (Ask request) reply = reply_text n who request reply
+replied_text n who what reply = []
+
+-- what entry n did: what it showed, and then its reply
+abbrev pub entry_text : ℕ → Entry → Happened → List ℕ
+entry_text n e happened =
+    shown_text n happened.seen ++ replied_text n e.who e.what happened.reply
 
 -- the lines of these entries, from the state behind n entries
 abbrev pub lines_from : Code → ℕ → State → List Entry → List ℕ
 lines_from code n s [] = []
 lines_from code n s (e ∷ es) =
-    entry_text (n + 1) (happens code s e.what)
+    entry_text (n + 1) e (happens code s e.what)
     ++ lines_from code (n + 1) (happens code s e.what).state es
 
 -- 32 bytes of a data block stand in a line, and in its last one what is left
