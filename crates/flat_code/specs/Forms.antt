@@ -1,6 +1,7 @@
 -- The forms of operands: the payload of each, as the table of forms has it.
-use Rattle.std.specs.Prelude.{ℕ, ◌==◌, Bool, true, false, ◌||◌, if◌then◌else◌, List, [], ◌∷◌, Option, Some, None}
+use Rattle.std.specs.Prelude.{ℕ, ◌+◌, ◌==◌, Bool, true, false, ◌||◌, if◌then◌else◌, List, [], ◌∷◌, Option, Some, None}
 use Rattle.std.specs.Option.{option_map}
+use Rattle.plc_base.specs.Pointer.{area_number}
 use Rattle.plc_base.specs.Widths.{width_number}
 use Rattle.plc_base.specs.declared.places.Area.{Area}
 use Rattle.plc_base.specs.declared.places.Area.TheVariants as area
@@ -12,15 +13,9 @@ use Rattle.flat_code.specs.declared.operands.Passed.{Passed}
 use Rattle.flat_code.specs.declared.operands.Passed.TheVariants as passed
 use Rattle.flat_code.specs.Coding.{Coding, u8, u16, u32, named, such_that, within, then_coding}
 
--- the byte that names an area, 128 P to 134 L
+-- the byte that names an area in an image: 128 and its number, 128 P to 134 L
 abbrev pub area_code : Area → ℕ
-area_code area.P = 128
-area_code area.I = 129
-area_code area.Q = 130
-area_code area.M = 131
-area_code area.Db = 132
-area_code area.Di = 133
-area_code area.L = 134
+area_code a = 128 + area_number a
 
 -- the area that a byte names
 abbrev pub area_of_code : ℕ → Option Area

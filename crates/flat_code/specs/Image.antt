@@ -10,7 +10,7 @@ use Rattle.flat_code.specs.declared.programs.Param.{Param}
 use Rattle.flat_code.specs.declared.image_fields.ParameterRecord.{ParameterRecord}
 use Rattle.flat_code.specs.declared.image_fields.Field.TheVariants as field_of
 use Rattle.flat_code.specs.Coding.{Coding, u8, u16, u32}
-use Rattle.flat_code.specs.Forms.{width_of_number}
+use Rattle.flat_code.specs.Forms.{area_code, width_of_number}
 use Rattle.flat_code.specs.Ops.{OpData}
 use Rattle.flat_code.specs.Programs.{CodeBlock, DataBlock, NameEntry, Program}
 use Rattle.flat_code.specs.Records.{BlockRecord, NameRecord, Records}
@@ -366,9 +366,9 @@ area_of_number n = if n == 129 then area.I else if n == 130 then area.Q else are
 
 -- only a place of no data block, in I, Q or M, has a number
 abbrev pub number_of_area : ℕ → Area → ℕ
-number_of_area zero area.I = 129
-number_of_area zero area.Q = 130
-number_of_area zero area.M = 131
+number_of_area zero area.I = area_code area.I
+number_of_area zero area.Q = area_code area.Q
+number_of_area zero area.M = area_code area.M
 number_of_area _ _ = 0
 
 -- a parameter of a program by its record; the section stays a number, 1 IN, 2 OUT, 3 IN_OUT

@@ -1,24 +1,11 @@
 ghost use Rattle.std.specs.Prelude.{◌≡◌, ◌<◌, ◌∷◌, ◌++◌, OnOk, OnErr};
-ghost use Rattle.flat_code.specs.Forms.{area_code, crossing_code, form_of_operand, payload, passes};
+ghost use Rattle.flat_code.specs.Forms.{crossing_code, form_of_operand, payload, passes};
 ghost use Rattle.flat_code.specs.Ops.{op_bytes, code_byte};
 
 use crate::operands::{Operand, Passed};
 use crate::ops::Op;
+use crate::record_numbers::code_of_area;
 use plc_base::{Area, NoMemory};
-
-fn code_of_area(area: Area) -> u8
-    ensures { result ≡ area_code area }
-{
-    match area {
-        Area::P => 128,
-        Area::I => 129,
-        Area::Q => 130,
-        Area::M => 131,
-        Area::Db => 132,
-        Area::Di => 133,
-        Area::L => 134,
-    }
-}
 
 fn code_of_crossing(area: Option<Area>) -> u8
     ensures { result ≡ crossing_code area }

@@ -1,6 +1,6 @@
 //! Areas and widths as an image has them.
 ghost use Rattle.std.specs.Prelude.{◌≡◌};
-ghost use Rattle.flat_code.specs.Forms.{width_of_number};
+ghost use Rattle.flat_code.specs.Forms.{area_code, width_of_number};
 ghost use Rattle.flat_code.specs.Image.{number_of_area};
 
 use crate::fields::width_of;
@@ -17,6 +17,13 @@ pub fn width_of_number(number: u8) -> Width
     }
 }
 
+/// The byte that names an area: 0x80 and its number.
+pub(crate) fn code_of_area(area: Area) -> u8
+    ensures { result ≡ area_code area }
+{
+    128 + area.number()
+}
+
 /// The area of a name's variable as an image has it: 0x81 I, 0x82 Q, 0x83 M; 0 for the others.
 pub fn area_number(place: &Place) -> u8
     ensures { result ≡ number_of_area place.now.number place.now.area }
@@ -25,9 +32,7 @@ pub fn area_number(place: &Place) -> u8
         return 0;
     }
     match place.area {
-        Area::I => 129,
-        Area::Q => 130,
-        Area::M => 131,
+        Area::I | Area::Q | Area::M => code_of_area(place.area),
         _ => 0,
     }
 }
