@@ -14,13 +14,13 @@ use event_text::reply_lines;
 use monitor::{MonRecord, mode_line, mon_line, output_line};
 use plc_base::{Mode, NoMemory};
 use plc_io::{IoFault, Sink, push_all};
-use var_access::{Entry, Request, Run, What};
+use var_access::{Entries, Entry, Request, Run, What};
 
 /// Appends the line of the monitored statement, if entry `n` made a record of one.
-fn add_record(n: u64, record: Option<MonRecord>, text: &mut Vec<u8>) -> Result<(), NoMemory>
-    ensures { OnOk result (text.new.items ≡ text.old.items ++ monitored_text n record) }
+fn add_record(n: u64, mon: Option<MonRecord>, text: &mut Vec<u8>) -> Result<(), NoMemory>
+    ensures { OnOk result (text.new.items ≡ text.old.items ++ monitored_text n mon) }
 {
-    match record {
+    match mon {
         Some(record) => mon_line(n, &record, text),
         None => Ok(()),
     }
@@ -188,7 +188,7 @@ fn write_run<K: Sink>(
 }
 
 /// Applies the entries of runs, and writes their lines.
-pub fn write_runs<K: Sink>(
+fn write_runs<K: Sink>(
     controller: &mut Controller,
     runs: &[Run],
     out: &mut K,
@@ -207,4 +207,21 @@ pub fn write_runs<K: Sink>(
         write_run(controller, run, out, text)?;
     }
     Ok(())
+}
+
+/// Applies entries, and writes their lines.
+pub fn write_entries<K: Sink>(
+    controller: &mut Controller,
+    entries: &Entries,
+    out: &mut K,
+    text: &mut Vec<u8>,
+) -> Result<(), IoFault>
+    requires room { length entries.now.entries ≤ controller.old.spare }
+    requires valid { All IsValid entries.now.entries }
+    ensures applied { OnOk result
+        (controller.new ≡ with_entries controller.old entries.now.entries) }
+    ensures text { Wrote (K.shown out.old) (K.shown out.new)
+        (lines_behind controller.old entries.now.entries) result }
+{
+    write_runs(controller, entries.runs(), out, text)
 }

@@ -12,7 +12,7 @@ use controller::Controller;
 use image_file::Loaded;
 use plc_io::{IoFault, Sink};
 use std::alloc::Global;
-use var_access::Entry;
+use var_access::Entries;
 
 /// A controller at its start, with room for so many entries.
 fn started(alloc: Global, program: Loaded, entries: u64) -> Result<Controller, IoFault>
@@ -30,7 +30,8 @@ fn started(alloc: Global, program: Loaded, entries: u64) -> Result<Controller, I
 }
 
 /// Runs a program of the small profile along a history, and writes the text of the run: for each
-/// entry the peripheral output bytes and the mode that it changed, then the mode at the end and all
+/// entry the record of its statement where that is of the monitored block, the peripheral output
+/// bytes and the mode that it changed, and the reply to a request; then the mode at the end and all
 /// data blocks.
 ///
 /// # Errors
@@ -41,14 +42,14 @@ fn started(alloc: Global, program: Loaded, entries: u64) -> Result<Controller, I
 pub fn replay_text<K: Sink>(
     alloc: Global,
     program: Loaded,
-    entries: &[Entry],
+    entries: &Entries,
     out: &mut K,
 ) -> Result<(), IoFault>
-    requires { All IsValid entries.now }
+    requires { All IsValid entries.now.entries }
     ensures { Wrote (K.shown out.old) (K.shown out.new)
-        (run_text Small (code_of program.program) entries.now) result }
+        (run_text Small (code_of program.program) entries.now.entries) result }
 {
-    let mut controller = started(alloc, program, entries.len() as u64)?;
+    let mut controller = started(alloc, program, entries.len())?;
     let mut text = Vec::new(alloc);
     write_entries(&mut controller, entries, out, &mut text)?;
     write_closing(out, &controller)

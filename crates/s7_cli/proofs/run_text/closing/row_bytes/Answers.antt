@@ -1,4 +1,4 @@
-use Rattle.s7_cli.proofs.run_text.ListLemmas.{front-of}
+use Rattle.s7_cli.proofs.run.ListLemmas.{front-of}
 use Rattle.s7_cli.proofs.run_text.closing.row_bytes.Goals as goal
 
 pub returns-clause-value : goal.returns-clause-value

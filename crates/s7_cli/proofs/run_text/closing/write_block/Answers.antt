@@ -4,8 +4,8 @@ use Rattle.std.proofs.lemmas.Result.{err_from_is_err_and}
 use Rattle.plc_io.specs.Taken.{Wrote}
 use Rattle.monitor.specs.LineText.{row_text}
 use Rattle.s7_cli.specs.run_text.RunText.{row_of}
-use Rattle.s7_cli.proofs.run_text.ListLemmas.{block-is, counted-end, counted-next}
-use Rattle.s7_cli.proofs.run_text.WritingLemmas.{goes-cut, goes-end, goes-next}
+use Rattle.s7_cli.proofs.run.ListLemmas.{block-is, counted-end, counted-next}
+use Rattle.s7_cli.proofs.run.WritingLemmas.{goes-cut, goes-end, goes-next}
 use Rattle.s7_cli.proofs.run_text.closing.write_block.Goals as goal
 
 pub returns-in_err-push_all : goal.returns-in_err-push_all

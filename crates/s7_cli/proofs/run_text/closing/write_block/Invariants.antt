@@ -2,8 +2,8 @@ use Rattle.std.proofs.Common.{length}
 use Rattle.std.specs.Int.{div_ceil}
 use Rattle.std.specs.List.{flat_map}
 use Rattle.s7_cli.specs.run_text.RunText.{row_of}
-use Rattle.s7_cli.proofs.run_text.ListLemmas.{from_to}
-use Rattle.s7_cli.proofs.run_text.WritingLemmas.{GoesOn}
+use Rattle.s7_cli.proofs.run.ListLemmas.{from_to}
+use Rattle.s7_cli.proofs.run.WritingLemmas.{GoesOn}
 use Rattle.s7_cli.proofs.run_text.closing.write_block.Given as goal
 
 -- the rows so far were written

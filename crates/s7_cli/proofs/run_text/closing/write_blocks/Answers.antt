@@ -3,8 +3,8 @@ use Rattle.std.specs.List.{flat_map}
 use Rattle.std.proofs.lemmas.Result.{err_from_is_err_and}
 use Rattle.controller.specs.Replayed.{data_blocks}
 use Rattle.s7_cli.specs.run_text.RunText.{block_text}
-use Rattle.s7_cli.proofs.run_text.ListLemmas.{found-last, found-more, found-next}
-use Rattle.s7_cli.proofs.run_text.WritingLemmas.{GoesOn, goes-cut, goes-end, goes-next, goes-wanting}
+use Rattle.s7_cli.proofs.run.ListLemmas.{found-last, found-more, found-next}
+use Rattle.s7_cli.proofs.run.WritingLemmas.{GoesOn, goes-cut, goes-end, goes-next, goes-wanting}
 use Rattle.s7_cli.proofs.run_text.closing.write_blocks.Goals as goal
 
 pub returns-in_err-write_block : goal.returns-in_err-write_block

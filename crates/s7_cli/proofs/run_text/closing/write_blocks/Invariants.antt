@@ -2,7 +2,7 @@ use Rattle.std.proofs.Common.{◌-◌, drop, length}
 use Rattle.std.specs.List.{flat_map}
 use Rattle.controller.specs.Replayed.{data_blocks}
 use Rattle.s7_cli.specs.run_text.RunText.{block_text}
-use Rattle.s7_cli.proofs.run_text.WritingLemmas.{GoesOn}
+use Rattle.s7_cli.proofs.run.WritingLemmas.{GoesOn}
 use Rattle.s7_cli.proofs.run_text.closing.write_blocks.Given as goal
 
 -- the blocks so far were written

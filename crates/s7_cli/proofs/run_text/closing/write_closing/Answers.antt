@@ -2,7 +2,7 @@ use Rattle.std.proofs.Common.{◌∙◌, ap, ap₂, refl, Err}
 use Rattle.std.proofs.lemmas.Result.{err_from_is_err_and}
 use Rattle.s7_cli.specs.run_text.Behind.{closing_of}
 use Rattle.monitor.specs.LineText.{end_text}
-use Rattle.s7_cli.proofs.run_text.WritingLemmas.{goes-cut, goes-first, goes-last, goes-next}
+use Rattle.s7_cli.proofs.run.WritingLemmas.{goes-cut, goes-first, goes-last, goes-next}
 use Rattle.s7_cli.proofs.run_text.closing.write_closing.Goals as goal
 
 pub returns-in_err-push_all : goal.returns-in_err-push_all

@@ -1,55 +1,62 @@
-use Rattle.std.proofs.Common.{arith, ◌+◌, ◌∙◌, ap, refl, Err}
-use Rattle.std.proofs.lemmas.List.{take_rest}
+use Rattle.std.proofs.Common.{◌∙◌, ◌-◌, ◌≡◌, ◌≤◌, ap, refl, replicate, ℕ, Err, arith}
 use Rattle.std.proofs.lemmas.Result.{err_from_is_err_and}
-use Rattle.s7_cli.proofs.run_text.EntryLemmas.{follows-end, follows-next, follows-none, follows-quiet, lines-next, steps-behind}
-use Rattle.s7_cli.proofs.run_text.WritingLemmas.{goes-cut}
+use Rattle.s7_cli.proofs.run.EntryLemmas.{follows-end, follows-none, follows-quiet, steps-cut, steps-next, steps-room}
 use Rattle.s7_cli.proofs.run_text.entries.write_steps.Goals as goal
 
-pub loop-entry-init : goal.loop-entry-init
-loop-entry-init g c = record {
-  follows = follows-none c.args.controller.now c.args.steps.now _;
+pub loop-left-init : goal.loop-left-init
+loop-left-init g c = record {
+  follows = follows-none c.args.controller.now (replicate c.args.count c.args.step.now) _;
 }
 
-pub step_quietly-at-requires-clause-steps : goal.step_quietly-at-requires-clause-steps
-step_quietly-at-requires-clause-steps g c =
-    steps-behind c.args.steps.now _ c.loop-entry.at c.requires.steps (take_rest c.args.steps.now c.loop-entry.at)
+pub step_quietly-left-requires-clause-room : goal.step_quietly-left-requires-clause-room
+step_quietly-left-requires-clause-room g c =
+    steps-room _ _ c.args.step.now c.args.count c.loop-left.left _ _ c.loop-left.invariant.follows c.requires.room
 
-pub returns-in_default-clause-text : goal.returns-in_default-clause-text
-returns-in_default-clause-text g c =
+pub returns-then-left-eq0-clause-text : goal.returns-then-left-eq0-clause-text
+returns-then-left-eq0-clause-text g c =
+    let none : c.loop-left.left - c.step_quietly-left.result ≡ 0 = omega (arith, c.if-left-eq0.true) in
     follows-end _ _ _ _ _ _ _
-    (follows-quiet c.args.controller.now c.loop-entry.controller c.step_quietly-at.new.self c.args.steps.now _ c.loop-entry.at _ _ _
-    c.loop-entry.invariant.follows (take_rest c.args.steps.now c.loop-entry.at)
-    c.step_quietly-at.ensures.few c.step_quietly-at.ensures.history
-    c.step_quietly-at.ensures.nothing c.step_quietly-at.ensures.state)
-    (omega (arith, c.in_default.ensures.lookup))
+    (follows-quiet c.continues_replay.ensures.more c.args.controller.now c.loop-left.controller c.step_quietly-left.new.self
+    (replicate c.args.count c.args.step.now) c.args.step.now c.step_quietly-left.result c.loop-left.left _ _ _
+    c.loop-left.invariant.follows c.requires.is c.step_quietly-left.ensures.few refl c.step_quietly-left.ensures.history
+    c.step_quietly-left.ensures.nothing)
+    (ap (λ (n : ℕ). replicate n c.args.step.now) none)
+
+pub write_applied-requires-clause-room : goal.write_applied-requires-clause-room
+write_applied-requires-clause-room g c =
+    let left = steps-room _ _ c.args.step.now c.args.count _ _ _
+    (follows-quiet c.continues_replay.ensures.more c.args.controller.now c.loop-left.controller c.step_quietly-left.new.self
+    (replicate c.args.count c.args.step.now) c.args.step.now c.step_quietly-left.result c.loop-left.left
+    (c.loop-left.left - c.step_quietly-left.result) _ _
+    c.loop-left.invariant.follows c.requires.is c.step_quietly-left.ensures.few refl c.step_quietly-left.ensures.history
+    c.step_quietly-left.ensures.nothing)
+    c.requires.room in
+    omega (arith, left, c.if-left-eq0.false)
 
 pub returns-in_err-write_applied-clause-text : goal.returns-in_err-write_applied-clause-text
 returns-in_err-write_applied-clause-text g c =
     let handed = err_from_is_err_and c.from_residual.result c.from_residual.ensures.1 in
-    goes-cut _ _ _ _ _ _ _ _ _ _
-    (follows-quiet c.args.controller.now c.loop-entry.controller c.step_quietly-at.new.self c.args.steps.now _ c.loop-entry.at _ _ _
-    c.loop-entry.invariant.follows (take_rest c.args.steps.now c.loop-entry.at)
-    c.step_quietly-at.ensures.few c.step_quietly-at.ensures.history
-    c.step_quietly-at.ensures.nothing c.step_quietly-at.ensures.state).goes_on
-    (lines-next c.step_quietly-at.new.self c.write_applied.new.controller c.args.steps.now (c.loop-entry.at + c.step_quietly-at.result)
-    _ _ _ c.write_applied.ensures.history refl refl c.write_applied.ensures.shown
-    c.write_applied.ensures.state (omega (arith, c.in-Some.ensures.lookup)) c.in-Some.ensures.lookup.1)
-    refl
+    let some : 1 ≤ c.loop-left.left - c.step_quietly-left.result = omega (arith, c.if-left-eq0.false) in
+    steps-cut c.continues_replay.ensures.more _ _ c.args.step.now c.args.count _ _ _ _ _ _
+    (follows-quiet c.continues_replay.ensures.more c.args.controller.now c.loop-left.controller c.step_quietly-left.new.self
+    (replicate c.args.count c.args.step.now) c.args.step.now c.step_quietly-left.result c.loop-left.left _ _ _
+    c.loop-left.invariant.follows c.requires.is c.step_quietly-left.ensures.few refl c.step_quietly-left.ensures.history
+    c.step_quietly-left.ensures.nothing)
+    some
     c.in_err-write_applied.ensures.text
     (handed.1 ∙ ap Err handed.2)
 
-pub loop-entry-preserved : goal.loop-entry-preserved
-loop-entry-preserved g c = record {
-  follows =
-      follows-next c.args.controller.now c.step_quietly-at.new.self c.write_applied.new.controller c.args.steps.now _ _ _ _ _ _ _ _
-      (follows-quiet c.args.controller.now c.loop-entry.controller c.step_quietly-at.new.self c.args.steps.now _ c.loop-entry.at _ _ _
-      c.loop-entry.invariant.follows (take_rest c.args.steps.now c.loop-entry.at)
-      c.step_quietly-at.ensures.few c.step_quietly-at.ensures.history
-      c.step_quietly-at.ensures.nothing c.step_quietly-at.ensures.state)
-      (omega (arith, c.in-Some.ensures.lookup)) c.in-Some.ensures.lookup.1
-      c.write_applied.ensures.history
-      (lines-next c.step_quietly-at.new.self c.write_applied.new.controller c.args.steps.now (c.loop-entry.at + c.step_quietly-at.result)
-      _ _ _ c.write_applied.ensures.history refl refl c.write_applied.ensures.shown
-      c.write_applied.ensures.state (omega (arith, c.in-Some.ensures.lookup)) c.in-Some.ensures.lookup.1)
-      c.in_ok-write_applied.ensures.text;
-}
+pub loop-left-preserved : goal.loop-left-preserved
+loop-left-preserved g c =
+    let some : 1 ≤ c.loop-left.left - c.step_quietly-left.result = omega (arith, c.if-left-eq0.false) in
+    record {
+      follows =
+          steps-next c.continues_replay.ensures.more _ _ _ c.args.step.now c.args.count _ _ _ _ _
+          (follows-quiet c.continues_replay.ensures.more c.args.controller.now c.loop-left.controller c.step_quietly-left.new.self
+          (replicate c.args.count c.args.step.now) c.args.step.now c.step_quietly-left.result c.loop-left.left _ _ _
+          c.loop-left.invariant.follows c.requires.is c.step_quietly-left.ensures.few refl c.step_quietly-left.ensures.history
+          c.step_quietly-left.ensures.nothing)
+          some
+          c.in_ok-write_applied.ensures.applied
+          c.in_ok-write_applied.ensures.text;
+    }
