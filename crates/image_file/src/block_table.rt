@@ -4,7 +4,7 @@ ghost use Rattle.std.specs.Option.{option_map};
 ghost use Rattle.image_file.specs.Seats.{slot_of, slots, FindsBlocks};
 
 use flat_code::CodeBlock;
-use plc_base::{BlockId, BlockKind, NoMemory};
+use plc_base::{BlockId, NoMemory};
 use std::alloc::Global;
 
 /// How many places the table has: 2,048 for each of OB, FC and FB.
@@ -18,16 +18,10 @@ pub(crate) fn slot_of(block: BlockId) -> Option<usize>
     ensures slot { result ≡ slot_of block }
     ensures small { IfSome result (λ slot. slot < slots) }
 {
-    if block.number >= 2048 {
+    if !block.kind.is_code() || block.number >= 2048 {
         return None;
     }
-    let kind = match block.kind {
-        BlockKind::Ob => 0,
-        BlockKind::Fc => 1,
-        BlockKind::Fb => 2,
-        _ => return None,
-    };
-    Some(2048 * kind + usize::from(block.number))
+    Some(2048 * usize::from(block.kind.order()) + usize::from(block.number))
 }
 
 /// The kind and number of a block.

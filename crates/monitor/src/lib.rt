@@ -10,6 +10,6 @@ mod texts;
 
 pub use appending::{db_line, diag_line, end_line, mode_line, mon_line, output_line};
 pub use diagnostics::{DiagRing, Records};
-pub use lines::{LINE_LIMIT, Line};
+pub use lines::Line;
 pub use records::{DiagRecord, MonRecord};
 pub use texts::{ROW_BYTES, end_text, mode_text, mon_text, output_text, row_text};

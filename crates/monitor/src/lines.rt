@@ -6,7 +6,19 @@ use itoa::Buffer;
 use std::marker::Model;
 
 /// The most bytes of a line. No line of a fixed form is longer.
-pub const LINE_LIMIT: usize = 256;
+const LINE_LIMIT: usize = 256;
+
+/// A hexadecimal digit in upper case.
+pub(crate) fn hex_digit(digit: u8) -> u8
+    requires { digit < 16 }
+    ensures { result ≡ hex_digit digit }
+{
+    if digit < 10 {
+        b'0' + digit
+    } else {
+        b'A' + (digit - 10)
+    }
+}
 
 /// One line of text, kept without memory from an allocator.
 #[derive(Drop)]
@@ -20,18 +32,6 @@ impl Model for Line {
     ghost Value = { List ℕ };
 
     ghost view = { λ l. l.bytes.items };
-}
-
-/// A hexadecimal digit in upper case.
-pub(crate) fn hex_digit(digit: u8) -> u8
-    requires { digit < 16 }
-    ensures { result ≡ hex_digit digit }
-{
-    if digit < 10 {
-        b'0' + digit
-    } else {
-        b'A' + (digit - 10)
-    }
 }
 
 impl Line {
@@ -74,6 +74,7 @@ impl Line {
         let mut digits = Buffer::new();
         self.add(digits.format(number).as_bytes());
     }
+
     /// Appends the lowest hexadecimal digits of a number, 8 at most, in upper case.
     pub fn add_hex(&mut self, number: u32, digits: u32)
         requires few { digits ≤ 8 }

@@ -10,23 +10,11 @@ use Rattle.stl_ast.specs.declared.declarations.ElementType.{ElementType}
 use Rattle.stl_ast.specs.declared.declarations.ElementType.TheVariants as element
 use Rattle.stl_ast.specs.declared.declarations.Init.{Init}
 
--- a block of this kind has a body
-abbrev pub has_body : BlockKind → Bool
-has_body kinds.Ob = true
-has_body kinds.Fc = true
-has_body kinds.Fb = true
-has_body _ = false
-
 -- a block of this kind has a structure
 abbrev pub has_shape : BlockKind → Bool
 has_shape kinds.Db = true
 has_shape kinds.Udt = true
 has_shape _ = false
-
--- a block of this kind has settings
-abbrev pub has_settings : BlockKind → Bool
-has_settings kinds.Db = true
-has_settings _ = false
 
 -- the place of a section among those of a block
 abbrev pub part_rank : PartKind → ℕ

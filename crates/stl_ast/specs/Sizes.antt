@@ -1,5 +1,6 @@
 -- The most bytes that the code of a tree can take.
 use Rattle.std.specs.Prelude.{ℕ, ◌+◌, ◌*◌, if◌then◌else◌, length, sum_by, Option, Some, None}
+use Rattle.plc_base.specs.Kinds.{is_code}
 use Rattle.plc_base.specs.declared.blocks.BlockKind.{BlockKind}
 use Rattle.stl_ast.specs.declared.blocks.Block.{Block}
 use Rattle.stl_ast.specs.declared.blocks.Tree.{Tree}
@@ -11,7 +12,6 @@ use Rattle.stl_ast.specs.declared.operands.Operand.TheVariants as operand
 use Rattle.stl_ast.specs.declared.operands.PathHead.{PathHead}
 use Rattle.stl_ast.specs.declared.operands.PathHead.TheVariants as head
 use Rattle.stl_ast.specs.declared.statements.Statement.{Statement}
-use Rattle.stl_ast.specs.Blocks.{has_body}
 
 -- an op has its code and its form in a byte each, and then its operand. These are the most bytes of a statement's ops,
 -- actual parameters left out: a place takes 7 in all, an op that opens the data block before it 4 more, a place by an
@@ -57,7 +57,7 @@ statement_size s = code_size s.code s.operand (length s.actuals)
 
 -- the statement that returns, behind the last one of a body
 abbrev pub return_size : BlockKind → ℕ
-return_size k = if has_body k then 6 else 0
+return_size k = if is_code k then 6 else 0
 
 -- the statements of a block, and the one that returns, if its kind has a body
 abbrev pub body_size : Block → ℕ

@@ -1,6 +1,7 @@
 -- What the tree of a source keeps.
 use Rattle.std.specs.Prelude.{◌≡◌, ◌⊎◌, ℕ, ◌+◌, ◌≤◌, Bool, true, false, List, [], ◌∷◌, Option, Some, None}
 use Rattle.std.specs.List.{AllByRecursion}
+use Rattle.plc_base.specs.Kinds.{is_code, is_data_block}
 use Rattle.plc_base.specs.declared.blocks.BlockKind.{BlockKind}
 use Rattle.plc_base.specs.declared.blocks.BlockKind.TheVariants as kinds
 use Rattle.stl_ast.specs.declared.blocks.Block.{Block}
@@ -15,7 +16,7 @@ use Rattle.stl_ast.specs.declared.declarations.Simple.{Simple}
 use Rattle.stl_ast.specs.declared.declarations.TypeTree.{TypeTree}
 use Rattle.stl_ast.specs.declared.names.BlockName.{BlockName}
 use Rattle.stl_ast.specs.declared.statements.Statement.{Statement}
-use Rattle.stl_ast.specs.Blocks.{has_body, has_settings, part_rank, is_parameter, may_have, may_declare, is_date_and_time}
+use Rattle.stl_ast.specs.Blocks.{part_rank, is_parameter, may_have, may_declare, is_date_and_time}
 use Rattle.stl_ast.specs.Declarations.{IsDeclaration, is_elementary}
 use Rattle.stl_ast.specs.Literals.{IsLiteral}
 use Rattle.stl_ast.specs.Operands.{IsNameOf, AreSteps, BeginsByName}
@@ -95,11 +96,11 @@ IsSetting s = BeginsByName s.path × AreSteps s.path × IsLiteral s.value
 
 -- a data block alone has settings
 abbrev pub AreSettings : BlockKind → List Setting → Type 0
-AreSettings k ss = AllByRecursion IsSetting ss × (has_settings k ≡ false → ss ≡ [])
+AreSettings k ss = AllByRecursion IsSetting ss × (is_data_block k ≡ false → ss ≡ [])
 
 -- organization blocks, functions and function blocks alone have statements
 abbrev pub IsBody : BlockKind → List Statement → Type 0
-IsBody k body = AllByRecursion IsStatement body × (has_body k ≡ false → body ≡ [])
+IsBody k body = AllByRecursion IsStatement body × (is_code k ≡ false → body ≡ [])
 
 -- a block of the source: its kind says which return value, sections, type, settings and statements
 -- it may have

@@ -4,7 +4,7 @@ use Rattle.std.specs.Prelude.{nat_eq, nat_lt, ◌&&◌}
 use Rattle.std.specs.List.{flat_map}
 use Rattle.std.proofs.lemmas.List.{append_assoc, append-nil, map-append}
 use Rattle.std.proofs.lemmas.Option.{same_Some}
-use Rattle.plc_base.specs.Kinds.{kind_order}
+use Rattle.plc_base.specs.Kinds.{is_code, kind_order}
 use Rattle.plc_base.specs.declared.blocks.BlockKind.{BlockKind}
 use Rattle.plc_base.specs.declared.blocks.BlockKind.TheVariants as kinds
 use Rattle.stl_lexer.specs.Limits.{source_limit}
@@ -21,7 +21,7 @@ use Rattle.stl_ast.specs.declared.declarations.ElementType.TheVariants as elemen
 use Rattle.stl_ast.specs.declared.statements.Statement.{Statement}
 use Rattle.stl_ast.specs.Outline.{IsOutline, deepest_behind, level_behind}
 use Rattle.stl_ast.proofs.Outlines.{IsOutline-push, deepest_behind-push}
-use Rattle.stl_ast.specs.Blocks.{may_have, may_declare, has_body, has_shape, is_date_and_time, part_rank}
+use Rattle.stl_ast.specs.Blocks.{may_have, may_declare, has_shape, is_date_and_time, part_rank}
 use Rattle.stl_parser.specs.declared.clauses.Clause.{Clause}
 use Rattle.stl_parser.specs.declared.clauses.Clause.TheVariants as clause
 use Rattle.stl_parser.specs.declared.places.ClausePlace.{ClausePlace}
@@ -242,7 +242,7 @@ unfolding follow_head
 head_follows k clause.Note q h = same_Some _ q h
 head_follows k clause.Title q h = same_Some _ q h
 head_follows k (clause.Section line p) q h = sym (if_some (may_have k p) (place.Section k p 0) q h).1
-head_follows k clause.Begins q h = sym (if_some (has_body k) (place.Body k) q h).1
+head_follows k clause.Begins q h = sym (if_some (is_code k) (place.Body k) q h).1
 head_follows k clause.Structure q h = sym (if_some (has_shape k) (place.Shape k 0) q h).1
 head_follows k (clause.Based name) q h = sym (if_some (nat_eq (kind_order k) 3) (place.Shaped k) q h).1
 head_follows k _ q h = cc

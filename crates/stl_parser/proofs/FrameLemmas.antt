@@ -1,5 +1,5 @@
 -- Right clauses have a tree: what the frame lets follow at a place is what a tree spells from there on.
-use Rattle.plc_base.specs.Kinds.{kind_order, is_data_type}
+use Rattle.plc_base.specs.Kinds.{is_code, is_data_block, kind_order, is_data_type}
 use Rattle.stl_parser.proofs.LevelLemmas.{IsAt, read_level}
 use Rattle.std.proofs.Common.{arith, inl, inr, ℕ, zero, suc, ◌+◌, ◌≤◌, ◌⊎◌, ◌≡◌, Bool, true, false, List, [], ◌∷◌, ◌++◌, map, filter, cond, length, Option, Some, None, Result, Ok, Err, if◌then◌else◌, refl, sym, ◌∙◌, ap, subst}
 use Rattle.std.specs.Prelude.{nat_eq, nat_lt, ◌&&◌}
@@ -26,7 +26,7 @@ use Rattle.stl_parser.specs.declared.places.ClausePlace.{ClausePlace}
 use Rattle.stl_parser.specs.declared.places.ClausePlace.TheVariants as place
 use Rattle.stl_parser.specs.Clauses.{Read, level_at, clause_at}
 use Rattle.stl_parser.specs.Frame.{follow, follow_outside, follow_head, follow_section, follow_between, follow_shape, follow_shaped, follow_body, follow_settings}
-use Rattle.stl_ast.specs.Blocks.{may_have, may_declare, has_body, has_shape, has_settings, part_rank, is_date_and_time}
+use Rattle.stl_ast.specs.Blocks.{may_have, may_declare, has_shape, part_rank, is_date_and_time}
 use Rattle.stl_ast.specs.Operands.{IsNameOf}
 use Rattle.stl_ast.specs.Statements.{IsStatement}
 use Rattle.stl_ast.specs.WellFormed.{IsSourceKind, IsHeadName, MayReturn, AreDeclaredIn, IsSection, AreInOrder, AreSections, IsComponent, AreComponents, IsShapeOf, IsSetting, AreSettings, IsBody, IsBlock}
@@ -243,7 +243,7 @@ based_spells name false cs base udt (ss, line, bs, e, set, blocks) =
     )
 
 -- a block with sections has a body
-with_section : (k : BlockKind) (p : PartKind) → may_have k p ≡ true → has_body k ≡ true
+with_section : (k : BlockKind) (p : PartKind) → may_have k p ≡ true → is_code k ≡ true
 unfolding may_have
 with_section kinds.Ob p h = refl
 with_section kinds.Fc p h = refl
@@ -251,18 +251,18 @@ with_section kinds.Fb p h = refl
 with_section _ p h = cc
 
 bodied : (k : BlockKind) (ps : List Part) (xs : List Statement) → IsSourceKind k → AreSections k ps → IsShapeOf k None None [] →
-    has_body k ≡ true → AreStatements xs → IsInside k ps None None [] [] xs
+    is_code k ≡ true → AreStatements xs → IsInside k ps None None [] [] xs
 bodied k ps xs head sections shaped h runs =
     record {
       head = head;
       sections = sections;
       shaped = shaped;
       set = (tt, λ lacks. refl);
-      runs = (runs, λ lacks. true_is_no_false (has_body k) h lacks);
+      runs = (runs, λ lacks. true_is_no_false (is_code k) h lacks);
     }
 
 -- a block with a body has no shape
-shapeless : (k : BlockKind) (ps : List Part) (xs : List Statement) → has_body k ≡ true → AreSections k ps → AreStatements xs →
+shapeless : (k : BlockKind) (ps : List Part) (xs : List Statement) → is_code k ≡ true → AreSections k ps → AreStatements xs →
     IsInside k ps None None [] [] xs
 shapeless kinds.Ob ps xs h sections runs = bodied kinds.Ob ps xs tt sections (refl, refl, refl) h runs
 shapeless kinds.Fc ps xs h sections runs = bodied kinds.Fc ps xs tt sections (refl, refl, refl) h runs
@@ -306,7 +306,7 @@ from_head k (clause.Section line p) cs right h =
       s.9,
     )
 from_head k clause.Begins cs right h =
-    let passed = passes (has_body k) (place.Body k) cs h in
+    let passed = passes (is_code k) (place.Body k) cs h in
     let s = passed.1 in ([], None, None, [], [], s.0, s.1, s.2, s.3, shapeless k [] s.0 passed.0 (tt, tt) s.4, s.5)
 from_head k clause.Structure cs right h =
     let passed = passes (has_shape k) (place.Shape k 0) cs h in
@@ -418,7 +418,7 @@ end_spells line k cs h = ([], line, h.0, ap (λ xs. clause.Ends line k ∷ xs) h
 from_shaped : (k : BlockKind) (c : Clause) (cs : List Clause) → SpellsBehind (follow_shaped k c) cs → Spells (place.Shaped k) (kept_with c cs)
 unfolding follow_shaped
 from_shaped kinds.Db clause.Begins cs h =
-    (h.0, h.1, h.2, h.3, (h.4, λ lacks. true_is_no_false (has_settings kinds.Db) refl lacks), h.5)
+    (h.0, h.1, h.2, h.3, (h.4, λ lacks. true_is_no_false (is_data_block kinds.Db) refl lacks), h.5)
 from_shaped kinds.Udt (clause.Ends line kinds.Udt) cs h = end_spells line kinds.Udt cs h
 from_shaped _ _ cs h = absurd h
 

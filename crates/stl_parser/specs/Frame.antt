@@ -1,10 +1,10 @@
 -- The frame: which kind of clause may follow where.
 use Rattle.std.specs.Prelude.{ℕ, zero, suc, nat_lt, nat_eq, ◌&&◌, if◌then◌else◌, Option, Some, None}
-use Rattle.plc_base.specs.Kinds.{kind_order}
+use Rattle.plc_base.specs.Kinds.{is_code, kind_order}
 use Rattle.plc_base.specs.declared.blocks.BlockKind.{BlockKind}
 use Rattle.plc_base.specs.declared.blocks.BlockKind.TheVariants as kinds
 use Rattle.stl_ast.specs.declared.blocks.PartKind.{PartKind}
-use Rattle.stl_ast.specs.Blocks.{has_body, has_shape, part_rank, may_have, may_declare, is_date_and_time}
+use Rattle.stl_ast.specs.Blocks.{has_shape, part_rank, may_have, may_declare, is_date_and_time}
 use Rattle.stl_ast.specs.Outline.{level_behind}
 use Rattle.stl_parser.specs.declared.clauses.Clause.{Clause}
 use Rattle.stl_parser.specs.declared.clauses.Clause.TheVariants as clause
@@ -26,7 +26,7 @@ unfoldable pub follow_head : BlockKind → Clause → Option ClausePlace
 follow_head k clause.Note = Some (place.Head k)
 follow_head k clause.Title = Some (place.Head k)
 follow_head k (clause.Section line p) = if may_have k p then Some (place.Section k p 0) else None
-follow_head k clause.Begins = if has_body k then Some (place.Body k) else None
+follow_head k clause.Begins = if is_code k then Some (place.Body k) else None
 follow_head k clause.Structure = if has_shape k then Some (place.Shape k 0) else None
 follow_head k (clause.Based name) = if nat_eq (kind_order k) 3 then Some (place.Shaped k) else None
 follow_head k _ = None

@@ -17,9 +17,9 @@ ghost use Rattle.stl_parser.specs.Addresses.{
 use crate::keywords::{has_kind, is_mark};
 use crate::literals::unquoted;
 use crate::lookups::{address_of, look_up};
-use crate::numbers::{all_digits, decimal, number};
+use crate::numbers::{decimal, number};
 use crate::tables::{ADDRESSES, Address, BLOCK_KINDS};
-use plc_base::{BlockId, BlockKind};
+use plc_base::{BlockId, BlockKind, are_digits};
 use std::alloc::{AllocError, Global};
 use stl_ast::{BlockName, Name};
 use stl_lexer::{Mark, Token, TokenKind};
@@ -173,5 +173,5 @@ pub(crate) fn is_address_word(text: &[u8]) -> bool
 {
     let count = letter_count(text);
     let (letters, digits) = text.split_at(count);
-    address_of(letters).is_some() && all_digits(digits)
+    address_of(letters).is_some() && are_digits(digits)
 }

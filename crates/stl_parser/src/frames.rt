@@ -9,13 +9,6 @@ use crate::places::ClausePlace;
 use plc_base::BlockKind;
 use stl_ast::{Bounds, Declaration, ElementType, Init, PartKind};
 
-/// Whether a block of this kind has a body.
-fn has_body(kind: BlockKind) -> bool
-    ensures { result ≡ blocks.has_body kind }
-{
-    matches!(kind, BlockKind::Ob | BlockKind::Fc | BlockKind::Fb)
-}
-
 /// Whether a block of this kind has a structure.
 fn has_shape(kind: BlockKind) -> bool
     ensures { result ≡ blocks.has_shape kind }
@@ -172,7 +165,7 @@ fn follow_head(kind: BlockKind, clause: &Clause) -> Option<ClausePlace>
             }
         }
         Clause::Begins => {
-            if has_body(kind) {
+            if kind.is_code() {
                 Some(ClausePlace::Body { kind })
             } else {
                 None

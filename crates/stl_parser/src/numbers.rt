@@ -1,6 +1,4 @@
 ghost use Rattle.std.specs.Prelude.{◌≡◌, ◌≤◌, true, false};
-ghost use Rattle.std.specs.List.{list_all};
-ghost use Rattle.std.specs.Char.{is_ascii_digit};
 ghost use Rattle.std.specs.Option.{option_map};
 ghost use Rattle.plc_base.specs.Decimal.{decimal_up_to};
 ghost use Rattle.stl_lexer.specs.Limits.{greatest_number};
@@ -8,13 +6,6 @@ ghost use Rattle.stl_parser.specs.Numbers.{number_up_to, number_of, signed_at, i
 
 use crate::keywords::{has_kind, is_mark};
 use stl_lexer::{GREATEST_NEGATED, GREATEST_NUMBER, Mark, Token, TokenKind};
-
-/// Whether all these bytes are decimal digits.
-pub(crate) fn all_digits(bytes: &[u8]) -> bool
-    ensures { result ≡ list_all is_ascii_digit bytes.now }
-{
-    bytes.iter().all(|b| b.is_ascii_digit())
-}
 
 /// The number of one or more decimal digits, where it is at most `most`.
 #[tactic(auto, using(plc_base::proofs::DecimalLemmas::decimal_range))]

@@ -13,6 +13,8 @@ mod entries;
 #[cfg(test)]
 mod memory_areas;
 #[cfg(test)]
+mod monitoring;
+#[cfg(test)]
 mod number_formats;
 #[cfg(test)]
 mod number_instructions;

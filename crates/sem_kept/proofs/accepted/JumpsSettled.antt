@@ -2,11 +2,8 @@
 use Rattle.std.proofs.Common.{◌≡◌, ◌≤◌, ℕ, Bool, true, false, List, [], ◌∷◌, map, Some, None, refl, sym, ap, subst}
 use Rattle.std.specs.List.{AllByRecursion, slice_get}
 use Rattle.plc_base.specs.Kinds.{kind_number, is_code}
-use Rattle.plc_base.specs.declared.blocks.BlockKind.{BlockKind}
-use Rattle.plc_base.specs.declared.blocks.BlockKind.TheVariants as kinds
 use Rattle.flat_code.specs.Blocks.{Around}
 use Rattle.flat_code.specs.Image.{record_of_param}
-use Rattle.stl_ast.specs.Blocks.{has_body}
 use Rattle.stl_ast.specs.Statements.{is_called}
 use Rattle.stl_ast.specs.declared.blocks.Block.{Block}
 use Rattle.stl_ast.specs.declared.blocks.Tree.{Tree}
@@ -67,15 +64,6 @@ local_is : (symbols : List Symbol) (t : Tree) (k : ℕ) (b : Block) (l : BlockLa
 unfolding block_layout
 local_is symbols t k b l block = ap (λ (z : BlockLayout). z.local_len) block.layout
 
--- a block without code has no statements
-no_body : (k : BlockKind) → is_code k ≡ false → has_body k ≡ false
-no_body kinds.Ob e = absurd cc
-no_body kinds.Fc e = absurd cc
-no_body kinds.Fb e = absurd cc
-no_body kinds.Db e = refl
-no_body kinds.Sfc e = refl
-no_body kinds.Udt e = refl
-
 block_settles : (symbols : List Symbol) (t : Tree) → IsSoundTree symbols t
     → AllByRecursion SymbolFits symbols → (k : ℕ) (b : Block) (l : BlockLayout)
     → IsSound symbols t k b l → AllByRecursion (Settle symbols t k) b.body
@@ -89,7 +77,7 @@ block_settles symbols t tree fit k b l block = by (is_code b.kind) refl
         (holds_locals (types_of symbols t.blocks) b is block.head.by_50).operands))
     by false is =
         subst (AllByRecursion (Settle symbols t k))
-        (sym (block.well_formed.runs.1 (no_body b.kind is))) tt
+        (sym (block.well_formed.runs.1 is)) tt
 
 pub operands_settle : (source file : List ℕ) (symbols : List Symbol) (t : Tree)
     → IsAccepted source file symbols t → (k : ℕ) (b : Block) → slice_get t.blocks k ≡ Some b

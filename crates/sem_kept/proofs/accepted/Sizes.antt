@@ -14,7 +14,7 @@ use Rattle.plc_base.specs.declared.blocks.BlockKind.TheVariants as kinds
 use Rattle.flat_code.specs.Checking.{block_size, data_size, good_counts}
 use Rattle.flat_code.specs.Programs.{DataBlock}
 use Rattle.flat_code.specs.declared.programs.Param.{Param}
-use Rattle.stl_ast.specs.Blocks.{has_body, is_parameter}
+use Rattle.stl_ast.specs.Blocks.{is_parameter}
 use Rattle.stl_ast.specs.Sizes.{body_size}
 use Rattle.stl_ast.specs.Statements.{is_empty}
 use Rattle.stl_ast.specs.declared.blocks.Block.{Block}
@@ -369,7 +369,7 @@ sound_kind symbols t k b l id sound e =
     of_same b.kind (named_block y.symbols b.name) id
     (sym (laid_id y t.blocks sound.before b l sound.layout) ∙ e)
 
-code_body : (k j : BlockKind) → is_same_kind k j ≡ true → is_code j ≡ true → has_body k ≡ true
+code_body : (k j : BlockKind) → is_same_kind k j ≡ true → is_code j ≡ true → is_code k ≡ true
 code_body kinds.Ob j same is = refl
 code_body kinds.Fc j same is = refl
 code_body kinds.Fb j same is = refl

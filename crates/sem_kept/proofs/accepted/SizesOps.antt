@@ -5,6 +5,7 @@ use Rattle.std.specs.List.{AllByRecursion, count_by, sum_by}
 use Rattle.std.specs.Option.{IfSome}
 use Rattle.std.proofs.lemmas.List.{length-map}
 use Rattle.std.proofs.lemmas.List.Sums.{sum_by-cons}
+use Rattle.plc_base.specs.Kinds.{is_code}
 use Rattle.plc_base.specs.declared.blocks.BlockId.{BlockId}
 use Rattle.plc_base.specs.declared.places.Area.{Area}
 use Rattle.plc_base.specs.declared.places.Area.TheVariants as area
@@ -25,7 +26,6 @@ use Rattle.flat_code.specs.declared.words.EndWord.{EndWord}
 use Rattle.flat_code.specs.declared.words.EndWord.TheVariants as ends
 use Rattle.flat_code.specs.declared.words.Word.{Word}
 use Rattle.flat_code.specs.declared.words.Word.TheVariants as word
-use Rattle.stl_ast.specs.Blocks.{has_body}
 use Rattle.stl_ast.specs.Sizes.{block_size, body_size, code_size, op_size, path_size, return_size, statement_size}
 use Rattle.stl_ast.specs.Statements.{is_empty}
 use Rattle.stl_ast.specs.declared.blocks.Block.{Block}
@@ -719,7 +719,7 @@ one_returns : (b : Block) → bytes_in (ops_in (returning b ∷ [])) ≡ 2
 one_returns b = omega (arith, returns_sized ends.Be, bytes_both (ops_of (Returns ends.Be)) [])
 
 pub whole_fits : (c : Context) (b : Block) → AllByRecursion IsFine c.symbols
-    → AllByRecursion (IsTaken c) b.body → has_body b.kind ≡ true
+    → AllByRecursion (IsTaken c) b.body → is_code b.kind ≡ true
     → bytes_in (code_in (statements_of c b)) + 4 * length (lines_in (statements_of c b))
     ≤ body_size b
 unfolding statements_of

@@ -1,0 +1,64 @@
+-- Histories as runs.
+use Rattle.std.specs.Prelude.{◌≡◌, ℕ, ◌+◌, ◌-◌, ◌≤◌, ◌==◌, nat_le, nat_lt, Bool, true, false, ◌&&◌, if◌then◌else◌, List, [], ◌∷◌, ◌++◌, replicate, Option, Some, None}
+use Rattle.std.specs.List.{AllByRecursion}
+use Rattle.var_access.specs.declared.entries.Entry.{Entry}
+use Rattle.var_access.specs.declared.entries.What.{What}
+use Rattle.var_access.specs.declared.entries.What.TheVariants.{Step, Input, Arrive, Tick}
+use Rattle.var_access.specs.declared.runs.Run.{Run}
+
+-- the entries of runs, one run behind the other
+abbrev pub written_out : List Run → List Entry
+written_out [] = []
+written_out (r ∷ rest) = replicate r.count r.entry ++ written_out rest
+
+-- each run begins with the number behind the run before it
+abbrev pub FollowFrom : (first : ℕ) → List Run → Type 0
+FollowFrom first [] = Unit {0}
+FollowFrom first (r ∷ rest) = (r.first ≡ first) × FollowFrom (first + r.count) rest
+
+-- a step
+abbrev pub is_step_what : What → Bool
+is_step_what Step = true
+is_step_what _ = false
+
+-- whoever makes it
+abbrev pub is_step : Entry → Bool
+is_step e = is_step_what e.what
+
+-- steps of one worker
+abbrev pub joins : (one next : Entry) → Bool
+joins one next = is_step one && is_step next && one.who == next.who
+
+-- a run has one entry at least; only steps come in runs of more than one
+pub record IsRun (r : Run) : Type 0 where
+  pub some : 1 ≤ r.count
+  pub one : is_step r.entry ≡ false → r.count ≡ 1
+
+-- a run of steps isn't followed by a run of steps of the same worker
+abbrev pub StandsApart : Run → List Run → Type 0
+StandsApart r [] = Unit {0}
+StandsApart r (next ∷ rest) = joins r.entry next.entry ≡ false
+
+-- so it is with each of them
+abbrev pub StandApart : List Run → Type 0
+StandApart [] = Unit {0}
+StandApart (r ∷ rest) = StandsApart r rest × StandApart rest
+
+-- the runs of a history, whose numbers are counted from 0
+pub record AreRuns (runs : List Run) : Type 0 where
+  pub each : AllByRecursion IsRun runs
+  pub follow : FollowFrom 0 runs
+  pub apart : StandApart runs
+
+-- the last run that begins at a number or before it; `best` where none does
+abbrev pub run_behind : (best : Option Run) → List Run → (i : ℕ) → Option Run
+run_behind best [] i = best
+run_behind best (r ∷ rest) i = if nat_le r.first i then run_behind (Some r) rest i else best
+
+abbrev pub run_at : List Run → (i : ℕ) → Option Run
+run_at runs i = run_behind None runs i
+
+-- the entry of a number, by the run that begins at it or before it
+abbrev pub entry_by : Option Run → (i : ℕ) → Option Entry
+entry_by None i = None
+entry_by (Some r) i = if nat_lt (i - r.first) r.count then Some r.entry else None

@@ -1,0 +1,21 @@
+-- The variables of one read: at most eight, in the front of eight places.
+use Rattle.std.specs.Prelude.{◌≡◌, ◌≤◌, ◌-◌, ℕ, List, ◌++◌, length, drop, replicate}
+use Rattle.plc_base.specs.declared.places.Place.{Place}
+use Rattle.plc_base.specs.declared.places.Area.TheVariants.{I}
+use Rattle.plc_base.specs.declared.places.Width.TheVariants.{Bit}
+use Rattle.var_access.specs.declared.requests.Var.{Var}
+use Rattle.var_access.specs.declared.requests.Vars.TheInside.{Inside}
+
+-- what stands in a place that no variable takes
+abbrev pub no_var : Var
+no_var = record { place = record { number = 0; byte = 0; area = I; bit = 0 }; width = Bit }
+
+-- eight places, of which those behind the last variable hold none
+pub record IsFilled (v : Inside) : Type 0 where
+  pub places : length v.list ≡ 8
+  pub few : v.count ≤ length v.list
+  pub rest : drop v.count v.list ≡ replicate (8 - v.count) no_var
+
+-- the places that a list of variables fills
+abbrev pub inside_of : List Var → Inside
+inside_of vars = record { list = vars ++ replicate (8 - length vars) no_var; count = length vars }
