@@ -5,9 +5,10 @@ ghost use Rattle.std.specs.FinMap as finmap;
 ghost use Rattle.plc_base.specs.declared.Profile.TheVariants.{Small};
 ghost use Rattle.image_file.specs.Readers.{bytes_of};
 ghost use Rattle.machine.specs.Flat.{code_of};
-ghost use Rattle.var_access.specs.Entry.{IsValid};
+ghost use Rattle.var_access.specs.Entry.{IsRequest, IsValid};
 ghost use Rattle.var_access.specs.declared.Entry.{Entry};
 ghost use Rattle.var_access.specs.declared.What.TheVariants.{Step};
+ghost use Rattle.controller.specs.Asking.{answered};
 ghost use Rattle.controller.specs.Quiet.{ShowNothing, steps_quietly};
 ghost use Rattle.controller.specs.Replay.{run_from};
 ghost use Rattle.controller.specs.Replayed.{data_blocks as blocks_after, events, next_happens, numbered as with_number, replayed, seen};
@@ -19,7 +20,7 @@ use image_file::Loaded;
 use plc_base::{Mode, NoMemory, Profile};
 use std::alloc::Global;
 use std::marker::Model;
-use var_access::{Entry, Reply, What};
+use var_access::{Entry, Reply, Request, What};
 
 /// A controller: a program, its profile, and the history of all entries so far, from which its state
 /// follows. A contract sees these three, and `spare`, for how many further entries there is room.
@@ -159,7 +160,38 @@ impl Controller {
         Ok(())
     }
 
-    /// Makes one entry of the history, and answers what the entry answers. Takes no memory.
+    /// What a request is answered now: its reply, if it were the next entry. Takes no memory.
+    pub fn answer(&self, request: &Request) -> Reply
+        requires { IsRequest request.now }
+        ensures { result
+            ≡ answered (code_of self.now.program) request.now (replayed self.now) }
+    {
+        self.cpu.answer(&self.program, request)
+    }
+
+    /// Makes one entry of the history. Takes no memory.
+    pub fn enter(&mut self, e: &Entry)
+        requires room { 1 ≤ self.old.spare }
+        requires valid { IsValid e.now }
+        ensures history { self.new ≡ record self.old {
+          history = self.old.history ++ e.now ∷ [];
+          spare = self.old.spare - 1;
+        } }
+        ensures shown { seen self.new ≡ (next_happens self.old e.now).seen }
+        ensures state { replayed self.new ≡ (next_happens self.old e.now).state }
+    {
+        crate::laws::continues_replay();
+        crate::laws::counts_entries();
+        crate::laws::what_runs_goes_on();
+        let mon = self.cpu.enter(&self.program, &e.what);
+        self.observer.look(&self.cpu, mon);
+        self.history.push_reserved(*e);
+        self.spare -= 1;
+    }
+
+    /// Makes one entry of the history, and answers what the entry answers: a request its reply, each
+    /// other entry `Done`. Takes no memory.
+    #[tactic(auto, unfolding(crate::specs::Replay::happens))]
     pub fn apply(&mut self, e: Entry) -> Reply
         requires room { 1 ≤ self.old.spare }
         requires valid { IsValid e }
@@ -171,20 +203,18 @@ impl Controller {
         ensures shown { seen self.new ≡ (next_happens self.old e).seen }
         ensures state { replayed self.new ≡ (next_happens self.old e).state }
     {
-        crate::laws::continues_replay();
-        crate::laws::counts_entries();
-        crate::laws::what_runs_goes_on();
-        let reply = self.cpu.happen(&self.program, e.what);
-        self.observer.look(&self.cpu);
-        self.history.push_reserved(e);
-        self.spare -= 1;
+        let reply = match &e.what {
+            What::Ask { request } => self.answer(request),
+            _ => Reply::Done,
+        };
+        self.enter(&e);
         reply
     }
 
     /// Makes steps from the front of a list of them as long as each shows nothing; the answer is how
     /// many. It stops only before a step that isn't a statement of the quiet kind
-    /// (`machine::quiet_statements`) with which the running activation goes on, in STOP, or where a
-    /// request waits: what it leaves is for `apply`. Takes no memory.
+    /// (`machine::quiet_statements`) with which the running activation goes on, in STOP, where a block
+    /// is monitored, or where a request waits: what it leaves is for `enter`. Takes no memory.
     pub fn step_quietly(&mut self, steps: &[Entry]) -> usize
         requires steps { events steps.now ≡ replicate (length steps.now) Step }
         requires room { length steps.now ≤ self.old.spare }
@@ -212,6 +242,13 @@ impl Controller {
         prove!(pushed.is_ok());
         self.spare -= made as u64;
         made
+    }
+
+    /// The program, for another controller.
+    pub fn into_program(self) -> Loaded
+        ensures { result.program ≡ self.program }
+    {
+        self.program
     }
 
     /// What the last entry showed.

@@ -15,6 +15,7 @@ run_quietly-done-requires c =
 pub returns : goal.returns
 returns c =
     let quiet : IsQuiet (state_of c.args.self.now) = record {
+      unwatched = none_there c.args.self.now.monitored (sym c.is_some.ensures ∙ c.if-is_some.false);
       running = sym c.is_stop.ensures ∙ c.if-is_stop.false;
       none =
           sym c.best.ensures.value
@@ -30,7 +31,7 @@ returns c =
       state = sym steps.state;
       outputs = steps.outputs;
       mode = refl;
-      stops = λ less. no_quiet_step (not (is_stop c.args.self.now.mode))
+      stops = λ less. no_quiet_step (not (is_some c.args.self.now.monitored)) (not (is_stop c.args.self.now.mode))
           (not (is_some (best_of c.args.self.now.mode (state_of c.args.self.now).sched.pending))) _
           (c.run_quietly-done.ensures.stops less);
     }

@@ -11,10 +11,10 @@ use Rattle.controller.specs.Views.{state_of}
 use Rattle.controller.specs.declared.observing.Observed.{Observed}
 use Rattle.controller.specs.Replayed.{events}
 use Rattle.controller.proofs.history.ReplayLemmas.{fits_next, observer_next, seen_next, state_next}
-use Rattle.controller.proofs.controllers.Controller.apply.Goals as goal
+use Rattle.controller.proofs.controllers.Controller.enter.Goals as goal
 
-pub happen-reply-requires-clause-ready : goal.happen-reply-requires-clause-ready
-happen-reply-requires-clause-ready c =
+pub enter-mon-requires-clause-ready : goal.enter-mon-requires-clause-ready
+enter-mon-requires-clause-ready c =
     c.what_runs_goes_on.ensures.ready c.self.inside.program.program (state_of c.self.inside.cpu)
     c.self.invariant.verifies c.self.invariant.fit
 
@@ -25,22 +25,22 @@ invariant_of-self c =
     let code : Code = code_of p in
     let history : List Entry = c.self.inside.history.items in
     let s : State = state_of c.self.inside.cpu in
-    let t : State = state_of c.happen-reply.new.self in
-    let items : c.push_reserved.new.self.items ≡ history ++ c.args.e ∷ [] = search rules in
-    let seen : (happens code s c.args.e.what).seen ≡ last_seen profile code (events c.push_reserved.new.self.items) =
-    seen_next profile code history c.args.e s c.continues_replay.ensures.seen c.self.invariant.state
+    let t : State = state_of c.enter-mon.new.self in
+    let items : c.push_reserved.new.self.items ≡ history ++ c.args.e.now ∷ [] = search rules in
+    let seen : (happens code s c.args.e.now.what).seen ≡ last_seen profile code (events c.push_reserved.new.self.items) =
+    seen_next profile code history c.args.e.now s c.continues_replay.ensures.seen c.self.invariant.state
     ∙ ap (λ (es : List Entry). last_seen profile code (events es)) (sym items) in
     record {
       verifies = c.self.invariant.verifies;
       state =
-          state_next profile code history c.args.e s t c.continues_replay.ensures.state c.self.invariant.state c.happen-reply.ensures.state
+          state_next profile code history c.args.e.now s t c.continues_replay.ensures.state c.self.invariant.state c.enter-mon.ensures.state
           ∙ ap (λ (es : List Entry). replay profile code (events es)) (sym items);
       fit =
-          fits_next p s t c.args.e.what c.what_runs_goes_on.ensures.entry c.self.invariant.verifies c.requires.valid.1
-          c.self.invariant.fit c.happen-reply.ensures.state;
+          fits_next p s t c.args.e.now.what c.what_runs_goes_on.ensures.entry c.self.invariant.verifies c.requires.valid.1
+          c.self.invariant.fit c.enter-mon.ensures.state;
       observer =
-          observer_next code s t c.args.e.what c.self.inside.observer c.look.new.self _ c.self.invariant.observer
-          c.look.ensures c.happen-reply.ensures.state
+          observer_next code s t c.args.e.now.what c.enter-mon.result c.self.inside.observer c.look.new.self _
+          c.self.invariant.observer c.look.ensures c.enter-mon.ensures.record c.enter-mon.ensures.state
           ∙ ap (λ (o : Observed). watched t o) seen;
       numbers = c.self.invariant.numbers;
       room = search rules;
