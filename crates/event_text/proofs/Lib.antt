@@ -1,4 +1,9 @@
-pub mod WordLemmas
+pub mod ByteLemmas
 pub mod NumberLemmas
-pub mod HistoryLemmas
-pub mod ValidLemmas
+pub mod AddressLemmas
+pub mod VarLemmas
+pub mod WordLemmas
+pub mod RequestLemmas
+pub mod EntryLineLemmas
+pub mod RoundTripLemmas
+pub mod WritingLemmas

@@ -1,87 +1,138 @@
--- Words at the front of a line.
-use Rattle.std.proofs.Common.{◌≡◌, ℕ, suc, ◌+◌, ◌<◌, true, false, cond, not, List, [], ◌∷◌, length, take, drop, get_or, refl, ap, sym, ◌∙◌, inl, inr, arith, filter}
+-- Words, and what stands between blanks, in texts that were written.
+use Rattle.std.proofs.Common.{◌≡◌, ◌≤◌, ◌<◌, ◌+◌, ◌-◌, ℕ, zero, suc, Bool, true, false, ◌&&◌, ◌||◌, not, cond, eqb, List, [], ◌∷◌, ◌++◌, length, take, drop, reverse, Option, Some, None, Ok, refl, ap, sym, ◌∙◌, arith, filter, append_assoc, append-nil, subst}
+use Rattle.std.proofs.lemmas.List.{reverse-append, reverse-reverse}
 use Rattle.std.specs.List.{slice_split, prefix_len, position_or_len}
-use Rattle.std.proofs.lemmas.List.Splits.{slice_split-cons_yes, slice_split_first}
-use Rattle.std.proofs.lemmas.List.Sums.{passes_at_first, prefix_len-le-length}
-use Rattle.std.proofs.lemmas.Bool.{cases_lt}
-use Rattle.std.proofs.lemmas.Grind.{common_steps}
-use Rattle.std.proofs.Math.Seq.{drop-cons}
+use Rattle.std.proofs.lemmas.Bool.Decides.{nat_tests}
+use Rattle.std.proofs.lemmas.List.Splits.{slice_split-cons_yes}
 use Rattle.plc_base.specs.Texts.{is_blank}
-use Rattle.plc_base.proofs.LineLemmas.{slice_split_whole}
-use Rattle.event_text.specs.History.{is_word, words_of}
+use Rattle.var_access.specs.Readings.{behind_blanks, before_blanks, onto_end, trim, word_at, first_word, is_word, words_of}
+use Rattle.event_text.proofs.ByteLemmas.{Each, each-append, Excludes, Stops, split-none, split-at, prefix-whole, prefix-none, take-front, drop-front}
 
--- a blank at the front doesn't matter
-pub words_of-blank : (b : ℕ) (line : List ℕ) → is_blank b ≡ true → words_of (b ∷ line) ≡ words_of line
+-- a byte that is no blank
+abbrev pub is_solid : ℕ → Bool
+is_solid b = not (is_blank b)
+
+solid-blank : Excludes is_solid is_blank
+solid-blank b h = flip (is_blank b) h where
+  flip : (v : Bool) → not v ≡ true → v ≡ false
+  flip true k = sym k
+  flip false k = refl
+
+-- a word: not empty, with no blank
+pub record IsWord (w : List ℕ) : Type 0 where
+  pub some : 0 < length w
+  pub solid : Each is_solid w
+
+first-stops : (w t : List ℕ) → IsWord w → Stops is_blank (w ++ t)
+first-stops [] t h = absurd (omega (arith, h.some))
+first-stops (b ∷ w) t h = solid-blank b h.solid.0
+
+pub behind-none : (w t : List ℕ) → IsWord w → behind_blanks (w ++ t) ≡ w ++ t
+unfolding behind_blanks
+behind-none w t h = ap (λ n. drop n (w ++ t)) (prefix-none is_blank (w ++ t) (first-stops w t h))
+
+pub behind-one : (w t : List ℕ) → IsWord w → behind_blanks (32 ∷ (w ++ t)) ≡ w ++ t
+unfolding behind_blanks
+behind-one w t h = ap (λ n. drop n (32 ∷ (w ++ t))) (prefix-whole is_blank (32 ∷ []) (w ++ t) (refl, tt) (first-stops w t h))
+
+-- ---- ends
+
+nonempty : (s t : List ℕ) → 0 < length t → (b : ℕ) → onto_end b (s ++ t) ≡ b ∷ (s ++ t)
+nonempty [] [] some b = absurd (omega arith)
+nonempty [] (c ∷ t) some b = refl
+nonempty (c ∷ s) t some b = refl
+
+pub before-none : (t : List ℕ) → Each is_solid t → before_blanks t ≡ t
+before-none [] h = refl
+before-none (b ∷ t) h = ap (onto_end b) (before-none t h.1) ∙ last t (solid-blank b h.0) where
+  last : (t : List ℕ) → is_blank b ≡ false → onto_end b t ≡ b ∷ t
+  last [] e = rw e refl
+  last (c ∷ t) e = refl
+
+pub before-right : (s t : List ℕ) → IsWord t → before_blanks (s ++ t) ≡ s ++ t
+before-right [] t h = before-none t h.solid
+before-right (b ∷ s) t h = ap (onto_end b) (before-right s t h) ∙ nonempty s t h.some b
+
+pub before-one : (t : List ℕ) → Each is_solid t → before_blanks (t ++ 32 ∷ []) ≡ t
+before-one [] h = refl
+before-one (b ∷ t) h = ap (onto_end b) (before-one t h.1) ∙ last t (solid-blank b h.0) where
+  last : (t : List ℕ) → is_blank b ≡ false → onto_end b t ≡ b ∷ t
+  last [] e = rw e refl
+  last (c ∷ t) e = refl
+
+pub trimmed-word : (w : List ℕ) → IsWord w → trim (32 ∷ w) ≡ w
+trimmed-word w h =
+    ap behind_blanks (before-right (32 ∷ []) w h)
+    ∙ ap (λ u. behind_blanks (32 ∷ u)) (sym (append-nil w)) ∙ behind-one w [] h ∙ append-nil w
+
+pub trimmed-front : (w : List ℕ) → IsWord w → trim (w ++ 32 ∷ []) ≡ w
+trimmed-front w h =
+    ap behind_blanks (before-one w h.solid)
+    ∙ ap behind_blanks (sym (append-nil w)) ∙ behind-none w [] h ∙ append-nil w
+
+pub trimmed-two : (a b : List ℕ) → IsWord a → IsWord b → trim (32 ∷ (a ++ 32 ∷ b)) ≡ a ++ 32 ∷ b
+trimmed-two a b h k =
+    ap behind_blanks (ap before_blanks (sym (append_assoc (32 ∷ a) (32 ∷ []) b)) ∙ before-right (32 ∷ a ++ 32 ∷ []) b k ∙ append_assoc (32 ∷ a) (32 ∷ []) b)
+    ∙ behind-one a (32 ∷ b) h
+
+-- ---- the first word
+
+at-word : (w t : List ℕ) → IsWord w → Stops is_solid t → word_at (w ++ t) ≡ Some (w, t)
+at-word [] t h k = absurd (omega (arith, h.some))
+at-word (b ∷ w) t h k =
+    ap (λ n. Some (take n (b ∷ w ++ t), drop n (b ∷ w ++ t))) (prefix-whole is_solid (b ∷ w) t h.solid k)
+    ∙ ap (λ u. Some (u, drop (length (b ∷ w)) (b ∷ w ++ t))) (take-front (b ∷ w) t)
+    ∙ ap (λ u. Some (b ∷ w, u)) (drop-front (b ∷ w) t)
+
+pub first-word : (w t : List ℕ) → IsWord w → Stops is_solid t → first_word (w ++ t) ≡ Some (w, t)
+unfolding first_word
+first-word w t h k = ap word_at (behind-none w t h) ∙ at-word w t h k
+
+pub first-word-behind : (w t : List ℕ) → IsWord w → Stops is_solid t → first_word (32 ∷ (w ++ t)) ≡ Some (w, t)
+unfolding first_word
+first-word-behind w t h k = ap word_at (behind-one w t h) ∙ at-word w t h k
+
+-- ---- words
+
+kept : (w : List ℕ) (ws : List (List ℕ)) → 0 < length w → filter is_word (w ∷ ws) ≡ w ∷ filter is_word ws
+kept [] ws some = absurd (omega arith)
+kept (b ∷ w) ws some = refl
+
+pub words-blank : (t : List ℕ) → words_of (32 ∷ t) ≡ words_of t
 unfolding words_of
-words_of-blank b line blank = ap (filter is_word) (slice_split-cons_yes is_blank b line blank)
+words-blank t = ap (filter is_word) (slice_split-cons_yes is_blank 32 t refl)
 
--- nor do blanks at the front
-pub words_of-drop_blanks : (line : List ℕ) → words_of (drop (prefix_len is_blank line) line) ≡ words_of line
-words_of-drop_blanks [] = refl
-words_of-drop_blanks (b ∷ line) =
-    (elim (is_blank b) as (λ v. is_blank b ≡ v → words_of (drop (cond v (1 + prefix_len is_blank line) 0) (b ∷ line)) ≡ words_of (b ∷ line))
-    [ true ↦ λ e. grind (arith, common_steps, words_of-drop_blanks line, words_of-blank b line e) | false ↦ λ e. refl ]) refl
-
--- behind blanks, there is a word
-word_positive : (line : List ℕ) → 0 < length line → prefix_len is_blank line ≡ 0 → 0 < position_or_len is_blank line
-word_positive [] some behind = absurd (omega arith)
-word_positive (b ∷ line) some behind =
-    (elim (is_blank b) as (λ v. cond v (1 + prefix_len is_blank line) 0 ≡ 0 → 0 < cond (not v) (1 + position_or_len is_blank line) 0)
-    [ true ↦ λ e. absurd (omega arith) | false ↦ λ e. omega arith ]) behind
-
-filter-word : (w : List ℕ) (ws : List (List ℕ)) → 0 < length w → filter is_word (w ∷ ws) ≡ w ∷ filter is_word ws
-filter-word [] ws some = absurd (omega arith)
-filter-word (x ∷ xs) ws some = refl
-
--- the first word ends before a blank
-words_of-first_of : (line word : List ℕ) (parts : List (List ℕ)) → slice_split is_blank line ≡ word ∷ parts → 0 < length word → words_of line ≡ word ∷ filter is_word parts
+pub words-none : words_of [] ≡ []
 unfolding words_of
-words_of-first_of line word parts e some = ap (filter is_word) e ∙ filter-word word parts some
+words-none = refl
 
-words_of-parts : (line : List ℕ) → words_of line ≡ filter is_word (slice_split is_blank line)
+pub words-last : (w : List ℕ) → IsWord w → words_of w ≡ w ∷ []
 unfolding words_of
-words_of-parts line = refl
+words-last w h = ap (filter is_word) (split-none is_solid is_blank solid-blank w h.solid) ∙ kept w [] h.some
 
-words_of-nothing : words_of [] ≡ []
+pub words-more : (w t : List ℕ) → IsWord w → words_of (w ++ 32 ∷ t) ≡ w ∷ words_of t
 unfolding words_of
-words_of-nothing = refl
+words-more w t h = ap (filter is_word) (split-at is_solid is_blank solid-blank w 32 t h.solid refl) ∙ kept w (slice_split is_blank t) h.some
 
--- behind blanks, the first word goes up to the next blank
-words_of-before_blank : (line : List ℕ) (n : ℕ) → n ≡ position_or_len is_blank line → 0 < n → n < length line → words_of line ≡ take n line ∷ words_of (drop n line)
-words_of-before_blank line n is some within =
-    let at : position_or_len is_blank line < length line = omega arith in
-    let blank : is_blank (get_or line n 0) ≡ true = rw is (passes_at_first is_blank line 0 at) in
-    let rest : drop n line ≡ get_or line n 0 ∷ drop (suc n) line = drop-cons line n 0 within in
-    let first : slice_split is_blank line ≡ take n line ∷ slice_split is_blank (drop (suc n) line) = grind (arith, common_steps, slice_split_first is_blank line 0 at) in
-    let len : 0 < length (take n line) = grind (arith, common_steps) in
-    words_of-first_of line (take n line) _ first len
-    ∙ ap (λ ws. take n line ∷ ws) (sym (ap words_of rest ∙ words_of-blank _ _ blank ∙ words_of-parts (drop (suc n) line)))
+pub words-one : (w : List ℕ) → IsWord w → words_of (32 ∷ w) ≡ w ∷ []
+words-one w h = words-blank w ∙ words-last w h
 
--- or to the line's end
-words_of-whole : (line : List ℕ) (n : ℕ) → n ≡ position_or_len is_blank line → 0 < n → n ≡ length line → words_of line ≡ take n line ∷ words_of (drop n line)
-words_of-whole line n is some within =
-    let first : slice_split is_blank line ≡ line ∷ [] = slice_split_whole is_blank line (sym is ∙ within) in
-    let all : take n line ≡ line = grind (arith, common_steps) in
-    let none : drop n line ≡ [] = grind (arith, common_steps) in
-    words_of-first_of line line [] first (omega arith) ∙ sym (rw (all, none, words_of-nothing) refl)
+pub words-two : (a b : List ℕ) → IsWord a → IsWord b → words_of (32 ∷ (a ++ 32 ∷ b)) ≡ a ∷ b ∷ []
+words-two a b h k = words-blank (a ++ 32 ∷ b) ∙ words-more a b h ∙ ap (λ ws. a ∷ ws) (words-last b k)
 
-words_of-split : (line : List ℕ) (n : ℕ) → n ≡ position_or_len is_blank line → 0 < n → words_of line ≡ take n line ∷ words_of (drop n line)
-words_of-split line n is some =
-    elim (cases_lt n (length line)) [ inl l ↦ words_of-before_blank line n is some l | inr g ↦ words_of-whole line n is some (omega (arith, prefix_len-le-length (λ b. not (is_blank b)) line)) ]
+-- ---- the last word, from behind
 
--- no blank stands behind the blanks
-prefix_len-drop_prefix : (line : List ℕ) → prefix_len is_blank (drop (prefix_len is_blank line) line) ≡ 0
-prefix_len-drop_prefix [] = refl
-prefix_len-drop_prefix (b ∷ line) =
-    (elim (is_blank b) as (λ v. is_blank b ≡ v → prefix_len is_blank (drop (cond v (1 + prefix_len is_blank line) 0) (b ∷ line)) ≡ 0)
-    [ true ↦ λ e. grind (arith, common_steps, prefix_len-drop_prefix line) | false ↦ λ e. rw e refl ]) refl
+each-reverse : (q : ℕ → Bool) (t : List ℕ) → Each q t → Each q (reverse t)
+each-reverse q [] h = tt
+each-reverse q (b ∷ t) h =
+    subst (Each q) (sym (reverse-append (b ∷ []) t)) (each-append q (reverse t) (b ∷ []) (each-reverse q t h.1) (h.0, tt))
 
-pub first_word-none : (line rest : List ℕ) (k : ℕ) → k ≡ prefix_len is_blank line → rest ≡ drop k line → length rest ≡ 0 → words_of line ≡ []
-first_word-none line [] k blanks is none = sym (words_of-drop_blanks line) ∙ ap words_of (sym (rw blanks at is)) ∙ words_of-nothing
-first_word-none line (b ∷ rest) k blanks is none = absurd (omega arith)
+pub backwards : (a b : List ℕ) → reverse (a ++ 32 ∷ b) ≡ reverse b ++ (32 ∷ reverse a)
+backwards a b =
+    reverse-append a (32 ∷ b) ∙ ap (λ t. t ++ reverse a) (reverse-append (32 ∷ []) b) ∙ append_assoc (reverse b) (32 ∷ []) (reverse a)
 
-pub first_word-some : (line rest word after : List ℕ) (k n : ℕ) → k ≡ prefix_len is_blank line → rest ≡ drop k line → 0 < length rest → n ≡ position_or_len is_blank rest → word ≡ take n rest → after ≡ drop n rest → words_of line ≡ word ∷ words_of after
-first_word-some line rest word after k n blanks is some to front back =
-    let stop : prefix_len is_blank rest ≡ 0 = rw (is, blanks) (prefix_len-drop_prefix line) in
-    let positive : 0 < n = rw to (word_positive rest some stop) in
-    sym (words_of-drop_blanks line) ∙ ap words_of (sym (rw blanks at is)) ∙ words_of-split rest n to positive ∙ rw (front, back) refl
+pub forwards : (a : List ℕ) → reverse (32 ∷ reverse a) ≡ a ++ 32 ∷ []
+forwards a = reverse-append (32 ∷ []) (reverse a) ∙ ap (λ t. t ++ 32 ∷ []) (reverse-reverse a)
+
+pub last-at : (b t : List ℕ) → Each is_solid b → position_or_len is_blank (reverse b ++ (32 ∷ t)) ≡ length (reverse b)
+last-at b t h = prefix-whole is_solid (reverse b) (32 ∷ t) (each-reverse is_solid b h) refl

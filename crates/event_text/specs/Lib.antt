@@ -1,3 +1,7 @@
-pub mod History
-pub mod LineEntries
-pub mod HistoryFault
+pub mod Workers
+pub mod Lines
+pub mod Texts
+pub mod TextFault
+pub mod Written
+pub mod Regular
+pub mod RoundTrip

@@ -1,8 +1,11 @@
-//! Texts of histories: the entries that a text spells, line by line.
+//! Texts of histories, both ways; stimuli and scripts as they are read.
 #![tactic(auto)]
 
-mod histories;
-mod history_lines;
+mod addresses;
+mod faults;
+mod kinds;
+pub mod laws;
+mod writing;
 
-pub use histories::{HistoryFault, read_history};
-pub use history_lines::MOST_STEPS;
+pub use faults::TextFault;
+pub use writing::write_runs;

@@ -1,0 +1,40 @@
+-- Regular histories, those that are read back.
+use Rattle.std.specs.Prelude.{ℕ, ◌≡◌, ◌≤◌, ◌<◌, ◌^◌}
+use Rattle.std.specs.List.{AllByRecursion}
+use Rattle.var_access.specs.Entry.{IsInRange}
+use Rattle.var_access.specs.declared.entries.Entry.{Entry}
+use Rattle.var_access.specs.declared.entries.What.{What}
+use Rattle.var_access.specs.declared.entries.What.TheVariants.{Step, Input, Arrive, Tick, Ask}
+use Rattle.var_access.specs.declared.requests.Request.{Request}
+use Rattle.var_access.specs.declared.requests.Request.TheVariants.{ReadVars, WriteVar, MonitorOn}
+use Rattle.var_access.specs.declared.requests.Var.{Var}
+
+-- steps by worker 1, inputs, arrivals and ticks by worker 2, requests by workers 3 to 6
+abbrev pub IsWorkerOf : What → (who : ℕ) → Type 0
+IsWorkerOf Step who = who ≡ 1
+IsWorkerOf (Ask request) who = (3 ≤ who) × (who ≤ 6)
+IsWorkerOf what who = who ≡ 2
+
+-- numbers of blocks and bytes have 16 bits
+abbrev pub FitsPlace : Var → Type 0
+FitsPlace v = (v.place.number < 2 ^ 16) × (v.place.byte < 2 ^ 16)
+
+-- the numbers of a request fit their fields
+abbrev pub RequestFits : Request → Type 0
+RequestFits (ReadVars vars) = AllByRecursion FitsPlace vars
+RequestFits (WriteVar var value) = FitsPlace var
+RequestFits (MonitorOn block) = block.number < 2 ^ 16
+RequestFits _ = Unit {0}
+
+-- values of inputs have 8 bits, those of arrivals 32
+abbrev pub WhatFits : What → Type 0
+WhatFits (Input byte value) = value < 2 ^ 8
+WhatFits (Arrive ob value) = value < 2 ^ 32
+WhatFits (Ask request) = RequestFits request
+WhatFits _ = Unit {0}
+
+-- a valid entry of the worker that makes such entries; each entry of a program fits its fields
+pub record IsRegular (e : Entry) : Type 0 where
+  pub worker : IsWorkerOf e.what e.who
+  pub range : IsInRange e.what
+  pub fields : WhatFits e.what

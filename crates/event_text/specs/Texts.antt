@@ -1,0 +1,51 @@
+-- Histories, stimuli and scripts: the entries of a text, or its first bad line with the least rule that
+-- the line breaks.
+use Rattle.std.specs.Prelude.{ℕ, ◌+◌, List, [], ◌∷◌, ◌++◌, count_by, Result, Ok, Err}
+use Rattle.std.specs.Str.Lines.{lines}
+use Rattle.plc_base.specs.declared.refusals.Refusal.{Refusal}
+use Rattle.flat_code.specs.Names.{find}
+use Rattle.flat_code.specs.Programs.{NameEntry}
+use Rattle.var_access.specs.Readings.{Reading}
+use Rattle.var_access.specs.Runs.{is_step}
+use Rattle.var_access.specs.Variables.{Names}
+use Rattle.var_access.specs.declared.entries.Entry.{Entry}
+use Rattle.event_text.specs.declared.kinds.TextKind.{TextKind}
+use Rattle.event_text.specs.declared.kinds.TextKind.TheVariants.{History, Stimuli, Script}
+use Rattle.event_text.specs.Lines.{line_read}
+
+-- how many entries are steps
+abbrev pub steps_in : List Entry → ℕ
+steps_in entries = count_by is_step entries
+
+-- entries in front of those that follow, or the refusal of these
+abbrev pub in_front : List Entry → Result (List Entry) Refusal → Result (List Entry) Refusal
+in_front entries (Ok more) = Ok (entries ++ more)
+in_front entries (Err refusal) = Err refusal
+
+-- a line's entries in front of those that follow, or the line's refusal
+abbrev pub line_first : (line : ℕ) → Reading (List Entry) → (List Entry → Result (List Entry) Refusal) → Result (List Entry) Refusal
+line_first line (Err rule) more = Err (record { line = line; rule = rule })
+line_first line (Ok entries) more = in_front entries (more entries)
+
+-- lines from one with this number on, behind so many steps
+unfoldable pub lines_read : TextKind → Names → (line before : ℕ) → List (List ℕ) → Result (List Entry) Refusal
+lines_read kind names line before [] = Ok []
+lines_read kind names line before (text ∷ more) =
+    line_first line (line_read kind names before text)
+    (λ entries. lines_read kind names (line + 1) (before + steps_in entries) more)
+
+-- a whole text, whose lines are counted from 1
+unfoldable pub text_read : TextKind → Names → List ℕ → Result (List Entry) Refusal
+text_read kind names text = lines_read kind names 1 0 (lines text)
+
+-- a history, with the names of a program
+abbrev pub history_of : List NameEntry → List ℕ → Result (List Entry) Refusal
+history_of names text = text_read History (find names) text
+
+-- stimuli, which know no names
+abbrev pub stimuli_of : List ℕ → Result (List Entry) Refusal
+stimuli_of text = text_read Stimuli (find []) text
+
+-- the script of a worker, with the names of a program
+abbrev pub script_of : (who : ℕ) → List NameEntry → List ℕ → Result (List Entry) Refusal
+script_of who names text = text_read (Script who) (find names) text

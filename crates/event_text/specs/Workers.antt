@@ -1,0 +1,26 @@
+-- Who makes the entries of a history.
+use Rattle.std.specs.Prelude.{ℕ, ◌+◌, ◌-◌, List, [], ◌∷◌, nat_le, ◌&&◌, if◌then◌else◌}
+use Rattle.var_access.specs.declared.entries.Entry.{Entry}
+use Rattle.var_access.specs.declared.entries.What.{What}
+use Rattle.var_access.specs.declared.entries.What.TheVariants.{Step, Ask}
+use Rattle.var_access.specs.declared.requests.Request.{Request}
+
+-- a step is reading_map by worker 1
+abbrev pub one_step : Entry
+one_step = record { who = 1; what = Step }
+
+-- inputs, arrivals and ticks are fed by worker 2
+abbrev pub fed : What → Entry
+fed what = record { who = 2; what = what }
+
+-- a request is reading_map by the worker who asks
+abbrev pub asked : (who : ℕ) → Request → Entry
+asked who request = record { who = who; what = Ask request }
+
+-- the worker of operator 1, 2, 3 or 4
+abbrev pub worker_of : (operator : ℕ) → ℕ
+worker_of operator = operator + 2
+
+-- the operator of worker 3, 4, 5 or 6; a request of another worker is written as one of operator 1
+abbrev pub operator_of : (who : ℕ) → ℕ
+operator_of who = if nat_le 3 who && nat_le who 6 then who - 2 else 1
