@@ -1,19 +1,31 @@
 -- Calls of system functions.
 use Rattle.std.proofs.Common.{◌≡◌, ℕ, Bool, true, false, List, [], ◌∷◌, Option, Some, None, refl, sym, ap, ◌∙◌, subst, if◌then◌else◌}
-use Rattle.std.specs.Prelude.{◌==◌, not, nat_le, ◌&&◌, is_some, ◌-◌}
+use Rattle.std.specs.Prelude.{◌==◌, not, nat_le, ◌&&◌, is_some, ◌-◌, ◌%◌, ◌^◌, ok_or, unwrap_or}
+use Rattle.std.specs.Option.{option_map}
 use Rattle.plc_base.specs.declared.Mode.{Mode}
 use Rattle.plc_base.specs.declared.Spot.{Spot}
+use Rattle.plc_base.specs.Widths.{bit_count}
 use Rattle.plc_mem.specs.Areas.{Areas}
+use Rattle.plc_mem.specs.Writing.{written}
+use Rattle.status_word.specs.declared.Regs.{Regs}
+use Rattle.frames.specs.Locals.{LocalData, local_written}
 use Rattle.frames.specs.declared.Activation.{Activation}
 use Rattle.frames.specs.declared.bindings.Binding.{Binding}
+use Rattle.frames.specs.declared.bindings.Binding.TheVariants as binding
 use Rattle.machine.specs.Code.{Code}
+use Rattle.machine.specs.Copies.{scene_or}
+use Rattle.machine.specs.Parts.{Scene, scene_of}
+use Rattle.machine.specs.Places.{is_local}
+use Rattle.machine.specs.Results.{with_result}
 use Rattle.machine.specs.Statement.{with_memory}
+use Rattle.machine.specs.Values.{with_locals, write}
 use Rattle.ob_sched.specs.OrganizationBlock.{is_delay}
 use Rattle.ob_sched.specs.Scheduler.{Scheduler, delay_of, delay_started, delay_cancelled, retriggered}
 use Rattle.sys_funcs.specs.Disabling.{refusal}
 use Rattle.sys_funcs.specs.Functions.{dis_airt, en_airt, set_unless, dis_irt, en_irt, srt_dint, can_dint, time_tck, with_delay}
 use Rattle.sys_funcs.specs.Returned.{Returned, returned, passed}
-use Rattle.controller.specs.Leaves.{call_left, ServesTo, ServesRunning}
+use Rattle.controller.specs.Leaves.{call_left, regs_called, running_of, ServesTo, ServesRunning}
+use Rattle.controller.specs.Monitoring.{regs_served}
 use Rattle.controller.specs.Serving.{Served, Returns, Passes, Stops, result_given, after_service, served, input}
 use Rattle.controller.specs.Stack.{IsStanding}
 use Rattle.controller.specs.State.{State}
@@ -80,7 +92,7 @@ time_tck_same s a = (refl, refl)
 unfoldable pub SameServed : Activation → Served → Type 0
 SameServed a (Returns r) = Same a r.activation
 SameServed a (Passes sched b) = Same a b
-SameServed a (Stops cause) = Unit {0}
+SameServed a (Stops cause b) = Same a b
 
 if_served : (test : Bool) (a : Activation) (x y : Served) → SameServed a x → SameServed a y
     → SameServed a (if test then x else y)
@@ -99,7 +111,7 @@ served_same number inputs s a =
     (if_served (number == 41) a _ _ (dis_airt_same s a)
     (if_served (number == 42) a _ _ (en_airt_same s a)
     (if_served (number == 43) a (Passes (retriggered s) (passed a)) _ (refl, refl)
-    (if_served (number == 46) a (Stops 1) _ tt (time_tck_same s a))))))))
+    (if_served (number == 46) a (Stops 1 (passed a)) _ (refl, refl) (time_tck_same s a))))))))
 
 -- nor does its result
 pub given_same : (to : Option Binding) (value : ℕ) (a b : Activation) (m : Areas) → Same a b
@@ -117,7 +129,7 @@ serves_to_stands mode (Returns r) to a below new m m' s s' same serves standing 
     (given_same to r.value a r.activation m same) standing)
 serves_to_stands mode (Passes sched b) to a below new m m' s s' same serves standing =
     subst (λ acts. IsStanding mode acts) (sym serves.0) (same_stack mode a b below same standing)
-serves_to_stands mode (Stops cause) to a below new m m' s s' same serves standing = absurd serves
+serves_to_stands mode (Stops cause b) to a below new m m' s s' same serves standing = absurd serves
 
 pub call_stands : (mode : Mode) (number : ℕ) (inputs : List ℕ) (to : Option Binding)
     (old new : List Activation) (m m' : Areas) (s s' : Scheduler)
@@ -137,7 +149,7 @@ goes_to : (at : Option Spot) (sv : Served) (to : Option Binding) (below new : Li
     ≡ record s { world = with_memory m' s.world; activations = new; sched = sched }
 goes_to at (Returns r) to below new s m' sched serves = rw (serves.0, serves.1, serves.2) refl
 goes_to at (Passes next a) to below new s m' sched serves = rw (serves.0, serves.1, serves.2) refl
-goes_to at (Stops cause) to below new s m' sched serves = absurd serves
+goes_to at (Stops cause a) to below new s m' sched serves = absurd serves
 
 goes_from : (code : Code) (number : ℕ) (inputs : List ℕ) (to : Option Binding) (stand : Stand)
     (old new : List Activation) (s : State) (m' : Areas) (sched : Scheduler)
@@ -167,7 +179,7 @@ halts_to : (at : Option Spot) (sv : Served) (to : Option Binding) (below new : L
     ≡ halted_at at cause (record s { world = with_memory m' s.world; activations = new; sched = sched })
 halts_to at (Returns r) to below new s m' sched cause serves = absurd serves
 halts_to at (Passes next a) to below new s m' sched cause serves = absurd serves
-halts_to at (Stops why) to below new s m' sched cause serves =
+halts_to at (Stops why a) to below new s m' sched cause serves =
     rw (serves.0, serves.1, serves.2) refl
 
 halts_from : (code : Code) (number : ℕ) (inputs : List ℕ) (to : Option Binding) (stand : Stand)
@@ -189,3 +201,61 @@ pub call_halts : (code : Code) (number : ℕ) (inputs : List ℕ) (to : Option B
     (record s { world = with_memory m' s.world; activations = new; sched = sched })
 call_halts code number inputs to stand new s m' sched cause serves =
     halts_from code number inputs to stand s.activations new s m' sched cause serves
+
+-- the registers that a call comes to are those of the running activation
+abbrev regs_of : List Activation → Regs → Regs
+regs_of activations regs =
+    unwrap_or (option_map (λ (a : Activation). a.running.regs) (running_of activations)) regs
+
+-- a write changes none of them
+put_regs : (is_in_locals : Bool) (locals : Option LocalData) (memory : Option Areas) (error : ℕ)
+    (c : Scene)
+    → (scene_or c
+    (ok_or
+    (if is_in_locals
+    then option_map (λ (l : LocalData). record { own = with_locals c.own l; memory = c.memory }) locals
+    else option_map (λ (m : Areas). record { own = c.own; memory = m }) memory)
+    error)).own.regs
+    ≡ c.own.regs
+put_regs true None memory error c = refl
+put_regs true (Some l) memory error c = refl
+put_regs false locals None error c = refl
+put_regs false locals (Some m) error c = refl
+
+bound_regs : (to : Binding) (value : ℕ) (c : Scene) → (with_result to value c).own.regs ≡ c.own.regs
+unfolding write
+bound_regs (binding.Bound place width frame) value c =
+    put_regs (is_local place.area)
+    (local_written c.own.locals frame place.byte place.bit width (value % 2 ^ bit_count width))
+    (written c.memory place width (value % 2 ^ bit_count width)) _ c
+bound_regs (binding.Constant n) value c = refl
+bound_regs binding.Unsupplied value c = refl
+
+given_regs : (to : Option Binding) (value : ℕ) (a : Activation) (m : Areas)
+    → (result_given to value a m).activation.running.regs ≡ a.running.regs
+given_regs None value a m = refl
+given_regs (Some to) value a m = bound_regs to value (scene_of a.running m)
+
+regs_to : (sv : Served) (to : Option Binding) (below new : List Activation) (m m' : Areas)
+    (s s' : Scheduler) (answer : Option ℕ) (regs : Regs) → ServesTo sv to below new m m' s s' answer
+    → regs_of new regs ≡ regs_served sv
+regs_to (Returns r) to below new m m' s s' None regs serves =
+    ap (λ (acts : List Activation). regs_of acts regs) serves.0
+    ∙ given_regs to r.value r.activation m
+regs_to (Passes sched a) to below new m m' s s' None regs serves =
+    ap (λ (acts : List Activation). regs_of acts regs) serves.0
+regs_to (Stops cause a) to below new m m' s s' (Some why) regs serves =
+    ap (λ (acts : List Activation). regs_of acts regs) serves.3
+regs_to (Returns r) to below new m m' s s' (Some why) regs serves = absurd serves
+regs_to (Passes sched a) to below new m m' s s' (Some why) regs serves = absurd serves
+regs_to (Stops cause a) to below new m m' s s' None regs serves = absurd serves
+
+pub call_regs : (number : ℕ) (inputs : List ℕ) (to : Option Binding) (old new : List Activation)
+    (m m' : Areas) (s s' : Scheduler) (answer : Option ℕ) (regs : Regs)
+    → ServesRunning number inputs to old new m m' s s' answer
+    → regs_of new regs ≡ regs_called number inputs s old regs
+call_regs number inputs to [] new m m' s s' None regs serves =
+    ap (λ (acts : List Activation). regs_of acts regs) serves.0
+call_regs number inputs to [] new m m' s s' (Some why) regs serves = absurd serves
+call_regs number inputs to (a ∷ below) new m m' s s' answer regs serves =
+    regs_to (served number inputs s a) to below new m m' s s' answer regs serves

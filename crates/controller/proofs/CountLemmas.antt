@@ -1,5 +1,6 @@
 -- Nothing changes the count of entries but that an entry is counted.
 use Rattle.std.proofs.Common.{◌≡◌, ℕ, ◌+◌, Bool, true, false, List, [], ◌∷◌, length, Option, Some, None, refl, ◌∙◌, arith, if◌then◌else◌}
+use Rattle.std.specs.Prelude.{is_some}
 use Rattle.plc_base.specs.StopCauses as causes
 use Rattle.plc_base.specs.declared.Profile.{Profile}
 use Rattle.plc_base.specs.declared.Spot.{Spot}
@@ -14,8 +15,11 @@ use Rattle.ob_sched.specs.Request.{best_of}
 use Rattle.ob_sched.specs.StartInformation.{start_info}
 use Rattle.ob_sched.specs.declared.requests.Pending.{Pending}
 use Rattle.ob_sched.specs.declared.start_infos.StartEvent.TheVariants.{Arrival}
+use Rattle.var_access.specs.declared.Request.{Request}
+use Rattle.var_access.specs.declared.Request.TheVariants as ask
 use Rattle.var_access.specs.declared.What.{What}
 use Rattle.var_access.specs.declared.What.TheVariants as what
+use Rattle.controller.specs.Asking.{asked}
 use Rattle.controller.specs.Beginning.{ob_in, begun_above}
 use Rattle.controller.specs.CyclePoint.{cycle_point, cycle_info, cycle_passed}
 use Rattle.controller.specs.Errors.{failed, error_answered, error_in, is_synchronous}
@@ -24,7 +28,7 @@ use Rattle.controller.specs.Replay.{happens, run_from, replay, CountsEntries, Co
 use Rattle.controller.specs.Requests.{stopped_if, course_taken, arrived}
 use Rattle.controller.specs.Serving.{Served, Returns, Passes, Stops, after_service, served}
 use Rattle.controller.specs.Settling.{settled, best_started, request_started, request_taken, may_start}
-use Rattle.controller.specs.Start.{start, started_up, startup_ob, before_start}
+use Rattle.controller.specs.Start.{before_start, cleared, restarted, start, started_up, startup_ob}
 use Rattle.controller.specs.State.{State, is_stop, diagnosed, each_diagnosed}
 use Rattle.controller.specs.Stepping.{stepped, stepped_on, after_statement, run_starts, with_activations}
 use Rattle.controller.specs.Stopping.{halted, halted_at, spot_of}
@@ -85,7 +89,7 @@ service_counts : (call : Option Spot) (served : Served) (to : Option Binding)
     (below : List Activation) (s : State) → (after_service call served to below s).entries ≡ s.entries
 service_counts call (Returns r) to below s = refl
 service_counts call (Passes sched a) to below s = refl
-service_counts call (Stops cause) to below s = refl
+service_counts call (Stops cause a) to below s = refl
 
 statement_counts : (code : Code) (step : Step) (ob : ℕ) (at : Option Spot)
     (below : List Activation) (s : State)
@@ -142,12 +146,38 @@ unfolding time_passed
 passed_counts code ms s =
     tick_counts code (ticked s.mode (active s.activations) ms s.sched) s
 
+started_counts : (begun : Option Activation) (s : State) → (started_up begun s).entries ≡ s.entries
+started_counts None s = refl
+started_counts (Some a) s = refl
+
+restarted_counts : (code : Code) (s : State) → (restarted code s).entries ≡ s.entries
+unfolding restarted
+restarted_counts code s =
+    started_counts (startup_ob s.profile code) (cleared (diagnosed 6 0 s))
+
+asked_counts : (code : Code) (request : Request) (s : State)
+    → (asked code request s).entries ≡ s.entries
+unfolding asked
+asked_counts code (ask.ReadVars vars) s = refl
+asked_counts code (ask.WriteVar var value) s = refl
+asked_counts code ask.Stop s =
+    if_counts (is_stop s.mode) s (halted code causes.by_operator s) s.entries refl
+    (halted_counts code causes.by_operator s)
+asked_counts code ask.Restart s =
+    if_counts (is_stop s.mode) (restarted code s) s s.entries (restarted_counts code s) refl
+asked_counts code (ask.MonitorOn block) s =
+    if_counts (is_some (code.head block)) (record s { monitored = Some block }) s s.entries refl
+    refl
+asked_counts code ask.MonitorOff s = refl
+asked_counts code ask.Diag s = refl
+
 effect_counts : (code : Code) (e : What) (s : State) → (effect code e s).entries ≡ s.entries
 effect_counts code what.Step s =
     if_counts (is_stop s.mode) s (stepped code s) s.entries refl (stepped_counts code s)
 effect_counts code (what.Input byte value) s = refl
 effect_counts code (what.Arrive ob value) s = arrived_counts code ob value s
 effect_counts code (what.Tick ms) s = passed_counts code ms s
+effect_counts code (what.Ask request) s = asked_counts code request s
 
 after_counts : (code : Code) (e : What) (s : State)
     → (state_after code e s).entries ≡ s.entries + 1
@@ -164,10 +194,6 @@ run_counts : (code : Code) (s : State) (history : List What)
 run_counts code s [] = omega arith
 run_counts code s (e ∷ rest) =
     omega (arith, run_counts code (happens code s e).state rest, counts_entries code s e)
-
-started_counts : (begun : Option Activation) (s : State) → (started_up begun s).entries ≡ s.entries
-started_counts None s = refl
-started_counts (Some a) s = refl
 
 start_counts : (profile : Profile) (code : Code) → (start profile code).entries ≡ 0
 unfolding start

@@ -7,20 +7,21 @@ use Rattle.plc_base.specs.StopCauses as causes
 use Rattle.plc_base.specs.declared.Profile.{Profile}
 use Rattle.plc_base.specs.declared.Profile.TheVariants.{Small, Large}
 use Rattle.plc_base.specs.Profiles.{bit_memory_size}
-use Rattle.plc_base.specs.declared.Mode.{Mode}
-use Rattle.plc_base.specs.declared.Mode.TheVariants.{Run, Startup, Stop}
+use Rattle.plc_base.specs.declared.BlockId.{BlockId}
+use Rattle.plc_base.specs.declared.Mode.TheVariants.{Run, Startup}
 use Rattle.plc_base.specs.declared.Spot.{Spot}
 use Rattle.plc_mem.specs.Areas.{Areas}
 use Rattle.plc_mem.specs.Fresh.{fresh}
 use Rattle.plc_mem.specs.Peripherals.{with_input, outputs_cleared}
 use Rattle.plc_mem.specs.Refresh.{refreshed}
 use Rattle.plc_mem.specs.Restart.{bits_retained, memory_cleared}
+use Rattle.plc_mem.specs.Writing.{written}
 use Rattle.frames.specs.Activations.{begun, with_local_byte}
 use Rattle.frames.specs.declared.Activation.{Activation}
 use Rattle.frames.specs.declared.bindings.Binding.{Binding}
 use Rattle.flat_code.specs.Loading.{Verifies}
 use Rattle.flat_code.specs.Programs.{Program}
-use Rattle.machine.specs.Code.{Code, Head}
+use Rattle.machine.specs.Code.{Head}
 use Rattle.machine.specs.Entering.{at_block}
 use Rattle.machine.specs.Fitting.{IsMemoryOf, SameSizes}
 use Rattle.machine.specs.Flat.{code_of}
@@ -39,31 +40,34 @@ use Rattle.ob_sched.specs.declared.start_infos.StartInfo.{StartInfo}
 use Rattle.sys_funcs.specs.Disabling.{refusal, all_set}
 use Rattle.sys_funcs.specs.Functions.{dis_airt, en_airt, set_unless, dis_irt, en_irt, srt_dint, can_dint, time_tck, with_delay}
 use Rattle.sys_funcs.specs.Returned.{Returned, returned, passed}
+use Rattle.var_access.specs.declared.Request.{Request}
+use Rattle.var_access.specs.declared.Request.TheVariants as ask
+use Rattle.var_access.specs.declared.Var.{Var}
 use Rattle.var_access.specs.declared.What.{What}
 use Rattle.var_access.specs.declared.What.TheVariants as what
 use Rattle.var_access.specs.Entry.{IsInRange}
+use Rattle.controller.specs.Asking.{asked}
 use Rattle.controller.specs.Beginning.{ob_block, ob_frame, told_from, ob_begun, ob_in, begun_above}
 use Rattle.controller.specs.CyclePoint.{cycle_point, cycle_passed, cycle_info}
 use Rattle.controller.specs.Errors.{is_synchronous, cause_without, failure, copied_from, error_in, error_answered, failed}
 use Rattle.controller.specs.Event.{counted, effect, state_after}
-use Rattle.controller.specs.Fitting.{AllFit, AreInRange, EntriesKeepFit, FitIsReady, HistoriesAreFit, IsFit, IsSchedule, RestartKeepsFit, StartIsFit}
+use Rattle.controller.specs.Fitting.{AllFit, AreInRange, EntriesKeepFit, FitIsReady, HistoriesAreFit, IsFit, IsSchedule, StartIsFit}
 use Rattle.controller.specs.MachineLaws.{MachineLaws}
 use Rattle.controller.specs.Ready.{IsReady}
 use Rattle.controller.specs.Replay.{happens, run_from, replay}
 use Rattle.controller.specs.Requests.{stopped_if, course_taken, arrived}
 use Rattle.controller.specs.Serving.{Served, Returns, Passes, Stops as Halts, input, served, result_given, after_service}
 use Rattle.controller.specs.Settling.{may_start, request_taken, request_started, best_started, settled}
-use Rattle.controller.specs.Stack.{IsStack, IsStanding, MayBegin}
+use Rattle.controller.specs.Stack.{IsStanding, MayBegin}
 use Rattle.controller.specs.Start.{before_start, cleared, loaded_obs, restarted, start, started_up, startup_info, startup_ob}
 use Rattle.controller.specs.State.{State, is_stop, diagnosed, each_diagnosed}
 use Rattle.controller.specs.Stepping.{stepped, stepped_on, after_statement, run_starts, ob_ended, with_activations}
 use Rattle.controller.specs.Stopping.{halted, halted_at, spot, spot_of}
 use Rattle.controller.specs.Ticking.{active, tick_taken, time_passed, timers_moved}
 use Rattle.controller.proofs.CallLemmas.{SameServed, served_same, given_same}
-use Rattle.controller.proofs.SameLemmas.{SameStep, statement_same, told_class, told_ob}
+use Rattle.controller.proofs.SameLemmas.{SameStep, statement_same}
 use Rattle.controller.proofs.ScheduleLemmas.{of_either, best_waits, rest_schedule, started_schedule, stopped_schedule, run_schedule, cycle_schedule, restarted_schedule, retriggered_schedule, delay_schedule, cancelled_schedule, all_schedule, requested_known, arrival_waits, ticked_known}
-use Rattle.controller.proofs.StackLemmas.{no_stack}
-use Rattle.controller.proofs.StandingLemmas.{begun_stands, best_class, best_may_begin, cycle_may_begin, error_stands, not_empty, stack_more}
+use Rattle.controller.proofs.StandingLemmas.{IsOf, begun_stands, best_class, best_may_begin, cycle_may_begin, error_stands, first_stands, ob_is, stop_idle}
 use Rattle.controller.proofs.StepLemmas.{ended_by, same_stack}
 
 -- ---- where memory keeps its sizes
@@ -145,23 +149,6 @@ ob_fits : (profile : Profile) (l : MachineLaws) (p : Program) (m : Areas) (class
     → IsMemoryOf (code_of p) m → FitsIf p m (ob_in profile (code_of p) class ob info)
 ob_fits profile l p m class ob info verifies memory =
     ob_fits_by profile l p m class ob info ((code_of p).head (ob_block ob)) verifies memory refl
-
--- its class and its number
-IsOf : (class ob : ℕ) → Option Activation → Type 0
-IsOf class ob None = Unit {0}
-IsOf class ob (Some a) = (a.class ≡ class) × (a.ob ≡ ob)
-
-ob_is_by : (profile : Profile) (class ob : ℕ) (info : StartInfo) (found : Option Head)
-    → IsOf class ob (option_map (ob_begun profile class ob info) found)
-unfolding IsOf ob_begun
-ob_is_by profile class ob info None = tt
-ob_is_by profile class ob info (Some h) = (
-  told_class info.bytes 0 (begun profile class ob (ob_frame ob h)),
-  told_ob info.bytes 0 (begun profile class ob (ob_frame ob h)),
-)
-
-ob_is : (profile : Profile) (code : Code) (class ob : ℕ) (info : StartInfo) → IsOf class ob (ob_in profile code class ob info)
-ob_is profile code class ob info = ob_is_by profile class ob info (code.head (ob_block ob))
 
 begins_above : (p : Program) (class ob : ℕ) (one : Option Activation) (s : State)
     → FitsIf p s.world.memory one → IsOf class ob one → MayBegin s.mode class ob s.activations
@@ -348,7 +335,7 @@ time_tck_fits l p m s a fit is = record { fits = l.registers p m a _ fit; sched 
 KeepsServed : Program → Areas → Served → Type 0
 KeepsServed p m (Returns r) = KeepsReturned p m r
 KeepsServed p m (Passes sched a) = Kept p m sched a
-KeepsServed p m (Halts cause) = Unit {0}
+KeepsServed p m (Halts cause a) = Unit {0}
 
 served_fits : (l : MachineLaws) (p : Program) (m : Areas) (number : ℕ) (inputs : List ℕ) (s : Scheduler)
     (a : Activation) → FitsProgram p m a → IsSchedule s
@@ -367,7 +354,7 @@ served_fits l p m number inputs s a fit is =
     (of_either (KeepsServed p m) (number == 42) _ _ (en_airt_fits l p m s a fit is)
     (of_either (KeepsServed p m) (number == 43) (Passes (retriggered s) (passed a)) _
     (record { fits = l.registers p m a _ fit; sched = retriggered_schedule s is })
-    (of_either (KeepsServed p m) (number == 46) (Halts 1) _ tt (time_tck_fits l p m s a fit is))))))))
+    (of_either (KeepsServed p m) (number == 46) (Halts 1 (passed a)) _ tt (time_tck_fits l p m s a fit is))))))))
 
 given_fits : (l : MachineLaws) (p : Program) (m : Areas) (to : Option Binding) (value : ℕ)
     (a : Activation) → Verifies p → FitsProgram p m a
@@ -397,7 +384,7 @@ service_fits l p call (Passes sched b) to a below s verifies kept same rest stan
   standing = same_stack s.mode a b below same standing;
   sched = kept.sched;
 }
-service_fits l p call (Halts cause) to a below s verifies kept same rest standing fit =
+service_fits l p call (Halts cause b) to a below s verifies kept same rest standing fit =
     halts l p call cause s fit
 
 -- ---- a statement
@@ -560,69 +547,7 @@ input_fits : (l : MachineLaws) (m : Areas) (byte value : ℕ) (new : Option Area
 input_fits l m byte value None is = same_sizes m
 input_fits l m byte value (Some n) is = l.inputs m n byte value is
 
--- ---- an entry
-
-counted_fits : (p : Program) (s : State) → IsFit p s → IsFit p (counted s)
-counted_fits p s fit = record {
-  memory = fit.memory;
-  activations = fit.activations;
-  standing = fit.standing;
-  sched = fit.sched;
-}
-
-effect_fits : (l : MachineLaws) (p : Program) (e : What) (s : State) → Verifies p → IsInRange e
-    → IsFit p s → IsFit p (effect (code_of p) e s)
-effect_fits l p what.Step s verifies range fit =
-    unless_stop p s (stepped (code_of p) s) fit (λ running. step_fits l p s verifies running fit)
-effect_fits l p (what.Input byte value) s verifies range fit =
-    moved_memory l p s _
-    (input_fits l s.world.memory byte value (with_input s.world.memory byte value) refl) fit
-effect_fits l p (what.Arrive ob value) s verifies range fit = arrived_fits l p ob value s range fit
-effect_fits l p (what.Tick ms) s verifies range fit = time_fits l p ms s fit
-
--- ---- settling
-
-request_fits : (l : MachineLaws) (p : Program) (best : Pending) (s : State) → Verifies p
-    → MayBegin s.mode best.class best.ob s.activations → IsFit p s
-    → IsFit p (request_started (code_of p) best s)
-request_fits l p best s verifies may fit =
-    begins_above p best.class best.ob (ob_in s.profile (code_of p) best.class best.ob best.info)
-    (request_taken s)
-    (ob_fits s.profile l p s.world.memory best.class best.ob best.info verifies fit.memory)
-    (ob_is s.profile (code_of p) best.class best.ob best.info) may
-    (other_sched p s (started s.sched) (started_schedule s.sched fit.sched) fit)
-
-best_fits : (l : MachineLaws) (p : Program) (best : Option Pending) (s : State) → Verifies p
-    → is_stop s.mode ≡ false → best_of s.mode s.sched.pending ≡ best → IsFit p s
-    → IsFit p (best_started (code_of p) best s)
-best_fits l p None s verifies running is fit = fit
-best_fits l p (Some best) s verifies running is fit =
-    by (may_start best.class s.activations) refl
-  where
-    by : (test : Bool) → may_start best.class s.activations ≡ test
-        → IsFit p (if test then request_started (code_of p) best s else s)
-    by true may =
-        request_fits l p best s verifies
-        (best_may_begin s.mode best.class best.ob s.activations running
-        (best_waits s.mode s.sched.pending best is fit.sched.pending)
-        (best_class s.mode s.sched.pending best is) may fit.standing) fit
-    by false may = fit
-
-settled_fits : (l : MachineLaws) (p : Program) (s : State) → Verifies p → IsFit p s
-    → IsFit p (settled (code_of p) s)
-unfolding settled
-settled_fits l p s verifies fit =
-    unless_stop p s (best_started (code_of p) (best_of s.mode s.sched.pending) s) fit
-    (λ running. best_fits l p (best_of s.mode s.sched.pending) s verifies running refl fit)
-
-after_fits : (l : MachineLaws) (p : Program) (s : State) (e : What) → Verifies p → IsInRange e
-    → IsFit p s → IsFit p (state_after (code_of p) e s)
-unfolding state_after
-after_fits l p s e verifies range fit =
-    settled_fits l p (effect (code_of p) e (counted s)) verifies
-    (effect_fits l p e (counted s) verifies range (counted_fits p s fit))
-
--- ---- the starts
+-- ---- a start
 
 started_up_fits : (p : Program) (one : Option Activation) (s : State)
     → FitsIf p s.world.memory one → IsOf 27 100 one → s.activations ≡ [] → IsFit p s
@@ -635,22 +560,10 @@ started_up_fits p None s one is idle fit =
 started_up_fits p (Some a) s one is idle fit = record {
   memory = fit.memory;
   activations = (one, fit.activations);
-  standing = record {
-    stack =
-        subst (λ (acts : List Activation). IsStack Startup (a ∷ acts)) (sym idle)
-        (stack_more Startup 27 100 a [] is.0 is.1 tt
-        (refl, record { stands = refl; class_is = refl; above = tt }));
-    startup = not_empty Startup a s.activations;
-  };
+  standing =
+      subst (λ (acts : List Activation). IsStanding Startup (a ∷ acts)) (sym idle)
+      (first_stands a is.0 is.1);
   sched = fit.sched;
-}
-
-before_fits : (profile : Profile) (l : MachineLaws) (p : Program) → IsFit p (before_start profile (code_of p))
-before_fits profile l p = record {
-  memory = l.first profile p;
-  activations = tt;
-  standing = record { stack = tt; startup = tt };
-  sched = rest_schedule (loaded_obs (code_of p));
 }
 
 -- a restart changes no size
@@ -694,6 +607,128 @@ cleared_fits l p s fit =
       sched = restarted_schedule s.sched fit.sched;
     }
 
+-- ---- requests of operators
+
+written_fits : (l : MachineLaws) (m : Areas) (var : Var) (value : ℕ) (new : Option Areas)
+    → written m var.place var.width value ≡ new → SameSizes m (unwrap_or new m)
+written_fits l m var value None is = same_sizes m
+written_fits l m var value (Some n) is = l.writes m n var.place var.width value is
+
+restart_fits : (l : MachineLaws) (p : Program) (s : State) → Verifies p → is_stop s.mode ≡ true
+    → IsFit p s → IsFit p (restarted (code_of p) s)
+unfolding restarted
+restart_fits l p s verifies stop fit =
+    let next : IsFit p (cleared (diagnosed 6 0 s)) =
+    cleared_fits l p (diagnosed 6 0 s) (diagnosed_fit p 6 0 s fit) in
+    started_up_fits p (startup_ob s.profile (code_of p)) (cleared (diagnosed 6 0 s))
+    (ob_fits s.profile l p (memory_cleared s.world.memory) 27 100 startup_info verifies next.memory)
+    (ob_is s.profile (code_of p) 27 100 startup_info)
+    (stop_idle s.mode s.activations stop fit.standing.stack) next
+
+monitored_fits : (p : Program) (s : State) (monitored : Option BlockId) → IsFit p s
+    → IsFit p (record s { monitored = monitored })
+monitored_fits p s monitored fit = record {
+  memory = fit.memory;
+  activations = fit.activations;
+  standing = fit.standing;
+  sched = fit.sched;
+}
+
+asked_fits : (l : MachineLaws) (p : Program) (request : Request) (s : State) → Verifies p
+    → IsFit p s → IsFit p (asked (code_of p) request s)
+unfolding asked
+asked_fits l p (ask.ReadVars vars) s verifies fit = fit
+asked_fits l p (ask.WriteVar var value) s verifies fit =
+    moved_memory l p s _
+    (written_fits l s.world.memory var value
+    (written s.world.memory var.place var.width value) refl) fit
+asked_fits l p ask.Stop s verifies fit =
+    unless_stop p s _ fit (λ running. halted_fits l p causes.by_operator s fit)
+asked_fits l p ask.Restart s verifies fit = by (is_stop s.mode) refl
+  where
+    by : (test : Bool) → is_stop s.mode ≡ test
+        → IsFit p (if test then restarted (code_of p) s else s)
+    by true is = restart_fits l p s verifies is fit
+    by false is = fit
+asked_fits l p (ask.MonitorOn block) s verifies fit =
+    of_either (IsFit p) (is_some ((code_of p).head block)) (record s { monitored = Some block }) s
+    (monitored_fits p s (Some block) fit) fit
+asked_fits l p ask.MonitorOff s verifies fit = monitored_fits p s None fit
+asked_fits l p ask.Diag s verifies fit = fit
+
+-- ---- an entry
+
+counted_fits : (p : Program) (s : State) → IsFit p s → IsFit p (counted s)
+counted_fits p s fit = record {
+  memory = fit.memory;
+  activations = fit.activations;
+  standing = fit.standing;
+  sched = fit.sched;
+}
+
+effect_fits : (l : MachineLaws) (p : Program) (e : What) (s : State) → Verifies p → IsInRange e
+    → IsFit p s → IsFit p (effect (code_of p) e s)
+effect_fits l p what.Step s verifies range fit =
+    unless_stop p s (stepped (code_of p) s) fit (λ running. step_fits l p s verifies running fit)
+effect_fits l p (what.Input byte value) s verifies range fit =
+    moved_memory l p s _
+    (input_fits l s.world.memory byte value (with_input s.world.memory byte value) refl) fit
+effect_fits l p (what.Arrive ob value) s verifies range fit = arrived_fits l p ob value s range fit
+effect_fits l p (what.Tick ms) s verifies range fit = time_fits l p ms s fit
+effect_fits l p (what.Ask request) s verifies range fit = asked_fits l p request s verifies fit
+
+-- ---- settling
+
+request_fits : (l : MachineLaws) (p : Program) (best : Pending) (s : State) → Verifies p
+    → MayBegin s.mode best.class best.ob s.activations → IsFit p s
+    → IsFit p (request_started (code_of p) best s)
+request_fits l p best s verifies may fit =
+    begins_above p best.class best.ob (ob_in s.profile (code_of p) best.class best.ob best.info)
+    (request_taken s)
+    (ob_fits s.profile l p s.world.memory best.class best.ob best.info verifies fit.memory)
+    (ob_is s.profile (code_of p) best.class best.ob best.info) may
+    (other_sched p s (started s.sched) (started_schedule s.sched fit.sched) fit)
+
+best_fits : (l : MachineLaws) (p : Program) (best : Option Pending) (s : State) → Verifies p
+    → is_stop s.mode ≡ false → best_of s.mode s.sched.pending ≡ best → IsFit p s
+    → IsFit p (best_started (code_of p) best s)
+best_fits l p None s verifies running is fit = fit
+best_fits l p (Some best) s verifies running is fit =
+    by (may_start best.class s.activations) refl
+  where
+    by : (test : Bool) → may_start best.class s.activations ≡ test
+        → IsFit p (if test then request_started (code_of p) best s else s)
+    by true may =
+        request_fits l p best s verifies
+        (best_may_begin s.mode best.class best.ob s.activations running
+        (best_waits s.mode s.sched.pending best is fit.sched.pending)
+        (best_class s.mode s.sched.pending best is) may fit.standing) fit
+    by false may = fit
+
+settled_fits : (l : MachineLaws) (p : Program) (s : State) → Verifies p → IsFit p s
+    → IsFit p (settled (code_of p) s)
+unfolding settled
+settled_fits l p s verifies fit =
+    unless_stop p s (best_started (code_of p) (best_of s.mode s.sched.pending) s) fit
+    (λ running. best_fits l p (best_of s.mode s.sched.pending) s verifies running refl fit)
+
+after_fits : (l : MachineLaws) (p : Program) (s : State) (e : What) → Verifies p → IsInRange e
+    → IsFit p s → IsFit p (state_after (code_of p) e s)
+unfolding state_after
+after_fits l p s e verifies range fit =
+    settled_fits l p (effect (code_of p) e (counted s)) verifies
+    (effect_fits l p e (counted s) verifies range (counted_fits p s fit))
+
+-- ---- the first start
+
+before_fits : (profile : Profile) (l : MachineLaws) (p : Program) → IsFit p (before_start profile (code_of p))
+before_fits profile l p = record {
+  memory = l.first profile p;
+  activations = tt;
+  standing = record { stack = tt; startup = tt };
+  sched = rest_schedule (loaded_obs (code_of p));
+}
+
 -- ---- the laws
 
 pub ready : MachineLaws → FitIsReady
@@ -729,20 +764,3 @@ pub histories_fit : MachineLaws → HistoriesAreFit
 unfolding replay
 histories_fit l profile p history verifies range =
     run_fits l p (start profile (code_of p)) history verifies range (start_fits l profile p verifies)
-
-stop_idle : (mode : Mode) (activations : List Activation) → is_stop mode ≡ true
-    → IsStack mode activations → activations ≡ []
-stop_idle mode [] is stack = refl
-stop_idle Run (a ∷ below) is stack = absurd cc
-stop_idle Startup (a ∷ below) is stack = absurd cc
-stop_idle (Stop cause at) (a ∷ below) is stack = absurd (no_stack cause at a below stack)
-
-pub restart_keeps : MachineLaws → RestartKeepsFit
-unfolding restarted
-restart_keeps l p s verifies stop fit =
-    let next : IsFit p (cleared (diagnosed 6 0 s)) =
-    cleared_fits l p (diagnosed 6 0 s) (diagnosed_fit p 6 0 s fit) in
-    started_up_fits p (startup_ob s.profile (code_of p)) (cleared (diagnosed 6 0 s))
-    (ob_fits s.profile l p (memory_cleared s.world.memory) 27 100 startup_info verifies next.memory)
-    (ob_is s.profile (code_of p) 27 100 startup_info)
-    (stop_idle s.mode s.activations stop fit.standing.stack) next

@@ -1,9 +1,11 @@
 pub mod history
 pub mod ActiveLemmas
+pub mod AskingLemmas
 pub mod CallLemmas
 pub mod CountLemmas
 pub mod FittingLemmas
 pub mod KeptLemmas
+pub mod MonitoringLemmas
 mod MovedLemmas
 pub mod ObservingLemmas
 pub mod ProfileLemmas

@@ -5,6 +5,7 @@ use Rattle.plc_base.specs.StopCauses as causes
 use Rattle.plc_base.specs.declared.Profile.{Profile}
 use Rattle.plc_base.specs.declared.BlockId.{BlockId}
 use Rattle.plc_base.specs.declared.Spot.{Spot}
+use Rattle.status_word.specs.declared.Regs.{Regs}
 use Rattle.frames.specs.Activations.{begun, with_local_byte}
 use Rattle.frames.specs.Locals.{LocalData, byte_set}
 use Rattle.frames.specs.declared.Activation.{Activation}
@@ -14,6 +15,7 @@ use Rattle.machine.specs.Code.{Code, Fetched, Head}
 use Rattle.machine.specs.Moved.{Follows, moved, moved_fetched, moved_frame, moved_step, StatementsMove}
 use Rattle.machine.specs.Statement.{Step, Went, Ended, SyncError, SysCall, Stop, Stuck, statement}
 use Rattle.machine.specs.SystemCalls.{Given}
+use Rattle.monitor.specs.declared.MonRecord.{MonRecord}
 use Rattle.ob_sched.specs.Course.{Course, requested}
 use Rattle.ob_sched.specs.Scheduler.{Scheduler, retriggered, delay_of, delay_started, delay_cancelled}
 use Rattle.ob_sched.specs.StartInformation.{ob_of_error, start_info}
@@ -26,19 +28,24 @@ use Rattle.ob_sched.specs.declared.start_infos.StartInfo.{StartInfo}
 use Rattle.sys_funcs.specs.Disabling.{refusal}
 use Rattle.sys_funcs.specs.Functions.{dis_airt, en_airt, dis_irt, en_irt, srt_dint, can_dint, time_tck, set_unless, with_delay}
 use Rattle.sys_funcs.specs.Returned.{Returned, returned, passed}
+use Rattle.var_access.specs.declared.Reply.{Reply}
+use Rattle.var_access.specs.declared.Request.{Request}
+use Rattle.var_access.specs.declared.Request.TheVariants as ask
 use Rattle.var_access.specs.declared.What.{What}
 use Rattle.var_access.specs.declared.What.TheVariants as what
+use Rattle.controller.specs.Asking.{answered, asked, done_if}
 use Rattle.controller.specs.Beginning.{ob_block, ob_frame, told_from, ob_begun, ob_in, begun_above}
 use Rattle.controller.specs.CyclePoint.{cycle_point, cycle_info, cycle_passed}
 use Rattle.controller.specs.Errors.{copied_from, error_in, error_answered, failed, failure, is_synchronous}
 use Rattle.controller.specs.Event.{counted, effect, state_after}
+use Rattle.controller.specs.Monitoring.{is_monitored, monitoring_record, record_at, regs_after, regs_served, step_record}
 use Rattle.controller.specs.Moved.{moved_state, EntriesMove, HistoriesMove}
-use Rattle.controller.specs.Replay.{happens, run_from, replay, happened_to}
+use Rattle.controller.specs.Replay.{Happened, happened_to, happens, replay, reply_to, run_from}
 use Rattle.controller.specs.Requests.{stopped_if, course_taken, arrived}
 use Rattle.controller.specs.Serving.{Served, Returns, Passes, Stops, served, after_service, system_called, input}
 use Rattle.controller.specs.Settling.{may_start, request_taken, request_started, best_started, settled}
-use Rattle.controller.specs.Shown.{shown}
-use Rattle.controller.specs.Start.{all_obs, before_start, startup_ob, startup_info, started_up, start}
+use Rattle.controller.specs.Shown.{changes, shown}
+use Rattle.controller.specs.Start.{all_obs, before_start, cleared, restarted, start, started_up, startup_info, startup_ob}
 use Rattle.controller.specs.State.{State, is_stop, diagnosed, each_diagnosed}
 use Rattle.controller.specs.Stepping.{run_starts, ob_ended, after_statement, stepped_on, stepped}
 use Rattle.controller.specs.Stopping.{spot_of, spot, halted_at, halted}
@@ -146,7 +153,7 @@ course_moves f c d course s follows =
 abbrev moved_served : Positions → Served → Served
 moved_served f (Returns r) = Returns (record r { activation = moved f r.activation })
 moved_served f (Passes sched a) = Passes sched (moved f a)
-moved_served f (Stops cause) = Stops cause
+moved_served f (Stops cause a) = Stops cause (moved f a)
 
 abbrev moved_returned : Positions → Returned → Returned
 moved_returned f r = record r { activation = moved f r.activation }
@@ -223,7 +230,7 @@ chosen b32 b33 b39 b40 b41 b42 b43 b46 inputs s a =
     else if b41 then Returns (dis_airt s a)
     else if b42 then Returns (en_airt s a)
     else if b43 then Passes (retriggered s) (passed a)
-    else if b46 then Stops 1
+    else if b46 then Stops causes.by_program (passed a)
     else Returns (time_tck s a)
 
 chosen_moves :
@@ -252,7 +259,7 @@ service_moves :
 service_moves f call (Returns r) None below s = refl
 service_moves f call (Returns r) (Some to) below s = refl
 service_moves f call (Passes sched a) to below s = refl
-service_moves f call (Stops cause) to below s = refl
+service_moves f call (Stops cause a) to below s = refl
 
 system_moves :
     (f : Positions) (call : Option Spot) (number : ℕ) (given : Given) (a : Activation) (below : List Activation) (s : State)
@@ -387,6 +394,96 @@ unfolding settled
 settled_moves f c d s follows =
     either (moved_state f) (is_stop s.mode) s _ (best_started c (best_of s.mode s.sched.pending) s) _ refl (best_moves f c d (best_of s.mode s.sched.pending) s follows)
 
+-- ---- requests of operators
+
+started_moves : (f : Positions) (o : Option Activation) (s : State) → started_up (option_map (moved f) o) (moved_state f s) ≡ moved_state f (started_up o s)
+started_moves f None s = refl
+started_moves f (Some a) s = refl
+
+restarted_moves :
+    (f : Positions) (c d : Code) (s : State) → Follows f c d → restarted d (moved_state f s) ≡ moved_state f (restarted c s)
+unfolding restarted
+restarted_moves f c d s follows =
+    ap (λ (o : Option Activation). started_up o (moved_state f (cleared (diagnosed 6 0 s)))) (ob_in_moves s.profile f c d 27 100 startup_info follows)
+    ∙ started_moves f (startup_ob s.profile c) (cleared (diagnosed 6 0 s))
+
+asked_moves :
+    (f : Positions) (c d : Code) (request : Request) (s : State) → Follows f c d
+    → asked d request (moved_state f s) ≡ moved_state f (asked c request s)
+unfolding asked
+asked_moves f c d (ask.ReadVars vars) s follows = refl
+asked_moves f c d (ask.WriteVar var value) s follows = refl
+asked_moves f c d ask.Stop s follows =
+    either (moved_state f) (is_stop s.mode) s _ (halted c causes.by_operator s) _ refl (halted_moves f c d causes.by_operator s follows)
+asked_moves f c d ask.Restart s follows =
+    either (moved_state f) (is_stop s.mode) (restarted c s) _ s _ (restarted_moves f c d s follows) refl
+asked_moves f c d (ask.MonitorOn block) s follows =
+    ap (λ (o : Option Head). if is_some o then moved_state f (record s { monitored = Some block }) else moved_state f s) (follows.head block)
+    ∙ either (moved_state f) (is_some (c.head block)) (record s { monitored = Some block }) _ s _ refl refl
+asked_moves f c d ask.MonitorOff s follows = refl
+asked_moves f c d ask.Diag s follows = refl
+
+answer_moves :
+    (f : Positions) (c d : Code) (request : Request) (s : State) → Follows f c d
+    → answered d request (moved_state f s) ≡ answered c request s
+unfolding answered
+answer_moves f c d (ask.ReadVars vars) s follows = refl
+answer_moves f c d (ask.WriteVar var value) s follows = refl
+answer_moves f c d ask.Stop s follows = refl
+answer_moves f c d ask.Restart s follows = refl
+answer_moves f c d (ask.MonitorOn block) s follows = ap (λ (o : Option Head). done_if (is_some o)) (follows.head block)
+answer_moves f c d ask.MonitorOff s follows = refl
+answer_moves f c d ask.Diag s follows = refl
+
+reply_moves :
+    (f : Positions) (c d : Code) (entry : What) (s : State) → Follows f c d
+    → reply_to d (moved_state f s) entry ≡ reply_to c s entry
+reply_moves f c d what.Step s follows = refl
+reply_moves f c d (what.Input byte value) s follows = refl
+reply_moves f c d (what.Arrive ob value) s follows = refl
+reply_moves f c d (what.Tick ms) s follows = refl
+reply_moves f c d (what.Ask request) s follows = answer_moves f c d request s follows
+
+-- ---- monitoring
+
+served_regs : (f : Positions) (r : Served) → regs_served (moved_served f r) ≡ regs_served r
+served_regs f (Returns r) = refl
+served_regs f (Passes sched a) = refl
+served_regs f (Stops cause a) = refl
+
+regs_same : (f : Positions) (s : Scheduler) (step : Step) (a : Activation) → regs_after s (moved_step f step) (moved f a) ≡ regs_after s step a
+regs_same f s (Went b w) a = refl
+regs_same f s (Ended regs w) a = refl
+regs_same f s (SyncError code b) a = refl
+regs_same f s (SysCall number given b) a =
+    ap regs_served (served_moves f number given.inputs s b) ∙ served_regs f (served number given.inputs s b)
+regs_same f s (Stop cause) a = refl
+regs_same f s Stuck a = refl
+
+step_record_same :
+    (f : Positions) (c d : Code) (activations : List Activation) (s : State) → StatementsMove → Follows f c d
+    → step_record d (moved_state f s) (map (moved f) activations) ≡ step_record c s activations
+step_record_same f c d [] s statements follows = refl
+step_record_same f c d (a ∷ below) s statements follows =
+    ap (λ (step : Step). recorded (regs_after s.sched step (moved f a)) (spot_of d (moved_frame f a.running.frame)))
+    (statements f c d a s.world follows)
+    ∙ ap (λ (r : Regs). recorded r (spot_of d (moved_frame f a.running.frame))) (regs_same f s.sched (statement c a s.world) a)
+    ∙ ap (λ (at : Option Spot). recorded (regs_after s.sched (statement c a s.world) a) at) (spot_moves f c d a.running.frame follows)
+  where
+    recorded : Regs → Option Spot → Option MonRecord
+    recorded regs at = if is_monitored s.monitored a.running.frame.block then option_map (record_at regs) at else None
+
+record_same :
+    (f : Positions) (c d : Code) (entry : What) (s : State) → StatementsMove → Follows f c d
+    → monitoring_record d (moved_state f s) entry ≡ monitoring_record c s entry
+unfolding monitoring_record
+record_same f c d what.Step s statements follows =
+    ap (λ (r : Option MonRecord). if is_stop s.mode then None else r) (step_record_same f c d s.activations s statements follows)
+record_same f c d (what.Input byte value) s statements follows = refl
+record_same f c d (what.Arrive ob value) s statements follows = refl
+record_same f c d (what.Tick ms) s statements follows = refl
+record_same f c d (what.Ask request) s statements follows = refl
+
 -- ---- entries
 
 effect_moves :
@@ -396,6 +493,7 @@ effect_moves f c d what.Step s statements follows = either (moved_state f) (is_s
 effect_moves f c d (what.Input byte value) s statements follows = refl
 effect_moves f c d (what.Arrive ob value) s statements follows = arrived_moves f c d ob value s follows
 effect_moves f c d (what.Tick ms) s statements follows = time_passes_moves f c d ms s follows
+effect_moves f c d (what.Ask request) s statements follows = asked_moves f c d request s follows
 
 after_entry_moves :
     (f : Positions) (c d : Code) (s : State) (entry : What) → StatementsMove → Follows f c d
@@ -404,10 +502,24 @@ unfolding state_after
 after_entry_moves f c d s entry statements follows =
     ap (settled d) (effect_moves f c d entry (counted s) statements follows) ∙ settled_moves f c d (effect c entry (counted s)) follows
 
+-- what happened, by the states and by what was answered and recorded
+abbrev happened_with : (before after : State) → Reply → Option MonRecord → Happened
+happened_with before after reply mon = record {
+  state = after;
+  reply = reply;
+  seen = changes mon before.world.memory.peripheral_outputs before.mode after;
+}
+
 pub entries_move : StatementsMove → EntriesMove
 unfolding happens shown
 entries_move statements f c d s entry follows =
     ap (λ (after : State). happened_to d (moved_state f s) entry after) (after_entry_moves f c d s entry statements follows)
+    ∙ ap
+    (λ (reply : Reply). happened_with s (moved_state f (state_after c entry s)) reply (monitoring_record d (moved_state f s) entry))
+    (reply_moves f c d entry s follows)
+    ∙ ap
+    (λ (mon : Option MonRecord). happened_with s (moved_state f (state_after c entry s)) (reply_to c s entry) mon)
+    (record_same f c d entry s statements follows)
 
 -- ---- histories
 
@@ -426,10 +538,6 @@ obs_same f c d (ob ∷ obs) follows = rw (follows.head (ob_block ob)) (rw (obs_s
 
 before_moves : (profile : Profile) (f : Positions) (c d : Code) → Follows f c d → before_start profile d ≡ moved_state f (before_start profile c)
 before_moves profile f c d follows = rw (follows.blocks) (rw (obs_same f c d all_obs follows) refl)
-
-started_moves : (f : Positions) (o : Option Activation) (s : State) → started_up (option_map (moved f) o) (moved_state f s) ≡ moved_state f (started_up o s)
-started_moves f None s = refl
-started_moves f (Some a) s = refl
 
 start_moves : (profile : Profile) (f : Positions) (c d : Code) → Follows f c d → start profile d ≡ moved_state f (start profile c)
 unfolding start

@@ -1,5 +1,6 @@
 -- Nothing that an entry does changes the profile.
 use Rattle.std.proofs.Common.{◌≡◌, ℕ, Bool, true, false, List, [], ◌∷◌, Option, Some, None, refl, ◌∙◌, if◌then◌else◌}
+use Rattle.std.specs.Prelude.{is_some}
 use Rattle.plc_base.specs.StopCauses as causes
 use Rattle.plc_base.specs.declared.Profile.{Profile}
 use Rattle.plc_base.specs.declared.Spot.{Spot}
@@ -14,8 +15,11 @@ use Rattle.ob_sched.specs.Request.{best_of}
 use Rattle.ob_sched.specs.StartInformation.{start_info}
 use Rattle.ob_sched.specs.declared.requests.Pending.{Pending}
 use Rattle.ob_sched.specs.declared.start_infos.StartEvent.TheVariants.{Arrival}
+use Rattle.var_access.specs.declared.Request.{Request}
+use Rattle.var_access.specs.declared.Request.TheVariants as ask
 use Rattle.var_access.specs.declared.What.{What}
 use Rattle.var_access.specs.declared.What.TheVariants as what
+use Rattle.controller.specs.Asking.{asked}
 use Rattle.controller.specs.Beginning.{ob_in, begun_above}
 use Rattle.controller.specs.CyclePoint.{cycle_point, cycle_info, cycle_passed}
 use Rattle.controller.specs.Errors.{failed, error_answered, error_in, is_synchronous}
@@ -24,7 +28,7 @@ use Rattle.controller.specs.Replay.{happens, run_from, replay, EntriesKeepProfil
 use Rattle.controller.specs.Requests.{stopped_if, course_taken, arrived}
 use Rattle.controller.specs.Serving.{Served, Returns, Passes, Stops, after_service, served}
 use Rattle.controller.specs.Settling.{settled, best_started, request_started, request_taken, may_start}
-use Rattle.controller.specs.Start.{start, started_up, startup_ob, before_start}
+use Rattle.controller.specs.Start.{before_start, cleared, restarted, start, started_up, startup_ob}
 use Rattle.controller.specs.State.{State, is_stop, diagnosed, each_diagnosed}
 use Rattle.controller.specs.Stepping.{stepped, stepped_on, after_statement, run_starts, with_activations}
 use Rattle.controller.specs.Stopping.{halted, halted_at, spot_of}
@@ -85,7 +89,7 @@ service_stays : (call : Option Spot) (served : Served) (to : Option Binding)
     (below : List Activation) (s : State) → (after_service call served to below s).profile ≡ s.profile
 service_stays call (Returns r) to below s = refl
 service_stays call (Passes sched a) to below s = refl
-service_stays call (Stops cause) to below s = refl
+service_stays call (Stops cause a) to below s = refl
 
 statement_stays : (code : Code) (step : Step) (ob : ℕ) (at : Option Spot)
     (below : List Activation) (s : State)
@@ -142,12 +146,38 @@ unfolding time_passed
 passed_stays code ms s =
     tick_stays code (ticked s.mode (active s.activations) ms s.sched) s
 
+started_stays : (begun : Option Activation) (s : State) → (started_up begun s).profile ≡ s.profile
+started_stays None s = refl
+started_stays (Some a) s = refl
+
+restarted_stays : (code : Code) (s : State) → (restarted code s).profile ≡ s.profile
+unfolding restarted
+restarted_stays code s =
+    started_stays (startup_ob s.profile code) (cleared (diagnosed 6 0 s))
+
+asked_stays : (code : Code) (request : Request) (s : State)
+    → (asked code request s).profile ≡ s.profile
+unfolding asked
+asked_stays code (ask.ReadVars vars) s = refl
+asked_stays code (ask.WriteVar var value) s = refl
+asked_stays code ask.Stop s =
+    if_stays (is_stop s.mode) s (halted code causes.by_operator s) s.profile refl
+    (halted_stays code causes.by_operator s)
+asked_stays code ask.Restart s =
+    if_stays (is_stop s.mode) (restarted code s) s s.profile (restarted_stays code s) refl
+asked_stays code (ask.MonitorOn block) s =
+    if_stays (is_some (code.head block)) (record s { monitored = Some block }) s s.profile refl
+    refl
+asked_stays code ask.MonitorOff s = refl
+asked_stays code ask.Diag s = refl
+
 effect_stays : (code : Code) (e : What) (s : State) → (effect code e s).profile ≡ s.profile
 effect_stays code what.Step s =
     if_stays (is_stop s.mode) s (stepped code s) s.profile refl (stepped_stays code s)
 effect_stays code (what.Input byte value) s = refl
 effect_stays code (what.Arrive ob value) s = arrived_stays code ob value s
 effect_stays code (what.Tick ms) s = passed_stays code ms s
+effect_stays code (what.Ask request) s = asked_stays code request s
 
 after_stays : (code : Code) (e : What) (s : State)
     → (state_after code e s).profile ≡ s.profile
@@ -163,10 +193,6 @@ run_stays : (code : Code) (s : State) (history : List What) → (run_from code s
 run_stays code s [] = refl
 run_stays code s (e ∷ rest) =
     run_stays code (happens code s e).state rest ∙ entries_keep code s e
-
-started_stays : (begun : Option Activation) (s : State) → (started_up begun s).profile ≡ s.profile
-started_stays None s = refl
-started_stays (Some a) s = refl
 
 start_stays : (profile : Profile) (code : Code) → (start profile code).profile ≡ profile
 unfolding start

@@ -16,6 +16,7 @@ use Rattle.ob_sched.specs.Request.{best_of}
 use Rattle.var_access.specs.declared.What.TheVariants as what
 use Rattle.controller.specs.Event.{state_after}
 use Rattle.controller.specs.Fitting.{AllFit, IsFit}
+use Rattle.controller.specs.Monitoring.{monitoring_record}
 use Rattle.controller.specs.Quiet.{GoesOnQuietly, GoesOnReady, ShowNothing}
 use Rattle.controller.specs.Replay.{happens, run_from}
 use Rattle.controller.specs.Settling.{settled}
@@ -82,9 +83,10 @@ abbrev gone_on : State → World → List Activation → (count : ℕ) → State
 gone_on s w activations count =
     record s { world = w; activations = activations; entries = s.entries + count }
 
--- outside STOP, where no request waits
+-- outside STOP, where no block is monitored and no request waits
 pub record IsQuiet (s : State) : Type 0 where
   pub running : is_stop s.mode ≡ false
+  pub unwatched : s.monitored ≡ None
   pub none : best_of s.mode s.sched.pending ≡ None
 
 pub none_there : {X : Type 0} (found : Option X) → is_some found ≡ false → found ≡ None
@@ -98,12 +100,19 @@ unfolding state_after stepped settled
 step_after code s a next below then quiet were goes =
     rw (quiet.running, were, goes, quiet.running, quiet.none) refl
 
+-- where no block is monitored a step has no record
+no_record : (code : Code) (s : State) (a : Activation) (below : List Activation) → IsQuiet s
+    → s.activations ≡ a ∷ below → monitoring_record code s what.Step ≡ None
+unfolding monitoring_record
+no_record code s a below quiet were = rw (quiet.running, were, quiet.unwatched) refl
+
 shown_nothing : (code : Code) (s after : State)
+    → monitoring_record code s what.Step ≡ None
     → after.world.memory.peripheral_outputs ≡ s.world.memory.peripheral_outputs
     → after.mode ≡ s.mode → shown code s what.Step after ≡ nothing_shown
 unfolding shown
-shown_nothing code s after outputs mode =
-    rw (outputs, mode, outputs_kept s.world.memory.peripheral_outputs, mode_kept s.mode) refl
+shown_nothing code s after unwatched outputs mode =
+    rw (unwatched, outputs, mode, outputs_kept s.world.memory.peripheral_outputs, mode_kept s.mode) refl
 
 -- the entry of a step
 step_state : (code : Code) (s : State) (a next : Activation) (below : List Activation) (then : World)
@@ -119,7 +128,8 @@ step_seen : (code : Code) (s : State) (a next : Activation) (below : List Activa
 unfolding happens
 step_seen code s a next below then quiet were goes =
     ap (shown code s what.Step) (step_after code s a next below then quiet were goes.goes)
-    ∙ shown_nothing code s (gone_on s then (next ∷ below) 1) goes.outputs refl
+    ∙ shown_nothing code s (gone_on s then (next ∷ below) 1) (no_record code s a below quiet were)
+    goes.outputs refl
 
 -- ---- quiet statements one after another
 
@@ -175,7 +185,7 @@ runs_on code zero s a b below activations w quiet were are runs =
 runs_on code (suc count) s a b below activations w quiet were are (next, then, goes, rest) =
     one_more_step code s a next below activations then w count quiet were goes
     (runs_on code count (gone_on s then (next ∷ below) 1) next b below activations w
-    (record { running = quiet.running; none = quiet.none }) refl are rest)
+    (record { running = quiet.running; unwatched = quiet.unwatched; none = quiet.none }) refl are rest)
 
 goes_on : (code : Code) (count : ℕ) (s : State) (old new : List Activation) (w : World) → IsQuiet s
     → s.activations ≡ old → GoesOnQuietly code count old new s.world w
@@ -194,7 +204,9 @@ steps_quietly code count s new w quiet runs =
 
 -- ---- where it stops
 
-pub no_quiet_step : (running none quiet : Bool) → quiet ≡ false → (running && none && quiet) ≡ false
-no_quiet_step true true quiet h = h
-no_quiet_step true false quiet h = refl
-no_quiet_step false none quiet h = refl
+pub no_quiet_step : (unwatched running none quiet : Bool) → quiet ≡ false
+    → (unwatched && running && none && quiet) ≡ false
+no_quiet_step true true true quiet h = h
+no_quiet_step true true false quiet h = refl
+no_quiet_step true false none quiet h = refl
+no_quiet_step false running none quiet h = refl

@@ -1,23 +1,28 @@
 -- What may begin above those that stand, and that there is room for it.
-use Rattle.std.proofs.Common.{◌≡◌, ℕ, ◌<◌, Bool, true, false, ◌||◌, IsTrue, List, [], ◌∷◌, length, Some, refl, sym, ap, ◌∙◌, subst, rules, arith, if◌then◌else◌}
+use Rattle.std.proofs.Common.{◌≡◌, ℕ, ◌<◌, Bool, true, false, ◌||◌, IsTrue, List, [], ◌∷◌, length, Option, Some, None, refl, sym, ap, ◌∙◌, subst, rules, arith, if◌then◌else◌}
 use Rattle.std.specs.Prelude.{◌==◌}
+use Rattle.std.specs.Option.{option_map}
 use Rattle.std.proofs.lemmas.Bool.Decides.{nat_tests}
+use Rattle.plc_base.specs.declared.Profile.{Profile}
 use Rattle.plc_base.specs.declared.Profile.TheVariants.{Small}
 use Rattle.plc_base.specs.declared.Mode.{Mode}
 use Rattle.plc_base.specs.declared.Mode.TheVariants.{Run, Startup, Stop}
 use Rattle.frames.specs.Activations.{begun}
 use Rattle.frames.specs.declared.Activation.{Activation}
-use Rattle.machine.specs.Code.{Head}
+use Rattle.machine.specs.Code.{Code, Head}
 use Rattle.ob_sched.specs.OrganizationBlock.{can_wait, class_in, is_error}
 use Rattle.ob_sched.specs.Request.{Request, best_of}
 use Rattle.ob_sched.specs.StartInformation.{ob_of_error}
 use Rattle.ob_sched.specs.declared.requests.Pending.{Pending}
-use Rattle.controller.specs.Beginning.{ob_frame}
+use Rattle.ob_sched.specs.declared.start_infos.StartInfo.{StartInfo}
+use Rattle.controller.specs.Beginning.{ob_begun, ob_block, ob_frame, ob_in}
 use Rattle.controller.specs.Errors.{is_synchronous}
 use Rattle.controller.specs.Settling.{may_start}
 use Rattle.controller.specs.Stack.{IsAbove, IsStarted, StandsOn, IsStack, RunsInStartup, IsStanding, MayBegin}
-use Rattle.controller.specs.State.{is_stop}
-use Rattle.controller.proofs.StackLemmas.{at_most_48, startup_class}
+use Rattle.controller.specs.Start.{started_up, startup_info, startup_ob}
+use Rattle.controller.specs.State.{State, is_stop}
+use Rattle.controller.proofs.SameLemmas.{told_class, told_ob}
+use Rattle.controller.proofs.StackLemmas.{at_most_48, no_stack, startup_class}
 
 -- some activation of a class
 some_head : Head
@@ -147,3 +152,55 @@ error_stands mode error fresh a below class_is ob_is single standing = record {
   stack = error_stack mode error fresh a below class_is ob_is single standing.stack;
   startup = not_empty mode fresh (a ∷ below);
 }
+
+-- an organization block as it begins, by its class and its number
+unfoldable pub IsOf : (class ob : ℕ) → Option Activation → Type 0
+IsOf class ob None = Unit {0}
+IsOf class ob (Some a) = (a.class ≡ class) × (a.ob ≡ ob)
+
+ob_is_by : (profile : Profile) (class ob : ℕ) (info : StartInfo) (found : Option Head)
+    → IsOf class ob (option_map (ob_begun profile class ob info) found)
+unfolding IsOf ob_begun
+ob_is_by profile class ob info None = tt
+ob_is_by profile class ob info (Some h) = (
+  told_class info.bytes 0 (begun profile class ob (ob_frame ob h)),
+  told_ob info.bytes 0 (begun profile class ob (ob_frame ob h)),
+)
+
+pub ob_is : (profile : Profile) (code : Code) (class ob : ℕ) (info : StartInfo)
+    → IsOf class ob (ob_in profile code class ob info)
+ob_is profile code class ob info = ob_is_by profile class ob info (code.head (ob_block ob))
+
+-- in STOP none stands
+pub stop_idle : (mode : Mode) (activations : List Activation) → is_stop mode ≡ true
+    → IsStack mode activations → activations ≡ []
+stop_idle mode [] is stack = refl
+stop_idle Run (a ∷ below) is stack = absurd cc
+stop_idle Startup (a ∷ below) is stack = absurd cc
+stop_idle (Stop cause at) (a ∷ below) is stack = absurd (no_stack cause at a below stack)
+
+-- in STARTUP OB 100 is the first one
+pub first_stands : (a : Activation) → a.class ≡ 27 → a.ob ≡ 100 → IsStanding Startup (a ∷ [])
+first_stands a class_is ob_is = record {
+  stack =
+      stack_more Startup 27 100 a [] class_is ob_is tt
+      (refl, record { stands = refl; class_is = refl; above = tt });
+  startup = tt;
+}
+
+-- so after a start of which none stood before OB 100 stands, or none
+started_stands : (one : Option Activation) (s : State) → IsOf 27 100 one → s.activations ≡ []
+    → IsStanding (started_up one s).mode (started_up one s).activations
+unfolding IsOf
+started_stands None s is idle =
+    subst (λ (acts : List Activation). IsStanding Run acts) (sym idle)
+    (record { stack = tt; startup = tt })
+started_stands (Some a) s is idle =
+    subst (λ (acts : List Activation). IsStanding Startup (a ∷ acts)) (sym idle)
+    (first_stands a is.0 is.1)
+
+pub start_stands : (profile : Profile) (code : Code) (s t : State) → s.activations ≡ []
+    → t ≡ started_up (startup_ob profile code) s → IsStanding t.mode t.activations
+start_stands profile code s t idle is =
+    subst (λ (u : State). IsStanding u.mode u.activations) (sym is)
+    (started_stands (startup_ob profile code) s (ob_is profile code 27 100 startup_info) idle)

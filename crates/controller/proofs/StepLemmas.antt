@@ -6,6 +6,7 @@ use Rattle.plc_base.specs.StopCauses as causes
 use Rattle.plc_base.specs.declared.Mode.{Mode}
 use Rattle.plc_base.specs.declared.Mode.TheVariants.{Run, Startup, Stop}
 use Rattle.plc_base.specs.declared.Spot.{Spot}
+use Rattle.status_word.specs.declared.Regs.{Regs}
 use Rattle.frames.specs.declared.Activation.{Activation}
 use Rattle.frames.specs.declared.bindings.Binding.{Binding}
 use Rattle.machine.specs.Code.{Code}
@@ -16,6 +17,7 @@ use Rattle.ob_sched.specs.OrganizationBlock.{can_wait, is_error}
 use Rattle.controller.specs.CyclePoint.{cycle_point}
 use Rattle.controller.specs.Errors.{failed, error_answered, error_in, is_synchronous}
 use Rattle.controller.specs.Leaves.{Steps, StepsTo, stand_of, mode_after, finished}
+use Rattle.controller.specs.Monitoring.{regs_left}
 use Rattle.controller.specs.Ready.{HasStatement, IsReady}
 use Rattle.controller.specs.Serving.{Served, Returns, Passes, Stops as Halts, after_service, served}
 use Rattle.controller.specs.Stack.{IsStarted, IsErrorIn, StandsOn, RunsInStartup, IsStanding}
@@ -84,34 +86,35 @@ service_from : (at : Option Spot) (sv : Served) (to : Option Binding) (below act
     → after_service at sv to below s ≡ after_service at sv to below (record s { activations = acts })
 service_from at (Returns r) to below acts s = refl
 service_from at (Passes sched a) to below acts s = refl
-service_from at (Halts cause) to below acts s = refl
+service_from at (Halts cause a) to below acts s = refl
 
-step_done : (code : Code) (s : State) (step : Step) (a : Activation)
+step_done : (code : Code) (s : State) (step : Step) (a : Activation) (regs : Regs)
     (below new : List Activation) (w' : World) (done : Outcome) → s.activations ≡ a ∷ below
     → StepsTo step a below new s.world w' done
     → after code step a below s
-    ≡ finished code (stand_of a) done (record s { world = w'; activations = new })
+    ≡ finished code (stand_of a regs) done (record s { world = w'; activations = new })
 unfolding finished
-step_done code s (Went a' w) a below new w' outcome.Went were steps = rw (steps.0, steps.1) refl
-step_done code s (Ended regs w) a below new w' outcome.Ended were steps = rw (steps.0, steps.1) refl
-step_done code s (SyncError error a') a below new w' (outcome.SyncError e) were steps =
+step_done code s (Went a' w) a regs below new w' outcome.Went were steps = rw (steps.0, steps.1) refl
+step_done code s (Ended r w) a regs below new w' outcome.Ended were steps = rw (steps.0, steps.1) refl
+step_done code s (SyncError error a') a regs below new w' (outcome.SyncError e) were steps =
     rw (steps.0, steps.1, steps.2)
     (failed_from code error (spot_at code a.running.frame.block a.running.frame.at) a' below
     (a' ∷ below) s)
-step_done code s (SysCall number given a') a below new w' (outcome.SysCall n inputs to) were steps =
+step_done code s (SysCall number given a') a regs below new w' (outcome.SysCall n inputs to) were steps =
     rw (steps.0, steps.1, steps.2, steps.3, steps.4)
     (service_from (spot_at code a.running.frame.block a.running.frame.at)
     (served number given.inputs s.sched a') given.result below (a' ∷ below) s)
-step_done code s (Stops cause) a below new w' (outcome.Stop why) were steps =
+step_done code s (Stops cause) a regs below new w' (outcome.Stop why) were steps =
     rw (steps.0, steps.2) refl
-step_done code s step a below new w' done were steps = absurd steps
+step_done code s step a regs below new w' done were steps = absurd steps
 
 running_on : (code : Code) (s : State) (old new : List Activation) (w' : World)
     (done : Stand × Outcome) → s.activations ≡ old → Steps code old new s.world w' (Some done)
     → stepped_on code old s ≡ finished code done.0 done.1 (record s { world = w'; activations = new })
 running_on code s [] new w' done were steps = absurd steps
 running_on code s (a ∷ below) new w' done were steps =
-    step_done code s (statement code a s.world) a below new w' done.1 were steps.1
+    step_done code s (statement code a s.world) a (regs_left (statement code a s.world) a) below new
+    w' done.1 were steps.1
     ∙ ap (λ (stand : Stand). finished code stand done.1 (record s { world = w'; activations = new }))
     (sym steps.0)
 

@@ -4,7 +4,8 @@ use Rattle.plc_mem.specs.Peripherals.{with_input}
 use Rattle.machine.specs.Code.{Code}
 use Rattle.machine.specs.Statement.{World}
 use Rattle.var_access.specs.declared.What.{What}
-use Rattle.var_access.specs.declared.What.TheVariants.{Step, Input, Arrive, Tick}
+use Rattle.var_access.specs.declared.What.TheVariants.{Step, Input, Arrive, Tick, Ask}
+use Rattle.controller.specs.Asking.{asked}
 use Rattle.controller.specs.Requests.{arrived}
 use Rattle.controller.specs.Settling.{settled}
 use Rattle.controller.specs.State.{State, is_stop}
@@ -27,6 +28,7 @@ effect code Step s = if is_stop s.mode then s else stepped code s
 effect code (Input byte value) s = record s { world = input_set byte value s.world }
 effect code (Arrive ob value) s = arrived code ob value s
 effect code (Tick ms) s = time_passed code ms s
+effect code (Ask request) s = asked code request s
 
 -- one entry: it is counted, has its effect, and settling follows
 unfoldable pub state_after : Code → What → State → State

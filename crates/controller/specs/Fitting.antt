@@ -18,8 +18,8 @@ use Rattle.var_access.specs.Entry.{IsInRange}
 use Rattle.controller.specs.Ready.{IsReady}
 use Rattle.controller.specs.Replay.{happens, replay}
 use Rattle.controller.specs.Stack.{IsStanding}
-use Rattle.controller.specs.Start.{start, restarted}
-use Rattle.controller.specs.State.{State, is_stop}
+use Rattle.controller.specs.Start.{start}
+use Rattle.controller.specs.State.{State}
 
 -- the activations that stand fit the program and its memory: the running one, and those that wait
 abbrev pub AllFit : Program → Areas → List Activation → Type 0
@@ -66,9 +66,3 @@ abbrev pub HistoriesAreFit : Type 0
 HistoriesAreFit =
     (profile : Profile) (p : Program) (history : List What)
     → Verifies p → AreInRange history → IsFit p (replay profile (code_of p) history)
-
--- a warm restart out of STOP keeps a state fit
-abbrev pub RestartKeepsFit : Type 0
-RestartKeepsFit =
-    (p : Program) (s : State)
-    → Verifies p → is_stop s.mode ≡ true → IsFit p s → IsFit p (restarted (code_of p) s)

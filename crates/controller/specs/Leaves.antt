@@ -1,5 +1,6 @@
 -- What calls of the code leave of the activations, and answer.
 use Rattle.std.specs.Prelude.{◌≡◌, ℕ, ◌==◌, Bool, true, false, List, [], ◌∷◌, Option, Some, None, if◌then◌else◌}
+use Rattle.plc_base.specs.declared.BlockId.{BlockId}
 use Rattle.plc_base.specs.declared.Mode.{Mode}
 use Rattle.plc_base.specs.declared.Mode.TheVariants.{Run}
 use Rattle.plc_base.specs.declared.Spot.{Spot}
@@ -10,10 +11,12 @@ use Rattle.machine.specs.Code.{Code}
 use Rattle.machine.specs.Statement.{World, Step, Went, Ended, SyncError, SysCall, Stop, statement}
 use Rattle.machine.specs.declared.outcomes.Outcome.{Outcome}
 use Rattle.machine.specs.declared.outcomes.Outcome.TheVariants as outcome
+use Rattle.monitor.specs.declared.MonRecord.{MonRecord}
 use Rattle.ob_sched.specs.Scheduler.{Scheduler}
 use Rattle.sys_funcs.specs.Returned.{LeavesReturned}
 use Rattle.status_word.specs.declared.Regs.{Regs}
 use Rattle.controller.specs.Errors.{error_in, failed}
+use Rattle.controller.specs.Monitoring.{regs_left, regs_served, statement_record}
 use Rattle.controller.specs.Serving.{Served, Returns, Passes, Stops, result_given, after_service, served}
 use Rattle.controller.specs.State.{State}
 use Rattle.controller.specs.Stepping.{ob_ended}
@@ -27,9 +30,15 @@ abbrev pub running_of : List Activation → Option Activation
 running_of [] = None
 running_of (a ∷ below) = Some a
 
--- where its statement stands: its OB, and the innermost block with the position in that block
-abbrev pub stand_of : Activation → Stand
-stand_of a = record { ob = a.ob; block = a.running.frame.block; at = a.running.frame.at }
+-- where its statement stood: its OB, and the innermost block with the position in that block; and the
+-- registers after it
+abbrev pub stand_of : Activation → Regs → Stand
+stand_of a regs = record {
+  ob = a.ob;
+  block = a.running.frame.block;
+  at = a.running.frame.at;
+  regs = regs;
+}
 
 -- an organization block begins above those that stand (true); where there is none, they stay
 -- (false)
@@ -68,12 +77,14 @@ StepsTo (Stop cause) a below new w w' (outcome.Stop why) =
     (why ≡ cause) × (new ≡ a ∷ below) × (w' ≡ w)
 StepsTo step a below new w w' answer = ⊥
 
--- a statement of the running activation, and where it stood; no answer where nothing runs
+-- a statement of the running activation, and where it stood, with the registers before a system
+-- function does its work; no answer where nothing runs
 abbrev pub Steps :
     Code → (old new : List Activation) (w w' : World) → Option (Stand × Outcome) → Type 0
 Steps code [] new w w' None = (new ≡ []) × (w' ≡ w)
 Steps code (a ∷ below) new w w' (Some done) =
-    (done.0 ≡ stand_of a) × StepsTo (statement code a w) a below new w w' done.1
+    (done.0 ≡ stand_of a (regs_left (statement code a w) a))
+    × StepsTo (statement code a w) a below new w w' done.1
 Steps code old new w w' answer = ⊥
 
 -- the mode after a statement of an organization block: RUN after the end of OB 100, else as before
@@ -108,16 +119,31 @@ finished code stand (outcome.SysCall number inputs to) s =
 finished code stand (outcome.Stop cause) s =
     halted_at (spot_at code stand.block stand.at) cause s
 
+-- the registers after a call of a system function, which had left these; they stay where nothing runs
+abbrev pub regs_called : (number : ℕ) → List ℕ → Scheduler → List Activation → Regs → Regs
+regs_called number inputs s [] regs = regs
+regs_called number inputs s (a ∷ below) regs = regs_served (served number inputs s a)
+
+-- the registers after a whole statement, by what came of it: a system function is still to do its work
+abbrev pub regs_finished : Outcome → Scheduler → List Activation → Regs → Regs
+regs_finished (outcome.SysCall number inputs to) s activations regs =
+    regs_called number inputs s activations regs
+regs_finished _ s activations regs = regs
+
+-- what is recorded of a statement that stood at `stand`, with the registers after it
+abbrev pub stand_record : Code → (monitored : Option BlockId) → Stand → Regs → Option MonRecord
+stand_record code monitored stand regs = statement_record code monitored stand.block stand.at regs
+
 -- what a system function leaves of the scheduler and its activation, and what it answers: RET_VAL,
 -- nothing, or its stop cause, which changes nothing of the scheduler
 abbrev pub Serves : Served → (s s' : Scheduler) (a' : Activation) → Answer → Type 0
 Serves (Returns r) s s' a' (answers.Value value) = LeavesReturned r s' a' value
 Serves (Passes sched a) s s' a' answers.Nothing = (s' ≡ sched) × (a' ≡ a)
-Serves (Stops cause) s s' a' (answers.Halt why) = (why ≡ cause) × (s' ≡ s)
+Serves (Stops cause a) s s' a' (answers.Halt why) = (why ≡ cause) × (s' ≡ s) × (a' ≡ a)
 Serves served s s' a' answer = ⊥
 
 -- and its RET_VAL was given where it is bound, and the activation stands above `below`, with no
--- answer; or the answer is its stop cause, and memory and scheduler stay
+-- answer; or the answer is its stop cause, the activation stands there, and memory and scheduler stay
 abbrev pub ServesTo :
     Served → Option Binding → (below new : List Activation) (m m' : Areas) (s s' : Scheduler)
     → Option ℕ → Type 0
@@ -126,8 +152,8 @@ ServesTo (Returns r) to below new m m' s s' None =
     × (m' ≡ (result_given to r.value r.activation m).memory) × (s' ≡ r.sched)
 ServesTo (Passes sched a) to below new m m' s s' None =
     (new ≡ a ∷ below) × (m' ≡ m) × (s' ≡ sched)
-ServesTo (Stops cause) to below new m m' s s' (Some why) =
-    (why ≡ cause) × (m' ≡ m) × (s' ≡ s)
+ServesTo (Stops cause a) to below new m m' s s' (Some why) =
+    (why ≡ cause) × (m' ≡ m) × (s' ≡ s) × (new ≡ a ∷ below)
 ServesTo served to below new m m' s s' answer = ⊥
 
 -- the same of the running activation, which called the function of this number; where none runs,

@@ -1,3 +1,4 @@
+pub mod Asking
 pub mod Beginning
 pub mod CyclePoint
 pub mod Errors
@@ -6,6 +7,7 @@ pub mod Fitting
 pub mod Kept
 pub mod Leaves
 pub mod MachineLaws
+pub mod Monitoring
 pub mod Moved
 pub mod Quiet
 pub mod Ready

@@ -1,10 +1,13 @@
 -- What the machine gives the laws of histories: its laws of activations that fit, together.
 use Rattle.std.specs.Prelude.{◌≡◌, ℕ, ◌≤◌, Some}
+use Rattle.plc_base.specs.declared.Place.{Place}
 use Rattle.plc_base.specs.declared.Profile.{Profile}
+use Rattle.plc_base.specs.declared.Width.{Width}
 use Rattle.plc_mem.specs.Areas.{Areas}
 use Rattle.plc_mem.specs.Fresh.{fresh}
 use Rattle.plc_mem.specs.Peripherals.{with_input, outputs_cleared}
 use Rattle.plc_mem.specs.Refresh.{refreshed}
+use Rattle.plc_mem.specs.Writing.{written}
 use Rattle.status_word.specs.declared.Regs.{Regs}
 use Rattle.frames.specs.Activations.{begun, with_local_byte}
 use Rattle.frames.specs.declared.Activation.{Activation}
@@ -41,6 +44,8 @@ pub record MachineLaws : Type 0 where
   pub result : (p : Program) (m n : Areas) (a b : Activation) (to : Binding) (value : ℕ)
       → Verifies p → FitsProgram p m a → GivesResult to value a b m n → GoesOn p m n b
   pub first : (profile : Profile) (p : Program) → IsMemoryOf (code_of p) (fresh profile (code_of p).blocks)
+  pub writes : (m n : Areas) (place : Place) (width : Width) (value : ℕ)
+      → written m place width value ≡ Some n → SameSizes m n
   pub inputs : (m n : Areas) (byte value : ℕ)
       → with_input m byte value ≡ Some n → SameSizes m n
   pub clears : (p : Program) (m : Areas)

@@ -37,8 +37,9 @@ abbrev pub goes_on_quietly : Code → List Activation → World → Bool
 goes_on_quietly code [] w = false
 goes_on_quietly code (a ∷ below) w = goes_as is_quiet code a w
 
--- the next step is such a statement, outside STOP and where no request waits
+-- the next step is such a statement, outside STOP, where no block is monitored and no request waits
 abbrev pub steps_quietly : Code → State → Bool
 steps_quietly code s =
-    not (is_stop s.mode) && not (is_some (best_of s.mode s.sched.pending))
+    not (is_some s.monitored) && not (is_stop s.mode)
+    && not (is_some (best_of s.mode s.sched.pending))
     && goes_on_quietly code s.activations s.world

@@ -5,6 +5,8 @@ use Rattle.machine.specs.Code.{Code}
 use Rattle.var_access.specs.declared.Reply.{Reply}
 use Rattle.var_access.specs.declared.Reply.TheVariants.{Done}
 use Rattle.var_access.specs.declared.What.{What}
+use Rattle.var_access.specs.declared.What.TheVariants.{Ask}
+use Rattle.controller.specs.Asking.{answered}
 use Rattle.controller.specs.Event.{state_after}
 use Rattle.controller.specs.Shown.{nothing_shown, shown}
 use Rattle.controller.specs.Start.{start}
@@ -17,11 +19,17 @@ pub record Happened : Type 0 where
   pub reply : Reply
   pub seen : Observed
 
--- an entry, by the states before and after it: its answer is done, and it shows what has changed
+-- what an entry is answered, by the state before it: a request its answer, each other entry that it
+-- is done
+abbrev pub reply_to : Code → (before : State) → What → Reply
+reply_to code before (Ask request) = answered code request before
+reply_to code before what = Done
+
+-- an entry, by the states before and after it
 abbrev pub happened_to : Code → (before : State) → What → (after : State) → Happened
 happened_to code before what after = record {
   state = after;
-  reply = Done;
+  reply = reply_to code before what;
   seen = shown code before what after;
 }
 

@@ -16,11 +16,12 @@ use Rattle.sys_funcs.specs.Returned.{Returned, passed}
 use Rattle.controller.specs.State.{State}
 use Rattle.controller.specs.Stopping.{halted_at}
 
--- what a system function leaves: a return value, none, or STOP
+-- what a system function leaves of the scheduler and the running activation: with a return value, with
+-- none, or before STOP, where the scheduler stays
 pub data Served : Type 0 where
   Returns : (r : Returned) → Served
   Passes : (sched : Scheduler) (a : Activation) → Served
-  Stops : (cause : ℕ) → Served
+  Stops : (cause : ℕ) (a : Activation) → Served
 
 -- the number of an IN parameter by its place, counted from 0; 0 where there is none
 abbrev pub input : (place : ℕ) → List ℕ → ℕ
@@ -38,7 +39,7 @@ served number inputs s a =
     else if number == 41 then Returns (dis_airt s a)
     else if number == 42 then Returns (en_airt s a)
     else if number == 43 then Passes (retriggered s) (passed a)
-    else if number == 46 then Stops causes.by_program
+    else if number == 46 then Stops causes.by_program (passed a)
     else Returns (time_tck s a)
 
 -- RET_VAL goes where it is bound; where it isn't, nothing changes
@@ -63,7 +64,7 @@ after_service call (Returns r) to below s =
     goes_on (result_given to r.value r.activation s.world.memory) r.sched below s
 after_service call (Passes sched a) to below s =
     goes_on (record { activation = a; memory = s.world.memory }) sched below s
-after_service call (Stops cause) to below s = halted_at call cause s
+after_service call (Stops cause a) to below s = halted_at call cause s
 
 -- a call of a system function: it does its work in the same step, and the running activation, which
 -- has gone on behind the call as `a`, goes on with its result

@@ -7,7 +7,9 @@ use Rattle.plc_base.specs.declared.Mode.TheVariants.{Run, Startup, Stop}
 use Rattle.plc_mem.specs.Areas.{PeripheralBytes}
 use Rattle.plc_mem.specs.Bits.{peripheral_byte}
 use Rattle.machine.specs.Code.{Code}
+use Rattle.monitor.specs.declared.MonRecord.{MonRecord}
 use Rattle.var_access.specs.declared.What.{What}
+use Rattle.controller.specs.Monitoring.{monitoring_record}
 use Rattle.controller.specs.State.{State}
 use Rattle.controller.specs.declared.observing.Observed.{Observed}
 
@@ -40,23 +42,24 @@ is_same_mode before after = false
 abbrev pub changed_mode : (before after : Mode) → Option Mode
 changed_mode before after = if is_same_mode before after then None else Some after
 
--- where nothing changes nothing is shown
+-- where nothing is recorded and nothing changes nothing is shown
 abbrev pub nothing_shown : Observed
-nothing_shown = record { outputs = []; mode = None }
+nothing_shown = record { mon = None; outputs = []; mode = None }
 
--- the changed peripheral outputs, and the new mode, between two moments
-abbrev pub changes : (outputs : PeripheralBytes) → Mode → (after : State) → Observed
-changes outputs mode after =
-    record nothing_shown {
-      outputs = changed_outputs outputs after.world.memory.peripheral_outputs;
-      mode = changed_mode mode after.mode;
-    }
+-- a monitoring record, and the changed peripheral outputs and the new mode between two moments
+abbrev pub changes :
+    Option MonRecord → (outputs : PeripheralBytes) → Mode → (after : State) → Observed
+changes mon outputs mode after = record {
+  mon = mon;
+  outputs = changed_outputs outputs after.world.memory.peripheral_outputs;
+  mode = changed_mode mode after.mode;
+}
 
--- what an entry shows: what changed between the states before and after it, whatever the program
--- and the entry are
+-- what an entry shows: its monitoring record, and what changed between the states before and after it
 unfoldable pub shown : Code → (before : State) → What → (after : State) → Observed
 shown code before what after =
-    changes before.world.memory.peripheral_outputs before.mode after
+    changes (monitoring_record code before what) before.world.memory.peripheral_outputs before.mode
+    after
 
 -- what is kept from one entry to the next: the peripheral outputs and the mode, and what was shown
 pub record Watched : Type 0 where
@@ -72,6 +75,7 @@ watched s seen = record {
   seen = seen;
 }
 
--- the next entry shows what has changed since then, and the state after it is kept
-abbrev pub watched_on : Watched → (after : State) → Watched
-watched_on w after = watched after (changes w.outputs w.mode after)
+-- the next entry shows its monitoring record and what has changed since then, and the state after it is
+-- kept
+abbrev pub watched_on : Watched → Option MonRecord → (after : State) → Watched
+watched_on w mon after = watched after (changes mon w.outputs w.mode after)

@@ -1,5 +1,5 @@
 -- The start of the CPU: the first one, and a warm restart.
-use Rattle.std.specs.Prelude.{ℕ, true, List, [], ◌∷◌, length, filter, replicate, is_some, Option, Some, None}
+use Rattle.std.specs.Prelude.{ℕ, true, List, [], ◌∷◌, filter, replicate, is_some, Option, Some, None}
 use Rattle.plc_base.specs.declared.Profile.{Profile}
 use Rattle.plc_base.specs.Profiles.{timer_count, counter_count}
 use Rattle.plc_base.specs.declared.Mode.TheVariants.{Run, Startup}
@@ -38,7 +38,8 @@ world_at_rest profile code = record {
   counters = replicate (counter_count profile) counter_at_rest;
 }
 
--- before the first start: RUN, nothing runs, nothing is pending, and no entry or record was made
+-- before the first start: RUN, nothing runs, nothing is pending, nothing is monitored, and no entry or
+-- record was made
 abbrev pub before_start : Profile → Code → State
 before_start profile code = record {
   profile = profile;
@@ -47,6 +48,7 @@ before_start profile code = record {
   activations = [];
   sched = at_rest (loaded_obs code);
   first_cycle = true;
+  monitored = None;
   diagnostics = [];
   entries = 0;
 }
@@ -68,20 +70,20 @@ started_up (Some a) s = begun_above (Some a) (record s { mode = Startup })
 unfoldable pub start : Profile → Code → State
 start profile code = started_up (startup_ob profile code) (before_start profile code)
 
--- of memory and counters what is retained stays, and all timers are at rest again
-abbrev pub world_cleared : World → World
-world_cleared w = record w {
+-- of memory and counters what is retained stays, and all timers of the profile are at rest again
+abbrev pub world_cleared : Profile → World → World
+world_cleared profile w = record w {
   memory = memory_cleared w.memory;
-  timers = replicate (length w.timers) timer_at_rest;
+  timers = replicate (timer_count profile) timer_at_rest;
   counters = counters_retained w.counters;
 }
 
 -- disabling, the clock, the cycle counter and its mark are cleared too, and the first cycle is to
--- come again
+-- come again; the monitored block and the records of diagnostics stay
 abbrev pub cleared : State → State
 cleared s =
     record s {
-      world = world_cleared s.world;
+      world = world_cleared s.profile s.world;
       sched = sched_restarted s.sched;
       first_cycle = true;
     }

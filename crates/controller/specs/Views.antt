@@ -20,6 +20,7 @@ state_of p = record {
   activations = p.activations;
   sched = scheduler_of p.sched;
   first_cycle = p.first_cycle;
+  monitored = p.monitored;
   diagnostics = p.diagnostics;
   entries = p.entries;
 }

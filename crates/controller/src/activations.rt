@@ -8,7 +8,7 @@ ghost use Rattle.ob_sched.specs.StartInformation.{ob_of_error};
 ghost use Rattle.ob_sched.specs.Views.{scheduler_of};
 ghost use Rattle.controller.specs.Beginning.{ob_block as block_of_ob, ob_in, told_from};
 ghost use Rattle.controller.specs.Errors.{error_in};
-ghost use Rattle.controller.specs.Leaves.{Begins, ErrorBegins, HandedOn, Steps, ServesRunning, running_of, stand_of};
+ghost use Rattle.controller.specs.Leaves.{Begins, ErrorBegins, HandedOn, Steps, ServesRunning, running_of};
 ghost use Rattle.controller.specs.Quiet.{GoesOnQuietly, GoesOnReady, goes_on_quietly};
 ghost use Rattle.controller.specs.Ready.{CanGo, IsReady};
 ghost use Rattle.controller.specs.Settling.{may_start};
@@ -34,13 +34,14 @@ use timers_counters::{Counters, Timers};
 /// How many activations stand at once at most.
 const ACTIVATIONS: usize = 48;
 
-/// Where the running activation stands: its organization block, and the block and the offset of its
-/// next statement.
+/// Where the running activation stood before a statement: its organization block, and the block and
+/// the offset of the statement; and its registers after it.
 #[derive(Clone, Copy)]
 pub(crate) struct Stand {
     pub(crate) ob: u16,
     pub(crate) block: BlockId,
     pub(crate) at: u32,
+    pub(crate) regs: Regs,
 }
 
 /// The running activation and those that it and others interrupted. A contract sees them as a list
@@ -65,17 +66,6 @@ impl Model for Activations {
     ghost invariant = { λ a. (a.standing ≤ length a.all.items)
         × (length a.all.items ≤ 48)
         × (48 ≤ vec_capacity a.all) };
-}
-
-// Where an activation stands.
-fn stand_of(a: &Activation) -> Stand
-    ensures { result ≡ stand_of a.now }
-{
-    Stand {
-        ob: a.ob,
-        block: a.running.frame.block,
-        at: a.running.frame.at,
-    }
 }
 
 // The block of an activation's statement, and its line.
@@ -292,8 +282,17 @@ impl Activations {
         begins
     }
 
+    /// The registers of the running activation.
+    pub(crate) fn regs(&self) -> Option<Regs>
+        ensures { result ≡ option_map (λ a. a.running.regs) (running_of self.now) }
+    {
+        let running = self.running()?;
+        Some(running.running.regs)
+    }
+
     /// Executes one statement of the running activation, and ends it where that was its return. The
-    /// answer is where it stood and what came of it; none where nothing runs.
+    /// answer is where it stood, with the registers after it, and what came of it; none where nothing
+    /// runs.
     pub(crate) fn step(
         &mut self,
         program: &Loaded,
@@ -307,12 +306,22 @@ impl Activations {
     {
         let place = self.standing.checked_sub(1)?;
         let running = &mut self.all.as_mut_slice()[place];
-        let stand = stand_of(running);
+        let ob = running.ob;
+        let (block, at) = (running.running.frame.block, running.running.frame.at);
         let outcome = statement(program, m, t, n, running);
+        let regs = running.running.regs;
         if let Outcome::Ended = outcome {
             self.standing = place;
         }
-        Some((stand, outcome))
+        Some((
+            Stand {
+                ob,
+                block,
+                at,
+                regs,
+            },
+            outcome,
+        ))
     }
 
     /// Executes statements of the running activation one after another, as `quiet_statements`; none

@@ -1,5 +1,5 @@
 //! Organization blocks as they begin.
-ghost use Rattle.std.specs.Prelude.{◌≡◌, ◌+◌, ◌≤◌, ◌<◌, length, min, IfSome, unwrap_or};
+ghost use Rattle.std.specs.Prelude.{◌≡◌, ◌+◌, ◌≤◌, ◌<◌, length, min, is_some, IfSome, unwrap_or};
 ghost use Rattle.std.specs.Option.{option_map};
 ghost use Rattle.frames.specs.Activations.{with_local_byte};
 ghost use Rattle.machine.specs.Entering.{at_block};
@@ -22,6 +22,13 @@ pub(crate) fn ob_block(ob: u16) -> BlockId
         kind: BlockKind::Ob,
         number: ob,
     }
+}
+
+/// Whether a code block is loaded.
+pub(crate) fn is_loaded(program: &Loaded, block: BlockId) -> bool
+    ensures { result ≡ is_some ((code_of program.now.program).head block) }
+{
+    program.code(block).is_some()
 }
 
 // A local byte of the outermost frame, if there is such a byte.

@@ -5,9 +5,9 @@ ghost use Rattle.std.specs.FinMap as finmap;
 ghost use Rattle.controller.specs.Views.{state_of};
 
 use crate::activations::Activations;
-use crate::diagnostics::Diagnostics;
+use monitor::DiagRing;
 use ob_sched::Sched;
-use plc_base::{Mode, Profile};
+use plc_base::{BlockId, Mode, Profile};
 use plc_mem::Memory;
 use timers_counters::{Counters, Timers};
 
@@ -23,7 +23,8 @@ pub struct Cpu {
     pub(crate) activations: Activations,
     pub(crate) sched: Sched,
     pub(crate) first_cycle: bool,
-    pub(crate) diagnostics: Diagnostics,
+    pub(crate) monitored: Option<BlockId>,
+    pub(crate) diagnostics: DiagRing,
     pub(crate) entries: u64,
 }
 

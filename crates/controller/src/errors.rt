@@ -60,11 +60,11 @@ impl Cpu {
     /// A synchronous error of the statement that stood at `stand`: its organization block begins, or
     /// the controller stops.
     #[tactic(auto, unfolding(crate::specs::Errors::failed), using(crate::proofs::StandingLemmas::room_for_error, crate::proofs::StandingLemmas::error_stands))]
-    pub(crate) fn fail(&mut self, program: &Loaded, stand: Stand, code: u8)
-        requires there { HasStatement (code_of program.now.program) stand.block stand.at }
+    pub(crate) fn fail(&mut self, program: &Loaded, stand: &Stand, code: u8)
+        requires there { HasStatement (code_of program.now.program) stand.now.block stand.now.at }
         requires stack { IsStanding self.old.mode self.old.activations }
         ensures state { state_of self.new
-            ≡ error_left (code_of program.now.program) code stand self.old.activations
+            ≡ error_left (code_of program.now.program) code stand.now self.old.activations
             (state_of self.old) }
         ensures stack { IsStanding self.new.mode self.new.activations }
     {

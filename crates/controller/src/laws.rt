@@ -1,5 +1,5 @@
 //! Laws of histories and of activations: each function does nothing, and its contract is the law.
-ghost use Rattle.controller.specs.Fitting.{EntriesKeepFit, FitIsReady, HistoriesAreFit, RestartKeepsFit, StartIsFit};
+ghost use Rattle.controller.specs.Fitting.{EntriesKeepFit, FitIsReady, HistoriesAreFit, StartIsFit};
 ghost use Rattle.controller.specs.MachineLaws.{MachineLaws};
 ghost use Rattle.controller.specs.Moved.{EntriesMove, HistoriesMove};
 ghost use Rattle.controller.specs.Replay.{ContinuesByMore, ContinuesReplay, ContinuesSeen, CountsEntries, CountsHistory, EntriesKeepProfile, HistoriesKeepProfile, SeenByMore};
@@ -58,13 +58,12 @@ fn what_the_machine_gives()
 }
 
 /// Of a program that verifies the running activation can always go on: so it is after the start,
-/// each valid entry and a warm restart keep it so, and so it is after each valid history.
+/// each valid entry keeps it so, a warm restart among them, and so it is after each valid history.
 pub fn what_runs_goes_on()
     ensures ready { FitIsReady }
     ensures start { StartIsFit }
     ensures entry { EntriesKeepFit }
     ensures history { HistoriesAreFit }
-    ensures restart { RestartKeepsFit }
 {
     what_the_machine_gives();
 }

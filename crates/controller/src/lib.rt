@@ -1,13 +1,15 @@
-//! The controller: the CPU over a loaded program, and the history of all entries so far, from which its state follows.
+//! The controller: the CPU over a loaded program, and the history of all entries so far, from which
+//! its state follows.
 #![tactic(auto)]
 
 mod activations;
+mod asking;
 mod beginning;
 mod controllers;
 mod cpus;
-mod diagnostics;
 mod errors;
 pub mod laws;
+mod monitoring;
 mod observing;
 mod passing;
 mod quiet;
@@ -19,8 +21,7 @@ mod starting;
 mod stepping;
 mod stopping;
 
-pub use controllers::{Controller, leading_steps};
+pub use controllers::Controller;
 pub use cpus::Cpu;
-pub use diagnostics::DiagRecord;
 pub use observing::{Observed, Observer, Outputs};
 pub use starting::data_numbers;

@@ -6,6 +6,7 @@ ghost use Rattle.controller.specs.Views.{state_of};
 
 use crate::cpus::Cpu;
 use arrayvec::ArrayVec;
+use monitor::MonRecord;
 use plc_base::Mode;
 use plc_mem::PeripheralArea;
 use std::marker::Model;
@@ -27,10 +28,11 @@ impl Model for Outputs {
     ghost view = { λ a. a.list.items };
 }
 
-/// What an entry showed: the peripheral output bytes that it changed, and the mode where it
-/// changed.
+/// What an entry showed: the record of its statement where that is of the monitored block, the
+/// peripheral output bytes that it changed, and the mode where it changed.
 #[derive(Drop)]
 pub struct Observed {
+    pub mon: Option<MonRecord>,
     pub outputs: Outputs,
     pub mode: Option<Mode>,
 }
@@ -135,16 +137,17 @@ impl Observer {
             outputs: cpu.memory.outputs().copied(),
             mode: cpu.mode,
             seen: Observed {
+                mon: None,
                 outputs: Outputs::new(),
                 mode: None,
             },
         }
     }
 
-    /// Looks at the state after an entry.
+    /// Looks at the state after an entry, of which this was recorded.
     #[tactic(auto, using(crate::proofs::ObservingLemmas::outputs_have_parts))]
-    pub fn look(&mut self, cpu: &Cpu)
-        ensures { self.new ≡ watched_on self.old (state_of cpu.now) }
+    pub fn look(&mut self, cpu: &Cpu, mon: Option<MonRecord>)
+        ensures { self.new ≡ watched_on self.old mon (state_of cpu.now) }
     {
         cpu.memory.law_of_areas();
         find_changes(
@@ -152,6 +155,7 @@ impl Observer {
             &mut self.seen.outputs,
             cpu.memory.outputs(),
         );
+        self.seen.mon = mon;
         self.seen.mode = changed_mode(self.mode, cpu.mode);
         self.mode = cpu.mode;
     }
@@ -160,6 +164,7 @@ impl Observer {
     pub fn pass(&mut self)
         ensures { self.new ≡ record self.old { seen = nothing_shown } }
     {
+        self.seen.mon = None;
         self.seen.outputs.clear();
         self.seen.mode = None;
     }

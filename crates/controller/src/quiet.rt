@@ -14,8 +14,8 @@ use image_file::Loaded;
 impl Cpu {
     /// Executes steps one after another as long as each shows nothing, `most` at most; the answer
     /// is how many. It stops only before a step that isn't a statement of the quiet kind
-    /// (`machine::quiet_statements`) with which the running activation goes on, in STOP, or where a
-    /// request waits: what it leaves is for `happen`.
+    /// (`machine::quiet_statements`) with which the running activation goes on, in STOP, where a block
+    /// is monitored, or where a request waits: what it leaves is for `enter`.
     pub fn step_quietly(&mut self, program: &Loaded, most: u64) -> u64
         requires fit { IsFit program.now.program (state_of self.old) }
         requires few { self.old.entries + most < 2 ^ 64 }
@@ -30,7 +30,7 @@ impl Cpu {
         ensures stops { result < most
             → steps_quietly (code_of program.now.program) (state_of self.new) ≡ false }
     {
-        if is_stop(self.mode) || self.sched.best(self.mode).is_some() {
+        if self.monitored.is_some() || is_stop(self.mode) || self.sched.best(self.mode).is_some() {
             return 0;
         }
         program.law_of_verifying();

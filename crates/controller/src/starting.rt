@@ -1,18 +1,19 @@
-//! The first start.
-ghost use Rattle.std.specs.Prelude.{◌≡◌, [], map, is_some, IfOk};
+//! The first start, and a warm restart.
+ghost use Rattle.std.specs.Prelude.{◌≡◌, [], true, map, IfOk};
 ghost use Rattle.machine.specs.Flat.{code_of};
 ghost use Rattle.plc_mem.specs.Blocks.{bytes_of};
 ghost use Rattle.plc_mem.specs.Fresh.{fresh};
-ghost use Rattle.controller.specs.Beginning.{ob_block as block_of_ob};
-ghost use Rattle.controller.specs.Start.{loaded_obs as obs_loaded, start, started_up, startup_ob};
+ghost use Rattle.controller.specs.Start.{loaded_obs as obs_loaded, restarted, start, started_up, startup_ob};
+ghost use Rattle.controller.specs.Stack.{IsStanding};
+ghost use Rattle.controller.specs.State.{is_stop};
 ghost use Rattle.controller.specs.Starting.{is_data_block as is_data_block_of, numbers_in as numbers_in_of, numbers_of, read_block as read_block_of};
 ghost use Rattle.controller.specs.Views.{state_of};
 
 use crate::activations::Activations;
-use crate::beginning::ob_block;
+use crate::beginning::{is_loaded, ob_block};
 use crate::cpus::Cpu;
-use crate::diagnostics::Diagnostics;
 use image_file::Loaded;
+use monitor::DiagRing;
 use ob_sched::{Sched, StartEvent, StartInfo};
 use plc_base::{BlockId, Mode, NoMemory, Profile};
 use plc_mem::Memory;
@@ -24,24 +25,21 @@ const STARTUP_OB: u16 = 100;
 
 const STARTUP_CLASS: u8 = 27;
 
+/// Record of diagnostics: a warm restart.
+const RESTARTED: u16 = 6;
+
 /// The organization blocks that there are.
 static OBS: [u16; 35] = [
     1, 10, 11, 12, 13, 14, 15, 16, 17, 20, 21, 22, 23, 30, 31, 32, 33, 34, 35, 36, 37, 38, 40, 41,
     42, 43, 44, 45, 46, 47, 80, 85, 100, 121, 122,
 ];
 
-fn is_loaded(program: &Loaded, ob: u16) -> bool
-    ensures { result ≡ is_some ((code_of program.now.program).head (block_of_ob ob)) }
-{
-    program.code(ob_block(ob)).is_some()
-}
-
 fn loaded_obs(alloc: Global, program: &Loaded) -> Result<Vec<u16>, NoMemory>
     ensures { IfOk result (λ v. v.items ≡ obs_loaded (code_of program.now.program)) }
 {
     OBS.iter()
         .copied()
-        .filter(|ob| is_loaded(program, *ob))
+        .filter(|ob| is_loaded(program, ob_block(*ob)))
         .collect(alloc)
 }
 
@@ -150,10 +148,30 @@ impl Cpu {
             activations: Activations::new(alloc)?,
             sched: Sched::new(alloc, obs.as_slice())?,
             first_cycle: true,
-            diagnostics: Diagnostics::new(),
+            monitored: None,
+            diagnostics: DiagRing::new(alloc)?,
             entries: 0,
         };
         cpu.start_up(program);
         Ok(cpu)
+    }
+
+    /// A warm restart out of STOP: what isn't retained is cleared, and with OB 100 STARTUP begins, else
+    /// RUN.
+    #[tactic(auto, unfolding(crate::specs::Start::restarted), using(crate::proofs::StandingLemmas::stop_idle))]
+    pub(crate) fn restart(&mut self, program: &Loaded)
+        requires stopped { is_stop self.old.mode ≡ true }
+        requires stack { IsStanding self.old.mode self.old.activations }
+        ensures state { state_of self.new
+            ≡ restarted (code_of program.now.program) (state_of self.old) }
+        ensures stack { IsStanding self.new.mode self.new.activations }
+    {
+        self.diagnose(RESTARTED, 0);
+        self.memory.clear_unretained();
+        self.timers = Timers::new(self.profile);
+        self.counters.clear_unretained();
+        self.sched.restart();
+        self.first_cycle = true;
+        self.start_up(program);
     }
 }

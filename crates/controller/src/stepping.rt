@@ -1,8 +1,9 @@
 //! A step: one statement of the running activation, or a cycle point.
 ghost use Rattle.std.specs.Prelude.{◌≡◌, false};
 ghost use Rattle.machine.specs.Flat.{code_of};
-ghost use Rattle.ob_sched.specs.Scheduler.{run_begun};
-ghost use Rattle.controller.specs.Leaves.{call_left, finished, mode_after};
+ghost use Rattle.ob_sched.specs.Views.{scheduler_of};
+ghost use Rattle.controller.specs.Leaves.{call_left, finished, mode_after, regs_called, regs_finished};
+ghost use Rattle.controller.specs.Monitoring.{step_record};
 ghost use Rattle.controller.specs.Ready.{HasStatement, IsReady};
 ghost use Rattle.controller.specs.Stack.{IsStanding};
 ghost use Rattle.controller.specs.State.{is_stop};
@@ -11,11 +12,14 @@ ghost use Rattle.controller.specs.Views.{state_of};
 
 use crate::activations::Stand;
 use crate::cpus::Cpu;
+use crate::monitoring::statement_record;
 use crate::spots::spot_at;
 use frames::Binding;
 use image_file::Loaded;
 use machine::{Inputs, Outcome};
+use monitor::MonRecord;
 use plc_base::Mode;
+use status_word::Regs;
 
 /// The startup.
 const STARTUP_OB: u16 = 100;
@@ -38,39 +42,46 @@ impl Cpu {
         }
     }
 
-    // A call of a system function, which stood at `stand`.
-    #[tactic(auto, using(crate::proofs::CallLemmas::call_goes, crate::proofs::CallLemmas::call_halts, crate::proofs::CallLemmas::call_stands))]
+    // A call of a system function, which stood at `stand`; the answer is the registers after it.
+    #[tactic(auto, using(crate::proofs::CallLemmas::call_goes, crate::proofs::CallLemmas::call_halts, crate::proofs::CallLemmas::call_stands, crate::proofs::CallLemmas::call_regs))]
     fn call_system(
         &mut self,
         program: &Loaded,
-        stand: Stand,
+        stand: &Stand,
         number: u16,
         inputs: &Inputs,
         to: Option<Binding>,
-    )
-        requires there { HasStatement (code_of program.now.program) stand.block stand.at }
+    ) -> Regs
+        requires there { HasStatement (code_of program.now.program) stand.now.block stand.now.at }
         requires stack { IsStanding self.old.mode self.old.activations }
         ensures state { state_of self.new
-            ≡ call_left (code_of program.now.program) number inputs.now to stand
+            ≡ call_left (code_of program.now.program) number inputs.now to stand.now
             self.old.activations (state_of self.old) }
+        ensures regs { result ≡ regs_called number inputs.now (scheduler_of self.old.sched)
+            self.old.activations stand.now.regs }
         ensures stack { IsStanding self.new.mode self.new.activations }
     {
         let stop = self
             .activations
             .serve(number, inputs, to, &mut self.memory, &mut self.sched);
+        let regs = self.activations.regs().unwrap_or(stand.regs);
         if let Some(cause) = stop {
             self.halt_at(spot_at(program, stand.block, stand.at), cause);
         }
+        regs
     }
 
-    // What is left to do after a statement, which stood at `stand`.
+    // What is left to do after a statement, which stood at `stand`; the answer is the registers after
+    // all of it.
     #[tactic(auto, unfolding(crate::specs::Leaves::finished))]
-    fn finish(&mut self, program: &Loaded, stand: Stand, outcome: Outcome)
-        requires there { HasStatement (code_of program.now.program) stand.block stand.at }
-        requires stack { IsStanding (mode_after self.old.mode stand.ob outcome)
+    fn finish(&mut self, program: &Loaded, stand: &Stand, outcome: Outcome) -> Regs
+        requires there { HasStatement (code_of program.now.program) stand.now.block stand.now.at }
+        requires stack { IsStanding (mode_after self.old.mode stand.now.ob outcome)
             self.old.activations }
         ensures state { state_of self.new
-            ≡ finished (code_of program.now.program) stand outcome (state_of self.old) }
+            ≡ finished (code_of program.now.program) stand.now outcome (state_of self.old) }
+        ensures regs { result ≡ regs_finished outcome (scheduler_of self.old.sched)
+            self.old.activations stand.now.regs }
         ensures stack { IsStanding self.new.mode self.new.activations }
     {
         match outcome {
@@ -81,19 +92,22 @@ impl Cpu {
                 number,
                 inputs,
                 result,
-            } => self.call_system(program, stand, number, &inputs, result),
+            } => return self.call_system(program, stand, number, &inputs, result),
             Outcome::Stop { cause } => self.halt_at(spot_at(program, stand.block, stand.at), cause),
         }
+        stand.regs
     }
 
-    /// A step outside STOP.
-    #[tactic(auto, unfolding(crate::specs::Stepping::stepped), using(crate::proofs::StepLemmas::stepped_from, crate::proofs::StepLemmas::stepped_idle, crate::proofs::StepLemmas::idle, crate::proofs::StepLemmas::step_there, crate::proofs::StepLemmas::step_stands))]
-    pub(crate) fn step(&mut self, program: &Loaded)
+    /// A step outside STOP; the answer is the record of its statement, if its block is monitored.
+    #[tactic(auto, unfolding(crate::specs::Stepping::stepped), using(crate::proofs::StepLemmas::stepped_from, crate::proofs::StepLemmas::stepped_idle, crate::proofs::StepLemmas::idle, crate::proofs::StepLemmas::step_there, crate::proofs::StepLemmas::step_stands, crate::proofs::MonitoringLemmas::step_recorded, crate::proofs::MonitoringLemmas::idle_recorded))]
+    pub(crate) fn step(&mut self, program: &Loaded) -> Option<MonRecord>
         requires ready { IsReady (code_of program.now.program) self.old.activations }
         requires running { is_stop self.old.mode ≡ false }
         requires stack { IsStanding self.old.mode self.old.activations }
         ensures state { state_of self.new
             ≡ stepped (code_of program.now.program) (state_of self.old) }
+        ensures record { result ≡ step_record (code_of program.now.program) (state_of self.old)
+            self.old.activations }
         ensures stack { IsStanding self.new.mode self.new.activations }
     {
         let done = self.activations.step(
@@ -103,8 +117,15 @@ impl Cpu {
             &mut self.counters,
         );
         match done {
-            None => self.reach_cycle_point(program),
-            Some(done) => self.finish(program, done.0, done.1),
+            None => {
+                self.reach_cycle_point(program);
+                None
+            }
+            Some(done) => {
+                let (monitored, stand) = (self.monitored, done.0);
+                let regs = self.finish(program, &stand, done.1);
+                statement_record(program, monitored, &stand, &regs)
+            }
         }
     }
 }

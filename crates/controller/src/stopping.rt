@@ -7,8 +7,8 @@ ghost use Rattle.controller.specs.Stopping.{halted, halted_at};
 ghost use Rattle.controller.specs.Views.{state_of};
 
 use crate::cpus::Cpu;
-use crate::diagnostics::DiagRecord;
 use image_file::Loaded;
+use monitor::DiagRecord;
 use plc_base::{Mode, Spot};
 
 /// Record of diagnostics: STOP, with its cause.

@@ -4,9 +4,7 @@ use Rattle.std.specs.Option.{unwrap_or}
 use Rattle.plc_base.specs.declared.refusals.Refusal.{Refusal}
 use Rattle.plc_base.specs.declared.refusals.SourceFault.{SourceFault}
 use Rattle.plc_base.specs.declared.refusals.SourceFault.TheVariants as found
-use Rattle.flat_code.specs.Programs.{Program}
 use Rattle.sem_kept.specs.Accepted.{program_in}
-use Rattle.machine.specs.Flat.{code_of}
 use Rattle.stl_ast.specs.Literals.{AreBytes}
 use Rattle.stl_ast.specs.declared.blocks.Tree.{Tree}
 use Rattle.stl_lexer.specs.declared.kinds.Token.{Token}
@@ -20,7 +18,7 @@ use Rattle.block_layout.specs.Table.{layout_refusals}
 use Rattle.block_layout.specs.declared.blocks.BlockLayout.{BlockLayout}
 use Rattle.stl_types.specs.Table.{statement_refusals, Checks}
 use Rattle.stl_codegen.specs.Generated.{program_of}
-use Rattle.sem_kept.specs.Agreement.{AreFiles, IsRunnable, ProgramsRun, RunsAs}
+use Rattle.sem_kept.specs.Agreement.{AreFiles, KeepsSource, ProgramsRun}
 use Rattle.sem_kept.specs.Stages.{InTurn}
 use Rattle.sem_kept.specs.Meaning.{HasSymbols, HasTokens, HasTree, refusals_of, sound_by, IsSound, IsJudgedWith, IsJudged}
 use Rattle.s7_cli.specs.declared.compiling.LaidSource.{LaidSource}
@@ -148,8 +146,7 @@ statements_fault source symbols laid checked found.NoMemory is h = tt
 accepted_runs : ProgramsRun → (source symbols : List ℕ) (laid : LaidSource)
     → AreFiles source symbols → IsLaid source symbols laid
     → least (statement_refusals laid.tree laid.symbols laid.layouts) ≡ None
-    → IsRunnable (program_in laid.symbols laid.tree)
-    × RunsAs source symbols (code_of (program_in laid.symbols laid.tree))
+    → KeepsSource source symbols (program_in laid.symbols laid.tree)
 accepted_runs law source symbols laid are is there =
     law source symbols laid.symbols is.parsed.0 laid.tree are is.list is.parsed.1 is.parsed.2
     (sound_both laid.symbols laid.tree laid.layouts is.right is.layout there)
@@ -159,18 +156,16 @@ pub has_program : ProgramsRun → (source symbols : List ℕ) (laid : LaidSource
     → least (statement_refusals laid.tree laid.symbols laid.layouts) ≡ None
     → HasProgram source symbols
 has_program law source symbols laid are is there =
-    let runs = accepted_runs law source symbols laid are is there in
-    (program_in laid.symbols laid.tree, runs.0, runs.1)
+    (program_in laid.symbols laid.tree, accepted_runs law source symbols laid are is there)
 
 -- and it is the one that is generated
 pub generated_runs : ProgramsRun → (source symbols : List ℕ)
     (laid : LaidSource) (checked : Tree)
     → AreFiles source symbols → IsLaid source symbols laid → checked ≡ laid.tree
     → least (statement_refusals laid.tree laid.symbols laid.layouts) ≡ None
-    → IsRunnable (program_of checked laid.symbols laid.layouts)
-    × RunsAs source symbols (code_of (program_of checked laid.symbols laid.layouts))
+    → KeepsSource source symbols (program_of checked laid.symbols laid.layouts)
 generated_runs law source symbols laid checked are is same there =
-    subst (λ (p : Program). IsRunnable p × RunsAs source symbols (code_of p)) (sym generated)
+    subst (KeepsSource source symbols) (sym generated)
     (accepted_runs law source symbols laid are is there)
   where
     generated : program_of checked laid.symbols laid.layouts ≡ program_in laid.symbols laid.tree

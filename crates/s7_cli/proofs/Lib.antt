@@ -7,3 +7,4 @@ pub mod ReadingLemmas
 pub mod RunLemmas
 pub mod SaysLemmas
 pub mod TableLemmas
+pub mod run

@@ -5,26 +5,37 @@ use Rattle.plc_base.specs.declared.Profile.{Profile}
 use Rattle.machine.specs.Code.{Code}
 use Rattle.machine.specs.Statement.{World}
 use Rattle.var_access.specs.declared.Entry.{Entry}
+use Rattle.var_access.specs.declared.Reply.{Reply}
 use Rattle.var_access.specs.declared.What.{What}
 use Rattle.controller.specs.declared.Observed.{Observed}
-use Rattle.controller.specs.Replay.{ContinuesReplay, happens, replay}
+use Rattle.controller.specs.Replay.{ContinuesReplay, Happened, happens, replay}
 use Rattle.controller.specs.State.{State}
 use Rattle.controller.specs.Replayed.{events}
 use Rattle.sem_kept.specs.Kept.{IsKept}
 use Rattle.monitor.specs.LineText.{end_text}
-use Rattle.run_text.specs.RunText.{blocks_text, lines_from, run_text, shown_text}
+use Rattle.s7_cli.specs.run_text.RunText.{blocks_text, entry_text, lines_from, replied_text, run_text, shown_text}
 
 lines-kept : ContinuesReplay → (profile : Profile) (c d : Code) → IsKept c d → (before : List What) (n : ℕ) (es : List Entry)
     → lines_from d n (replay profile d before) es ≡ lines_from c n (replay profile c before) es
 lines-kept continues profile c d kept before n [] = refl
 lines-kept continues profile c d kept before n (e ∷ es) =
-    ap (λ (seen : Observed). shown_text (n + 1) seen ++ lines_from d (n + 1) (happens d (replay profile d before) e.what).state es) (kept.seen profile before e.what)
+    ap (λ (seen : Observed). shown_text (n + 1) seen ++ replied_text (n + 1) e.who e.what now.reply ++ rest) (kept.seen profile before e.what)
+    ∙ ap (λ (reply : Reply). shown_text (n + 1) was.seen ++ replied_text (n + 1) e.who e.what reply ++ rest) (kept.reply profile before e.what)
     ∙ ap (λ (s : State). first ++ lines_from d (n + 1) s es) (sym (continues profile d before e.what))
     ∙ ap (λ (t : List ℕ). first ++ t) (lines-kept continues profile c d kept (before ++ e.what ∷ []) (n + 1) es)
     ∙ ap (λ (s : State). first ++ lines_from c (n + 1) s es) (continues profile c before e.what)
   where
+    now : Happened
+    now = happens d (replay profile d before) e.what
+
+    was : Happened
+    was = happens c (replay profile c before) e.what
+
+    rest : List ℕ
+    rest = lines_from d (n + 1) now.state es
+
     first : List ℕ
-    first = shown_text (n + 1) (happens c (replay profile c before) e.what).seen
+    first = entry_text (n + 1) e was
 
 pub texts-kept : ContinuesReplay → (profile : Profile) (c d : Code) → IsKept c d → (es : List Entry) → run_text profile d es ≡ run_text profile c es
 unfolding run_text replay

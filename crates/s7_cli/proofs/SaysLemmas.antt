@@ -4,15 +4,16 @@ use Rattle.std.specs.Prelude.{option_to_list, unwrap_or}
 use Rattle.plc_base.specs.declared.Profile.TheVariants.{Small}
 use Rattle.plc_base.specs.declared.Refusal.{Refusal}
 use Rattle.plc_io.specs.Contents.{Contents}
+use Rattle.flat_code.specs.Programs.{NameEntry, Program}
 use Rattle.var_access.specs.declared.Entry.{Entry}
 use Rattle.machine.specs.Code.{Code}
-use Rattle.sem_kept.specs.Agreement.{RunsAs}
+use Rattle.sem_kept.specs.Agreement.{KeepsSource, names_in}
 use Rattle.sem_kept.specs.Meaning.{IsJudged, IsMeaningUnique, ExcludesRefusal, IsRefusalUnique, Refused, InSymbols, InSource, MeansCode}
-use Rattle.event_text.specs.History.{history_of}
-use Rattle.event_text.specs.HistoryFault.{IsHistoryFault}
-use Rattle.event_text.specs.declared.HistoryFault.{HistoryFault}
-use Rattle.event_text.specs.declared.HistoryFault.TheVariants as history
-use Rattle.run_text.specs.RunText.{run_text}
+use Rattle.event_text.specs.TextFault.{IsTextFault}
+use Rattle.event_text.specs.Texts.{history_of}
+use Rattle.event_text.specs.declared.TextFault.{TextFault}
+use Rattle.event_text.specs.declared.TextFault.TheVariants as text
+use Rattle.s7_cli.specs.run_text.RunText.{run_text}
 use Rattle.s7_cli.specs.Compiling.{RefusesBy}
 use Rattle.s7_cli.specs.declared.faults.CompileFault.{CompileFault}
 use Rattle.s7_cli.specs.declared.faults.CompileFault.TheVariants as compiling
@@ -46,7 +47,7 @@ means-one meaning excludes refusal source symbols (Err r) (Err s) p q = ap Err (
 go-one : MeansOne → (source symbols history : List ℕ) (a b : Answer) → GoSays source symbols history a
     → GoSays source symbols history b → a ≡ b
 go-one one source symbols history a b p q =
-    p.2 ∙ ap (λ v. go_answer v (history_of history)) (one source symbols p.0 q.0 p.1 q.1) ∙ sym q.2
+    p.2 ∙ ap (λ v. go_answer v (history_of (names_in symbols) history)) (one source symbols p.0 q.0 p.1 q.1) ∙ sym q.2
 
 check-one : MeansOne → (source symbols : List ℕ) (a b : Answer) → CheckSays source symbols a → CheckSays source symbols b → a ≡ b
 check-one one source symbols a b p q = p.2 ∙ ap check_answer (one source symbols p.0 q.0 p.1 q.1) ∙ sym q.2
@@ -92,12 +93,12 @@ check-verdict a (Ok code) gives = inl (ok_line, gives)
 pub says-verdict : (k : Command) (contents : List (List ℕ)) (a : Answer) → Says k contents a → IsVerdict a
 says-verdict (Go _ None _) [] a said = absurd said
 says-verdict (Go _ None _) (source ∷ []) a said = absurd said
-says-verdict (Go _ None _) (source ∷ history ∷ []) a said = go-verdict a said.0 (history_of history) said.2
+says-verdict (Go _ None _) (source ∷ history ∷ []) a said = go-verdict a said.0 (history_of (names_in []) history) said.2
 says-verdict (Go _ None _) (source ∷ history ∷ more ∷ rest) a said = absurd said
 says-verdict (Go _ (Some _) _) [] a said = absurd said
 says-verdict (Go _ (Some _) _) (source ∷ []) a said = absurd said
 says-verdict (Go _ (Some _) _) (source ∷ symbols ∷ []) a said = absurd said
-says-verdict (Go _ (Some _) _) (source ∷ symbols ∷ history ∷ []) a said = go-verdict a said.0 (history_of history) said.2
+says-verdict (Go _ (Some _) _) (source ∷ symbols ∷ history ∷ []) a said = go-verdict a said.0 (history_of (names_in symbols) history) said.2
 says-verdict (Go _ (Some _) _) (source ∷ symbols ∷ history ∷ more ∷ rest) a said = absurd said
 says-verdict (Check _ None) [] a said = absurd said
 says-verdict (Check _ None) (source ∷ []) a said = check-verdict a said.0 said.2
@@ -173,16 +174,20 @@ check-refused V source source' symbols symbols' fault r is are fails breaks =
 
 -- ---- a history that isn't read, behind a source that is compiled
 
-history-refuses : (V : Type 0) (source symbols : List ℕ) (code : Code) (text : List ℕ) (fault : HistoryFault)
-    → MeansCode source symbols code → IsHistoryFault text fault → RefusedBy {V = V} (GoSays source symbols text) (Err (failure_of_history fault))
-history-refuses V source symbols code text (history.Refused refusal) means is = (Ok code, means, ap (go_answer (Ok code)) (sym is))
-history-refuses V source symbols code text history.NoMemory means is = tt
+history-refuses : (V : Type 0) (source symbols : List ℕ) (code : Code) (history : List ℕ) (fault : TextFault)
+    → MeansCode source symbols code → IsTextFault (history_of (names_in symbols) history) fault
+    → RefusedBy {V = V} (GoSays source symbols history) (Err (failure_of_history fault))
+history-refuses V source symbols code history (text.BadLine line rule) means is =
+    (Ok code, means, ap (go_answer (Ok code)) (sym is))
+history-refuses V source symbols code history text.NoMemory means is = tt
 
-pub history-refused : (V : Type 0) (source source' symbols symbols' : List ℕ) (running : Code) (text : List ℕ)
-    (fault : HistoryFault) (r : Result V Failure) → source' ≡ source → symbols' ≡ symbols → r ≡ Err (failure_of_history fault)
-    → RunsAs source' symbols' running → IsHistoryFault text fault → RefusedBy (GoSays source symbols text) r
-history-refused V source source' symbols symbols' running text fault r is are fails runs breaks =
-    subst (λ (q : Result V Failure). RefusedBy (GoSays source symbols text) q) (sym fails)
-    (history-refuses V source symbols runs.0 text fault
-    (subst (λ (s : List ℕ). MeansCode s symbols runs.0) is (subst (λ (y : List ℕ). MeansCode source' y runs.0) are runs.1))
-    breaks)
+pub history-refused : (V : Type 0) (source source' symbols symbols' : List ℕ) (p : Program) (history : List ℕ)
+    (fault : TextFault) (r : Result V Failure) → source' ≡ source → symbols' ≡ symbols → r ≡ Err (failure_of_history fault)
+    → KeepsSource source' symbols' p → IsTextFault (history_of p.names history) fault
+    → RefusedBy (GoSays source symbols history) r
+history-refused V source source' symbols symbols' p history fault r is are fails keeps breaks =
+    let kept : KeepsSource source symbols p =
+    subst (λ (s : List ℕ). KeepsSource s symbols p) is (subst (λ (y : List ℕ). KeepsSource source' y p) are keeps) in
+    subst (λ (q : Result V Failure). RefusedBy (GoSays source symbols history) q) (sym fails)
+    (history-refuses V source symbols kept.runs.0 history fault kept.runs.1
+    (subst (λ (names : List NameEntry). IsTextFault (history_of names history) fault) kept.names breaks))

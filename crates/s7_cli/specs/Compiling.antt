@@ -1,7 +1,6 @@
 -- What compiling answers, stage by stage.
 use Rattle.std.specs.Prelude.{◌≡◌, ℕ, List, None, Result, Ok, Err}
 use Rattle.flat_code.specs.Programs.{Program}
-use Rattle.machine.specs.Flat.{code_of}
 use Rattle.plc_base.specs.declared.refusals.Refusal.{Refusal}
 use Rattle.plc_base.specs.declared.refusals.SourceFault.{SourceFault}
 use Rattle.plc_base.specs.declared.refusals.SourceFault.TheVariants as found
@@ -11,7 +10,7 @@ use Rattle.stl_symbols.specs.Symbol.{Symbol}
 use Rattle.block_layout.specs.Layouts.{layouts_of}
 use Rattle.block_layout.specs.Table.{layout_refusals}
 use Rattle.block_layout.specs.declared.blocks.BlockLayout.{BlockLayout}
-use Rattle.sem_kept.specs.Agreement.{IsRunnable, RunsAs}
+use Rattle.sem_kept.specs.Agreement.{KeepsSource}
 use Rattle.sem_kept.specs.Meaning.{HasSymbols, HasTokens, HasTree, IsSound, InSymbols, InSource, IsRefusedSource}
 use Rattle.sem_kept.specs.Stages.{InTurn}
 use Rattle.s7_cli.specs.declared.compiling.LaidSource.{LaidSource}
@@ -68,7 +67,6 @@ RefusesLaid laid fault =
     (source symbols : List ℕ)
     → IsLaid source symbols laid → RefusesBy source symbols fault
 
--- a source with its symbols has a program, which has an image, verifies, and runs as it means
+-- a source with its symbols has a program that keeps it
 abbrev pub HasProgram : (source symbols : List ℕ) → Type 0
-HasProgram source symbols =
-    (p : Program) × IsRunnable p × RunsAs source symbols (code_of p)
+HasProgram source symbols = (p : Program) × KeepsSource source symbols p

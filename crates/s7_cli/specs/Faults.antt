@@ -1,6 +1,6 @@
 -- The failure of a command by the fault of a reader.
-use Rattle.event_text.specs.declared.HistoryFault.{HistoryFault}
-use Rattle.event_text.specs.declared.HistoryFault.TheVariants as history
+use Rattle.event_text.specs.declared.TextFault.{TextFault}
+use Rattle.event_text.specs.declared.TextFault.TheVariants as text
 use Rattle.s7_cli.specs.declared.faults.CompileFault.{CompileFault}
 use Rattle.s7_cli.specs.declared.faults.CompileFault.TheVariants as compiling
 use Rattle.s7_cli.specs.declared.failures.File.TheVariants.{Source, Symbols, History}
@@ -14,6 +14,7 @@ failure_of_compiling (compiling.Source refusal) = Refused Source refusal
 failure_of_compiling compiling.NoMemory = NoMemory
 
 -- the history is refused, or there is no memory
-abbrev pub failure_of_history : HistoryFault → Failure
-failure_of_history (history.Refused refusal) = Refused History refusal
-failure_of_history history.NoMemory = NoMemory
+abbrev pub failure_of_history : TextFault → Failure
+failure_of_history (text.BadLine line rule) =
+    Refused History (record { line = line; rule = rule })
+failure_of_history text.NoMemory = NoMemory

@@ -7,6 +7,7 @@ pub mod Inner
 pub mod Lines
 pub mod Questions
 pub mod Reading
+pub mod run_text
 pub mod Says
 pub mod StatusTable
 pub mod Texts

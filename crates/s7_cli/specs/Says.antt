@@ -4,9 +4,10 @@ use Rattle.plc_base.specs.declared.Refusal.{Refusal}
 use Rattle.plc_base.specs.declared.Profile.TheVariants.{Small}
 use Rattle.var_access.specs.declared.Entry.{Entry}
 use Rattle.machine.specs.Code.{Code}
+use Rattle.sem_kept.specs.Agreement.{names_in}
 use Rattle.sem_kept.specs.Meaning.{IsJudged, Refused, InSymbols, InSource}
-use Rattle.event_text.specs.History.{history_of}
-use Rattle.run_text.specs.RunText.{run_text}
+use Rattle.event_text.specs.Texts.{history_of}
+use Rattle.s7_cli.specs.run_text.RunText.{run_text}
 use Rattle.s7_cli.specs.declared.failures.File.TheVariants.{Source, Symbols, History}
 use Rattle.s7_cli.specs.Answer.{Answer, done, refused}
 use Rattle.s7_cli.specs.Command.{Command, Go, Check}
@@ -29,11 +30,11 @@ abbrev pub check_answer : Result Code Refused → Answer
 check_answer (Err why) = refused_program why
 check_answer (Ok code) = done ok_line
 
--- over the contents of its files
+-- over the contents of its files; a history may name the variables of the symbols
 abbrev pub GoSays : (source symbols history : List ℕ) → Answer → Type 0
 GoSays source symbols history answer =
     (judged : Result Code Refused) × IsJudged source symbols judged
-    × (answer ≡ go_answer judged (history_of history))
+    × (answer ≡ go_answer judged (history_of (names_in symbols) history))
 
 -- what `check` answers, over the contents of its files
 abbrev pub CheckSays : (source symbols : List ℕ) → Answer → Type 0

@@ -1,12 +1,11 @@
 ghost use Rattle.std.specs.Prelude.{◌≡◌, ◌≤◌, length, IfOk, IfErr};
-ghost use Rattle.machine.specs.Flat.{code_of};
 ghost use Rattle.stl_ast.specs.Literals.{AreBytes};
 ghost use Rattle.stl_symbols.specs.Symbols.{symbols_limit};
 ghost use Rattle.plc_base.specs.Least.{least};
 ghost use Rattle.stl_lexer.specs.Limits.{source_limit};
 ghost use Rattle.stl_types.specs.Table.{statement_refusals};
 ghost use Rattle.block_layout.specs.Table.{layout_refusals};
-ghost use Rattle.sem_kept.specs.Agreement.{AreFiles, IsRunnable, RunsAs};
+ghost use Rattle.sem_kept.specs.Agreement.{AreFiles, IsRunnable, KeepsSource};
 ghost use Rattle.sem_kept.specs.Meaning.{HasSymbols, HasTokens, HasTree, IsSound};
 ghost use Rattle.plc_base.specs.declared.refusals.SourceFault.TheVariants.{NoMemory};
 ghost use Rattle.sem_kept.specs.Stages.{InTurn};
@@ -201,8 +200,9 @@ pub fn judged(alloc: Global, source: &[u8], symbols: &[u8]) -> Result<(), Compil
 }
 
 /// Compiles a source of at most 1,048,576 bytes with its symbols file, which has at most as many (no
-/// file: no bytes), into a loaded program that runs as it means. The symbols are checked first, then the tokens of
-/// the source, its clauses, and its layout together with its statements.
+/// file: no bytes), into a loaded program that runs as it means and has the names of its symbols. The
+/// symbols are checked first, then the tokens of the source, its clauses, and its layout together
+/// with its statements.
 ///
 /// # Errors
 ///
@@ -211,8 +211,7 @@ pub fn judged(alloc: Global, source: &[u8], symbols: &[u8]) -> Result<(), Compil
 pub fn compiled(alloc: Global, source: &[u8], symbols: &[u8]) -> Result<Loaded, CompileFault>
     requires source { length source.now ≤ source_limit }
     requires symbols { length symbols.now ≤ symbols_limit }
-    ensures ok { IfOk result (λ l.
-        RunsAs source.now symbols.now (code_of l.program)) }
+    ensures ok { IfOk result (λ l. KeepsSource source.now symbols.now l.program) }
     ensures refused { IfErr result
         (RefusesBy source.now symbols.now) }
 {

@@ -3,7 +3,7 @@ ghost use Rattle.s7_cli.specs.Answer.{code_of, refused_code};
 ghost use Rattle.s7_cli.specs.Faults.{failure_of_compiling, failure_of_history};
 
 use crate::faults::CompileFault;
-use event_text::HistoryFault;
+use event_text::TextFault;
 use plc_base::Refusal;
 use std::alloc::AllocError;
 
@@ -60,16 +60,16 @@ impl From<CompileFault> for Failure {
     }
 }
 
-impl From<HistoryFault> for Failure {
+impl From<TextFault> for Failure {
     ghost from_gives = { λ fault failure. failure ≡ failure_of_history fault };
 
-    fn from(fault: HistoryFault) -> Failure {
+    fn from(fault: TextFault) -> Failure {
         match fault {
-            HistoryFault::Refused { refusal } => Failure::Refused {
+            TextFault::BadLine { line, rule } => Failure::Refused {
                 file: File::History,
-                refusal,
+                refusal: Refusal { line, rule },
             },
-            HistoryFault::NoMemory => Failure::NoMemory,
+            TextFault::NoMemory => Failure::NoMemory,
         }
     }
 }

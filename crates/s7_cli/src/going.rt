@@ -10,8 +10,8 @@ use crate::failures::{Failure, File, Status};
 use crate::files::{read_file, read_program};
 use crate::finish::{end_command, written};
 use crate::judging::judge;
+use crate::run_text::replay_text;
 use plc_io::{Files, Sink};
-use run_text::replay_text;
 use std::alloc::Global;
 
 /// Reads a source with its symbols and a history, checks all, and writes the run.

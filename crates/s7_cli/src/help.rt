@@ -31,9 +31,8 @@ Behind -- no word is an option, so a file may begin with a hyphen.
 
 Supported: organization blocks, functions, function blocks, data blocks and
 types of the whole-number subset of STL, nine system functions, interrupts,
-time and synchronous errors, timers and counters.
-Not supported yet: requests of operators (read, write, stop, restart, monitor,
-diag), images of a program.
+time and synchronous errors, timers and counters, requests of operators.
+Not supported yet: images of a program.
 
 Lines of a history (numbers are decimal, h is a hexadecimal digit):
   step               one step: one statement, or a cycle point
@@ -42,12 +41,30 @@ Lines of a history (numbers are decimal, h is a hexadecimal digit):
   arrive N           an interrupt requests OB N: 10 to 17 or 40 to 47
   arrive N hhhhhhhh  the same with a value, which is 0 otherwise
   tick N             N milliseconds pass, 1 to 60,000
+  op K REQUEST       operator K, 1 to 4, asks one of:
+    read V, V ..       the values of one to eight variables
+    write V h          variable V becomes h
+    stop, restart      STOP; a warm restart, in STOP alone
+    monitor on KIND N  monitor block KIND N: OB, FC or FB, one at a time
+    monitor off        monitor no block
+    diag               the last 100 records of diagnostics
+                     V is an address, as M 0.1, MW 2, DB1.DBW 0, or a symbol
+                     in double quotes; h has two digits a byte, or is 0 or 1
   // ..              a comment; empty lines are skipped too
 
 Lines of a run (N is the number of the entry, from 1):
+  @N MON KIND n LINE l STW hhhh A1 hhhhhhhh A2 hhhhhhhh
+                                 a statement of the monitored block, with the
+                                 status word and both accumulators after it
   @N PQ B = hh                   peripheral output byte B changed to hh
   @N MODE RUN, @N MODE STARTUP   the mode changed
   @N MODE STOP c AT place        the controller stopped, by cause c
+  @N OP K VALUES h ..            the reply to operator K: the values read,
+  @N OP K DONE                   it is done,
+  @N OP K NOSUCH i               variable i, or the block, doesn't exist,
+  @N OP K NOTSTOPPED             a restart needs STOP,
+  @N OP K DIAG n                 or n records of diagnostics, each as a line
+  @N DIAG e code info            by entry e
   END N RUN, END N STARTUP, END N STOP c
                                  the mode after all N entries
   DB n at hh..                   bytes of data block n from byte `at` on
@@ -97,7 +114,13 @@ Rules of a symbols file:
   14  a line isn't four fields
   15  an address, type or name isn't right, or too many symbols
   16  a name stands twice
-Rule of a history: 99, some line isn't as above (told as line 0).
+Rules of a history:
+   1  a line isn't as above
+   2  a number is out of its range, or a value doesn't fit its variable
+   3  a name is unknown
+   4  a request without its operator
+   5  an operator isn't 1 to 4
+   6  more than 1,000,000 steps so far
 
 Exit status, and the line that is written in place of a result:
   0  done

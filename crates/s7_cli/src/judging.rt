@@ -1,8 +1,7 @@
 ghost use Rattle.std.specs.Prelude.{◌≡◌, All, IfOk, Ok};
 ghost use Rattle.var_access.specs.Entry.{IsValid};
-ghost use Rattle.machine.specs.Flat.{code_of};
-ghost use Rattle.sem_kept.specs.Agreement.{RunsAs};
-ghost use Rattle.event_text.specs.History.{history_of};
+ghost use Rattle.sem_kept.specs.Agreement.{KeepsSource, names_in};
+ghost use Rattle.event_text.specs.Texts.{history_of};
 ghost use Rattle.s7_cli.specs.Compiling.{HasProgram};
 ghost use Rattle.s7_cli.specs.Inner.{RefusedBy};
 ghost use Rattle.s7_cli.specs.Says.{CheckSays, GoSays};
@@ -14,7 +13,7 @@ use crate::files::ProgramText;
 use event_text::read_history;
 use image_file::Loaded;
 use std::alloc::Global;
-use var_access::Entry;
+use var_access::Entries;
 
 /// Checks a source with its symbols.
 pub fn judge_program(alloc: Global, text: &ProgramText) -> Result<(), Failure>
@@ -26,21 +25,22 @@ pub fn judge_program(alloc: Global, text: &ProgramText) -> Result<(), Failure>
     Ok(judged(alloc, &text.source, text.symbols())?)
 }
 
-/// Checks a source with its symbols, and then a history.
+/// Checks a source with its symbols, and then a history, which may name the symbols' variables.
 pub fn judge(
     alloc: Global,
     text: &ProgramText,
     history: &[u8],
-) -> Result<(Loaded, Vec<Entry>), Failure>
+) -> Result<(Loaded, Entries), Failure>
     requires { IsWithin text.now }
-    ensures runs { IfOk result
-        (λ v. RunsAs text.now.source.items (symbols_of text.now) (code_of v.0.program)) }
-    ensures spells { IfOk result (λ v. history_of history.now ≡ Ok v.1.items) }
-    ensures valid { IfOk result (λ v. All IsValid v.1.items) }
+    ensures keeps { IfOk result
+        (λ v. KeepsSource text.now.source.items (symbols_of text.now) v.0.program) }
+    ensures spells { IfOk result
+        (λ v. history_of (names_in (symbols_of text.now)) history.now ≡ Ok v.1.entries) }
+    ensures valid { IfOk result (λ v. All IsValid v.1.entries) }
     ensures refused { RefusedBy
         (GoSays text.now.source.items (symbols_of text.now) history.now) result }
 {
     let program = compiled(alloc, &text.source, text.symbols())?;
-    let entries = read_history(alloc, history)?;
+    let entries = read_history(alloc, history, program.names())?;
     Ok((program, entries))
 }

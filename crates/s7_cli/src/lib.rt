@@ -11,6 +11,7 @@ mod going;
 mod help;
 mod judging;
 mod program;
+mod run_text;
 mod texts;
 mod words;
 

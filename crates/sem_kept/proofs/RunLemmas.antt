@@ -13,7 +13,7 @@ use Rattle.stl_types.specs.Table.{statement_refusals}
 use Rattle.sem_kept.specs.Accepted.{IsAccepted, program_in, AcceptedVerifies}
 use Rattle.sem_kept.specs.Verified.{VerifiedIsCompilable}
 use Rattle.sem_kept.specs.Kept.{ProgramsAreKept}
-use Rattle.sem_kept.specs.Agreement.{AreFiles, IsRunnable, ProgramsRun}
+use Rattle.sem_kept.specs.Agreement.{AreFiles, IsRunnable, ProgramsRun, names_among}
 use Rattle.sem_kept.specs.Meaning.{HasSymbols, HasTokens, HasTree, refusals_of, sound_by, code_in, IsJudged, MeansCode}
 
 means : (source symbols : List ℕ) (list : List Symbol) (tokens : List Token)
@@ -64,21 +64,22 @@ accepted source symbols list tokens tree are has_list has_tokens has_tree sound 
         ∙ sound)
 
 pub programs_run : AcceptedVerifies → VerifiedIsCompilable → ProgramsAreKept → ProgramsRun
-programs_run verifies compilable kept source symbols list tokens tree are has_list has_tokens has_tree sound = (
-  runs,
-  (
+programs_run verifies compilable kept source symbols list tokens tree are has_list has_tokens has_tree sound = record {
+  runnable = runnable;
+  names = ap names_among has_list;
+  runs = (
     code_in list tree,
     means source symbols list tokens tree has_list has_tokens has_tree sound,
     kept (code_blocks_of tree list (layouts_of tree list))
         (data_blocks_of tree list (layouts_of tree list)) (names_of list)
-        (compilable tree list (layouts_of tree list) runs.verifies),
-  ),
-)
+        (compilable tree list (layouts_of tree list) runnable.verifies),
+  );
+}
   where
     is : IsAccepted source symbols list tree
     is = accepted source symbols list tokens tree are has_list has_tokens has_tree sound
 
-    runs : IsRunnable (program_in list tree)
-    runs =
+    runnable : IsRunnable (program_in list tree)
+    runnable =
         let both = verifies source symbols list tree is are.source_bytes are.symbols_bytes in
         record { is = both.0; verifies = both.1 }

@@ -1,5 +1,5 @@
 -- A suspended activation is the same after each entry, unless STOP ends it.
-use Rattle.std.proofs.Common.{◌≡◌, refl, sym, ◌∙◌, ap, subst, ℕ, zero, suc, ◌+◌, ◌-◌, ◌<◌, ◌≤◌, List, [], ◌∷◌, ◌++◌, length, take, Option, Some, None, Bool, true, false, cond, if◌then◌else◌, nat_eq, get_or, arith}
+use Rattle.std.proofs.Common.{◌≡◌, refl, sym, ◌∙◌, ap, subst, ℕ, zero, suc, ◌+◌, ◌-◌, ◌<◌, ◌≤◌, List, [], ◌∷◌, ◌++◌, length, take, Option, Some, None, Bool, true, false, cond, if◌then◌else◌, nat_eq, get_or, is_some, arith}
 use Rattle.std.proofs.lemmas.Bool.{ne_eqb}
 use Rattle.std.proofs.lemmas.List.{take_more}
 use Rattle.plc_base.specs.StopCauses as causes
@@ -17,8 +17,11 @@ use Rattle.ob_sched.specs.StartInformation.{start_info}
 use Rattle.ob_sched.specs.declared.start_infos.StartEvent.TheVariants.{Arrival}
 use Rattle.ob_sched.specs.Request.{best_of}
 use Rattle.ob_sched.specs.declared.requests.Pending.{Pending}
+use Rattle.var_access.specs.declared.Request.{Request}
+use Rattle.var_access.specs.declared.Request.TheVariants as request
 use Rattle.var_access.specs.declared.What.{What}
 use Rattle.var_access.specs.declared.What.TheVariants as entry
+use Rattle.controller.specs.Asking.{asked}
 use Rattle.controller.specs.Beginning.{ob_in, begun_above}
 use Rattle.controller.specs.Errors.{is_synchronous, error_in, error_answered, failed}
 use Rattle.controller.specs.Event.{counted, effect, state_after}
@@ -26,6 +29,7 @@ use Rattle.controller.specs.Replay.{happens, replay, ContinuesReplay}
 use Rattle.controller.specs.Requests.{stopped_if, course_taken, arrived}
 use Rattle.controller.specs.Serving.{Served, Returns, Passes, Stops, served, result_given, after_service}
 use Rattle.controller.specs.Settling.{may_start, request_taken, request_started, best_started, settled}
+use Rattle.controller.specs.Start.{restarted}
 use Rattle.controller.specs.State.{State, is_stop, diagnosed, each_diagnosed}
 use Rattle.controller.specs.Stepping.{with_activations, run_starts, ob_ended, after_statement, stepped_on, stepped}
 use Rattle.controller.specs.Stopping.{spot_of, halted_at, halted}
@@ -154,7 +158,7 @@ serves_keeps : (old : Activation) (at : Option Spot) (r : Served) (to : Option B
 serves_keeps old at (Returns r) to below s place there on =
     replaced old (result_given to r.value r.activation s.world.memory).activation below place there
 serves_keeps old at (Passes sched a) to below s place there on = replaced old a below place there
-serves_keeps old at (Stops cause) to below s place there on = absurd cc
+serves_keeps old at (Stops cause a) to below s place there on = absurd cc
 
 ended_same : (ob : ℕ) (s : State) → (ob_ended ob s).activations ≡ s.activations
 ended_same ob s = by (nat_eq ob 100)
@@ -247,33 +251,66 @@ time_keeps code ms s place there on =
     course : Course
     course = ticked s.mode (active s.activations) ms s.sched
 
+-- ---- requests of operators
+
+-- a request stops, or leaves the activations as they are: a restart outside STOP does nothing
+asked_keeps : (code : Code) (r : Request) (s : State) (place : ℕ) → is_stop s.mode ≡ false
+    → place < length s.activations → is_stop (asked code r s).mode ≡ false
+    → Keeps s.activations (asked code r s).activations place
+unfolding asked halted
+asked_keeps code request.Stop s place runs there on = by (is_stop s.mode) on
+  where
+    by : (b : Bool) → is_stop (if b then s else halted code causes.by_operator s).mode ≡ false
+        → Keeps s.activations (if b then s else halted code causes.by_operator s).activations place
+    by true on = stays s.activations place there
+    by false on = absurd cc
+asked_keeps code request.Restart s place runs there on = by (is_stop s.mode) runs
+  where
+    by : (b : Bool) → b ≡ false
+        → Keeps s.activations (if b then restarted code s else s).activations place
+    by true runs = absurd cc
+    by false runs = stays s.activations place there
+asked_keeps code (request.MonitorOn block) s place runs there on = by (is_some (code.head block))
+  where
+    by : (b : Bool)
+        → Keeps s.activations (if b then record s { monitored = Some block } else s).activations place
+    by true = stays s.activations place there
+    by false = stays s.activations place there
+asked_keeps code request.MonitorOff s place runs there on = stays s.activations place there
+asked_keeps code (request.WriteVar var value) s place runs there on =
+    stays s.activations place there
+asked_keeps code (request.ReadVars vars) s place runs there on = stays s.activations place there
+asked_keeps code request.Diag s place runs there on = stays s.activations place there
+
 -- ---- entries
 
-effect_keeps : (code : Code) (w : What) (s : State) (place : ℕ)
+effect_keeps : (code : Code) (w : What) (s : State) (place : ℕ) → is_stop s.mode ≡ false
     → place + 1 < length s.activations → is_stop (effect code w s).mode ≡ false
     → Keeps s.activations (effect code w s).activations place
-effect_keeps code entry.Step s place there on = by (is_stop s.mode) on
+effect_keeps code entry.Step s place runs there on = by (is_stop s.mode) on
   where
     by : (b : Bool) → is_stop (if b then s else stepped code s).mode ≡ false
         → Keeps s.activations (if b then s else stepped code s).activations place
     by true on = stays s.activations place (omega (arith, there))
     by false on = stepped_keeps code s place there on
-effect_keeps code (entry.Input byte value) s place there on =
+effect_keeps code (entry.Input byte value) s place runs there on =
     stays s.activations place (omega (arith, there))
-effect_keeps code (entry.Arrive ob value) s place there on =
+effect_keeps code (entry.Arrive ob value) s place runs there on =
     arrived_keeps code ob value s place (omega (arith, there)) on
-effect_keeps code (entry.Tick ms) s place there on =
+effect_keeps code (entry.Tick ms) s place runs there on =
     time_keeps code ms s place (omega (arith, there)) on
+effect_keeps code (entry.Ask r) s place runs there on =
+    asked_keeps code r s place runs (omega (arith, there)) on
 
-state_keeps : (code : Code) (w : What) (s : State) (place : ℕ)
+state_keeps : (code : Code) (w : What) (s : State) (place : ℕ) → is_stop s.mode ≡ false
     → place + 1 < length s.activations → is_stop (state_after code w s).mode ≡ false
     → standing (state_after code w s).activations place ≡ standing s.activations place
 unfolding state_after
-state_keeps code w s place there on =
+state_keeps code w s place runs there on =
     let next : State = effect code w (counted s) in
     let goes_on : is_stop next.mode ≡ false = sym (ap is_stop (settled_mode code next)) ∙ on in
     let kept : Keeps s.activations next.activations place =
-    effect_keeps code w (counted s) place there goes_on in
+    effect_keeps code w (counted s) place runs there goes_on in
     (settled_keeps code next place kept.there).same ∙ kept.same
 
 -- ---- histories
@@ -293,18 +330,19 @@ after_one continues profile code history k inside =
     ∙ replay_more continues profile code (take k history) (get_or history k entry.Step)
 
 same_next : ContinuesReplay → (profile : Profile) (code : Code) (history : List What) (place k : ℕ)
-    → k < length history → place + 1 < length (after profile code history k).activations
+    → k < length history → is_stop (after profile code history k).mode ≡ false
+    → place + 1 < length (after profile code history k).activations
     → is_stop (after profile code history (k + 1)).mode ≡ false
     → standing (after profile code history (k + 1)).activations place
     ≡ standing (after profile code history k).activations place
-same_next continues profile code history place k inside suspended goes_on =
+same_next continues profile code history place k inside runs suspended goes_on =
     let w : What = get_or history k entry.Step in
     let next : after profile code history (k + 1) ≡ state_after code w (after profile code history k)
     = after_one continues profile code history k inside in
     let on : is_stop (state_after code w (after profile code history k)).mode ≡ false
     = sym (ap (λ (s : State). is_stop s.mode) next) ∙ goes_on in
     ap (λ (s : State). standing s.activations place) next
-    ∙ state_keeps code w (after profile code history k) place suspended on
+    ∙ state_keeps code w (after profile code history k) place runs suspended on
 
 same_after : ContinuesReplay → (profile : Profile) (code : Code) (history : List What) (place first last : ℕ)
     → IsSuspended profile code history place first last → (j : ℕ) → first + j ≤ last
@@ -318,6 +356,7 @@ same_after continues profile code history place first last is (suc j) within =
     let final : last ≤ length history = is.within in
     ap (λ (k : ℕ). standing (after profile code history k).activations place) e
     ∙ same_next continues profile code history place (first + j) (omega arith)
+    (is.goes_on (first + j) (omega arith) (omega arith))
     (is.suspended (first + j) (omega arith) (omega arith))
     (is.goes_on (first + j + 1) (omega arith) (omega arith))
     ∙ same_after continues profile code history place first last is j (omega arith)

@@ -1,17 +1,19 @@
 -- The program of a source runs as the source means.
-use Rattle.std.specs.Prelude.{◌≡◌, ◌≤◌, ℕ, List, length, None, Ok}
+use Rattle.std.specs.Prelude.{◌≡◌, ◌≤◌, ℕ, List, [], length, None, Result, Ok, Err}
 use Rattle.flat_code.specs.Image.{IsProgram}
 use Rattle.flat_code.specs.Loading.{Verifies}
-use Rattle.flat_code.specs.Programs.{Program}
+use Rattle.flat_code.specs.Programs.{NameEntry, Program}
 use Rattle.machine.specs.Code.{Code}
 use Rattle.machine.specs.Flat.{code_of}
 use Rattle.stl_ast.specs.Literals.{AreBytes}
+use Rattle.plc_base.specs.declared.refusals.Refusal.{Refusal}
 use Rattle.stl_ast.specs.declared.blocks.Tree.{Tree}
+use Rattle.stl_codegen.specs.Generated.{names_of}
 use Rattle.stl_lexer.specs.Limits.{source_limit}
 use Rattle.stl_lexer.specs.declared.kinds.Token.{Token}
 use Rattle.plc_base.specs.Least.{least}
 use Rattle.stl_symbols.specs.Symbol.{Symbol}
-use Rattle.stl_symbols.specs.Symbols.{symbols_limit}
+use Rattle.stl_symbols.specs.Symbols.{symbols_limit, symbols_of}
 use Rattle.sem_kept.specs.Accepted.{program_in}
 use Rattle.sem_kept.specs.Kept.{IsKept}
 use Rattle.sem_kept.specs.Meaning.{HasSymbols, HasTokens, HasTree, refusals_of, MeansCode}
@@ -26,6 +28,22 @@ pub record IsRunnable (p : Program) : Type 0 where
   pub is : IsProgram p
   pub verifies : Verifies p
 
+-- the names of the symbols that were read, and none where they are refused
+abbrev pub names_among : Result (List Symbol) Refusal → List NameEntry
+names_among (Ok list) = names_of list
+names_among (Err refusal) = []
+
+-- the names of variables that a symbols file gives
+abbrev pub names_in : (symbols : List ℕ) → List NameEntry
+names_in symbols = names_among (symbols_of symbols)
+
+-- a program keeps a source with its symbols: it has an image and verifies, its names are those that the symbols file
+-- gives, and it runs as the source means
+pub record KeepsSource (source symbols : List ℕ) (p : Program) : Type 0 where
+  pub runnable : IsRunnable p
+  pub names : p.names ≡ names_in symbols
+  pub runs : RunsAs source symbols (code_of p)
+
 -- a source and a symbols file as they are read: bytes, and no more than a limit of them
 pub record AreFiles (source symbols : List ℕ) : Type 0 where
   pub source_short : length source ≤ source_limit
@@ -33,7 +51,7 @@ pub record AreFiles (source symbols : List ℕ) : Type 0 where
   pub symbols_short : length symbols ≤ symbols_limit
   pub symbols_bytes : AreBytes symbols
 
--- the program of a source that breaks no rule has an image, verifies, and runs as the source means
+-- the program of a source that breaks no rule keeps it
 abbrev pub ProgramsRun : Type 0
 ProgramsRun =
     (source symbols : List ℕ) (list : List Symbol) (tokens : List Token)
@@ -41,4 +59,4 @@ ProgramsRun =
     → AreFiles source symbols
     → HasSymbols symbols (Ok list) → HasTokens source (Ok tokens) → HasTree source tokens (Ok tree)
     → least (refusals_of list tree) ≡ None
-    → IsRunnable (program_in list tree) × RunsAs source symbols (code_of (program_in list tree))
+    → KeepsSource source symbols (program_in list tree)

@@ -68,8 +68,9 @@ pub fn law_of_sources()
     stl_parser::law_of_clauses();
 }
 
-/// The program of a source that breaks no rule has an image and verifies, and it runs as the source
-/// means: no history tells it from the statements of the source.
+/// The program of a source that breaks no rule has an image and verifies, its names are those that
+/// the symbols file gives, and it runs as the source means: no history tells it from the statements
+/// of the source.
 pub fn programs_run()
     ensures { ProgramsRun }
 {

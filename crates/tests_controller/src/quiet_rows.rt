@@ -1,7 +1,7 @@
 //! Steps that show nothing are passed in a row, and all comes out as one by one.
-use crate::bench::{MOST_ENTRIES, apply_entry, controller_of, entries_text};
+use crate::bench::{MOST_ENTRIES, apply_entry, apply_line, controller_of, entries_text};
 use crate::compare::same;
-use controller::{Controller, leading_steps};
+use controller::Controller;
 use plc_base::Mode;
 use std::alloc::{AllocError, Global};
 use std::process::Abort;
@@ -10,7 +10,7 @@ use var_access::{Entry, What};
 
 /// A program, so many steps, of which so many are taken in a row, an input and so many steps more; and
 /// what all of them show. No program comes to RUN in the first steps.
-type Row = (&'static str, u8, usize, u8, &'static str);
+type Row = (&'static str, u8, u8, u8, &'static str);
 
 static ROWS: [Row; 5] = [
     (
@@ -58,6 +58,11 @@ fn entry_of(what: What) -> Entry {
     Entry { who: 1, what }
 }
 
+/// The entries behind so many.
+fn behind(entries: &[Entry], count: u8) -> &[Entry] {
+    entries.get(usize::from(count)..).unwrap_or(&[])
+}
+
 fn entries_of(alloc: Global, first: u8, then: u8) -> Result<Vec<Entry>, AllocError> {
     let mut entries = Vec::new(alloc);
     for _ in 0..first {
@@ -70,35 +75,36 @@ fn entries_of(alloc: Global, first: u8, then: u8) -> Result<Vec<Entry>, AllocErr
     Ok(entries)
 }
 
-/// Takes the steps at the front in a row, of which so many are made; what is left of the entries.
-fn pass_steps<'a>(
+/// Takes so many steps in a row, of which so many are made.
+fn pass_steps(
     rt: &impl Abort,
     controller: &mut Controller,
     when: &str,
-    entries: &'a [Entry],
-    made: usize,
-) -> Result<&'a [Entry], Fail> {
-    let steps = &entries[..leading_steps(entries)];
+    steps: u8,
+    made: u8,
+) -> Result<(), Fail> {
     assert!(rt; controller.history_len() < MOST_ENTRIES);
-    controller.reserve(steps.len() as u64)?;
-    let passed = controller.step_quietly(steps);
-    same(rt, when, passed, made);
-    Ok(&entries[passed..])
+    let most = u64::from(steps);
+    controller.reserve(most)?;
+    let passed = controller.step_quietly(&entry_of(What::Step), most);
+    same(rt, when, passed, u64::from(made));
+    Ok(())
 }
 
-/// The text of all entries, the first steps in a row as far as they show nothing.
+/// The text of all entries, so many steps at their front in a row, of which so many are made.
 fn quiet_text(
     alloc: Global,
     rt: &impl Abort,
     program: &str,
     entries: &[Entry],
-    made: usize,
+    steps: u8,
+    made: u8,
 ) -> Result<String, Fail> {
     let mut controller = controller_of(alloc, program)?;
-    let left = pass_steps(rt, &mut controller, program, entries, made)?;
-    same(rt, program, controller.history_len(), made as u64);
+    pass_steps(rt, &mut controller, program, steps, made)?;
+    same(rt, program, controller.history_len(), u64::from(made));
     same(rt, program, controller.mode() == Mode::Startup, true);
-    entries_text(alloc, rt, &mut controller, left)
+    entries_text(alloc, rt, &mut controller, behind(entries, made))
 }
 
 /// The text of all entries, one by one.
@@ -114,7 +120,7 @@ fn steps_are_passed(rt: HostRuntime) -> Result<(), Fail> {
         let entries = entries_of(alloc, *first, *then)?;
         let one_by_one = text(alloc, &rt, program, entries.as_slice())?;
         same(&rt, *program, one_by_one.as_str(), *shown);
-        let quiet = quiet_text(alloc, &rt, program, entries.as_slice(), *in_a_row)?;
+        let quiet = quiet_text(alloc, &rt, program, entries.as_slice(), *first, *in_a_row)?;
         same(&rt, *program, quiet.as_str(), *shown);
     }
     Ok(())
@@ -126,13 +132,12 @@ fn wait_for_a_place(
     controller: &mut Controller,
     out: &mut String,
 ) -> Result<(), Fail> {
-    let steps = [entry_of(What::Step); 5];
     let arrival = |ob: u16| entry_of(What::Arrive { ob, value: 0 });
     apply_entry(rt, controller, out, entry_of(What::Step))?;
     apply_entry(rt, controller, out, arrival(40))?;
-    pass_steps(rt, controller, "nothing waits", &steps, 5)?;
+    pass_steps(rt, controller, "nothing waits", 5, 5)?;
     apply_entry(rt, controller, out, arrival(10))?;
-    pass_steps(rt, controller, "OB 10 waits", &steps, 0)?;
+    pass_steps(rt, controller, "OB 10 waits", 5, 0)?;
     Ok(())
 }
 
@@ -141,4 +146,46 @@ fn a_request_that_waits_ends_the_row(rt: HostRuntime) -> Result<(), Fail> {
     let mut controller = controller_of(rt.alloc(), WAITS)?;
     let mut out = String::new(rt.alloc());
     wait_for_a_place(&rt, &mut controller, &mut out)
+}
+
+/// A block that loops, and whatever block is monitored: where one is, no step is made in a row.
+fn monitor_for_a_while(
+    rt: &impl Abort,
+    controller: &mut Controller,
+    out: &mut String,
+) -> Result<(), Fail> {
+    apply_entry(rt, controller, out, entry_of(What::Step))?;
+    apply_line(rt, controller, out, "monitor FC 1")?;
+    pass_steps(rt, controller, "FC 1 is monitored", 5, 0)?;
+    apply_line(rt, controller, out, "monitor off")?;
+    pass_steps(rt, controller, "nothing is monitored", 5, 5)
+}
+
+#[test]
+fn a_monitored_block_ends_the_row(rt: HostRuntime) -> Result<(), Fail> {
+    let mut controller = controller_of(rt.alloc(), "x: JU x | FC 1 0 0 { NOP #0")?;
+    let mut out = String::new(rt.alloc());
+    monitor_for_a_while(&rt, &mut controller, &mut out)
+}
+
+/// A peripheral output changes in entry 3, and then steps are made in a row.
+fn show_and_pass(
+    rt: &impl Abort,
+    controller: &mut Controller,
+    out: &mut String,
+) -> Result<(), Fail> {
+    apply_line(rt, controller, out, "step 3")?;
+    same(rt, "shown", out.as_str(), "@3 PQ 256 = 07 | ");
+    pass_steps(rt, controller, "after it", 5, 5)?;
+    let seen = controller.observed();
+    same(rt, "no output", seen.outputs.as_slice().is_empty(), true);
+    same(rt, "no mode", seen.mode, None);
+    Ok(())
+}
+
+#[test]
+fn what_was_shown_before_a_row_is_gone(rt: HostRuntime) -> Result<(), Fail> {
+    let mut controller = controller_of(rt.alloc(), "L #7; T PB256; x: JU x")?;
+    let mut out = String::new(rt.alloc());
+    show_and_pass(&rt, &mut controller, &mut out)
 }

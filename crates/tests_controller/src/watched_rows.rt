@@ -42,7 +42,7 @@ fn started(alloc: Global, program: &str) -> Result<Cpu, Fail> {
 
 /// Looks at a state, where such a mode is seen and no output.
 fn sees(rt: &impl Abort, observer: &mut Observer, state: &Cpu, mode: Option<Mode>) {
-    observer.look(state);
+    observer.look(state, None);
     let seen = observer.seen();
     same(rt, "the mode", seen.mode, mode);
     same(rt, "no output", seen.outputs.as_slice().is_empty(), true);

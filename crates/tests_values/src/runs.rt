@@ -23,12 +23,12 @@ fn pushed_entries(rt: HostRuntime) -> Result<(), AllocError> {
     let mut history = Entries::new(rt.alloc());
     same(&rt, "no entry", history.entry(0), None);
     history.reserve(7)?;
-    history.push(step(1), 2);
-    history.push(step(1), 1);
-    history.push(step(2), 1);
-    history.push(step(1), 1);
-    history.push(tick(), 1);
-    history.push(tick(), 1);
+    history.push(&step(1), 2);
+    history.push(&step(1), 1);
+    history.push(&step(2), 1);
+    history.push(&step(1), 1);
+    history.push(&tick(), 1);
+    history.push(&tick(), 1);
     same(&rt, "length", history.len(), 7);
     for (run, (entry, first, count)) in history.runs().iter().zip([
         (step(1), 0, 3),
@@ -64,9 +64,9 @@ fn pushed_entries(rt: HostRuntime) -> Result<(), AllocError> {
 #[test]
 fn appended_entries(rt: HostRuntime) -> Result<(), AllocError> {
     let mut history = Entries::new(rt.alloc());
-    history.append(step(1), 1_000_000)?;
-    history.append(tick(), 1)?;
-    history.append(step(1), 1)?;
+    history.append(&step(1), 1_000_000)?;
+    history.append(&tick(), 1)?;
+    history.append(&step(1), 1)?;
     same(&rt, "length", history.len(), 1_000_002);
     same(&rt, "last step", history.entry(999_999), Some(step(1)));
     same(&rt, "tick", history.entry(1_000_000), Some(tick()));

@@ -1,10 +1,11 @@
 -- One more entry at the end of a history.
-use Rattle.std.proofs.Common.{◌≡◌, List, [], ◌∷◌, ◌++◌, refl, sym, ap, subst, ◌∙◌}
+use Rattle.std.proofs.Common.{◌≡◌, List, [], ◌∷◌, ◌++◌, Option, refl, sym, ap, subst, ◌∙◌}
 use Rattle.plc_base.specs.declared.Profile.{Profile}
 use Rattle.flat_code.specs.Loading.{Verifies}
 use Rattle.flat_code.specs.Programs.{Program}
 use Rattle.machine.specs.Code.{Code}
 use Rattle.machine.specs.Flat.{code_of}
+use Rattle.monitor.specs.declared.MonRecord.{MonRecord}
 use Rattle.var_access.specs.declared.Entry.{Entry}
 use Rattle.var_access.specs.declared.What.{What}
 use Rattle.var_access.specs.Entry.{IsInRange}
@@ -54,18 +55,23 @@ seen_next profile code history e s continues before =
 
 -- what it shows is what the outputs and the mode were compared for
 seen_is : (code : Code) (s : State) (what : What)
-    → changes s.world.memory.peripheral_outputs s.mode (happens code s what).state ≡ (happens code s what).seen
+    → changes (happens code s what).seen.mon s.world.memory.peripheral_outputs s.mode (happens code s what).state ≡ (happens code s what).seen
 unfolding happens shown
 seen_is code s what = refl
 
-pub observer_next : (code : Code) (s t : State) (what : What) (w w' : Watched) (seen : Observed)
-    → w ≡ watched s seen → w' ≡ watched_on w t → t ≡ (happens code s what).state
+pub observer_next : (code : Code) (s t : State) (what : What) (mon : Option MonRecord) (w w' : Watched)
+    (seen : Observed) → w ≡ watched s seen → w' ≡ watched_on w mon t
+    → mon ≡ (happens code s what).seen.mon → t ≡ (happens code s what).state
     → w' ≡ watched t (happens code s what).seen
-observer_next code s t what w w' seen before looked after =
+observer_next code s t what mon w w' seen before looked recorded after =
     looked
-    ∙ ap (λ (v : Watched). watched_on v t) before
+    ∙ ap (λ (v : Watched). watched_on v mon t) before
     ∙ ap (λ (o : Observed). watched t o)
-    (ap (λ (u : State). changes s.world.memory.peripheral_outputs s.mode u) after ∙ seen_is code s what)
+    (ap (λ (r : Option MonRecord). changes r s.world.memory.peripheral_outputs s.mode t) recorded
+    ∙ ap
+    (λ (u : State). changes (happens code s what).seen.mon s.world.memory.peripheral_outputs s.mode u)
+    after
+    ∙ seen_is code s what)
 
 pub fits_next : (p : Program) (s t : State) (what : What) → EntriesKeepFit → Verifies p → IsInRange what → IsFit p s
     → t ≡ (happens (code_of p) s what).state → IsFit p t

@@ -1,4 +1,4 @@
-use Rattle.controller.proofs.FittingLemmas.{ready, start_fits, entries_keep, histories_fit, restart_keeps}
+use Rattle.controller.proofs.FittingLemmas.{ready, start_fits, entries_keep, histories_fit}
 use Rattle.controller.proofs.laws.what_runs_goes_on.Goals as goal
 
 pub returns-clause-ready : goal.returns-clause-ready
@@ -12,6 +12,3 @@ returns-clause-entry c = entries_keep c.what_the_machine_gives.ensures
 
 pub returns-clause-history : goal.returns-clause-history
 returns-clause-history c = histories_fit c.what_the_machine_gives.ensures
-
-pub returns-clause-restart : goal.returns-clause-restart
-returns-clause-restart c = restart_keeps c.what_the_machine_gives.ensures

@@ -12,6 +12,7 @@ returns c = record {
   local_byte = c.what_fits_may_change.ensures.local_byte;
   result = c.results_fit.ensures;
   first = c.memory_is_kept.ensures.begins;
+  writes = c.memory_is_kept.ensures.writes;
   inputs = c.memory_is_kept.ensures.inputs;
   clears = c.memory_is_kept.ensures.clears;
   refreshes = c.memory_is_kept.ensures.refreshes;

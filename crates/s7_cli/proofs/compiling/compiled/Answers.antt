@@ -1,9 +1,7 @@
 use Rattle.std.proofs.Common.{ℕ, List, Result, Err, IfErr, sym, ap, ◌∙◌, subst}
 use Rattle.std.proofs.lemmas.Result.{err_from_is_err_and}
-use Rattle.flat_code.specs.Programs.{Program}
 use Rattle.image_file.specs.Loaded.{LoadedProgram}
-use Rattle.machine.specs.Flat.{code_of}
-use Rattle.sem_kept.specs.Agreement.{IsRunnable, RunsAs}
+use Rattle.sem_kept.specs.Agreement.{IsRunnable, KeepsSource}
 use Rattle.s7_cli.specs.Compiling.{RefusesBy}
 use Rattle.s7_cli.specs.declared.faults.CompileFault.{CompileFault}
 use Rattle.s7_cli.proofs.CompileLemmas.{generated_runs}
@@ -24,7 +22,7 @@ generate-requires c =
     let runs = generated_runs c.programs_run.ensures c.args.source.now given c.in_ok-laid.laid
     c.in_ok-checked.checked c.law_of_files.ensures c.in_ok-laid.ensures.laid
     c.in_ok-checked.ensures.tree c.in_ok-checked.ensures.sound in
-    runs.0.is
+    runs.runnable.is
 
 pub loaded-requires : goal.loaded-requires
 loaded-requires c =
@@ -32,7 +30,7 @@ loaded-requires c =
     let runs = generated_runs c.programs_run.ensures c.args.source.now given c.in_ok-laid.laid
     c.in_ok-checked.checked c.law_of_files.ensures c.in_ok-laid.ensures.laid
     c.in_ok-checked.ensures.tree c.in_ok-checked.ensures.sound in
-    subst IsRunnable (sym c.in_ok-program.ensures) runs.0
+    subst IsRunnable (sym c.in_ok-program.ensures) runs.runnable
 
 pub returns-clause-ok : goal.returns-clause-ok
 returns-clause-ok c =
@@ -40,5 +38,4 @@ returns-clause-ok c =
     let runs = generated_runs c.programs_run.ensures c.args.source.now given c.in_ok-laid.laid
     c.in_ok-checked.checked c.law_of_files.ensures c.in_ok-laid.ensures.laid
     c.in_ok-checked.ensures.tree c.in_ok-checked.ensures.sound in
-    subst (λ (p : Program). RunsAs c.args.source.now given (code_of p))
-    (sym (c.in_ok-loaded.ensures ∙ c.in_ok-program.ensures)) runs.1
+    subst (KeepsSource c.args.source.now given) (sym (c.in_ok-loaded.ensures ∙ c.in_ok-program.ensures)) runs

@@ -5,9 +5,11 @@ use Rattle.plc_base.specs.declared.Profile.TheVariants.{Small}
 use Rattle.plc_io.specs.Contents.{Contents}
 use Rattle.image_file.specs.Loaded.{LoadedProgram}
 use Rattle.machine.specs.Flat.{code_of}
+use Rattle.var_access.specs.Recorded.{Recorded}
 use Rattle.var_access.specs.declared.Entry.{Entry}
-use Rattle.event_text.specs.History.{history_of}
-use Rattle.run_text.specs.RunText.{run_text}
+use Rattle.sem_kept.specs.Agreement.{names_in}
+use Rattle.event_text.specs.Texts.{history_of}
+use Rattle.s7_cli.specs.run_text.RunText.{run_text}
 use Rattle.s7_cli.specs.declared.failures.File.TheVariants.{History}
 use Rattle.s7_cli.specs.Answer.{Answer}
 use Rattle.s7_cli.specs.Command.{Go, Input, program_inputs}
@@ -59,7 +61,7 @@ returns-in_err-program g c =
     let contents : Contents = (g.F.Files.shown c.args.files.now).contents in
     let text = c.in_ok-text.text in
     let history : List ℕ = c.in_ok-history.history.items in
-    comes-refused (LoadedProgram × Vec Entry Global) (Go c.args.src.now symbols c.args.hist.now) _ _ _ (contents_of text ++ history ∷ [])
+    comes-refused (LoadedProgram × Recorded) (Go c.args.src.now symbols c.args.hist.now) _ _ _ (contents_of text ++ history ∷ [])
     (GoSays text.source.items (symbols_of text) c.deref.result.now) _ _ (fault.1 ∙ ap Err fault.2)
     (read-then _ _ _ (program_inputs c.args.src.now symbols) (history_input c.args.hist.now ∷ []) (contents_of text) (history ∷ []) c.in_ok-text.ensures
     (file-read bytes_of _ _ (history_input c.args.hist.now) c.in_ok-history.history c.in_ok-history.ensures))
@@ -75,9 +77,10 @@ returns g c =
     let text = c.in_ok-text.text in
     let history : List ℕ = c.in_ok-history.history.items in
     let running = code_of c.in_ok-program.program.program in
-    let entries : List Entry = c.in_ok-program.entries.items in
-    let runs = c.in_ok-program.ensures.runs in
-    let spells : history_of history ≡ Ok entries = ap history_of (sym c.deref.ensures.value) ∙ c.in_ok-program.ensures.spells in
+    let entries : List Entry = c.in_ok-program.entries.entries in
+    let runs = c.in_ok-program.ensures.keeps.runs in
+    let names = names_in (symbols_of text) in
+    let spells : history_of names history ≡ Ok entries = ap (history_of names) (sym c.deref.ensures.value) ∙ c.in_ok-program.ensures.spells in
     comes-written (Go c.args.src.now symbols c.args.hist.now) _ _ _ (contents_of text ++ history ∷ []) (run_text Small runs.0 entries) _ refl
     (read-then _ _ _ (program_inputs c.args.src.now symbols) (history_input c.args.hist.now ∷ []) (contents_of text) (history ∷ []) c.in_ok-text.ensures
     (file-read bytes_of _ _ (history_input c.args.hist.now) c.in_ok-history.history c.in_ok-history.ensures))
@@ -85,5 +88,5 @@ returns g c =
     (Ok runs.0, runs.1, ap (go_answer (Ok runs.0)) (sym spells)))
     (subst
     (λ (t : List ℕ). TextWritten t (taking (g.K.Sink.shown c.args.out.now) (g.K.Sink.shown c.replay_text.new.out)) c.written.result)
-    (ap (run_text Small running) c.deref-2.ensures.value ∙ texts-kept c.continues_replay.ensures.state Small runs.0 running runs.2 entries)
+    (texts-kept c.continues_replay.ensures.state Small runs.0 running runs.2 entries)
     (c.written.ensures _ _ _ c.replay_text.ensures))

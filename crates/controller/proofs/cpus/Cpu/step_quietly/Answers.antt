@@ -15,10 +15,11 @@ run_quietly-done-requires c =
 pub returns : goal.returns
 returns c =
     let quiet : IsQuiet (state_of c.args.self.now) = record {
+      unwatched = none_there c.args.self.now.monitored (sym c.is_some.ensures ∙ c.if-is_some.false);
       running = sym c.is_stop.ensures ∙ c.if-is_stop.false;
       none =
           sym c.best.ensures.value
-          ∙ none_there c.best.result (sym c.is_some.ensures ∙ c.if-is_some.false);
+          ∙ none_there c.best.result (sym c.is_some-else-is_stop.ensures ∙ c.if-is_some-2.false);
     } in
     let steps = steps_quietly (code_of c.args.program.now.program) c.run_quietly-done.result
     (state_of c.args.self.now) c.run_quietly-done.new.self
@@ -30,7 +31,7 @@ returns c =
       state = sym steps.state;
       outputs = steps.outputs;
       mode = refl;
-      stops = λ less. no_quiet_step (not (is_stop c.args.self.now.mode))
+      stops = λ less. no_quiet_step (not (is_some c.args.self.now.monitored)) (not (is_stop c.args.self.now.mode))
           (not (is_some (best_of c.args.self.now.mode (state_of c.args.self.now).sched.pending))) _
           (c.run_quietly-done.ensures.stops less);
     }

@@ -1,0 +1,55 @@
+-- From what a statement leaves to its record.
+use Rattle.std.proofs.Common.{◌≡◌, List, [], ◌∷◌, Some, None, refl, ap, ◌∙◌}
+use Rattle.status_word.specs.declared.Regs.{Regs}
+use Rattle.frames.specs.declared.Activation.{Activation}
+use Rattle.machine.specs.Code.{Code}
+use Rattle.machine.specs.Statement.{World, Step, Went, Ended, SyncError, SysCall, Stop, statement}
+use Rattle.machine.specs.declared.outcomes.Outcome.{Outcome}
+use Rattle.machine.specs.declared.outcomes.Outcome.TheVariants as outcome
+use Rattle.ob_sched.specs.Scheduler.{Scheduler}
+use Rattle.controller.specs.Leaves.{Steps, StepsTo, regs_finished, stand_of, stand_record}
+use Rattle.controller.specs.Monitoring.{regs_after, regs_left, step_record}
+use Rattle.controller.specs.State.{State}
+use Rattle.controller.specs.declared.activations.Stand.{Stand}
+
+-- the registers after a statement, from those before a system function did its work
+regs_done : (s : Scheduler) (step : Step) (a : Activation) (below new : List Activation) (w w' : World)
+    (done : Outcome) → StepsTo step a below new w w' done
+    → regs_finished done s new (regs_left step a) ≡ regs_after s step a
+regs_done s (Went b then) a below new w w' outcome.Went steps = refl
+regs_done s (Ended regs then) a below new w w' outcome.Ended steps = refl
+regs_done s (SyncError code b) a below new w w' (outcome.SyncError error) steps = refl
+regs_done s (SysCall number given b) a below new w w' (outcome.SysCall n inputs to) steps =
+    rw (steps.0, steps.1, steps.3) refl
+regs_done s (Stop cause) a below new w w' (outcome.Stop why) steps = refl
+regs_done s step a below new w w' done steps = absurd steps
+
+recorded_on : (code : Code) (s : State) (old new : List Activation) (w' : World)
+    (done : Stand × Outcome) → Steps code old new s.world w' (Some done)
+    → stand_record code s.monitored done.0 (regs_finished done.1 s.sched new done.0.regs)
+    ≡ step_record code s old
+recorded_on code s [] new w' done steps = absurd steps
+recorded_on code s (a ∷ below) new w' done steps =
+    ap
+    (λ (stand : Stand). stand_record code s.monitored stand (regs_finished done.1 s.sched new stand.regs))
+    steps.0
+    ∙ ap
+    (λ (r : Regs). stand_record code s.monitored
+    (stand_of a (regs_left (statement code a s.world) a)) r)
+    (regs_done s.sched (statement code a s.world) a below new s.world w' done.1 steps.1)
+
+pub step_recorded : (code : Code) (s : State) (new : List Activation) (w' : World)
+    (done : Stand × Outcome) → Steps code s.activations new s.world w' (Some done)
+    → stand_record code s.monitored done.0 (regs_finished done.1 s.sched new done.0.regs)
+    ≡ step_record code s s.activations
+step_recorded code s new w' done steps = recorded_on code s s.activations new w' done steps
+
+-- a cycle point has none
+idle_on : (code : Code) (s : State) (old new : List Activation) (w' : World)
+    → Steps code old new s.world w' None → step_record code s old ≡ None
+idle_on code s [] new w' steps = refl
+idle_on code s (a ∷ below) new w' steps = absurd steps
+
+pub idle_recorded : (code : Code) (s : State) (new : List Activation) (w' : World)
+    → Steps code s.activations new s.world w' None → step_record code s s.activations ≡ None
+idle_recorded code s new w' steps = idle_on code s s.activations new w' steps

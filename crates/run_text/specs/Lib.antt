@@ -1,2 +1,0 @@
-pub mod RunText
-pub mod Behind

@@ -1,0 +1,7 @@
+//! The text of a run: what each entry of a history showed, and how the controller stands at its
+//! end.
+mod closing;
+mod entries;
+mod replaying;
+
+pub use replaying::replay_text;
