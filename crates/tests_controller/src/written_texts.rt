@@ -1,6 +1,7 @@
 use crate::bench::{MOST_ENTRIES, controller_of};
 use crate::compare::same;
 use crate::texts::{bytes_of, names};
+use controller::Controller;
 use event_text::{read_history, write_history};
 use std::alloc::Global;
 use std::process::Abort;
@@ -45,17 +46,22 @@ static WRITTEN: [(&str, &str); 12] = [
     ),
 ];
 
-// The text of the history of a controller without a program.
+fn apply(rt: &impl Abort, controller: &mut Controller, entry: Entry) -> Result<(), Fail> {
+    assert!(rt; entry.is_valid());
+    assert!(rt; controller.history_len() < MOST_ENTRIES);
+    controller.reserve(1)?;
+    controller.apply(entry);
+    Ok(())
+}
+
+// The text of entries, as the history of a controller without a program.
 fn written(rt: &impl Abort, alloc: Global, entries: &Entries) -> Result<Vec<u8>, Fail> {
     let mut controller = controller_of(alloc, "")?;
     for place in 0..entries.len() {
         let Some(entry) = entries.entry(place) else {
             break;
         };
-        assert!(rt; entry.is_valid());
-        assert!(rt; controller.history_len() < MOST_ENTRIES);
-        controller.reserve(1)?;
-        controller.apply(entry);
+        apply(rt, &mut controller, entry)?;
     }
     Ok(write_history(alloc, &controller)?)
 }
@@ -75,27 +81,31 @@ fn written_histories(rt: HostRuntime) -> Result<(), Fail> {
     Ok(())
 }
 
+fn step(who: u8) -> Entry {
+    let what = What::Step;
+    Entry { who, what }
+}
+
+fn stop(who: u8) -> Entry {
+    let request = Request::Stop;
+    let what = What::Ask { request };
+    Entry { who, what }
+}
+
 // Entries that no text spells: steps of two workers in a row, and requests of workers that are no
 // operators, which are written as those of operator 1.
 #[test]
 fn irregular_histories(rt: HostRuntime) -> Result<(), Fail> {
-    let mut entries = Entries::new(rt.alloc());
-    let stop = What::Ask {
-        request: Request::Stop,
-    };
-    for (who, what, count) in [
-        (1, What::Step, 2),
-        (9, What::Step, 3),
-        (2, stop, 1),
-        (6, stop, 1),
-        (7, stop, 1),
-        (255, stop, 1),
-        (7, What::Tick { ms: 1 }, 1),
-    ] {
-        entries.append(&Entry { who, what }, count)?;
+    let mut controller = controller_of(rt.alloc(), "")?;
+    for who in [1, 1, 9] {
+        apply(&rt, &mut controller, step(who))?;
     }
-    let out = written(&rt, rt.alloc(), &entries)?;
-    let text = "step 5\nop 1 stop\nop 4 stop\nop 1 stop\nop 1 stop\ntick 1\n";
+    for who in [2, 6, 7, 255] {
+        apply(&rt, &mut controller, stop(who))?;
+    }
+    apply(&rt, &mut controller, step(7))?;
+    let out = write_history(rt.alloc(), &controller)?;
+    let text = "step 3\nop 1 stop\nop 4 stop\nop 1 stop\nop 1 stop\nstep 1\n";
     same(&rt, text, out.as_slice(), text.as_bytes());
     Ok(())
 }
