@@ -1,4 +1,5 @@
 pub mod NumberLemmas
 pub mod PartLemmas
+pub mod RequestLemmas
 pub mod RunLemmas
 pub mod WordLemmas

@@ -1,5 +1,5 @@
 -- Requests as texts spell them.
-use Rattle.std.specs.Prelude.{ℕ, ◌+◌, ◌==◌, List, [], ◌∷◌, length, take, drop, reverse, map, nat_le, Bool, true, false, ◌&&◌, not, Option, Some, None, Result, Ok, Err, bytes_eq, codes, if◌then◌else◌}
+use Rattle.std.specs.Prelude.{ℕ, suc, ◌==◌, List, [], ◌∷◌, length, take, drop, reverse, map, nat_le, Bool, true, false, ◌&&◌, not, Option, Some, None, Result, Ok, Err, bytes_eq, codes, if◌then◌else◌}
 use Rattle.std.specs.List.{position_or_len, onto_first}
 use Rattle.plc_base.specs.Texts.{is_blank}
 use Rattle.plc_base.specs.declared.blocks.BlockKind.{BlockKind}
@@ -24,8 +24,8 @@ parts_from quoted (b ∷ t) =
 abbrev pub part_len : (quoted : Bool) → List ℕ → ℕ
 part_len quoted [] = 0
 part_len quoted (b ∷ t) =
-    if is_quote b then part_len (not quoted) t + 1
-    else if is_comma b && not quoted then 0 else part_len quoted t + 1
+    if is_quote b then suc (part_len (not quoted) t)
+    else if is_comma b && not quoted then 0 else suc (part_len quoted t)
 
 -- a read of at most eight variables; more are not in the grammar
 abbrev pub few_vars : List (Reading Var) → Reading Request

@@ -44,6 +44,7 @@ fn part_len(text: &[u8]) -> usize
 }
 
 /// What stands before the first comma outside of quotes, and what follows it, if there is one.
+#[tactic(auto, using(crate::proofs::PartLemmas::part_last))]
 fn first_part(text: &[u8]) -> (&[u8], Option<&[u8]>)
     ensures { MatchOption result.1 (parts_from false text.now ≡ result.0.now ∷ [])
         (λ rest. parts_from false text.now ≡ result.0.now ∷ parts_from false rest.now) }
