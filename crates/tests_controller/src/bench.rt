@@ -1,13 +1,15 @@
 //! A program that runs along a history, and tables of such runs.
 //!
 //! A row has a program (as `tests_assembler` spells it), a history and the text of its run. A history's
-//! lines, between bars, are `step n`, `in b hh`, `arrive ob` and `tick n`. The text has a line for each peripheral
-//! output byte that an entry changed (`@4 PQ 5 = 01`), one for each mode that it began, one at the
-//! end, and then one for each data block. Lines of statements are counted in each block from 1.
+//! lines, between bars, are `step n`, `in b hh`, `arrive ob`, `tick n` and requests (`requests.rt`). The
+//! text has a line for what was recorded of an entry, one for each peripheral output byte that it changed
+//! (`@4 PQ 5 = 01`), one for each mode that it began and one for the answer to a request; one at the end,
+//! and then one for each data block. Lines of statements are counted in each block from 1.
 ghost use Rattle.std.specs.Prelude.{◌≡◌, ◌≤◌, ◌<◌, ◌^◌, length, IfOk};
 ghost use Rattle.var_access.specs.Entry.{IsValid};
 
 use crate::compare::same;
+use crate::requests::{request_of, write_record, write_reply};
 use controller::{Controller, Observed};
 use image_file::{Loaded, load};
 use plc_base::{BlockKind, Mode, Spot};
@@ -39,6 +41,9 @@ fn byte(word: Option<&str>) -> u8 {
 
 /// What a line of a history does, and how often.
 fn line_of(line: &str) -> (What, u32) {
+    if let Some(request) = request_of(line) {
+        return (What::Ask { request }, 1);
+    }
     let mut words = line.split_ascii_whitespace();
     let name = words.next().unwrap_or("");
     let first = words.next();
@@ -91,6 +96,9 @@ fn write_mode(out: &mut String, mode: Mode) -> Written {
 }
 
 fn write_observed(out: &mut String, n: u64, seen: &Observed) -> Written {
+    if let Some(record) = &seen.mon {
+        write_record(out, n, kind_name(record.block.kind), record)?;
+    }
     for (byte, value) in seen.outputs.as_slice() {
         write!(out, "@{n} PQ {byte} = {value:02X} | ")?;
     }
@@ -134,7 +142,24 @@ fn write_end(rt: &impl Abort, out: &mut String, controller: &Controller) -> Writ
     Ok(())
 }
 
-/// Applies an entry, and writes what it showed.
+/// Writes what an entry was answered, where that isn't just done.
+fn write_answered(
+    rt: &impl Abort,
+    out: &mut String,
+    n: u64,
+    what: &What,
+    reply: &Reply,
+) -> Written {
+    match what {
+        What::Ask { request } => write_reply(out, n, request, reply),
+        _ => {
+            assert!(rt; *reply == Reply::Done);
+            Ok(())
+        }
+    }
+}
+
+/// Applies an entry, and writes what it showed and was answered.
 pub(crate) fn apply_entry(
     rt: &impl Abort,
     controller: &mut Controller,
@@ -144,8 +169,10 @@ pub(crate) fn apply_entry(
     assert!(rt; entry.is_valid());
     assert!(rt; controller.history_len() < MOST_ENTRIES);
     controller.reserve(1)?;
-    assert!(rt; controller.apply(entry) == Reply::Done);
-    write_observed(out, controller.history_len(), controller.observed())?;
+    let reply = controller.apply(entry);
+    let n = controller.history_len();
+    write_observed(out, n, controller.observed())?;
+    write_answered(rt, out, n, &entry.what, &reply)?;
     Ok(())
 }
 

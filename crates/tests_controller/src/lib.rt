@@ -13,7 +13,13 @@ mod error_rows;
 #[cfg(test)]
 mod interrupt_rows;
 #[cfg(test)]
+mod monitoring_rows;
+#[cfg(test)]
 mod quiet_rows;
+#[cfg(test)]
+mod request_rows;
+#[cfg(test)]
+mod requests;
 #[cfg(test)]
 mod tick_rows;
 #[cfg(test)]

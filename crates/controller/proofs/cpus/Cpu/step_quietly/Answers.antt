@@ -19,7 +19,7 @@ returns c =
       running = sym c.is_stop.ensures ∙ c.if-is_stop.false;
       none =
           sym c.best.ensures.value
-          ∙ none_there c.best.result (sym c.is_some.ensures ∙ c.if-is_some.false);
+          ∙ none_there c.best.result (sym c.is_some-else-is_stop.ensures ∙ c.if-is_some-2.false);
     } in
     let steps = steps_quietly (code_of c.args.program.now.program) c.run_quietly-done.result
     (state_of c.args.self.now) c.run_quietly-done.new.self
