@@ -1,5 +1,5 @@
 -- What holds of the parts of a controller at all times.
-use Rattle.std.specs.Prelude.{◌≡◌, ◌+◌, ◌^◌, ◌<◌, ◌≤◌, vec_len, vec_capacity}
+use Rattle.std.specs.Prelude.{◌≡◌}
 use Rattle.flat_code.specs.Loading.{Verifies}
 use Rattle.machine.specs.Flat.{code_of}
 use Rattle.controller.specs.Fitting.{IsFit}
@@ -11,19 +11,16 @@ use Rattle.controller.specs.Replayed.{events}
 use Rattle.controller.specs.declared.controllers.Controller.TheInside.{Inside}
 
 -- the program verifies; the state is the replay of the history at the profile, and fits the program;
--- what the last entry showed is kept with what the next one is compared with; the numbers of data
--- blocks are the program's, in its order; and there is room for as many further entries as are said,
--- with the history's fewer than 2^64
+-- what the last entry showed is kept with what the next one is compared with; and the numbers of data
+-- blocks are the program's, in its order
 pub record IsReplay (a : Inside) : Type 0 where
   pub verifies : Verifies a.program.program
-  pub state : state_of a.cpu ≡ replay a.profile (code_of a.program.program) (events a.history.items)
+  pub state : state_of a.cpu ≡ replay a.profile (code_of a.program.program) (events a.history.entries)
   pub fit : IsFit a.program.program (state_of a.cpu)
   pub observer :
       a.observer
       ≡ watched (state_of a.cpu)
-      (last_seen a.profile (code_of a.program.program) (events a.history.items))
+      (last_seen a.profile (code_of a.program.program) (events a.history.entries))
   pub numbers :
       a.numbers.items
       ≡ numbers_of (code_of a.program.program).blocks
-  pub room : vec_len a.history + a.spare ≤ vec_capacity a.history
-  pub bounded : vec_len a.history + a.spare < 2 ^ 64

@@ -1,17 +1,17 @@
 //! The controller: a program and its history.
-ghost use Rattle.std.specs.Prelude.{◌≡◌, ◌+◌, ◌-◌, ◌^◌, ◌<◌, ◌≤◌, ◌↔◌, [], ◌∷◌, ◌++◌, length, max, take, slice_get, is_some, replicate, false, Some, IfOk, OnOk, OnErr, IsNone, IsTrue};
+ghost use Rattle.std.specs.Prelude.{◌≡◌, ◌+◌, ◌-◌, ◌^◌, ◌<◌, ◌≤◌, ◌↔◌, [], ◌∷◌, ◌++◌, length, max, slice_get, is_some, replicate, false, IfOk, OnOk, OnErr, IsNone};
 ghost use Rattle.std.specs.Option.{option_copied, option_map};
 ghost use Rattle.std.specs.FinMap as finmap;
 ghost use Rattle.plc_base.specs.declared.Profile.TheVariants.{Small};
 ghost use Rattle.image_file.specs.Readers.{bytes_of};
 ghost use Rattle.machine.specs.Flat.{code_of};
 ghost use Rattle.var_access.specs.Entry.{IsRequest, IsValid};
-ghost use Rattle.var_access.specs.declared.Entry.{Entry};
+ghost use Rattle.var_access.specs.Runs.{AreRuns, written_out};
 ghost use Rattle.var_access.specs.declared.What.TheVariants.{Step};
 ghost use Rattle.controller.specs.Asking.{answered};
 ghost use Rattle.controller.specs.Quiet.{ShowNothing, steps_quietly};
 ghost use Rattle.controller.specs.Replay.{run_from};
-ghost use Rattle.controller.specs.Replayed.{data_blocks as blocks_after, events, next_happens, numbered as with_number, replayed, seen};
+ghost use Rattle.controller.specs.Replayed.{data_blocks as blocks_after, next_happens, numbered as with_number, replayed, seen};
 
 use crate::cpus::Cpu;
 use crate::observing::{Observed, Observer};
@@ -20,7 +20,7 @@ use image_file::Loaded;
 use plc_base::{Mode, NoMemory, Profile};
 use std::alloc::Global;
 use std::marker::Model;
-use var_access::{Entry, Reply, Request, What};
+use var_access::{Entries, Entry, Reply, Request, Run, What};
 
 /// A controller: a program, its profile, and the history of all entries so far, from which its state
 /// follows. A contract sees these three, and `spare`, for how many further entries there is room.
@@ -29,8 +29,7 @@ pub struct Controller {
     program: Loaded,
     profile: Profile,
     cpu: Cpu,
-    history: Vec<Entry>,
-    spare: u64,
+    history: Entries,
     observer: Observer,
     /// The numbers of the data blocks, which rise.
     numbers: Vec<u16>,
@@ -46,8 +45,8 @@ impl Model for Controller {
     ghost view = { λ a. record {
       program = a.program.program;
       profile = a.profile;
-      history = a.history.items;
-      spare = a.spare;
+      history = a.history.entries;
+      spare = a.history.spare;
     } };
 
     ghost invariant = { IsReplay };
@@ -57,58 +56,6 @@ fn number_at(numbers: &[u16], place: usize) -> Option<u16>
     ensures { result ≡ slice_get numbers.now place }
 {
     numbers.get(place).copied()
-}
-
-fn is_step(entry: &Entry) -> bool
-    ensures { IsTrue result ↔ (entry.now.what ≡ Step) }
-{
-    matches!(entry.what, What::Step)
-}
-
-// Whether all of four entries from a place on are steps.
-fn are_steps(entries: &[Entry], at: usize) -> bool
-    requires { at + 3 < length entries.now }
-    ensures { IsTrue result → events (take at entries.now) ≡ replicate at Step
-        → events (take (at + 4) entries.now) ≡ replicate (at + 4) Step }
-{
-    is_step(&entries[at])
-        & is_step(&entries[at + 1])
-        & is_step(&entries[at + 2])
-        & is_step(&entries[at + 3])
-}
-
-// How many of the first entries of a list are steps, by eights: up to seven more may follow.
-fn leading_eights(entries: &[Entry]) -> usize
-    ensures few { result ≤ length entries.now }
-    ensures steps { events (take result entries.now) ≡ replicate result Step }
-{
-    let mut steps = 0;
-    // All eight are looked at, so that the compiler tests them at once.
-    while steps + 7 < entries.len() {
-        if !(are_steps(entries, steps) & are_steps(entries, steps + 4)) {
-            return steps;
-        }
-        steps += 8;
-    }
-    steps
-}
-
-/// How many of the first entries of a list are steps.
-pub fn leading_steps(entries: &[Entry]) -> usize
-    ensures few { result ≤ length entries.now }
-    ensures steps { events (take result entries.now) ≡ replicate result Step }
-    ensures ends { (e : Entry) → slice_get entries.now result ≡ Some e
-        → e.what ≡ Step → ⊥ }
-{
-    // By eights first: a history is steps for the most part.
-    let mut steps = leading_eights(entries);
-    while steps < entries.len() {
-        if !is_step(&entries[steps]) {
-            return steps;
-        }
-        steps += 1;
-    }
-    steps
 }
 
 impl Controller {
@@ -135,29 +82,23 @@ impl Controller {
             program,
             profile: Profile::Small,
             cpu,
-            history: Vec::new(alloc),
-            spare: 0,
+            history: Entries::new(alloc),
             observer,
             numbers,
         })
     }
 
-    /// Makes room for `n` further entries. It fails where there is no memory, and has changed
-    /// nothing then.
+    /// Makes room for `n` further entries, whatever they are.
     ///
     /// # Errors
     ///
-    /// `NoMemory` for want of memory.
+    /// `NoMemory` for want of memory. Nothing has changed then.
     pub fn reserve(&mut self, n: u64) -> Result<(), NoMemory>
         requires { length self.old.history + n < 2 ^ 64 }
         ensures ok { OnOk result (self.new ≡ record self.old { spare = max self.old.spare n }) }
         ensures err { OnErr result (self.new ≡ self.old) }
     {
-        if n > self.spare {
-            self.history.reserve(n as usize)?;
-            self.spare = n;
-        }
-        Ok(())
+        self.history.reserve(n)
     }
 
     /// What a request is answered now: its reply, if it were the next entry. Takes no memory.
@@ -182,11 +123,11 @@ impl Controller {
     {
         crate::laws::continues_replay();
         crate::laws::counts_entries();
+        self.history.law_of_room();
         crate::laws::what_runs_goes_on();
         let mon = self.cpu.enter(&self.program, &e.what);
         self.observer.look(&self.cpu, mon);
-        self.history.push_reserved(*e);
-        self.spare -= 1;
+        self.history.push(e, 1);
     }
 
     /// Makes one entry of the history, and answers what the entry answers: a request its reply, each
@@ -211,36 +152,35 @@ impl Controller {
         reply
     }
 
-    /// Makes steps from the front of a list of them as long as each shows nothing; the answer is how
-    /// many. It stops only before a step that isn't a statement of the quiet kind
+    /// Makes a step again and again as long as each time it shows nothing, `most` times at most; the
+    /// answer is how often. It stops only before a step that isn't a statement of the quiet kind
     /// (`machine::quiet_statements`) with which the running activation goes on, in STOP, where a block
     /// is monitored, or where a request waits: what it leaves is for `enter`. Takes no memory.
-    pub fn step_quietly(&mut self, steps: &[Entry]) -> usize
-        requires steps { events steps.now ≡ replicate (length steps.now) Step }
-        requires room { length steps.now ≤ self.old.spare }
-        ensures few { result ≤ length steps.now }
+    pub fn step_quietly(&mut self, step: &Entry, most: u64) -> u64
+        requires step { step.now.what ≡ Step }
+        requires room { most ≤ self.old.spare }
+        ensures few { result ≤ most }
         ensures history { self.new ≡ record self.old {
-          history = self.old.history ++ take result steps.now;
+          history = self.old.history ++ replicate result step.now;
           spare = self.old.spare - result;
         } }
         ensures nothing { ShowNothing (code_of self.old.program) (replayed self.old)
-            (events (take result steps.now)) }
+            (replicate result Step) }
         ensures state { replayed self.new ≡ run_from (code_of self.old.program)
-            (replayed self.old) (events (take result steps.now)) }
-        ensures stops { result < length steps.now
+            (replayed self.old) (replicate result Step) }
+        ensures stops { result < most
             → steps_quietly (code_of self.old.program) (replayed self.new) ≡ false }
     {
         crate::laws::continues_replay();
         crate::laws::counts_entries();
+        self.history.law_of_room();
         crate::laws::what_runs_goes_on();
-        let made = self.cpu.step_quietly(&self.program, steps.len() as u64) as usize;
+        let made = self.cpu.step_quietly(&self.program, most);
         if made == 0 {
             return 0;
         }
         self.observer.pass();
-        let pushed = self.history.extend_from_slice(&steps[..made]);
-        prove!(pushed.is_ok());
-        self.spare -= made as u64;
+        self.history.push(step, made);
         made
     }
 
@@ -263,7 +203,7 @@ impl Controller {
         ensures len { result ≡ length self.now.history }
         ensures bounded { result + self.now.spare < 2 ^ 64 }
     {
-        self.history.len() as u64
+        self.history.len()
     }
 
     /// An entry of the history by its place, counted from 0, if there is one.
@@ -271,7 +211,16 @@ impl Controller {
         ensures value { result ≡ slice_get self.now.history i }
         ensures past { IsNone result ↔ (length self.now.history ≤ i) }
     {
-        self.history.get(i as usize).copied()
+        self.history.entry(i)
+    }
+
+    /// The history as runs: written out in their order these are its entries, and no run of steps is
+    /// followed by one of the same worker. Takes no memory.
+    pub fn runs(&self) -> &[Run]
+        ensures out { written_out result.now ≡ self.now.history }
+        ensures are { AreRuns result.now }
+    {
+        self.history.runs()
     }
 
     /// The operating mode after the whole history.

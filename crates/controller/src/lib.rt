@@ -21,7 +21,7 @@ mod starting;
 mod stepping;
 mod stopping;
 
-pub use controllers::{Controller, leading_steps};
+pub use controllers::Controller;
 pub use cpus::Cpu;
 pub use observing::{Observed, Observer, Outputs};
 pub use starting::data_numbers;

@@ -21,6 +21,8 @@ mod request_rows;
 #[cfg(test)]
 mod requests;
 #[cfg(test)]
+mod run_rows;
+#[cfg(test)]
 mod tick_rows;
 #[cfg(test)]
 mod watched_rows;

@@ -1,7 +1,7 @@
 //! Steps that show nothing are passed in a row, and all comes out as one by one.
 use crate::bench::{MOST_ENTRIES, apply_entry, controller_of, entries_text};
 use crate::compare::same;
-use controller::{Controller, leading_steps};
+use controller::Controller;
 use plc_base::Mode;
 use std::alloc::{AllocError, Global};
 use std::process::Abort;
@@ -10,7 +10,7 @@ use var_access::{Entry, What};
 
 /// A program, so many steps, of which so many are taken in a row, an input and so many steps more; and
 /// what all of them show. No program comes to RUN in the first steps.
-type Row = (&'static str, u8, usize, u8, &'static str);
+type Row = (&'static str, u8, u8, u8, &'static str);
 
 static ROWS: [Row; 5] = [
     (
@@ -58,6 +58,11 @@ fn entry_of(what: What) -> Entry {
     Entry { who: 1, what }
 }
 
+/// The entries behind so many.
+fn behind(entries: &[Entry], count: u8) -> &[Entry] {
+    entries.get(count as usize..).unwrap_or(&[])
+}
+
 fn entries_of(alloc: Global, first: u8, then: u8) -> Result<Vec<Entry>, AllocError> {
     let mut entries = Vec::new(alloc);
     for _ in 0..first {
@@ -70,35 +75,35 @@ fn entries_of(alloc: Global, first: u8, then: u8) -> Result<Vec<Entry>, AllocErr
     Ok(entries)
 }
 
-/// Takes the steps at the front in a row, of which so many are made; what is left of the entries.
-fn pass_steps<'a>(
+/// Takes so many steps in a row, of which so many are made.
+fn pass_steps(
     rt: &impl Abort,
     controller: &mut Controller,
     when: &str,
-    entries: &'a [Entry],
-    made: usize,
-) -> Result<&'a [Entry], Fail> {
-    let steps = &entries[..leading_steps(entries)];
+    steps: u64,
+    made: u64,
+) -> Result<(), Fail> {
     assert!(rt; controller.history_len() < MOST_ENTRIES);
-    controller.reserve(steps.len() as u64)?;
-    let passed = controller.step_quietly(steps);
+    controller.reserve(steps)?;
+    let passed = controller.step_quietly(&entry_of(What::Step), steps);
     same(rt, when, passed, made);
-    Ok(&entries[passed..])
+    Ok(())
 }
 
-/// The text of all entries, the first steps in a row as far as they show nothing.
+/// The text of all entries, so many steps at their front in a row, of which so many are made.
 fn quiet_text(
     alloc: Global,
     rt: &impl Abort,
     program: &str,
     entries: &[Entry],
-    made: usize,
+    steps: u8,
+    made: u8,
 ) -> Result<String, Fail> {
     let mut controller = controller_of(alloc, program)?;
-    let left = pass_steps(rt, &mut controller, program, entries, made)?;
+    pass_steps(rt, &mut controller, program, steps as u64, made as u64)?;
     same(rt, program, controller.history_len(), made as u64);
     same(rt, program, controller.mode() == Mode::Startup, true);
-    entries_text(alloc, rt, &mut controller, left)
+    entries_text(alloc, rt, &mut controller, behind(entries, made))
 }
 
 /// The text of all entries, one by one.
@@ -114,7 +119,7 @@ fn steps_are_passed(rt: HostRuntime) -> Result<(), Fail> {
         let entries = entries_of(alloc, *first, *then)?;
         let one_by_one = text(alloc, &rt, program, entries.as_slice())?;
         same(&rt, *program, one_by_one.as_str(), *shown);
-        let quiet = quiet_text(alloc, &rt, program, entries.as_slice(), *in_a_row)?;
+        let quiet = quiet_text(alloc, &rt, program, entries.as_slice(), *first, *in_a_row)?;
         same(&rt, *program, quiet.as_str(), *shown);
     }
     Ok(())
@@ -126,13 +131,12 @@ fn wait_for_a_place(
     controller: &mut Controller,
     out: &mut String,
 ) -> Result<(), Fail> {
-    let steps = [entry_of(What::Step); 5];
     let arrival = |ob: u16| entry_of(What::Arrive { ob, value: 0 });
     apply_entry(rt, controller, out, entry_of(What::Step))?;
     apply_entry(rt, controller, out, arrival(40))?;
-    pass_steps(rt, controller, "nothing waits", &steps, 5)?;
+    pass_steps(rt, controller, "nothing waits", 5, 5)?;
     apply_entry(rt, controller, out, arrival(10))?;
-    pass_steps(rt, controller, "OB 10 waits", &steps, 0)?;
+    pass_steps(rt, controller, "OB 10 waits", 5, 0)?;
     Ok(())
 }
 

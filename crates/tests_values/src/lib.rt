@@ -19,4 +19,8 @@ mod number_formats;
 #[cfg(test)]
 mod number_instructions;
 #[cfg(test)]
+mod requests;
+#[cfg(test)]
+mod runs;
+#[cfg(test)]
 mod timers_and_counters;

@@ -1,6 +1,6 @@
 -- Runs of a history.
 use Rattle.std.proofs.Common.{◌≡◌, ℕ, zero, suc, ◌+◌, ◌≤◌, ◌<◌, Bool, true, false, List, [], ◌∷◌, ◌++◌, length, Option, Some, None, refl, sym, ap, ◌∙◌, subst, arith, if◌then◌else◌, slice_get, length-append}
-use Rattle.std.specs.Prelude.{◌==◌, ◌&&◌, ◌-◌, replicate, nat_le, nat_lt}
+use Rattle.std.specs.Prelude.{◌==◌, ◌&&◌, ◌-◌, replicate, nat_le, nat_lt, slice_set, take}
 use Rattle.std.specs.Option.{IfSome}
 use Rattle.std.specs.List.{AllByRecursion, slice_index_or}
 use Rattle.std.specs.List.Sorted.{IsNonDecreasingBy, IsPartitionPoint}
@@ -10,7 +10,7 @@ use Rattle.var_access.specs.declared.entries.Entry.{Entry}
 use Rattle.var_access.specs.declared.entries.What.{What}
 use Rattle.var_access.specs.declared.entries.What.TheVariants.{Step, Input, Arrive, Tick, Ask}
 use Rattle.var_access.specs.declared.runs.Run.{Run}
-use Rattle.var_access.specs.Runs.{written_out, FollowFrom, is_step, is_step_what, joins, IsRun, StandsApart, StandApart, AreRuns, run_behind, run_at, entry_by}
+use Rattle.var_access.specs.Runs.{written_out, FollowFrom, is_step, is_step_what, joins, IsRun, StandApart, AreRuns, run_behind, run_at, entry_by}
 
 abbrev pub one_run : (e : Entry) (first count : ℕ) → Run
 one_run e first count = record { entry = e; first = first; count = count }
@@ -266,11 +266,11 @@ joined_step one next is =
     (and_parts (is_step one) (is_step next) parts.0).0
 
 -- what is written out of the first run, of a run that was joined, and of one more
-pub first_written : (e : Entry) (first count : ℕ)
+first_written : (e : Entry) (first count : ℕ)
     → written_out (one_run e first count ∷ []) ≡ replicate count e
 first_written e first count = written_one (one_run e first count)
 
-pub joined_written : (front : List Run) (r : Run) (e : Entry) (count : ℕ) → joins r.entry e ≡ true
+joined_written : (front : List Run) (r : Run) (e : Entry) (count : ℕ) → joins r.entry e ≡ true
     → written_out (front ++ record r { count = r.count + count } ∷ [])
     ≡ written_out (front ++ r ∷ []) ++ replicate count e
 joined_written front r e count is =
@@ -294,7 +294,7 @@ run_is : (e : Entry) (first count : ℕ) → 1 ≤ count → (is_step e ≡ fals
     → IsRun (one_run e first count)
 run_is e first count some one = record { some = some; one = one }
 
-pub joined_runs : (front : List Run) (r : Run) (e : Entry) (count : ℕ) → joins r.entry e ≡ true
+joined_runs : (front : List Run) (r : Run) (e : Entry) (count : ℕ) → joins r.entry e ≡ true
     → AreRuns (front ++ r ∷ []) → AreRuns (front ++ record r { count = r.count + count } ∷ [])
 joined_runs front r e count is are =
     let runs = each_front front (r ∷ []) are.each in
@@ -317,7 +317,7 @@ joined_runs front r e count is are =
     cc-step : is_step r.entry ≡ true → is_step r.entry ≡ false → ⊥
     cc-step so not = absurd cc
 
-pub first_runs : (e : Entry) (first count : ℕ) → first ≡ 0 → 1 ≤ count
+first_runs : (e : Entry) (first count : ℕ) → first ≡ 0 → 1 ≤ count
     → (is_step e ≡ false → count ≡ 1) → AreRuns (one_run e first count ∷ [])
 first_runs e first count is some one = record {
   each = (run_is e first count some one, tt);
@@ -325,7 +325,7 @@ first_runs e first count is some one = record {
   apart = (tt, tt);
 }
 
-pub apart_runs : (front : List Run) (r : Run) (e : Entry) (first count : ℕ)
+apart_runs : (front : List Run) (r : Run) (e : Entry) (first count : ℕ)
     → joins r.entry e ≡ false → first ≡ length (written_out (front ++ r ∷ [])) → 1 ≤ count
     → (is_step e ≡ false → count ≡ 1) → AreRuns (front ++ r ∷ [])
     → AreRuns ((front ++ r ∷ []) ++ one_run e first count ∷ [])
@@ -340,7 +340,7 @@ apart_runs front r e first count not is some one are = record {
 }
 
 -- no run is longer than what is written out
-pub few : (front : List Run) (r : Run) → r.count ≤ length (written_out (front ++ r ∷ []))
+few : (front : List Run) (r : Run) → r.count ≤ length (written_out (front ++ r ∷ []))
 few front r =
     let len : length (written_out (front ++ r ∷ [])) ≡ length (written_out front) + r.count =
     ap (λ (es : List Entry). length es)
@@ -348,3 +348,65 @@ few front r =
     ∙ length-append (written_out front) (replicate r.count r.entry)
     ∙ ap (λ (n : ℕ). length (written_out front) + n) (length-replicate r.count r.entry) in
     omega (arith, len)
+
+-- ---- the last run in its place
+
+front_last : (runs : List Run) (k : ℕ) (r : Run) → length runs ≡ suc k → r ≡ slice_index_or runs k r
+    → runs ≡ take k runs ++ r ∷ []
+front_last [] k r len is = absurd (omega (arith, len))
+front_last (x ∷ []) zero r len is = ap (λ (y : Run). y ∷ []) (sym is)
+front_last (x ∷ []) (suc k) r len is = absurd (omega (arith, len))
+front_last (x ∷ y ∷ rest) zero r len is = absurd (omega (arith, len))
+front_last (x ∷ y ∷ rest) (suc k) r len is =
+    ap (λ (rs : List Run). x ∷ rs) (front_last (y ∷ rest) k r (omega (arith, len)) is)
+
+front_set : (runs : List Run) (k : ℕ) (r : Run) → length runs ≡ suc k
+    → slice_set runs k r ≡ take k runs ++ r ∷ []
+front_set [] k r len = absurd (omega (arith, len))
+front_set (x ∷ []) zero r len = refl
+front_set (x ∷ []) (suc k) r len = absurd (omega (arith, len))
+front_set (x ∷ y ∷ rest) zero r len = absurd (omega (arith, len))
+front_set (x ∷ y ∷ rest) (suc k) r len =
+    ap (λ (rs : List Run). x ∷ rs) (front_set (y ∷ rest) k r (omega (arith, len)))
+
+abbrev pub IsLast : List Run → ℕ → Run → Type 0
+IsLast runs k r = (length runs ≡ suc k) × (r ≡ slice_index_or runs k r)
+
+-- a run that is put in its own place
+pub last_kept : (runs : List Run) (k : ℕ) (r : Run) → IsLast runs k r → slice_set runs k r ≡ runs
+last_kept runs k r is = front_set runs k r is.0 ∙ sym (front_last runs k r is.0 is.1)
+
+pub none_there : (n : ℕ) → (0 < n → false ≡ true) → n ≡ 0
+none_there zero none = refl
+none_there (suc n) none = let so = none (omega arith) in absurd cc
+
+pub last_few : (runs : List Run) (k : ℕ) (r : Run) → IsLast runs k r → r.count ≤ length (written_out runs)
+last_few runs k r is =
+    subst (λ (rs : List Run). r.count ≤ length (written_out rs)) (sym (front_last runs k r is.0 is.1)) (few (take k runs) r)
+
+pub last_written : (runs : List Run) (k : ℕ) (r : Run) (e : Entry) (count : ℕ) → IsLast runs k r → joins r.entry e ≡ true
+    → written_out (slice_set runs k (record r { count = r.count + count })) ≡ written_out runs ++ replicate count e
+last_written runs k r e count is one =
+    ap (λ (rs : List Run). written_out rs) (front_set runs k (record r { count = r.count + count }) is.0)
+    ∙ joined_written (take k runs) r e count one
+    ∙ ap (λ (rs : List Run). written_out rs ++ replicate count e) (sym (front_last runs k r is.0 is.1))
+
+pub last_runs : (runs : List Run) (k : ℕ) (r : Run) (e : Entry) (count : ℕ) → IsLast runs k r → joins r.entry e ≡ true
+    → AreRuns runs → AreRuns (slice_set runs k (record r { count = r.count + count }))
+last_runs runs k r e count is one are =
+    subst AreRuns (sym (front_set runs k (record r { count = r.count + count }) is.0))
+    (joined_runs (take k runs) r e count one (subst AreRuns (front_last runs k r is.0 is.1) are))
+
+pub next_runs : (runs : List Run) (k : ℕ) (r : Run) (e : Entry) (first count : ℕ) → IsLast runs k r
+    → joins r.entry e ≡ false → first ≡ length (written_out runs) → 1 ≤ count → (is_step e ≡ false → count ≡ 1)
+    → AreRuns runs → AreRuns (runs ++ one_run e first count ∷ [])
+next_runs runs k r e first count is not at some one are =
+    let whole = front_last runs k r is.0 is.1 in
+    subst (λ (rs : List Run). AreRuns (rs ++ one_run e first count ∷ [])) (sym whole)
+    (apart_runs (take k runs) r e first count not (at ∙ ap (λ (rs : List Run). length (written_out rs)) whole) some one (subst AreRuns whole are))
+
+pub only_runs : (runs : List Run) (e : Entry) (first count : ℕ) → length runs ≡ 0
+    → first ≡ length (written_out runs) → 1 ≤ count → (is_step e ≡ false → count ≡ 1)
+    → AreRuns (runs ++ one_run e first count ∷ [])
+only_runs [] e first count none at some one = first_runs e first count at some one
+only_runs (r ∷ rest) e first count none at some one = absurd (omega (arith, none))

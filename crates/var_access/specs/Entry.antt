@@ -1,5 +1,5 @@
 -- Which entries of a history, and which requests, are valid.
-use Rattle.std.specs.Prelude.{ℕ, ◌≤◌, ◌<◌, ◌^◌, ◌==◌, nat_le, List, length, Bool, true, false, ◌&&◌, ◌||◌, IsTrue}
+use Rattle.std.specs.Prelude.{ℕ, ◌≤◌, ◌<◌, ◌^◌, ◌==◌, nat_le, length, Bool, true, false, ◌&&◌, ◌||◌, IsTrue}
 use Rattle.std.specs.List.{list_all}
 use Rattle.plc_base.specs.AreaBytes.{is_peripheral_byte}
 use Rattle.plc_base.specs.Kinds.{is_code}

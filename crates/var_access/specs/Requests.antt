@@ -1,5 +1,5 @@
 -- Requests as texts spell them.
-use Rattle.std.specs.Prelude.{ℕ, suc, ◌==◌, List, [], ◌∷◌, length, take, drop, reverse, map, nat_le, Bool, true, false, ◌&&◌, not, Option, Some, None, Result, Ok, Err, bytes_eq, codes, if◌then◌else◌}
+use Rattle.std.specs.Prelude.{ℕ, suc, ◌==◌, List, [], ◌∷◌, length, take, drop, reverse, map, nat_le, Bool, false, ◌&&◌, not, Option, Some, None, Ok, Err, bytes_eq, codes, if◌then◌else◌}
 use Rattle.std.specs.List.{position_or_len, onto_first}
 use Rattle.plc_base.specs.Texts.{is_blank}
 use Rattle.plc_base.specs.declared.blocks.BlockKind.{BlockKind}

@@ -3,7 +3,7 @@ use Rattle.std.specs.Prelude.{◌≡◌, ℕ, ◌+◌, ◌-◌, ◌≤◌, ◌==
 use Rattle.std.specs.List.{AllByRecursion}
 use Rattle.var_access.specs.declared.entries.Entry.{Entry}
 use Rattle.var_access.specs.declared.entries.What.{What}
-use Rattle.var_access.specs.declared.entries.What.TheVariants.{Step, Input, Arrive, Tick}
+use Rattle.var_access.specs.declared.entries.What.TheVariants.{Step}
 use Rattle.var_access.specs.declared.runs.Run.{Run}
 
 -- the entries of runs, one run behind the other

@@ -1,5 +1,5 @@
 -- Variables as texts spell them: `M 0.3`, `MW 2`, `DB10.DBX 0.1`, `DB10.DBW 2`, or a symbol in quotes.
-use Rattle.std.specs.Prelude.{ℕ, ◌==◌, ◌*◌, List, [], ◌∷◌, take, drop, nat_le, Bool, true, false, ◌&&◌, Option, Some, None, Result, Ok, Err, bytes_eq, codes, if◌then◌else◌}
+use Rattle.std.specs.Prelude.{ℕ, ◌==◌, ◌*◌, List, [], ◌∷◌, take, drop, nat_le, Bool, ◌&&◌, Option, Some, None, Ok, Err, bytes_eq, codes, if◌then◌else◌}
 use Rattle.std.specs.List.{prefix_len, position_or_len, slice_split}
 use Rattle.plc_base.specs.Widths.{byte_count}
 use Rattle.plc_base.specs.declared.places.Area.{Area}

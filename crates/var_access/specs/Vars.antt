@@ -1,6 +1,5 @@
 -- The variables of one read: at most eight, in the front of eight places.
-use Rattle.std.specs.Prelude.{◌≡◌, ◌≤◌, ◌-◌, ℕ, List, ◌++◌, length, drop, replicate}
-use Rattle.plc_base.specs.declared.places.Place.{Place}
+use Rattle.std.specs.Prelude.{◌≡◌, ◌≤◌, ◌-◌, List, ◌++◌, length, drop, replicate}
 use Rattle.plc_base.specs.declared.places.Area.TheVariants.{I}
 use Rattle.plc_base.specs.declared.places.Width.TheVariants.{Bit}
 use Rattle.var_access.specs.declared.requests.Var.{Var}

@@ -191,8 +191,17 @@ fn one_word(request: Request, text: &[u8]) -> Result<Request, u16>
 /// # Errors
 ///
 /// The least rule that they break: `NOT_IN_GRAMMAR`, `OUT_OF_RANGE` or `UNKNOWN_NAME`.
-#[tactic(auto, unfolding(crate::specs::Requests::request_of))]
+#[tactic(auto, using(crate::proofs::ValidLemmas::request_valid))]
 pub fn request_of(names: &Names, word: &[u8], text: &[u8]) -> Result<Request, u16>
+    ensures value { result ≡ request_of (find names.now) word.now text.now }
+    ensures valid { IfOk result IsRequest }
+{
+    request_by_word(names, word, text)
+}
+
+/// The request that its first word and what follows it spell.
+#[tactic(auto, unfolding(crate::specs::Requests::request_of))]
+fn request_by_word(names: &Names, word: &[u8], text: &[u8]) -> Result<Request, u16>
     ensures { result ≡ request_of (find names.now) word.now text.now }
 {
     if word == b"read".as_slice() {
@@ -235,6 +244,7 @@ fn request_line(names: &Names, text: &[u8]) -> Result<Request, u16>
 ///
 /// `BadRequest` with the least rule that the text breaks. `NoMemory` is kept for callers: no memory is
 /// taken.
+#[tactic(auto, using(crate::proofs::ValidLemmas::line_valid))]
 pub fn parse_request(_alloc: Global, text: &[u8], names: &Names) -> Result<Request, RequestFault>
     ensures ok { IfOk result (λ r. request_line (find names.now) text.now ≡ Ok r) }
     ensures valid { IfOk result IsRequest }

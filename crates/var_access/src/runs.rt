@@ -35,7 +35,7 @@ impl Model for Entries {
 }
 
 impl Run {
-    ghost use Rattle.std.specs.Prelude.{◌≡◌, ◌+◌, ◌^◌, ◌<◌};
+    ghost use Rattle.std.specs.Prelude.{◌≡◌};
     ghost use Rattle.var_access.specs.Runs.{joins};
 
     /// Whether an entry behind the run is one more of it: both are steps of one worker.
@@ -43,18 +43,6 @@ impl Run {
         ensures { result ≡ joins self.now.entry next.now }
     {
         self.entry.is_step() && next.is_step() && self.entry.who == next.who
-    }
-
-    /// The run with so many entries more.
-    fn longer(&self, more: u64) -> Run
-        requires { self.now.count + more < 2 ^ 64 }
-        ensures { result ≡ record self.now { count = self.now.count + more } }
-    {
-        Run {
-            entry: self.entry,
-            first: self.first,
-            count: self.count + more,
-        }
     }
 }
 
@@ -70,36 +58,33 @@ fn push_reserved<T: Copy>(list: &mut Vec<T>, element: T)
 }
 
 // Adds equal entries behind those of runs.
-#[tactic(auto, using(crate::proofs::RunLemmas::first_written, crate::proofs::RunLemmas::first_runs, crate::proofs::RunLemmas::joined_written, crate::proofs::RunLemmas::joined_runs, crate::proofs::RunLemmas::apart_written, crate::proofs::RunLemmas::apart_runs, crate::proofs::RunLemmas::few))]
-fn add(runs: &mut Vec<Run>, entry: Entry, first: u64, count: u64)
+fn add(runs: &mut Vec<Run>, entry: &Entry, first: u64, count: u64)
     requires are { AreRuns runs.old.items }
     requires first { first ≡ length (written_out runs.old.items) }
     requires some { 1 ≤ count }
-    requires one { is_step_of entry ≡ false → count ≡ 1 }
+    requires one { is_step_of entry.now ≡ false → count ≡ 1 }
     requires bounded { first + count < 2 ^ 64 }
     requires room { vec_len runs.old < vec_capacity runs.old }
     ensures written { written_out runs.new.items
-        ≡ written_out runs.old.items ++ replicate count entry }
+        ≡ written_out runs.old.items ++ replicate count entry.now }
     ensures are { AreRuns runs.new.items }
     ensures len { vec_len runs.new ≤ vec_len runs.old + 1 }
     ensures capacity { vec_capacity runs.new ≡ vec_capacity runs.old }
 {
-    let run = Run {
-        entry,
-        first,
-        count,
-    };
-    match runs.pop() {
-        None => push_reserved(runs, run),
-        Some(last) => {
-            if last.joins(&entry) {
-                push_reserved(runs, last.longer(count));
-            } else {
-                push_reserved(runs, last);
-                push_reserved(runs, run);
-            }
+    if let Some(last) = runs.last_mut() {
+        if last.joins(entry) {
+            last.count += count;
+            return;
         }
     }
+    push_reserved(
+        runs,
+        Run {
+            entry: *entry,
+            first,
+            count,
+        },
+    );
 }
 
 // A run by its place among the runs.
@@ -175,12 +160,12 @@ impl Entries {
 
     /// Adds an entry `count` times, a step so often as there is room, another entry once. It takes no
     /// memory.
-    pub fn push(&mut self, entry: Entry, count: u64)
+    pub fn push(&mut self, entry: &Entry, count: u64)
         requires some { 1 ≤ count }
-        requires one { is_step_of entry ≡ false → count ≡ 1 }
+        requires one { is_step_of entry.now ≡ false → count ≡ 1 }
         requires room { count ≤ self.old.spare }
         ensures { self.new ≡ record self.old {
-          entries = self.old.entries ++ replicate count entry;
+          entries = self.old.entries ++ replicate count entry.now;
           spare = self.old.spare - count;
         } }
     {
@@ -195,12 +180,12 @@ impl Entries {
     /// # Errors
     ///
     /// `NoMemory` for want of memory. Nothing has changed then.
-    pub fn append(&mut self, entry: Entry, count: u64) -> Result<(), NoMemory>
+    pub fn append(&mut self, entry: &Entry, count: u64) -> Result<(), NoMemory>
         requires some { 1 ≤ count }
-        requires one { is_step_of entry ≡ false → count ≡ 1 }
+        requires one { is_step_of entry.now ≡ false → count ≡ 1 }
         requires bounded { length self.old.entries + self.old.spare + count < 2 ^ 64 }
         ensures ok { OnOk result (self.new ≡ record self.old {
-          entries = self.old.entries ++ replicate count entry;
+          entries = self.old.entries ++ replicate count entry.now;
         }) }
         ensures err { OnErr result (self.new ≡ self.old) }
     {
@@ -216,6 +201,14 @@ impl Entries {
         ensures bounded { result + self.now.spare < 2 ^ 64 }
     {
         self.len
+    }
+
+    /// Nothing is done. The contract says that the entries, with those for which there is room, are
+    /// fewer than 2^64.
+    pub fn law_of_room(&self)
+        ensures { length self.now.entries + self.now.spare < 2 ^ 64 }
+    {
+        let _ = &self.runs;
     }
 
     /// An entry by its place, counted from 0; `None` from the length on.

@@ -1,6 +1,6 @@
 -- Entries one after another that show nothing.
-use Rattle.std.proofs.Common.{◌≡◌, ◌≤◌, ℕ, zero, suc, List, [], ◌∷◌, ◌++◌, length, take, replicate, refl, sym, ap, subst, ◌∙◌, arith}
-use Rattle.std.proofs.lemmas.List.{map-append, take-map, take-replicate}
+use Rattle.std.proofs.Common.{◌≡◌, ◌≤◌, ℕ, zero, suc, List, [], ◌∷◌, ◌++◌, replicate, refl, sym, ap, subst, ◌∙◌, arith}
+use Rattle.std.proofs.lemmas.List.{map-append}
 use Rattle.plc_base.specs.declared.Profile.{Profile}
 use Rattle.flat_code.specs.Loading.{Verifies}
 use Rattle.flat_code.specs.Programs.{Program}
@@ -45,13 +45,13 @@ none-now code s seen (suc n) quiet some =
 
 -- ---- steps
 
--- the first of so many steps are steps
-pub fewer-steps : (es : List Entry) (k : ℕ) → k ≤ length es → events es ≡ replicate (length es) Step
-    → events (take k es) ≡ replicate k Step
-fewer-steps es k few steps =
-    sym (take-map (λ (e : Entry). e.what) k es)
-    ∙ ap (λ (whats : List What). take k whats) steps
-    ∙ take-replicate k (length es) Step few
+-- what an entry does, so often
+same-entries : (e : Entry) (n : ℕ) → events (replicate n e) ≡ replicate n e.what
+same-entries e zero = refl
+same-entries e (suc n) = ap (λ (whats : List What). e.what ∷ whats) (same-entries e n)
+
+pub steps-are : (e : Entry) (n : ℕ) → e.what ≡ Step → events (replicate n e) ≡ replicate n Step
+steps-are e n step = same-entries e n ∙ ap (λ (what : What). replicate n what) step
 
 fits-steps : (p : Program) (s : State) (n : ℕ) → EntriesKeepFit → Verifies p → IsFit p s
     → IsFit p (run_from (code_of p) s (replicate n Step))
@@ -63,12 +63,11 @@ pub fits-behind : (p : Program) (s t : State) (n : ℕ) → EntriesKeepFit → V
     → t ≡ run_from (code_of p) s (replicate n Step) → IsFit p t
 fits-behind p s t n keeps h fit after = subst (IsFit p) (sym after) (fits-steps p s n keeps h fit)
 
-pub quiet-behind : (profile : Profile) (code : Code) (history more : List Entry) (s : State) (n : ℕ) → s ≡ replay profile code (events history)
-    → events more ≡ replicate n Step → ShowNothing code s (replicate n Step)
-    → ShowNothing code (replay profile code (events history)) (events more)
-quiet-behind profile code history more s n before steps quiet =
-    subst (λ (whats : List What). ShowNothing code (replay profile code (events history)) whats) (sym steps)
-    (subst (λ (u : State). ShowNothing code u (replicate n Step)) before quiet)
+pub quiet-behind : (profile : Profile) (code : Code) (history : List Entry) (s : State) (n : ℕ) → s ≡ replay profile code (events history)
+    → ShowNothing code s (replicate n Step)
+    → ShowNothing code (replay profile code (events history)) (replicate n Step)
+quiet-behind profile code history s n before quiet =
+    subst (λ (u : State). ShowNothing code u (replicate n Step)) before quiet
 
 pub state-behind : ContinuesByMore → (profile : Profile) (code : Code) (history more : List Entry) (s t : State) (n : ℕ) → s ≡ replay profile code (events history)
     → events more ≡ replicate n Step → t ≡ run_from code s (replicate n Step)

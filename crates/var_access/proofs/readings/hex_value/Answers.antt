@@ -1,5 +1,5 @@
 use Rattle.std.proofs.Common.{◌<◌, ◌∙◌, arith}
-use Rattle.var_access.proofs.NumberLemmas.{each_digit, hex_below, hex_fits, hex_more}
+use Rattle.var_access.proofs.NumberLemmas.{hex_below, hex_fits, hex_more}
 use Rattle.var_access.proofs.readings.hex_value.Goals as goal
 
 pub overflow_mul-value : goal.overflow_mul-value

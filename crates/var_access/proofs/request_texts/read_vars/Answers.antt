@@ -1,4 +1,4 @@
-use Rattle.std.proofs.Common.{ℕ, List, ◌≡◌, ◌∷◌, ◌∙◌, [], ap, sym, arith, false}
+use Rattle.std.proofs.Common.{ℕ, List, ◌≡◌, ◌∷◌, ◌∙◌, [], ap, arith, false}
 use Rattle.flat_code.specs.Names.{find}
 use Rattle.var_access.specs.Readings.{Reading, trim}
 use Rattle.var_access.specs.Requests.{parts_from}

@@ -1,8 +1,9 @@
-use Rattle.std.proofs.Common.{rules, ◌≡◌, ◌++◌, ◌∷◌, [], List, ap, sym, ◌∙◌}
+use Rattle.std.proofs.Common.{◌≡◌, ◌++◌, ◌∷◌, [], List, ap, sym, ◌∙◌}
 use Rattle.plc_base.specs.declared.Profile.{Profile}
 use Rattle.flat_code.specs.Programs.{Program}
 use Rattle.machine.specs.Code.{Code}
 use Rattle.machine.specs.Flat.{code_of}
+use Rattle.var_access.specs.Recorded.{Recorded as Kept}
 use Rattle.var_access.specs.declared.Entry.{Entry}
 use Rattle.controller.specs.Replay.{happens, last_seen, replay}
 use Rattle.controller.specs.Shown.{watched}
@@ -23,18 +24,18 @@ invariant_of-self c =
     let p : Program = c.self.inside.program.program in
     let profile : Profile = c.self.inside.profile in
     let code : Code = code_of p in
-    let history : List Entry = c.self.inside.history.items in
+    let history : List Entry = c.self.inside.history.entries in
     let s : State = state_of c.self.inside.cpu in
     let t : State = state_of c.enter-mon.new.self in
-    let items : c.push_reserved.new.self.items ≡ history ++ c.args.e.now ∷ [] = search rules in
-    let seen : (happens code s c.args.e.now.what).seen ≡ last_seen profile code (events c.push_reserved.new.self.items) =
+    let entries : c.push.new.self.entries ≡ history ++ c.args.e.now ∷ [] = ap (λ (kept : Kept). kept.entries) c.push.ensures in
+    let seen : (happens code s c.args.e.now.what).seen ≡ last_seen profile code (events c.push.new.self.entries) =
     seen_next profile code history c.args.e.now s c.continues_replay.ensures.seen c.self.invariant.state
-    ∙ ap (λ (es : List Entry). last_seen profile code (events es)) (sym items) in
+    ∙ ap (λ (es : List Entry). last_seen profile code (events es)) (sym entries) in
     record {
       verifies = c.self.invariant.verifies;
       state =
           state_next profile code history c.args.e.now s t c.continues_replay.ensures.state c.self.invariant.state c.enter-mon.ensures.state
-          ∙ ap (λ (es : List Entry). replay profile code (events es)) (sym items);
+          ∙ ap (λ (es : List Entry). replay profile code (events es)) (sym entries);
       fit =
           fits_next p s t c.args.e.now.what c.what_runs_goes_on.ensures.entry c.self.invariant.verifies c.requires.valid.1
           c.self.invariant.fit c.enter-mon.ensures.state;
@@ -43,6 +44,4 @@ invariant_of-self c =
           c.self.invariant.observer c.look.ensures c.enter-mon.ensures.record c.enter-mon.ensures.state
           ∙ ap (λ (o : Observed). watched t o) seen;
       numbers = c.self.invariant.numbers;
-      room = search rules;
-      bounded = search rules;
     }

@@ -1,0 +1,209 @@
+//! The history as runs: steps of one worker in a row are one run, every other entry is a run of its
+//! own.
+use crate::bench::{MOST_ENTRIES, controller_of};
+use crate::compare::same;
+use controller::Controller;
+use std::alloc::Global;
+use std::process::Abort;
+use std::test::Fail;
+use var_access::{Entry, Request, Run, What};
+
+/// A worker, what it does and how often, in the order of a history, and the runs of the history: the
+/// place of each one's first entry, counted from 0, the worker, what happens, and how often.
+struct Row {
+    entries: &'static [(u8, &'static str, u64)],
+    runs: &'static [(u64, u8, &'static str, u64)],
+}
+
+static ROWS: [Row; 6] = [
+    Row {
+        entries: &[],
+        runs: &[],
+    },
+    Row {
+        entries: &[(1, "step", 4), (1, "step", 1), (1, "step", 7)],
+        runs: &[(0, 1, "step", 12)],
+    },
+    // steps of two workers, and a worker that comes again
+    Row {
+        entries: &[
+            (1, "step", 3),
+            (2, "step", 2),
+            (2, "step", 2),
+            (1, "step", 1),
+        ],
+        runs: &[(0, 1, "step", 3), (3, 2, "step", 4), (7, 1, "step", 1)],
+    },
+    // equal entries that aren't steps
+    Row {
+        entries: &[(2, "in", 2), (2, "tick", 3)],
+        runs: &[
+            (0, 2, "in", 1),
+            (1, 2, "in", 1),
+            (2, 2, "tick", 1),
+            (3, 2, "tick", 1),
+            (4, 2, "tick", 1),
+        ],
+    },
+    // one between steps of one worker
+    Row {
+        entries: &[
+            (1, "step", 2),
+            (2, "arrive", 1),
+            (1, "step", 6),
+            (3, "stop", 1),
+            (1, "step", 1),
+        ],
+        runs: &[
+            (0, 1, "step", 2),
+            (2, 2, "arrive", 1),
+            (3, 1, "step", 6),
+            (9, 3, "stop", 1),
+            (10, 1, "step", 1),
+        ],
+    },
+    Row {
+        entries: &[(2, "tick", 1), (1, "step", 1), (2, "in", 1)],
+        runs: &[(0, 2, "tick", 1), (1, 1, "step", 1), (2, 2, "in", 1)],
+    },
+];
+
+/// What happens, by its word.
+fn what_of(word: &str) -> What {
+    match word {
+        "in" => What::Input { byte: 3, value: 7 },
+        "arrive" => What::Arrive { ob: 40, value: 0 },
+        "tick" => What::Tick { ms: 5 },
+        "stop" => What::Ask {
+            request: Request::Stop,
+        },
+        _ => What::Step,
+    }
+}
+
+fn entry_of(who: u8, word: &str) -> Entry {
+    Entry {
+        who,
+        what: what_of(word),
+    }
+}
+
+/// A statement that shows nothing, again and again.
+const QUIET: &str = "x: JU x";
+
+/// Makes room for so many entries.
+fn make_room(rt: &impl Abort, controller: &mut Controller, entries: u64) -> Result<(), Fail> {
+    assert!(rt; controller.history_len() < MOST_ENTRIES);
+    Ok(controller.reserve(entries)?)
+}
+
+/// Makes an entry so often, one by one.
+fn enter_each(
+    rt: &impl Abort,
+    controller: &mut Controller,
+    entry: &Entry,
+    count: u64,
+) -> Result<(), Fail> {
+    for _ in 0..count {
+        make_room(rt, controller, 1)?;
+        assert!(rt; entry.is_valid());
+        controller.enter(entry);
+    }
+    Ok(())
+}
+
+/// Makes an entry so often, steps in a row as far as they show nothing.
+fn enter_in_a_row(
+    rt: &impl Abort,
+    controller: &mut Controller,
+    entry: &Entry,
+    count: u64,
+) -> Result<(), Fail> {
+    if !entry.is_step() {
+        return enter_each(rt, controller, entry, count);
+    }
+    make_room(rt, controller, count)?;
+    let made = controller.step_quietly(entry, count);
+    enter_each(rt, controller, entry, count - made)
+}
+
+/// The run, and the entries at its ends.
+fn has_run(rt: &impl Abort, controller: &Controller, got: &Run, want: &(u64, u8, &str, u64)) {
+    let (first, who, word, count) = *want;
+    let entry = entry_of(who, word);
+    same(
+        rt,
+        "a run",
+        *got,
+        Run {
+            entry,
+            first,
+            count,
+        },
+    );
+    same(rt, "its first entry", controller.entry(first), Some(entry));
+    same(
+        rt,
+        "its last entry",
+        controller.entry(first + count - 1),
+        Some(entry),
+    );
+}
+
+/// The history has these runs.
+fn has_runs(rt: &impl Abort, controller: &Controller, wanted: &[(u64, u8, &str, u64)]) {
+    let runs = controller.runs();
+    same(rt, "how many runs", runs.len(), wanted.len());
+    for (got, want) in runs.iter().zip(wanted) {
+        has_run(rt, controller, got, want);
+    }
+    same(
+        rt,
+        "none further",
+        controller.entry(controller.history_len()),
+        None,
+    );
+}
+
+fn rows_hold(
+    alloc: Global,
+    rt: &impl Abort,
+    enter: impl Fn(&mut Controller, &Entry, u64) -> Result<(), Fail>,
+) -> Result<(), Fail> {
+    for row in &ROWS {
+        let mut controller = controller_of(alloc, QUIET)?;
+        for (who, word, count) in row.entries {
+            enter(&mut controller, &entry_of(*who, word), *count)?;
+        }
+        has_runs(rt, &controller, row.runs);
+    }
+    Ok(())
+}
+
+#[test]
+fn entries_one_by_one(rt: HostRuntime) -> Result<(), Fail> {
+    rows_hold(rt.alloc(), &rt, |c, e, n| enter_each(&rt, c, e, n))
+}
+
+#[test]
+fn steps_in_a_row(rt: HostRuntime) -> Result<(), Fail> {
+    rows_hold(rt.alloc(), &rt, |c, e, n| enter_in_a_row(&rt, c, e, n))
+}
+
+/// The first step begins OB 1, and no other shows anything.
+#[test]
+fn a_million_steps_are_one_run(rt: HostRuntime) -> Result<(), Fail> {
+    let mut controller = controller_of(rt.alloc(), QUIET)?;
+    let step = entry_of(1, "step");
+    enter_each(&rt, &mut controller, &step, 1)?;
+    make_room(&rt, &mut controller, 999_999)?;
+    same(
+        &rt,
+        "made",
+        controller.step_quietly(&step, 999_999),
+        999_999,
+    );
+    same(&rt, "entries", controller.history_len(), 1_000_000);
+    has_runs(&rt, &controller, &[(0, 1, "step", 1_000_000)]);
+    Ok(())
+}

@@ -1,0 +1,77 @@
+use crate::compare::same;
+use std::alloc::AllocError;
+use var_access::{Entries, Entry, Run, What};
+
+fn step(who: u8) -> Entry {
+    Entry {
+        who,
+        what: What::Step,
+    }
+}
+
+fn tick() -> Entry {
+    Entry {
+        who: 2,
+        what: What::Tick { ms: 1 },
+    }
+}
+
+// Three steps of worker 1 in two calls, one of worker 2, one of worker 1 again, and two ticks that
+// are the same: steps of one worker alone are one run.
+#[test]
+fn pushed_entries(rt: HostRuntime) -> Result<(), AllocError> {
+    let mut history = Entries::new(rt.alloc());
+    same(&rt, "no entry", history.entry(0), None);
+    history.reserve(7)?;
+    history.push(&step(1), 2);
+    history.push(&step(1), 1);
+    history.push(&step(2), 1);
+    history.push(&step(1), 1);
+    history.push(&tick(), 1);
+    history.push(&tick(), 1);
+    same(&rt, "length", history.len(), 7);
+    for (run, (entry, first, count)) in history.runs().iter().zip([
+        (step(1), 0, 3),
+        (step(2), 3, 1),
+        (step(1), 4, 1),
+        (tick(), 5, 1),
+        (tick(), 6, 1),
+    ]) {
+        let wanted = Run {
+            entry,
+            first,
+            count,
+        };
+        same(&rt, first, *run, wanted);
+    }
+    same(&rt, "runs", history.runs().len(), 5);
+    for (place, entry) in [
+        (0, Some(step(1))),
+        (2, Some(step(1))),
+        (3, Some(step(2))),
+        (4, Some(step(1))),
+        (5, Some(tick())),
+        (6, Some(tick())),
+        (7, None),
+        (18_446_744_073_709_551_615, None),
+    ] {
+        same(&rt, place, history.entry(place), entry);
+    }
+    Ok(())
+}
+
+// A million steps are one run, and take no more memory than one.
+#[test]
+fn appended_entries(rt: HostRuntime) -> Result<(), AllocError> {
+    let mut history = Entries::new(rt.alloc());
+    history.append(&step(1), 1_000_000)?;
+    history.append(&tick(), 1)?;
+    history.append(&step(1), 1)?;
+    same(&rt, "length", history.len(), 1_000_002);
+    same(&rt, "last step", history.entry(999_999), Some(step(1)));
+    same(&rt, "tick", history.entry(1_000_000), Some(tick()));
+    same(&rt, "step", history.entry(1_000_001), Some(step(1)));
+    same(&rt, "behind", history.entry(1_000_002), None);
+    same(&rt, "runs", history.runs().len(), 3);
+    Ok(())
+}
