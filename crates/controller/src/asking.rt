@@ -16,7 +16,7 @@ use crate::beginning::is_loaded;
 use crate::cpus::Cpu;
 use crate::stopping::is_stop;
 use image_file::Loaded;
-use plc_base::{BlockId, stop_causes};
+use plc_base::{BlockId, Mode, stop_causes};
 use plc_mem::Memory;
 use var_access::{Numbers, Reply, Request, Var};
 
@@ -141,13 +141,10 @@ impl Cpu {
                 done_if(self.memory.read(var.place, var.width).is_ok())
             }
             Request::MonitorOn { block } => done_if(is_loaded(program, *block)),
-            Request::Restart => {
-                if is_stop(self.mode) {
-                    Reply::Done
-                } else {
-                    Reply::NotStopped
-                }
-            }
+            Request::Restart => match self.mode {
+                Mode::Stop { .. } => Reply::Done,
+                Mode::Run | Mode::Startup => Reply::NotStopped,
+            },
             Request::Diag => Reply::Diag {
                 list: self.diagnostics.list(),
             },

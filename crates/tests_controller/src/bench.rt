@@ -191,8 +191,8 @@ pub(crate) fn entries_text(
     Ok(out)
 }
 
-/// Applies the entries of a line.
-fn apply(
+/// Applies the entries of a line, and writes what they showed and were answered.
+pub(crate) fn apply_line(
     rt: &impl Abort,
     controller: &mut Controller,
     out: &mut String,
@@ -230,7 +230,7 @@ fn write_run(
     history: &str,
 ) -> Result<(), Fail> {
     for line in history.split('|') {
-        apply(rt, controller, out, line)?;
+        apply_line(rt, controller, out, line)?;
     }
     write_end(rt, out, controller)?;
     Ok(())

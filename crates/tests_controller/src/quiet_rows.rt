@@ -1,5 +1,5 @@
 //! Steps that show nothing are passed in a row, and all comes out as one by one.
-use crate::bench::{MOST_ENTRIES, apply_entry, controller_of, entries_text};
+use crate::bench::{MOST_ENTRIES, apply_entry, apply_line, controller_of, entries_text};
 use crate::compare::same;
 use controller::Controller;
 use plc_base::Mode;
@@ -145,4 +145,46 @@ fn a_request_that_waits_ends_the_row(rt: HostRuntime) -> Result<(), Fail> {
     let mut controller = controller_of(rt.alloc(), WAITS)?;
     let mut out = String::new(rt.alloc());
     wait_for_a_place(&rt, &mut controller, &mut out)
+}
+
+/// A block that loops, and whatever block is monitored: where one is, no step is made in a row.
+fn monitor_for_a_while(
+    rt: &impl Abort,
+    controller: &mut Controller,
+    out: &mut String,
+) -> Result<(), Fail> {
+    apply_entry(rt, controller, out, entry_of(What::Step))?;
+    apply_line(rt, controller, out, "monitor FC 1")?;
+    pass_steps(rt, controller, "FC 1 is monitored", 5, 0)?;
+    apply_line(rt, controller, out, "monitor off")?;
+    pass_steps(rt, controller, "nothing is monitored", 5, 5)
+}
+
+#[test]
+fn a_monitored_block_ends_the_row(rt: HostRuntime) -> Result<(), Fail> {
+    let mut controller = controller_of(rt.alloc(), "x: JU x | FC 1 0 0 { NOP #0")?;
+    let mut out = String::new(rt.alloc());
+    monitor_for_a_while(&rt, &mut controller, &mut out)
+}
+
+/// A peripheral output changes in entry 3, and then steps are made in a row.
+fn show_and_pass(
+    rt: &impl Abort,
+    controller: &mut Controller,
+    out: &mut String,
+) -> Result<(), Fail> {
+    apply_line(rt, controller, out, "step 3")?;
+    same(rt, "shown", out.as_str(), "@3 PQ 256 = 07 | ");
+    pass_steps(rt, controller, "after it", 5, 5)?;
+    let seen = controller.observed();
+    same(rt, "no output", seen.outputs.as_slice().is_empty(), true);
+    same(rt, "no mode", seen.mode, None);
+    Ok(())
+}
+
+#[test]
+fn what_was_shown_before_a_row_is_gone(rt: HostRuntime) -> Result<(), Fail> {
+    let mut controller = controller_of(rt.alloc(), "L #7; T PB256; x: JU x")?;
+    let mut out = String::new(rt.alloc());
+    show_and_pass(&rt, &mut controller, &mut out)
 }

@@ -104,7 +104,7 @@ static MODES: [Row; 5] = [
 ];
 
 /// What a warm restart keeps, and what it clears.
-static RESTARTS: [Row; 6] = [
+static RESTARTS: [Row; 8] = [
     // without OB 100 it begins RUN
     (
         "NOP #0",
@@ -135,6 +135,18 @@ static RESTARTS: [Row; 6] = [
         "L LB1; T MB0",
         "step 3 | read MB0 | step 5 | read MB0 | stop | restart | step 3 | read MB0",
         "@4 VALUES 01 | @10 VALUES 03 | @11 MODE STOP 2 AT NONE | @11 DONE | @12 MODE RUN | @12 DONE | @16 VALUES 01 | END 16 RUN",
+    ),
+    // a request that waited has ended with STOP
+    (
+        "PASS 0 MW20, CALL SFC41 | OB 40 20 0 { L #7; T MB0",
+        "step 2 | arrive 40 | stop | restart | step 2 | read MB0",
+        "@4 MODE STOP 2 AT OB 1 LINE 2 | @4 DONE | @5 MODE RUN | @5 DONE | @8 VALUES 00 | END 8 RUN",
+    ),
+    // the periods begin with RUN: OB 38 is due after 10 ms of it
+    (
+        "NOP #0 | OB 38 20 0 { L #7; T MB0",
+        "tick 5 | stop | restart | tick 5 | step 2 | read MB0 | tick 5 | step 2 | read MB0",
+        "@2 MODE STOP 2 AT NONE | @2 DONE | @3 MODE RUN | @3 DONE | @7 VALUES 00 | @11 VALUES 07 | END 11 RUN",
     ),
     // OB 40 isn't disabled any more
     (

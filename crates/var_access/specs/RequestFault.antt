@@ -1,11 +1,11 @@
 -- Why a request isn't read.
-use Rattle.std.specs.Prelude.{◌≡◌, ℕ, List, Err}
-use Rattle.var_access.specs.Requests.{request_line}
-use Rattle.var_access.specs.Variables.{Names}
+use Rattle.std.specs.Prelude.{Result, Ok, Err}
+use Rattle.var_access.specs.Readings.{Reading}
 use Rattle.var_access.specs.declared.request_texts.RequestFault.{RequestFault}
-use Rattle.var_access.specs.declared.request_texts.RequestFault.TheVariants.{BadRequest, NoMemory}
+use Rattle.var_access.specs.declared.request_texts.RequestFault.TheVariants.{BadRequest}
+use Rattle.var_access.specs.declared.requests.Request.{Request}
 
--- a refused text breaks this rule, and none that is less; want of memory says nothing of it
-abbrev pub IsRequestFault : Names → (text : List ℕ) → RequestFault → Type 0
-IsRequestFault names text (BadRequest rule) = request_line names text ≡ Err rule
-IsRequestFault names text NoMemory = Unit {0}
+-- the request that was read, or its refusal with the least rule that the text breaks
+abbrev pub request_or_fault : Reading Request → Result Request RequestFault
+request_or_fault (Ok request) = Ok request
+request_or_fault (Err rule) = Err (BadRequest rule)

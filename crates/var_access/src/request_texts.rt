@@ -3,7 +3,7 @@ ghost use Rattle.std.specs.Prelude.{◌≡◌, ◌==◌, ◌∷◌, ◌++◌, �
 ghost use Rattle.flat_code.specs.Names.{find};
 ghost use Rattle.var_access.specs.Entry.{IsRequest};
 ghost use Rattle.var_access.specs.Readings.{all_read, both as both_of, no_line, reading_map, trim as trim_of, words_of};
-ghost use Rattle.var_access.specs.RequestFault.{IsRequestFault};
+ghost use Rattle.var_access.specs.RequestFault.{request_or_fault};
 ghost use Rattle.var_access.specs.Requests.{few_vars, kind_of_word, monitor_of, monitor_on, one_word, part_len, parts_from, read_of, request_line, request_of, write_of, write_to};
 ghost use Rattle.var_access.specs.Variables.{var_of as var_of_text};
 
@@ -240,15 +240,15 @@ fn request_line(names: &Names, text: &[u8]) -> Result<Request, u16>
 /// symbol in quotes. A value has two hexadecimal digits for each byte of its variable, and is 0 or 1
 /// for a bit.
 ///
+/// No memory is taken, so `NoMemory` doesn't come.
+///
 /// # Errors
 ///
-/// `BadRequest` with the least rule that the text breaks. `NoMemory` is kept for callers: no memory is
-/// taken.
+/// `BadRequest` with the least rule that the text breaks.
 #[tactic(auto, using(crate::proofs::ValidLemmas::line_valid))]
 pub fn parse_request(_alloc: Global, text: &[u8], names: &Names) -> Result<Request, RequestFault>
-    ensures ok { IfOk result (λ r. request_line (find names.now) text.now ≡ Ok r) }
+    ensures value { result ≡ request_or_fault (request_line (find names.now) text.now) }
     ensures valid { IfOk result IsRequest }
-    ensures refused { IfErr result (IsRequestFault (find names.now) text.now) }
 {
     match request_line(names, text) {
         Ok(request) => Ok(request),
