@@ -8,8 +8,7 @@ use Rattle.plc_base.specs.declared.Profile.{Profile}
 use Rattle.plc_base.specs.declared.Profile.TheVariants.{Small, Large}
 use Rattle.plc_base.specs.Profiles.{bit_memory_size}
 use Rattle.plc_base.specs.declared.BlockId.{BlockId}
-use Rattle.plc_base.specs.declared.Mode.{Mode}
-use Rattle.plc_base.specs.declared.Mode.TheVariants.{Run, Startup, Stop}
+use Rattle.plc_base.specs.declared.Mode.TheVariants.{Run, Startup}
 use Rattle.plc_base.specs.declared.Spot.{Spot}
 use Rattle.plc_mem.specs.Areas.{Areas}
 use Rattle.plc_mem.specs.Fresh.{fresh}
@@ -22,7 +21,7 @@ use Rattle.frames.specs.declared.Activation.{Activation}
 use Rattle.frames.specs.declared.bindings.Binding.{Binding}
 use Rattle.flat_code.specs.Loading.{Verifies}
 use Rattle.flat_code.specs.Programs.{Program}
-use Rattle.machine.specs.Code.{Code, Head}
+use Rattle.machine.specs.Code.{Head}
 use Rattle.machine.specs.Entering.{at_block}
 use Rattle.machine.specs.Fitting.{IsMemoryOf, SameSizes}
 use Rattle.machine.specs.Flat.{code_of}
@@ -59,7 +58,7 @@ use Rattle.controller.specs.Replay.{happens, run_from, replay}
 use Rattle.controller.specs.Requests.{stopped_if, course_taken, arrived}
 use Rattle.controller.specs.Serving.{Served, Returns, Passes, Stops as Halts, input, served, result_given, after_service}
 use Rattle.controller.specs.Settling.{may_start, request_taken, request_started, best_started, settled}
-use Rattle.controller.specs.Stack.{IsStack, IsStanding, MayBegin}
+use Rattle.controller.specs.Stack.{IsStanding, MayBegin}
 use Rattle.controller.specs.Start.{before_start, cleared, loaded_obs, restarted, start, started_up, startup_info, startup_ob}
 use Rattle.controller.specs.State.{State, is_stop, diagnosed, each_diagnosed}
 use Rattle.controller.specs.Stepping.{stepped, stepped_on, after_statement, run_starts, ob_ended, with_activations}

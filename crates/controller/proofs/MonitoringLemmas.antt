@@ -1,12 +1,11 @@
 -- From what a statement leaves to its record.
-use Rattle.std.proofs.Common.{◌≡◌, ℕ, List, [], ◌∷◌, Option, Some, None, refl, sym, ap, ◌∙◌}
+use Rattle.std.proofs.Common.{◌≡◌, List, [], ◌∷◌, Some, None, refl, ap, ◌∙◌}
 use Rattle.status_word.specs.declared.Regs.{Regs}
 use Rattle.frames.specs.declared.Activation.{Activation}
 use Rattle.machine.specs.Code.{Code}
 use Rattle.machine.specs.Statement.{World, Step, Went, Ended, SyncError, SysCall, Stop, statement}
 use Rattle.machine.specs.declared.outcomes.Outcome.{Outcome}
 use Rattle.machine.specs.declared.outcomes.Outcome.TheVariants as outcome
-use Rattle.monitor.specs.declared.MonRecord.{MonRecord}
 use Rattle.ob_sched.specs.Scheduler.{Scheduler}
 use Rattle.controller.specs.Leaves.{Steps, StepsTo, recorded_at, regs_finished, stand_of}
 use Rattle.controller.specs.Monitoring.{regs_after, regs_left, step_record}

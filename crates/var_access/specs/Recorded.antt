@@ -9,10 +9,11 @@ pub record Recorded : Type 0 where
   pub entries : List Entry
   pub spare : ℕ
 
+-- what the fields stand for
 abbrev pub recorded : Inside → Recorded
 recorded h = record { entries = written_out h.runs.items; spare = h.spare }
 
--- each further entry makes one run more at most
+-- the fields belong together; each further entry makes one run more at most
 pub record IsRecorded (h : Inside) : Type 0 where
   pub runs_are : AreRuns h.runs.items
   pub len_is : h.len ≡ length (written_out h.runs.items)

@@ -10,6 +10,7 @@ use Rattle.var_access.specs.declared.requests.Request.{Request}
 use Rattle.var_access.specs.declared.requests.Request.TheVariants.{ReadVars, WriteVar, Stop, Restart, MonitorOn, MonitorOff, Diag}
 use Rattle.var_access.specs.declared.requests.Var.{Var}
 
+-- commas separate variables
 abbrev pub is_comma : ℕ → Bool
 is_comma b = b == 44
 

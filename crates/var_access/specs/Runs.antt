@@ -50,11 +50,12 @@ pub record AreRuns (runs : List Run) : Type 0 where
   pub follow : FollowFrom 0 runs
   pub apart : StandApart runs
 
--- the last run that begins at a number or before it; `best` where none does
+-- the same among further runs; `best` where none of them does
 abbrev pub run_behind : (best : Option Run) → List Run → (i : ℕ) → Option Run
 run_behind best [] i = best
 run_behind best (r ∷ rest) i = if nat_le r.first i then run_behind (Some r) rest i else best
 
+-- the last run that begins at a number or before it
 abbrev pub run_at : List Run → (i : ℕ) → Option Run
 run_at runs i = run_behind None runs i
 

@@ -100,9 +100,11 @@ var_of_parts (first ∷ second ∷ third ∷ []) =
     then block_bit (behind_letters first) (behind_letters second) third else no_line
 var_of_parts parts = no_line
 
+-- a point separates the parts of a variable
 abbrev pub is_point : ℕ → Bool
 is_point b = b == 46
 
+-- quotes stand round a symbol
 abbrev pub is_quote : ℕ → Bool
 is_quote b = b == 34
 

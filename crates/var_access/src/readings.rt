@@ -81,7 +81,7 @@ fn are_hex_digits(bytes: &[u8]) -> bool
 }
 
 /// Whether a word is one or more hexadecimal digits.
-pub fn is_hex(word: &[u8]) -> bool
+pub(crate) fn is_hex(word: &[u8]) -> bool
     ensures { result ≡ is_hex word.now }
 {
     match word {
@@ -167,7 +167,7 @@ fn last_word_len(text: &[u8]) -> usize
 
 /// What stands behind the blanks at the front.
 #[tactic(auto, unfolding(crate::specs::Readings::behind_blanks))]
-pub fn behind_blanks(text: &[u8]) -> &[u8]
+pub(crate) fn behind_blanks(text: &[u8]) -> &[u8]
     ensures { result.now ≡ behind_blanks text.now }
 {
     text.split_at(blanks_len(text)).1
@@ -189,7 +189,7 @@ fn before_blanks(text: &[u8]) -> &[u8]
 }
 
 /// The text without blanks at either end.
-pub fn trim(text: &[u8]) -> &[u8]
+pub(crate) fn trim(text: &[u8]) -> &[u8]
     ensures { result.now ≡ trim text.now }
 {
     behind_blanks(before_blanks(text))
@@ -211,7 +211,7 @@ pub fn first_word(text: &[u8]) -> Option<(&[u8], &[u8])>
 }
 
 /// What stands before the last word of a text, and this word: the bytes behind the last blank.
-pub fn last_word(text: &[u8]) -> (&[u8], &[u8])
+pub(crate) fn last_word(text: &[u8]) -> (&[u8], &[u8])
     ensures front { let back = reverse text.now in
         result.0.now ≡ reverse (drop (position_or_len is_blank back) back) }
     ensures word { let back = reverse text.now in

@@ -199,7 +199,7 @@ pub fn request_of(names: &Names, word: &[u8], text: &[u8]) -> Result<Request, u1
     request_by_word(names, word, text)
 }
 
-/// The request that its first word and what follows it spell.
+/// The same, of which `request_of` says besides that it is valid.
 #[tactic(auto, unfolding(crate::specs::Requests::request_of))]
 fn request_by_word(names: &Names, word: &[u8], text: &[u8]) -> Result<Request, u16>
     ensures { result ≡ request_of (find names.now) word.now text.now }

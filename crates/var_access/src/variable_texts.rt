@@ -257,7 +257,7 @@ fn symbol_var(names: &Names, text: &[u8]) -> Result<Var, u16>
 ///
 /// The least rule that it breaks: `NOT_IN_GRAMMAR`, `OUT_OF_RANGE` or `UNKNOWN_NAME`.
 #[tactic(auto, unfolding(crate::specs::Variables::var_of))]
-pub fn var_of(names: &Names, text: &[u8]) -> Result<Var, u16>
+pub(crate) fn var_of(names: &Names, text: &[u8]) -> Result<Var, u16>
     ensures { result ≡ var_of (find names.now) text.now }
 {
     match text {
@@ -289,7 +289,7 @@ fn bit_value(word: &[u8]) -> Result<u32, u16>
 /// `OUT_OF_RANGE` where the value is wider or narrower, `NOT_IN_GRAMMAR` where the word is something
 /// else.
 #[tactic(auto, unfolding(crate::specs::Variables::width_value))]
-pub fn width_value(width: Width, word: &[u8]) -> Result<u32, u16>
+pub(crate) fn width_value(width: Width, word: &[u8]) -> Result<u32, u16>
     ensures { result ≡ width_value width word.now }
 {
     match width {

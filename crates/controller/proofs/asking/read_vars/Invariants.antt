@@ -1,4 +1,4 @@
-use Rattle.std.proofs.Common.{◌≡◌, ◌≤◌, ◌+◌, length}
+use Rattle.std.proofs.Common.{◌≡◌, ◌+◌, length}
 use Rattle.controller.specs.Asking.{values_from}
 use Rattle.controller.proofs.AskingLemmas.{values_behind}
 use Rattle.controller.proofs.asking.read_vars.Given as goal

@@ -1,4 +1,4 @@
-use Rattle.std.proofs.Common.{◌≡◌, List, [], ap, ◌∙◌}
+use Rattle.std.proofs.Common.{ap, ◌∙◌}
 use Rattle.machine.specs.Flat.{code_of}
 use Rattle.controller.specs.State.{State}
 use Rattle.controller.proofs.StandingLemmas.{start_stands, stop_idle}

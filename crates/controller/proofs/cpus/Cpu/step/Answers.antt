@@ -1,8 +1,8 @@
-use Rattle.std.proofs.Common.{◌≡◌, sym, ap, ◌∙◌}
+use Rattle.std.proofs.Common.{sym, ap, ◌∙◌}
 use Rattle.status_word.specs.declared.Regs.{Regs}
 use Rattle.machine.specs.Code.{Code}
 use Rattle.machine.specs.Flat.{code_of}
-use Rattle.machine.specs.Statement.{World, world}
+use Rattle.machine.specs.Statement.{world}
 use Rattle.controller.specs.Leaves.{recorded_at}
 use Rattle.controller.specs.State.{State}
 use Rattle.controller.specs.Views.{state_of}
