@@ -2,7 +2,7 @@
 use Rattle.std.proofs.Common.{◌≡◌, ◌≤◌, ℕ, List, [], ◌∷◌, ◌++◌, length, drop, refl, ap, ◌∙◌, append-nil}
 use Rattle.std.proofs.lemmas.List.{at_drop_all}
 use Rattle.var_access.specs.declared.requests.Var.{Var}
-use Rattle.event_text.specs.ReplyText.{values_text}
+use Rattle.event_text.specs.Replies.{values_text}
 
 no-values : (vars : List Var) → values_text vars [] ≡ []
 no-values [] = refl

@@ -6,4 +6,4 @@ pub mod TextFault
 pub mod Written
 pub mod Regular
 pub mod RoundTrip
-pub mod ReplyText
+pub mod Replies

@@ -1,7 +1,7 @@
 ghost use Rattle.std.specs.Prelude.{◌≡◌, ◌≤◌, ◌++◌, length, take, codes, decimal, OnErr, OnOk};
 ghost use Rattle.std.specs.List.{flat_map};
 ghost use Rattle.monitor.specs.LineText.{diag_text};
-ghost use Rattle.event_text.specs.ReplyText.{outcome_text, read_vars, reply_head, reply_text, values_text};
+ghost use Rattle.event_text.specs.Replies.{outcome_text, read_vars, reply_head, reply_text, values_text};
 
 use crate::writing::{append_number, append_value, operator_of};
 use monitor::{DiagRecord, diag_line};
@@ -48,7 +48,7 @@ fn append_records(n: u64, records: &[DiagRecord], out: &mut Vec<u8>) -> Result<(
 }
 
 /// Appends what the reply to entry `n` says, and the line's end.
-#[tactic(auto, unfolding(crate::specs::ReplyText::outcome_text))]
+#[tactic(auto, unfolding(crate::specs::Replies::outcome_text))]
 fn append_outcome(
     n: u64,
     request: &Request,
@@ -93,7 +93,7 @@ fn append_head(n: u64, who: u8, out: &mut Vec<u8>) -> Result<(), NoMemory>
 }
 
 /// Appends a reply, whole or in part.
-#[tactic(auto, unfolding(crate::specs::ReplyText::reply_text))]
+#[tactic(auto, unfolding(crate::specs::Replies::reply_text))]
 fn append_reply(
     n: u64,
     who: u8,

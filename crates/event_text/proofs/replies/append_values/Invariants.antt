@@ -1,5 +1,5 @@
 use Rattle.std.proofs.Common.{◌≡◌, ◌++◌, length, take, drop}
-use Rattle.event_text.specs.ReplyText.{values_text}
+use Rattle.event_text.specs.Replies.{values_text}
 use Rattle.event_text.proofs.replies.append_values.Given as goal
 
 -- what was written and the values that are left make up the whole
