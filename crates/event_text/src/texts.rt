@@ -56,10 +56,10 @@ impl HistoryReader {
         match found {
             LineEntries::Nothing => {}
             LineEntries::Steps { count } => {
-                self.entries.append(ONE_STEP, u64::from(*count))?;
+                self.entries.append(&ONE_STEP, u64::from(*count))?;
                 self.steps += *count;
             }
-            LineEntries::One { entry } => self.entries.append(*entry, 1)?,
+            LineEntries::One { entry } => self.entries.append(entry, 1)?,
         }
         self.line += 1;
         Ok(())

@@ -19,7 +19,7 @@ use Rattle.controller.specs.Start.{start}
 use Rattle.controller.specs.State.{State}
 use Rattle.controller.specs.Replayed.{events}
 use Rattle.monitor.specs.LineText.{end_text, mode_text, mon_text, output_text, row_text}
-use Rattle.event_text.specs.ReplyText.{reply_text}
+use Rattle.event_text.specs.Replies.{reply_text}
 
 -- the mode that entry n began, if it began one
 abbrev pub changed_mode_text : ℕ → Option Mode → List ℕ
