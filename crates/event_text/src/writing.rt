@@ -1,4 +1,4 @@
-ghost use Rattle.std.specs.Prelude.{◌≡◌, ◌+◌, ◌<◌, ◌≤◌, ◌^◌, ◌++◌, List, length, replicate, decimal, codes, false, IfOk, OnOk};
+ghost use Rattle.std.specs.Prelude.{◌≡◌, ◌+◌, ◌<◌, ◌≤◌, ◌^◌, ◌++◌, List, length, replicate, decimal, codes, false, IfOk, OnErr, OnOk};
 ghost use Rattle.monitor.specs.LineText.{hex_text, kind_text};
 ghost use Rattle.var_access.specs.Runs.{AreRuns, is_step, written_out};
 ghost use Rattle.var_access.specs.declared.entries.Entry.{Entry};
@@ -36,7 +36,8 @@ pub(crate) fn operator_of(who: u8) -> u8
 
 /// Appends a number in decimal digits.
 pub(crate) fn append_number(number: u64, out: &mut Vec<u8>) -> Result<(), NoMemory>
-    ensures { OnOk result (out.new.items ≡ out.old.items ++ decimal number) }
+    ensures ok { OnOk result (out.new.items ≡ out.old.items ++ decimal number) }
+    ensures err { OnErr result (out.new.items ≡ out.old.items) }
 {
     let mut line = Line::new();
     line.add_number(number);
@@ -62,7 +63,8 @@ fn append_var(var: &Var, out: &mut Vec<u8>) -> Result<(), NoMemory>
 
 /// Appends a value at its width.
 pub(crate) fn append_value(width: Width, value: u32, out: &mut Vec<u8>) -> Result<(), NoMemory>
-    ensures { OnOk result (out.new.items ≡ out.old.items ++ value_text width value) }
+    ensures ok { OnOk result (out.new.items ≡ out.old.items ++ value_text width value) }
+    ensures err { OnErr result (out.new.items ≡ out.old.items) }
 {
     out.extend_from_slice(value_text(width, value).as_slice())
 }
