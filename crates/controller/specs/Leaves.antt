@@ -131,8 +131,8 @@ regs_finished (outcome.SysCall number inputs to) s activations regs =
 regs_finished _ s activations regs = regs
 
 -- what is recorded of a statement that stood at `stand`, with the registers after it
-abbrev pub recorded_at : Code → (monitored : Option BlockId) → Stand → Regs → Option MonRecord
-recorded_at code monitored stand regs = statement_record code monitored stand.block stand.at regs
+abbrev pub stand_record : Code → (monitored : Option BlockId) → Stand → Regs → Option MonRecord
+stand_record code monitored stand regs = statement_record code monitored stand.block stand.at regs
 
 -- what a system function leaves of the scheduler and its activation, and what it answers: RET_VAL,
 -- nothing, or its stop cause, which changes nothing of the scheduler

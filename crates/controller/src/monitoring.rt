@@ -1,7 +1,7 @@
 //! Monitoring: the records of a block's statements.
 ghost use Rattle.std.specs.Prelude.{◌≡◌};
 ghost use Rattle.machine.specs.Flat.{code_of};
-ghost use Rattle.controller.specs.Leaves.{recorded_at};
+ghost use Rattle.controller.specs.Leaves.{stand_record};
 ghost use Rattle.controller.specs.Monitoring.{is_monitored as is_monitored_block};
 ghost use Rattle.controller.specs.Ready.{HasStatement};
 
@@ -23,14 +23,14 @@ fn is_monitored(monitored: Option<BlockId>, block: BlockId) -> bool
 
 /// The record of a statement that stood at `stand`, with the registers after it; none where its block
 /// isn't the monitored one.
-pub(crate) fn record_at(
+pub(crate) fn statement_record(
     program: &Loaded,
     monitored: Option<BlockId>,
     stand: &Stand,
     regs: &Regs,
 ) -> Option<MonRecord>
     requires { HasStatement (code_of program.now.program) stand.now.block stand.now.at }
-    ensures { result ≡ recorded_at (code_of program.now.program) monitored stand.now regs.now }
+    ensures { result ≡ stand_record (code_of program.now.program) monitored stand.now regs.now }
 {
     if !is_monitored(monitored, stand.block) {
         return None;

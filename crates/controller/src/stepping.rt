@@ -12,7 +12,7 @@ ghost use Rattle.controller.specs.Views.{state_of};
 
 use crate::activations::Stand;
 use crate::cpus::Cpu;
-use crate::monitoring::record_at;
+use crate::monitoring::statement_record;
 use crate::spots::spot_at;
 use frames::Binding;
 use image_file::Loaded;
@@ -124,7 +124,7 @@ impl Cpu {
             Some(done) => {
                 let (monitored, stand) = (self.monitored, done.0);
                 let regs = self.finish(program, &stand, done.1);
-                record_at(program, monitored, &stand, &regs)
+                statement_record(program, monitored, &stand, &regs)
             }
         }
     }

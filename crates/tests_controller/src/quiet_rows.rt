@@ -60,7 +60,7 @@ fn entry_of(what: What) -> Entry {
 
 /// The entries behind so many.
 fn behind(entries: &[Entry], count: u8) -> &[Entry] {
-    entries.get(count as usize..).unwrap_or(&[])
+    entries.get(usize::from(count)..).unwrap_or(&[])
 }
 
 fn entries_of(alloc: Global, first: u8, then: u8) -> Result<Vec<Entry>, AllocError> {
@@ -80,13 +80,14 @@ fn pass_steps(
     rt: &impl Abort,
     controller: &mut Controller,
     when: &str,
-    steps: u64,
-    made: u64,
+    steps: u8,
+    made: u8,
 ) -> Result<(), Fail> {
     assert!(rt; controller.history_len() < MOST_ENTRIES);
-    controller.reserve(steps)?;
-    let passed = controller.step_quietly(&entry_of(What::Step), steps);
-    same(rt, when, passed, made);
+    let most = u64::from(steps);
+    controller.reserve(most)?;
+    let passed = controller.step_quietly(&entry_of(What::Step), most);
+    same(rt, when, passed, u64::from(made));
     Ok(())
 }
 
@@ -100,8 +101,8 @@ fn quiet_text(
     made: u8,
 ) -> Result<String, Fail> {
     let mut controller = controller_of(alloc, program)?;
-    pass_steps(rt, &mut controller, program, steps as u64, made as u64)?;
-    same(rt, program, controller.history_len(), made as u64);
+    pass_steps(rt, &mut controller, program, steps, made)?;
+    same(rt, program, controller.history_len(), u64::from(made));
     same(rt, program, controller.mode() == Mode::Startup, true);
     entries_text(alloc, rt, &mut controller, behind(entries, made))
 }

@@ -91,11 +91,8 @@ fn entry_of(who: u8, word: &str) -> Entry {
 /// A statement that shows nothing, again and again.
 const QUIET: &str = "x: JU x";
 
-/// Makes room for so many entries.
-fn make_room(rt: &impl Abort, controller: &mut Controller, entries: u64) -> Result<(), Fail> {
-    assert!(rt; controller.history_len() < MOST_ENTRIES);
-    Ok(controller.reserve(entries)?)
-}
+/// The most entries that one call makes.
+const MOST_MADE: u64 = 1_000_000;
 
 /// Makes an entry so often, one by one.
 fn enter_each(
@@ -105,26 +102,43 @@ fn enter_each(
     count: u64,
 ) -> Result<(), Fail> {
     for _ in 0..count {
-        make_room(rt, controller, 1)?;
+        assert!(rt; controller.history_len() < MOST_ENTRIES);
         assert!(rt; entry.is_valid());
+        controller.reserve(1)?;
         controller.enter(entry);
     }
     Ok(())
 }
 
-/// Makes an entry so often, steps in a row as far as they show nothing.
-fn enter_in_a_row(
+/// Makes an entry at most so often, a step in a row as long as it shows nothing; how often it was made.
+fn pass_steps(
     rt: &impl Abort,
     controller: &mut Controller,
     entry: &Entry,
     count: u64,
-) -> Result<(), Fail> {
-    if !entry.is_step() {
-        return enter_each(rt, controller, entry, count);
+) -> Result<u64, Fail> {
+    if let What::Step = entry.what {
+        assert!(rt; controller.history_len() < MOST_ENTRIES && count <= MOST_MADE);
+        controller.reserve(count)?;
+        return Ok(controller.step_quietly(entry, count));
     }
-    make_room(rt, controller, count)?;
-    let made = controller.step_quietly(entry, count);
-    enter_each(rt, controller, entry, count - made)
+    Ok(0)
+}
+
+/// Makes an entry so often, steps in a row as far as they show nothing, or one by one.
+fn enter_all(
+    rt: &impl Abort,
+    controller: &mut Controller,
+    entry: &Entry,
+    count: u64,
+    in_a_row: bool,
+) -> Result<(), Fail> {
+    let made = if in_a_row {
+        pass_steps(rt, controller, entry, count)?
+    } else {
+        0
+    };
+    enter_each(rt, controller, entry, count.saturating_sub(made))
 }
 
 /// The run, and the entries at its ends.
@@ -142,12 +156,8 @@ fn has_run(rt: &impl Abort, controller: &Controller, got: &Run, want: &(u64, u8,
         },
     );
     same(rt, "its first entry", controller.entry(first), Some(entry));
-    same(
-        rt,
-        "its last entry",
-        controller.entry(first + count - 1),
-        Some(entry),
-    );
+    let last = first.saturating_add(count).saturating_sub(1);
+    same(rt, "its last entry", controller.entry(last), Some(entry));
 }
 
 /// The history has these runs.
@@ -165,15 +175,12 @@ fn has_runs(rt: &impl Abort, controller: &Controller, wanted: &[(u64, u8, &str, 
     );
 }
 
-fn rows_hold(
-    alloc: Global,
-    rt: &impl Abort,
-    enter: impl Fn(&mut Controller, &Entry, u64) -> Result<(), Fail>,
-) -> Result<(), Fail> {
+fn rows_hold(alloc: Global, rt: &impl Abort, in_a_row: bool) -> Result<(), Fail> {
     for row in &ROWS {
         let mut controller = controller_of(alloc, QUIET)?;
         for (who, word, count) in row.entries {
-            enter(&mut controller, &entry_of(*who, word), *count)?;
+            let entry = entry_of(*who, word);
+            enter_all(rt, &mut controller, &entry, *count, in_a_row)?;
         }
         has_runs(rt, &controller, row.runs);
     }
@@ -182,12 +189,12 @@ fn rows_hold(
 
 #[test]
 fn entries_one_by_one(rt: HostRuntime) -> Result<(), Fail> {
-    rows_hold(rt.alloc(), &rt, |c, e, n| enter_each(&rt, c, e, n))
+    rows_hold(rt.alloc(), &rt, false)
 }
 
 #[test]
 fn steps_in_a_row(rt: HostRuntime) -> Result<(), Fail> {
-    rows_hold(rt.alloc(), &rt, |c, e, n| enter_in_a_row(&rt, c, e, n))
+    rows_hold(rt.alloc(), &rt, true)
 }
 
 /// The first step begins OB 1, and no other shows anything.
@@ -196,13 +203,8 @@ fn a_million_steps_are_one_run(rt: HostRuntime) -> Result<(), Fail> {
     let mut controller = controller_of(rt.alloc(), QUIET)?;
     let step = entry_of(1, "step");
     enter_each(&rt, &mut controller, &step, 1)?;
-    make_room(&rt, &mut controller, 999_999)?;
-    same(
-        &rt,
-        "made",
-        controller.step_quietly(&step, 999_999),
-        999_999,
-    );
+    let made = pass_steps(&rt, &mut controller, &step, 999_999)?;
+    same(&rt, "made", made, 999_999);
     same(&rt, "entries", controller.history_len(), 1_000_000);
     has_runs(&rt, &controller, &[(0, 1, "step", 1_000_000)]);
     Ok(())

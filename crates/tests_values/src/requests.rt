@@ -4,7 +4,7 @@ use plc_base::{Area, BlockId, BlockKind, Place, Width};
 use std::alloc::Global;
 use std::process::Abort;
 use std::test::Fail;
-use var_access::{Request, RequestFault, Var, Vars, parse_request};
+use var_access::{MOST_VARS, Request, RequestFault, Var, Vars, parse_request};
 
 fn var(area: Area, number: u16, byte: u16, bit: u8, width: Width) -> Var {
     Var {
@@ -16,6 +16,11 @@ fn var(area: Area, number: u16, byte: u16, bit: u8, width: Width) -> Var {
         },
         width,
     }
+}
+
+fn add(rt: &impl Abort, vars: &mut Vars, var: Var) {
+    assert!(rt; vars.len() < MOST_VARS);
+    vars.push(var);
 }
 
 fn block(kind: BlockKind, number: u16) -> BlockId {
@@ -192,9 +197,9 @@ fn reads_of_several_variables(rt: HostRuntime) -> Result<(), Fail> {
     let names = names(&rt, rt.alloc())?;
     let mut vars = Vars::new();
     for byte in 1..8 {
-        vars.push(var(Area::M, 0, byte, 0, Width::Byte));
+        add(&rt, &mut vars, var(Area::M, 0, byte, 0, Width::Byte));
     }
-    vars.push(var(Area::M, 0, 20, 0, Width::Word));
+    add(&rt, &mut vars, var(Area::M, 0, 20, 0, Width::Word));
     let text = "read MB 1,MB 2 , MB 3,\tMB 4, MB 5, MB 6, MB 7, \"set, point\"";
     let read = parse_request(rt.alloc(), text.as_bytes(), &names);
     same(&rt, text, read, Ok(Request::ReadVars { vars }));

@@ -1,5 +1,9 @@
+ghost use Rattle.std.specs.Prelude.{◌≡◌, ◌-◌, ◌≤◌, OnOk};
+
 use crate::compare::same;
-use std::alloc::AllocError;
+use plc_base::NoMemory;
+use std::process::Abort;
+use std::test::Fail;
 use var_access::{Entries, Entry, Run, What};
 
 fn step(who: u8) -> Entry {
@@ -16,19 +20,39 @@ fn tick() -> Entry {
     }
 }
 
+fn push(rt: &impl Abort, history: &mut Entries, entry: &Entry, count: u64)
+    requires { count ≤ history.old.spare }
+    ensures { history.new.spare ≡ history.old.spare - count }
+{
+    assert!(rt; count >= 1);
+    assert!(rt; entry.is_step() || count == 1);
+    history.push(entry, count);
+}
+
+fn append(rt: &impl Abort, history: &mut Entries, entry: &Entry, count: u64) -> Result<(), NoMemory>
+    requires { history.old.spare ≡ 0 }
+    ensures { OnOk result (history.new.spare ≡ 0) }
+{
+    assert!(rt; count >= 1);
+    assert!(rt; entry.is_step() || count == 1);
+    assert!(rt; count < 1 << 62);
+    assert!(rt; history.len() < 1 << 62);
+    history.append(entry, count)
+}
+
 // Three steps of worker 1 in two calls, one of worker 2, one of worker 1 again, and two ticks that
 // are the same: steps of one worker alone are one run.
 #[test]
-fn pushed_entries(rt: HostRuntime) -> Result<(), AllocError> {
+fn pushed_entries(rt: HostRuntime) -> Result<(), Fail> {
     let mut history = Entries::new(rt.alloc());
     same(&rt, "no entry", history.entry(0), None);
     history.reserve(7)?;
-    history.push(&step(1), 2);
-    history.push(&step(1), 1);
-    history.push(&step(2), 1);
-    history.push(&step(1), 1);
-    history.push(&tick(), 1);
-    history.push(&tick(), 1);
+    push(&rt, &mut history, &step(1), 2);
+    push(&rt, &mut history, &step(1), 1);
+    push(&rt, &mut history, &step(2), 1);
+    push(&rt, &mut history, &step(1), 1);
+    push(&rt, &mut history, &tick(), 1);
+    push(&rt, &mut history, &tick(), 1);
     same(&rt, "length", history.len(), 7);
     for (run, (entry, first, count)) in history.runs().iter().zip([
         (step(1), 0, 3),
@@ -62,11 +86,11 @@ fn pushed_entries(rt: HostRuntime) -> Result<(), AllocError> {
 
 // A million steps are one run, and take no more memory than one.
 #[test]
-fn appended_entries(rt: HostRuntime) -> Result<(), AllocError> {
+fn appended_entries(rt: HostRuntime) -> Result<(), Fail> {
     let mut history = Entries::new(rt.alloc());
-    history.append(&step(1), 1_000_000)?;
-    history.append(&tick(), 1)?;
-    history.append(&step(1), 1)?;
+    append(&rt, &mut history, &step(1), 1_000_000)?;
+    append(&rt, &mut history, &tick(), 1)?;
+    append(&rt, &mut history, &step(1), 1)?;
     same(&rt, "length", history.len(), 1_000_002);
     same(&rt, "last step", history.entry(999_999), Some(step(1)));
     same(&rt, "tick", history.entry(1_000_000), Some(tick()));

@@ -3,7 +3,7 @@ use Rattle.status_word.specs.declared.Regs.{Regs}
 use Rattle.machine.specs.Code.{Code}
 use Rattle.machine.specs.Flat.{code_of}
 use Rattle.machine.specs.Statement.{world}
-use Rattle.controller.specs.Leaves.{recorded_at}
+use Rattle.controller.specs.Leaves.{stand_record}
 use Rattle.controller.specs.State.{State}
 use Rattle.controller.specs.Views.{state_of}
 use Rattle.controller.proofs.MonitoringLemmas.{step_recorded}
@@ -28,8 +28,8 @@ pub returns-in-Some-clause-record : goal.returns-in-Some-clause-record
 returns-in-Some-clause-record c =
     let code : Code = code_of c.args.program.now.program in
     let s : State = state_of c.args.self.now in
-    c.record_at.ensures
-    ∙ ap (λ (regs : Regs). recorded_at code s.monitored c.in-Some.done.0 regs)
+    c.statement_record.ensures
+    ∙ ap (λ (regs : Regs). stand_record code s.monitored c.in-Some.done.0 regs)
     c.finish-regs.ensures.regs
     ∙ step_recorded code s c.step-done.new.self
     (world c.step-done.new.m c.step-done.new.t c.step-done.new.n) c.in-Some.done c.in-Some.ensures
