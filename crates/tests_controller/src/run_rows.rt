@@ -144,20 +144,21 @@ fn enter_all(
 /// The run, and the entries at its ends.
 fn has_run(rt: &impl Abort, controller: &Controller, got: &Run, want: &(u64, u8, &str, u64)) {
     let (first, who, word, count) = *want;
-    let entry = entry_of(who, word);
+    let last = first.saturating_add(count).saturating_sub(1);
+    same(rt, "its place", (got.first, got.count), (first, count));
+    same(rt, "its entry", got.entry, entry_of(who, word));
     same(
         rt,
-        "a run",
-        *got,
-        Run {
-            entry,
-            first,
-            count,
-        },
+        "first",
+        controller.entry(first),
+        Some(entry_of(who, word)),
     );
-    same(rt, "its first entry", controller.entry(first), Some(entry));
-    let last = first.saturating_add(count).saturating_sub(1);
-    same(rt, "its last entry", controller.entry(last), Some(entry));
+    same(
+        rt,
+        "last",
+        controller.entry(last),
+        Some(entry_of(who, word)),
+    );
 }
 
 /// The history has these runs.
