@@ -1,12 +1,12 @@
 -- The line of an entry, as it is written, is read as that entry.
-use Rattle.std.proofs.Common.{◌≡◌, ◌≤◌, ◌<◌, ◌+◌, ◌-◌, ◌^◌, ℕ, zero, suc, Bool, true, false, ◌&&◌, ◌||◌, cond, eqb, List, [], ◌∷◌, ◌++◌, length, replicate, Some, Ok, refl, ap, sym, ◌∙◌, arith, decimal, nat_le, nat_eq, codes, append-nil, subst}
+use Rattle.std.proofs.Common.{◌≡◌, ◌≤◌, ◌<◌, ◌+◌, ◌-◌, ◌^◌, ℕ, zero, suc, Bool, true, false, eqb, List, [], ◌∷◌, ◌++◌, length, replicate, Some, Ok, refl, ap, sym, ◌∙◌, arith, decimal, nat_le, nat_eq, codes, append-nil}
 use Rattle.std.specs.List.{starts_with}
 use Rattle.std.proofs.lemmas.Bool.Decides.{nat_tests}
 use Rattle.std.proofs.lemmas.Grind.{common_steps}
 use Rattle.plc_base.specs.AreaBytes.{is_peripheral_byte}
 use Rattle.monitor.specs.LineText.{hex_text}
 use Rattle.var_access.specs.Entry.{is_arrivable}
-use Rattle.var_access.specs.Readings.{Reading, both, reading_map, number_in, address_number, hex_of, first_word, words_of}
+use Rattle.var_access.specs.Readings.{Reading, reading_map, number_in, address_number, hex_of}
 use Rattle.var_access.specs.Requests.{request_line}
 use Rattle.var_access.specs.Runs.{is_step}
 use Rattle.var_access.specs.Variables.{Names}
@@ -15,7 +15,7 @@ use Rattle.var_access.specs.declared.entries.What.{What}
 use Rattle.var_access.specs.declared.entries.What.TheVariants.{Step, Input, Arrive, Tick, Ask}
 use Rattle.var_access.specs.declared.requests.Request.{Request}
 use Rattle.event_text.specs.declared.kinds.TextKind.TheVariants.{History}
-use Rattle.event_text.specs.Lines.{one, most_steps, step_count, steps_behind, step_line, number_among, input_line, arrival_line, tick_line, operator_with, operator_line, line_with, is_skipped, line_read}
+use Rattle.event_text.specs.Lines.{one, steps, most_steps, step_count, count_behind, step_line, number_among, input_line, arrival_line, tick_line, operator_with, operator_line, line_with, is_skipped, line_read}
 use Rattle.event_text.specs.Regular.{IsRegular}
 use Rattle.event_text.specs.Workers.{asked, fed, one_step, operator_of, worker_of}
 use Rattle.event_text.specs.Written.{arrival_text, request_text, what_text}
@@ -34,9 +34,9 @@ unskipped b t e =
 
 -- what a line is read as, by its first word
 by-word : (names : Names) (before : ℕ) (w t : List ℕ) → IsWord w → Stops is_solid t → is_skipped (w ++ t) ≡ false
-    → line_read History names before (w ++ t) ≡ line_with History names before (w ++ t) (Some (w, t))
+    → line_read History names before (w ++ t) ≡ line_with History names before (Some (w, t))
 unfolding line_read
-by-word names before w t h k s = rw s (ap (line_with History names before (w ++ t)) (first-word w t h k))
+by-word names before w t h k s = rw s (ap (line_with History names before) (first-word w t h k))
 
 word-of : (w : List ℕ) → 0 < length w → Each is_solid w → IsWord w
 word-of w some solid = record { some = some; solid = solid }
@@ -63,8 +63,8 @@ in-line names before byte value h small =
     let d : IsWord (decimal byte) = number-word byte (omega (arith, byte-small byte h)) in
     let x : IsWord (hex_text 2 value) = hex-word 2 value (omega arith) (omega arith) in
     by-word names before (codes "in") (32 ∷ (decimal byte ++ 32 ∷ hex_text 2 value)) (word-of (codes "in") (omega arith) (refl, (refl, tt))) refl (unskipped 105 (codes "n" ++ (32 ∷ (decimal byte ++ 32 ∷ hex_text 2 value))) refl)
-    ∙ ap input_line (words-two (decimal byte) (hex_text 2 value) d x)
-    ∙ ap (λ r. reading_map (λ p. one (fed (Input p.0 p.1))) r)
+    ∙ ap (λ ws. reading_map one (input_line ws)) (words-two (decimal byte) (hex_text 2 value) d x)
+    ∙ ap (λ r. reading_map one (reading_map (λ p. fed (Input p.0 p.1)) r))
     (both-read (number_among is_peripheral_byte (address_number (decimal byte))) (hex_of 2 (hex_text 2 value)) byte value (byte-ok byte h) (hex_read 2 value (omega arith) (omega arith)))
 
 arrive-plain : (names : Names) (before ob : ℕ) → is_arrivable ob ≡ true
@@ -74,8 +74,8 @@ arrive-plain names before ob h =
     let d : IsWord (decimal ob) = number-word ob (omega (arith, ob-small ob h)) in
     ap (λ t. line_read History names before (codes "arrive " ++ t)) (append-nil (decimal ob))
     ∙ by-word names before (codes "arrive") (32 ∷ decimal ob) (word-of (codes "arrive") (omega arith) (refl, (refl, (refl, (refl, (refl, (refl, tt))))))) refl (unskipped 97 (codes "rrive" ++ (32 ∷ decimal ob)) refl)
-    ∙ ap arrival_line (words-one (decimal ob) d)
-    ∙ ap (λ r. reading_map (λ n. one (fed (Arrive n 0))) r) (ob-ok ob h)
+    ∙ ap (λ ws. reading_map one (arrival_line ws)) (words-one (decimal ob) d)
+    ∙ ap (λ r. reading_map one (reading_map (λ n. fed (Arrive n 0)) r)) (ob-ok ob h)
 
 arrive-value : (names : Names) (before ob value : ℕ) → is_arrivable ob ≡ true → value < 2 ^ 32
     → line_read History names before (codes "arrive " ++ (decimal ob ++ (codes " " ++ hex_text 8 value))) ≡ Ok (one (fed (Arrive ob value)))
@@ -84,8 +84,8 @@ arrive-value names before ob value h small =
     let d : IsWord (decimal ob) = number-word ob (omega (arith, ob-small ob h)) in
     let x : IsWord (hex_text 8 value) = hex-word 8 value (omega arith) (omega arith) in
     by-word names before (codes "arrive") (32 ∷ (decimal ob ++ 32 ∷ hex_text 8 value)) (word-of (codes "arrive") (omega arith) (refl, (refl, (refl, (refl, (refl, (refl, tt))))))) refl (unskipped 97 (codes "rrive" ++ (32 ∷ (decimal ob ++ 32 ∷ hex_text 8 value))) refl)
-    ∙ ap arrival_line (words-two (decimal ob) (hex_text 8 value) d x)
-    ∙ ap (λ r. reading_map (λ p. one (fed (Arrive p.0 p.1))) r)
+    ∙ ap (λ ws. reading_map one (arrival_line ws)) (words-two (decimal ob) (hex_text 8 value) d x)
+    ∙ ap (λ r. reading_map one (reading_map (λ p. fed (Arrive p.0 p.1)) r))
     (both-read (number_among is_arrivable (address_number (decimal ob))) (hex_of 8 (hex_text 8 value)) ob value (ob-ok ob h) (hex_read 8 value (omega arith) (omega arith)))
 
 arrive-line : (names : Names) (before ob value : ℕ) → is_arrivable ob ≡ true → value < 2 ^ 32
@@ -100,8 +100,8 @@ tick-line : (names : Names) (before ms : ℕ) → 1 ≤ ms → ms ≤ 60000
 unfolding tick_line
 tick-line names before ms least most =
     by-word names before (codes "tick") (32 ∷ decimal ms) (word-of (codes "tick") (omega arith) (refl, (refl, (refl, (refl, tt))))) refl (unskipped 116 (codes "ick" ++ (32 ∷ decimal ms)) refl)
-    ∙ ap tick_line (words-one (decimal ms) (number-word ms (omega arith)))
-    ∙ ap (λ r. reading_map (λ n. one (fed (Tick n))) r) (number_read 1 60000 2 ms (omega arith) least most)
+    ∙ ap (λ ws. reading_map one (tick_line ws)) (words-one (decimal ms) (number-word ms (omega arith)))
+    ∙ ap (λ r. reading_map one (reading_map (λ n. fed (Tick n)) r)) (number_read 1 60000 2 ms (omega arith) least most)
 
 pub operator-is : (who : ℕ) → 3 ≤ who → who ≤ 6 → operator_of who ≡ who - 2
 operator-is who least most =
@@ -118,8 +118,8 @@ op-line names before who r least most h =
     let back : k + 2 ≡ who = omega arith in
     ap (λ n. line_read History names before (codes "op " ++ (decimal n ++ (codes " " ++ request_text r)))) (operator-is who least most)
     ∙ by-word names before (codes "op") (32 ∷ (decimal k ++ (32 ∷ request_text r))) (word-of (codes "op") (omega arith) (refl, (refl, tt))) refl (unskipped 111 (codes "p" ++ (32 ∷ (decimal k ++ (32 ∷ request_text r)))) refl)
-    ∙ ap (operator_with names) (first-word-behind (decimal k) (32 ∷ request_text r) d refl)
-    ∙ ap (λ x. reading_map (λ p. one (asked (worker_of p.0) p.1)) x)
+    ∙ ap (λ w. reading_map one (operator_with names w)) (first-word-behind (decimal k) (32 ∷ request_text r) d refl)
+    ∙ ap (λ x. reading_map one (reading_map (λ p. asked (worker_of p.0) p.1) x))
     (both-read (number_in 1 4 5 (decimal k)) (request_line names (32 ∷ request_text r)) k r (number_read 1 4 5 k (omega arith) (omega arith) (omega arith)) (request-read names r h))
     ∙ ap (λ w. Ok (one (asked w r))) back
 
@@ -130,8 +130,8 @@ unfolding step_line
 steps-line names before n least most =
     let le : nat_le (before + n) most_steps ≡ true = grind (arith, nat_tests) in
     by-word names before (codes "step") (32 ∷ decimal n) (word-of (codes "step") (omega arith) (refl, (refl, (refl, (refl, tt))))) refl (unskipped 115 (codes "tep" ++ (32 ∷ decimal n)) refl)
-    ∙ ap (λ ws. steps_behind before (step_count ws)) (words-one (decimal n) (number-word n (omega arith)))
-    ∙ ap (steps_behind before) (number_read 1 1000000 2 n (omega arith) least (omega arith))
+    ∙ ap (λ ws. reading_map steps (count_behind before (step_count ws))) (words-one (decimal n) (number-word n (omega arith)))
+    ∙ ap (λ r. reading_map steps (count_behind before r)) (number_read 1 1000000 2 n (omega arith) least (omega arith))
     ∙ (rw le refl)
 
 -- the line of another entry

@@ -7,3 +7,7 @@ pub mod RequestLemmas
 pub mod EntryLineLemmas
 pub mod RoundTripLemmas
 pub mod WritingLemmas
+pub mod ReadingLemmas
+pub mod LineLemmas
+pub mod SizeLemmas
+pub mod ReplyLemmas

@@ -1,12 +1,11 @@
 -- Requests as they are written, and read again.
-use Rattle.std.proofs.Common.{◌≡◌, ◌≤◌, ◌<◌, ◌+◌, ◌-◌, ◌*◌, ◌^◌, ℕ, zero, suc, Bool, true, false, ◌&&◌, ◌||◌, not, cond, eqb, List, [], ◌∷◌, ◌++◌, length, map, take, drop, reverse, Option, Some, None, Ok, Err, refl, ap, sym, ◌∙◌, arith, decimal, nat_le, codes, bytes_eq, if◌then◌else◌, append_assoc, append-nil}
+use Rattle.std.proofs.Common.{◌≡◌, ◌≤◌, ◌<◌, ◌+◌, ◌^◌, ℕ, zero, suc, Bool, true, false, ◌||◌, List, [], ◌∷◌, ◌++◌, length, map, take, drop, reverse, Ok, refl, ap, ◌∙◌, arith, decimal, nat_le, codes, append-nil}
 use Rattle.std.proofs.lemmas.List.{reverse-reverse}
 use Rattle.std.specs.Char.{is_ascii_digit, is_ascii_hexdigit}
-use Rattle.std.specs.List.{onto_first, position_or_len}
+use Rattle.std.specs.List.{onto_first}
 use Rattle.std.proofs.lemmas.Fmt.{decimal_digit}
 use Rattle.std.proofs.lemmas.Bool.Decides.{nat_tests}
-use Rattle.std.proofs.lemmas.Grind.{common_steps}
-use Rattle.plc_base.specs.Widths.{byte_count, bit_count}
+use Rattle.plc_base.specs.Widths.{bit_count}
 use Rattle.plc_base.specs.declared.blocks.BlockId.{BlockId}
 use Rattle.plc_base.specs.declared.blocks.BlockKind.{BlockKind}
 use Rattle.plc_base.specs.declared.blocks.BlockKind.TheVariants.{Ob, Fc, Fb, Db as DbKind, Sfc, Udt}
@@ -17,17 +16,16 @@ use Rattle.plc_base.specs.declared.places.Width.TheVariants.{Bit, Byte, Word, Dw
 use Rattle.var_access.specs.declared.requests.Request.{Request}
 use Rattle.var_access.specs.declared.requests.Request.TheVariants.{ReadVars, WriteVar, Stop, Restart, MonitorOn, MonitorOff, Diag}
 use Rattle.var_access.specs.declared.requests.Var.{Var}
-use Rattle.plc_base.specs.Texts.{is_blank}
-use Rattle.var_access.specs.Readings.{Reading, both, reading_map, all_read, address_number, trim, first_word, words_of, hex_of, is_hex}
+use Rattle.var_access.specs.Readings.{reading_map, all_read, address_number, trim, first_word, words_of}
 use Rattle.var_access.specs.Variables.{Names, is_letter, is_quote, is_point, var_of, width_value, bit_value}
-use Rattle.var_access.specs.Requests.{is_comma, parts_from, few_vars, read_of, write_to, write_in, write_of, kind_of_word, monitor_on, monitor_of, one_word, request_of, request_by, request_line}
+use Rattle.var_access.specs.Requests.{is_comma, parts_from, few_vars, read_of, write_to, write_in, write_of, kind_of_word, monitor_of, one_word, request_of, request_by, request_line}
 use Rattle.monitor.specs.LineText.{hex_text, kind_text}
-use Rattle.event_text.specs.Written.{value_text, place_text, var_text, more_vars_text, vars_text, request_text, width_text, block_width_text, bit_text, area_text}
+use Rattle.event_text.specs.Written.{value_text, place_text, var_text, more_vars_text, vars_text, request_text, width_text, block_width_text, bit_text}
 use Rattle.event_text.proofs.AddressLemmas.{HasArea, HasBit, IsAddress, AreAddresses, IsKind, IsWritable}
-use Rattle.event_text.proofs.ByteLemmas.{Each, each-append, each-weaker, Implies, Excludes, Stops, prefix-none, take-front, drop-front}
-use Rattle.event_text.proofs.NumberLemmas.{IsNumeral, numeral, number-of, IsHex, hex-text, hex_read}
+use Rattle.event_text.proofs.ByteLemmas.{Each, each-append, each-weaker, Implies, Excludes, Stops, take-front, drop-front}
+use Rattle.event_text.proofs.NumberLemmas.{numeral, number-of, IsHex, hex-text, hex_read}
 use Rattle.event_text.proofs.VarLemmas.{var_read, both-read, digits-of}
-use Rattle.event_text.proofs.WordLemmas.{is_solid, IsWord, trimmed-word, trimmed-front, trimmed-two, words-one, words-two, words-more, words-last, words-blank, words-none, backwards, forwards, last-at, first-word-behind}
+use Rattle.event_text.proofs.WordLemmas.{is_solid, IsWord, trimmed-word, trimmed-front, trimmed-two, words-one, words-more, words-last, words-blank, words-none, backwards, forwards, last-at, first-word-behind}
 
 -- ---- the bytes of a variable's text
 

@@ -1,5 +1,5 @@
 -- Histories as they are written, and read again.
-use Rattle.std.proofs.Common.{◌≡◌, ◌≤◌, ◌<◌, ◌+◌, ◌-◌, ◌*◌, ◌^◌, ℕ, zero, suc, Bool, true, false, ◌&&◌, not, cond, eqb, List, [], ◌∷◌, ◌++◌, length, replicate, Ok, refl, ap, sym, ◌∙◌, arith, subst, decimal, get_or, codes, append_assoc, append-nil}
+use Rattle.std.proofs.Common.{◌≡◌, ◌≤◌, ◌<◌, ◌+◌, ◌-◌, ◌^◌, ℕ, zero, suc, Bool, true, false, ◌&&◌, not, cond, eqb, List, [], ◌∷◌, ◌++◌, length, replicate, Ok, refl, ap, sym, ◌∙◌, arith, subst, decimal, get_or, codes, append_assoc, append-nil}
 use Rattle.std.specs.Char.{is_ascii_digit, is_ascii_hexdigit}
 use Rattle.std.specs.List.{All, AllByRecursion, slice_split, onto_first, list_all}
 use Rattle.std.specs.Str.Lines.{lines, lines_of_parts, strip_carriage_return}
@@ -24,7 +24,7 @@ use Rattle.var_access.specs.declared.requests.Request.{Request}
 use Rattle.var_access.specs.declared.requests.Request.TheVariants.{ReadVars, WriteVar, Stop, Restart, MonitorOn, MonitorOff, Diag}
 use Rattle.var_access.specs.declared.requests.Var.{Var}
 use Rattle.event_text.specs.declared.kinds.TextKind.TheVariants.{History}
-use Rattle.event_text.specs.Lines.{one, most_steps, line_read}
+use Rattle.event_text.specs.Lines.{most_steps, line_read}
 use Rattle.event_text.specs.Regular.{IsRegular}
 use Rattle.event_text.specs.Texts.{steps_in, in_front, line_first, lines_read, text_read, history_of}
 use Rattle.event_text.specs.Workers.{one_step, operator_of}

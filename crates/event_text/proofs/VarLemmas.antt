@@ -1,5 +1,5 @@
 -- Variables as they are written, and read again.
-use Rattle.std.proofs.Common.{◌≡◌, ◌≤◌, ◌<◌, ◌+◌, ◌-◌, ℕ, zero, suc, Bool, true, false, ◌&&◌, ◌||◌, cond, eqb, List, [], ◌∷◌, ◌++◌, length, take, drop, Option, Some, None, Ok, Err, refl, ap, sym, ◌∙◌, arith, decimal, nat_le, codes, bytes_eq, if◌then◌else◌, append_assoc, append-nil, nat_eq}
+use Rattle.std.proofs.Common.{◌≡◌, ◌≤◌, ◌<◌, ℕ, Bool, true, ◌&&◌, ◌||◌, List, [], ◌∷◌, ◌++◌, length, take, drop, Some, None, Ok, Err, refl, ap, sym, ◌∙◌, arith, decimal, codes, bytes_eq, if◌then◌else◌, append-nil}
 use Rattle.std.specs.Char.{is_ascii_digit}
 use Rattle.std.specs.List.{slice_split, prefix_len}
 use Rattle.std.proofs.lemmas.Bool.Decides.{nat_tests}
@@ -10,11 +10,11 @@ use Rattle.plc_base.specs.declared.places.Width.TheVariants.{Bit, Byte, Word, Dw
 use Rattle.var_access.specs.declared.requests.Var.{Var}
 use Rattle.plc_base.specs.Texts.{is_blank}
 use Rattle.var_access.specs.Readings.{Reading, both, reading_map, number_in, address_number, behind_blanks}
-use Rattle.var_access.specs.Variables.{Names, is_letter, letters_of, behind_letters, area_of_letters, width_of_letters, wide_of, wide_in, db_width_of, var_at, wide_var, bit_var, block_var, block_bit, two_parts, var_of_parts, is_point, is_quote, var_of}
+use Rattle.var_access.specs.Variables.{Names, is_letter, letters_of, behind_letters, area_of_letters, width_of_letters, wide_of, db_width_of, var_at, wide_var, bit_var, block_var, block_bit, two_parts, var_of_parts, is_point, is_quote, var_of}
 use Rattle.event_text.specs.Written.{place_text, var_text}
 use Rattle.event_text.proofs.AddressLemmas.{HasArea, HasBit, IsAddress}
 use Rattle.event_text.proofs.ByteLemmas.{Each, each-append, each-weaker, Implies, Excludes, Stops, split-none, split-at, prefix-whole, prefix-none, take-front, drop-front}
-use Rattle.event_text.proofs.NumberLemmas.{IsNumeral, numeral, number-of, number_read}
+use Rattle.event_text.proofs.NumberLemmas.{numeral, number-of, number_read}
 
 -- ---- kinds of bytes
 

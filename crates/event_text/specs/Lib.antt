@@ -1,7 +1,9 @@
 pub mod Workers
 pub mod Lines
 pub mod Texts
+pub mod LineEntries
 pub mod TextFault
 pub mod Written
 pub mod Regular
 pub mod RoundTrip
+pub mod Replies

@@ -5,7 +5,7 @@ use Rattle.std.specs.List.{starts_with}
 use Rattle.plc_base.specs.AreaBytes.{is_peripheral_byte}
 use Rattle.var_access.specs.Entry.{is_arrivable}
 use Rattle.var_access.specs.Readings.{Reading, both, reading_map, no_line, number_in, address_number, hex_of, first_word, words_of}
-use Rattle.var_access.specs.Requests.{request_line}
+use Rattle.var_access.specs.Requests.{request_line, request_of}
 use Rattle.var_access.specs.Variables.{Names}
 use Rattle.var_access.specs.declared.entries.Entry.{Entry}
 use Rattle.var_access.specs.declared.entries.What.TheVariants.{Input, Arrive, Tick}
@@ -17,10 +17,6 @@ use Rattle.event_text.specs.Workers.{asked, fed, one_step, worker_of}
 abbrev pub most_steps : ℕ
 most_steps = 1000000
 
--- a line with one entry
-abbrev pub one : Entry → List Entry
-one entry = entry ∷ []
-
 -- how many steps: one, or a number from 1 to 1,000,000
 abbrev pub step_count : List (List ℕ) → Reading ℕ
 step_count [] = Ok 1
@@ -28,13 +24,13 @@ step_count (number ∷ []) = number_in 1 1000000 2 number
 step_count words = no_line
 
 -- so many steps; rule 6 where a history has too many with those before
-abbrev pub steps_behind : (before : ℕ) → Reading ℕ → Reading (List Entry)
-steps_behind before (Err rule) = Err rule
-steps_behind before (Ok count) = if nat_le (before + count) most_steps then Ok (replicate count one_step) else Err 6
+abbrev pub count_behind : (before : ℕ) → Reading ℕ → Reading ℕ
+count_behind before (Err rule) = Err rule
+count_behind before (Ok count) = if nat_le (before + count) most_steps then Ok count else Err 6
 
 -- `step`, `step n`: one step, or n of them
-unfoldable pub step_line : (before : ℕ) → List (List ℕ) → Reading (List Entry)
-step_line before words = steps_behind before (step_count words)
+unfoldable pub step_line : (before : ℕ) → List (List ℕ) → Reading ℕ
+step_line before words = count_behind before (step_count words)
 
 -- a number that passes a test; another one breaks rule 2
 abbrev pub number_among : (ℕ → Bool) → Reading ℕ → Reading ℕ
@@ -42,36 +38,36 @@ number_among test (Err rule) = Err rule
 number_among test (Ok n) = if test n then Ok n else Err 2
 
 -- `in b hh`: an existing peripheral byte takes a value
-unfoldable pub input_line : List (List ℕ) → Reading (List Entry)
+unfoldable pub input_line : List (List ℕ) → Reading Entry
 input_line (byte ∷ value ∷ []) =
-    reading_map (λ p. one (fed (Input p.0 p.1))) (both (number_among is_peripheral_byte (address_number byte)) (hex_of 2 value))
+    reading_map (λ p. fed (Input p.0 p.1)) (both (number_among is_peripheral_byte (address_number byte)) (hex_of 2 value))
 input_line words = no_line
 
 -- `arrive ob`, `arrive ob hhhhhhhh`: an interrupt arrives, with the value 0 or another one
-unfoldable pub arrival_line : List (List ℕ) → Reading (List Entry)
-arrival_line (ob ∷ []) = reading_map (λ n. one (fed (Arrive n 0))) (number_among is_arrivable (address_number ob))
+unfoldable pub arrival_line : List (List ℕ) → Reading Entry
+arrival_line (ob ∷ []) = reading_map (λ n. fed (Arrive n 0)) (number_among is_arrivable (address_number ob))
 arrival_line (ob ∷ value ∷ []) =
-    reading_map (λ p. one (fed (Arrive p.0 p.1))) (both (number_among is_arrivable (address_number ob)) (hex_of 8 value))
+    reading_map (λ p. fed (Arrive p.0 p.1)) (both (number_among is_arrivable (address_number ob)) (hex_of 8 value))
 arrival_line words = no_line
 
 -- `tick n`: 1 to 60,000 milliseconds pass
-unfoldable pub tick_line : List (List ℕ) → Reading (List Entry)
-tick_line (number ∷ []) = reading_map (λ n. one (fed (Tick n))) (number_in 1 60000 2 number)
+unfoldable pub tick_line : List (List ℕ) → Reading Entry
+tick_line (number ∷ []) = reading_map (λ n. fed (Tick n)) (number_in 1 60000 2 number)
 tick_line words = no_line
 
 -- the number of an operator, and the request behind it
-abbrev pub operator_with : Names → Option (List ℕ × List ℕ) → Reading (List Entry)
+abbrev pub operator_with : Names → Option (List ℕ × List ℕ) → Reading Entry
 operator_with names None = no_line
 operator_with names (Some w) =
-    reading_map (λ p. one (asked (worker_of p.0) p.1)) (both (number_in 1 4 5 w.0) (request_line names w.1))
+    reading_map (λ p. asked (worker_of p.0) p.1) (both (number_in 1 4 5 w.0) (request_line names w.1))
 
 -- `op k REQUEST`: operator k, 1 to 4, asks
-unfoldable pub operator_line : Names → (rest : List ℕ) → Reading (List Entry)
+unfoldable pub operator_line : Names → (rest : List ℕ) → Reading Entry
 operator_line names rest = operator_with names (first_word rest)
 
 -- `REQUEST`: a worker asks
-abbrev pub script_line : Names → (who : ℕ) → (line : List ℕ) → Reading (List Entry)
-script_line names who line = reading_map (λ request. one (asked who request)) (request_line names line)
+unfoldable pub script_line : Names → (who : ℕ) → (word rest : List ℕ) → Reading Entry
+script_line names who word rest = reading_map (asked who) (request_of names word rest)
 
 -- `step` and `op` stand in histories
 abbrev pub is_history : TextKind → Bool
@@ -84,7 +80,7 @@ is_fed History = true
 is_fed Stimuli = true
 is_fed _ = false
 
--- requests stand one_word in scripts
+-- requests stand alone in scripts
 abbrev pub is_script : TextKind → Bool
 is_script (Script who) = true
 is_script _ = false
@@ -92,24 +88,32 @@ is_script _ = false
 -- the worker whose requests a script has
 abbrev pub script_worker : TextKind → ℕ
 script_worker (Script who) = who
-script_worker _ = 0
+script_worker _ = 1
 
 -- a line kind of another file breaks rule 4, or a lesser rule besides
-abbrev pub standing : Bool → Reading (List Entry) → Reading (List Entry)
+abbrev pub standing : {A : Type 0} → Bool → Reading A → Reading A
 standing true reading = reading
-standing false (Ok entries) = Err 4
+standing false (Ok a) = Err 4
 standing false (Err rule) = Err (min rule 4)
 
+-- so many steps, one entry each
+abbrev pub steps : (count : ℕ) → List Entry
+steps count = replicate count one_step
+
+-- a line with one entry
+abbrev pub one : Entry → List Entry
+one entry = entry ∷ []
+
 -- a line by its first word
-abbrev pub line_with : TextKind → Names → (before : ℕ) → (line : List ℕ) → Option (List ℕ × List ℕ) → Reading (List Entry)
-line_with kind names before line None = no_line
-line_with kind names before line (Some w) =
-    if bytes_eq w.0 (codes "step") then standing (is_history kind) (step_line before (words_of w.1))
-    else if bytes_eq w.0 (codes "in") then standing (is_fed kind) (input_line (words_of w.1))
-    else if bytes_eq w.0 (codes "arrive") then standing (is_fed kind) (arrival_line (words_of w.1))
-    else if bytes_eq w.0 (codes "tick") then standing (is_fed kind) (tick_line (words_of w.1))
-    else if bytes_eq w.0 (codes "op") then standing (is_history kind) (operator_line names w.1)
-    else standing (is_script kind) (script_line names (script_worker kind) line)
+abbrev pub line_with : TextKind → Names → (before : ℕ) → Option (List ℕ × List ℕ) → Reading (List Entry)
+line_with kind names before None = no_line
+line_with kind names before (Some w) =
+    if bytes_eq w.0 (codes "step") then reading_map steps (standing (is_history kind) (step_line before (words_of w.1)))
+    else if bytes_eq w.0 (codes "in") then reading_map one (standing (is_fed kind) (input_line (words_of w.1)))
+    else if bytes_eq w.0 (codes "arrive") then reading_map one (standing (is_fed kind) (arrival_line (words_of w.1)))
+    else if bytes_eq w.0 (codes "tick") then reading_map one (standing (is_fed kind) (tick_line (words_of w.1)))
+    else if bytes_eq w.0 (codes "op") then reading_map one (standing (is_history kind) (operator_line names w.1))
+    else reading_map one (standing (is_script kind) (script_line names (script_worker kind) w.0 w.1))
 
 -- empty lines and lines that begin with `//` are skipped
 abbrev pub is_skipped : (line : List ℕ) → Bool
@@ -118,4 +122,4 @@ is_skipped line = length line == 0 || starts_with nat_eq line (codes "//")
 -- a line behind so many steps
 unfoldable pub line_read : TextKind → Names → (before : ℕ) → (line : List ℕ) → Reading (List Entry)
 line_read kind names before line =
-    if is_skipped line then Ok [] else line_with kind names before line (first_word line)
+    if is_skipped line then Ok [] else line_with kind names before (first_word line)

@@ -4,7 +4,7 @@ use Rattle.std.specs.List.{AllByRecursion}
 use Rattle.var_access.specs.Entry.{IsInRange}
 use Rattle.var_access.specs.declared.entries.Entry.{Entry}
 use Rattle.var_access.specs.declared.entries.What.{What}
-use Rattle.var_access.specs.declared.entries.What.TheVariants.{Step, Input, Arrive, Tick, Ask}
+use Rattle.var_access.specs.declared.entries.What.TheVariants.{Step, Input, Arrive, Ask}
 use Rattle.var_access.specs.declared.requests.Request.{Request}
 use Rattle.var_access.specs.declared.requests.Request.TheVariants.{ReadVars, WriteVar, MonitorOn}
 use Rattle.var_access.specs.declared.requests.Var.{Var}

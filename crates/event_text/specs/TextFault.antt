@@ -1,6 +1,7 @@
 -- Why a text isn't read.
-use Rattle.std.specs.Prelude.{◌≡◌, List, Result, Err}
+use Rattle.std.specs.Prelude.{◌≡◌, ◌++◌, ℕ, List, Result, Ok, Err}
 use Rattle.plc_base.specs.declared.refusals.Refusal.{Refusal}
+use Rattle.var_access.specs.Readings.{Reading}
 use Rattle.var_access.specs.declared.entries.Entry.{Entry}
 use Rattle.event_text.specs.declared.faults.TextFault.{TextFault}
 use Rattle.event_text.specs.declared.faults.TextFault.TheVariants.{BadLine, NoMemory}
@@ -9,3 +10,13 @@ use Rattle.event_text.specs.declared.faults.TextFault.TheVariants.{BadLine, NoMe
 abbrev pub IsTextFault : Result (List Entry) Refusal → TextFault → Type 0
 IsTextFault reading (BadLine line rule) = reading ≡ Err (record { line = line; rule = rule })
 IsTextFault reading NoMemory = Unit {0}
+
+-- a line with this number that breaks the rule, and no lesser one
+abbrev pub IsLineFault : (number : ℕ) → Reading (List Entry) → TextFault → Type 0
+IsLineFault number reading (BadLine line rule) = (line ≡ number) × (reading ≡ Err rule)
+IsLineFault number reading NoMemory = Unit {0}
+
+-- entries with those of a right line behind them
+abbrev pub IsBehind : Reading (List Entry) → (before after : List Entry) → Type 0
+IsBehind (Ok entries) before after = after ≡ before ++ entries
+IsBehind (Err rule) before after = ⊥

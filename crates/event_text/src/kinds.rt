@@ -34,13 +34,13 @@ impl TextKind {
         matches!(self, TextKind::Script { .. })
     }
 
-    /// The worker whose requests a script has, else 0.
+    /// The worker whose requests a script has, else 1.
     pub(crate) fn script_worker(self) -> u8
         ensures { result ≡ script_worker self }
     {
         match self {
             TextKind::Script { who } => who,
-            TextKind::History | TextKind::Stimuli => 0,
+            TextKind::History | TextKind::Stimuli => 1,
         }
     }
 }

@@ -5,7 +5,13 @@ mod addresses;
 mod faults;
 mod kinds;
 pub mod laws;
+mod lines;
+mod replies;
+mod texts;
 mod writing;
 
 pub use faults::TextFault;
-pub use writing::write_runs;
+pub use lines::MOST_STEPS;
+pub use replies::reply_lines;
+pub use texts::{read_history, read_script, read_stimuli};
+pub use writing::write_history;

@@ -1,4 +1,4 @@
-ghost use Rattle.std.specs.Prelude.{◌≡◌, ◌+◌, ◌<◌, ◌≤◌, ◌^◌, ◌++◌, List, length, replicate, decimal, codes, false, IfOk, OnOk};
+ghost use Rattle.std.specs.Prelude.{◌≡◌, ◌+◌, ◌<◌, ◌≤◌, ◌^◌, ◌++◌, List, length, replicate, decimal, codes, false, IfOk, OnErr, OnOk};
 ghost use Rattle.monitor.specs.LineText.{hex_text, kind_text};
 ghost use Rattle.var_access.specs.Runs.{AreRuns, is_step, written_out};
 ghost use Rattle.var_access.specs.declared.entries.Entry.{Entry};
@@ -18,6 +18,7 @@ ghost use Rattle.event_text.specs.Written.{
 };
 
 use crate::addresses::{value_text, var_text};
+use controller::Controller;
 use monitor::Line;
 use plc_base::{BlockId, BlockKind, NoMemory, Width};
 use std::alloc::Global;
@@ -36,7 +37,8 @@ pub(crate) fn operator_of(who: u8) -> u8
 
 /// Appends a number in decimal digits.
 pub(crate) fn append_number(number: u64, out: &mut Vec<u8>) -> Result<(), NoMemory>
-    ensures { OnOk result (out.new.items ≡ out.old.items ++ decimal number) }
+    ensures ok { OnOk result (out.new.items ≡ out.old.items ++ decimal number) }
+    ensures err { OnErr result (out.new.items ≡ out.old.items) }
 {
     let mut line = Line::new();
     line.add_number(number);
@@ -62,7 +64,8 @@ fn append_var(var: &Var, out: &mut Vec<u8>) -> Result<(), NoMemory>
 
 /// Appends a value at its width.
 pub(crate) fn append_value(width: Width, value: u32, out: &mut Vec<u8>) -> Result<(), NoMemory>
-    ensures { OnOk result (out.new.items ≡ out.old.items ++ value_text width value) }
+    ensures ok { OnOk result (out.new.items ≡ out.old.items ++ value_text width value) }
+    ensures err { OnErr result (out.new.items ≡ out.old.items) }
 {
     out.extend_from_slice(value_text(width, value).as_slice())
 }
@@ -250,11 +253,7 @@ fn append_runs(runs: &[Run], out: &mut Vec<u8>) -> Result<(), NoMemory>
 
 /// The text of a history, given as its runs: `step n` for each longest row of steps, each other entry
 /// on a line of its own.
-///
-/// # Errors
-///
-/// `NoMemory` for want of memory.
-pub fn write_runs(alloc: Global, runs: &[Run]) -> Result<Vec<u8>, NoMemory>
+fn write_runs(alloc: Global, runs: &[Run]) -> Result<Vec<u8>, NoMemory>
     requires are { AreRuns runs.now }
     requires bounded { length (written_out runs.now) < 2 ^ 64 }
     ensures { IfOk result (λ text. text.items ≡ written (written_out runs.now)) }
@@ -262,4 +261,21 @@ pub fn write_runs(alloc: Global, runs: &[Run]) -> Result<Vec<u8>, NoMemory>
     let mut out = Vec::new(alloc);
     append_runs(runs, &mut out)?;
     Ok(out)
+}
+
+/// The text of a controller's history: `step n` for each longest row of steps, each other entry on a
+/// line of its own; symbols as addresses, no blank inside a variable, hexadecimal digits in upper
+/// case, an arrival's value only where it isn't 0. What is written of a regular history (steps by
+/// worker 1, inputs, arrivals and ticks by worker 2, requests by workers 3 to 6) with at most
+/// 1,000,000 steps is read as that history (`laws::written_is_read`).
+///
+/// # Errors
+///
+/// `NoMemory` for want of memory.
+pub fn write_history(alloc: Global, controller: &Controller) -> Result<Vec<u8>, NoMemory>
+    ensures { IfOk result (λ text. text.items ≡ written controller.now.history) }
+{
+    // A history has fewer than 2^64 entries, and so has each row of steps.
+    let _len = controller.history_len();
+    write_runs(alloc, controller.runs())
 }

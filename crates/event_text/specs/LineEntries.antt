@@ -1,0 +1,42 @@
+-- What a line was read as.
+use Rattle.std.specs.Prelude.{◌≡◌, ◌≤◌, ◌+◌, ℕ, true, false, List, []}
+use Rattle.var_access.specs.Entry.{IsValid}
+use Rattle.var_access.specs.Runs.{is_step}
+use Rattle.var_access.specs.declared.entries.Entry.{Entry}
+use Rattle.event_text.specs.declared.kinds.TextKind.{TextKind}
+use Rattle.event_text.specs.declared.kinds.TextKind.TheVariants.{Script}
+use Rattle.event_text.specs.declared.lines.LineEntries.{LineEntries}
+use Rattle.event_text.specs.declared.lines.LineEntries.TheVariants.{Nothing, Steps, One}
+use Rattle.event_text.specs.Lines.{is_history, most_steps, one, steps}
+
+-- the entries that it stands for
+abbrev pub entries_of : LineEntries → List Entry
+entries_of Nothing = []
+entries_of (Steps count) = steps count
+entries_of (One entry) = one entry
+
+-- a valid entry that is no step
+pub record IsFed (entry : Entry) : Type 0 where
+  pub other : is_step entry ≡ false
+  pub valid : IsValid entry
+
+-- an entry of such kind on a line of its own
+abbrev pub IsFedLine : LineEntries → Type 0
+IsFedLine (One entry) = IsFed entry
+IsFedLine _ = ⊥
+
+-- workers are numbered from 1
+abbrev pub HasWorker : TextKind → Type 0
+HasWorker (Script who) = 1 ≤ who
+HasWorker _ = Unit {0}
+
+-- an entry that is no step, and valid by such a worker
+abbrev pub IsAskedLine : TextKind → LineEntries → Type 0
+IsAskedLine kind (One entry) = (is_step entry ≡ false) × (HasWorker kind → IsValid entry)
+IsAskedLine kind _ = ⊥
+
+-- steps come in histories alone, no more than there may be; any other entry is valid
+abbrev pub IsLineOf : TextKind → (before : ℕ) → LineEntries → Type 0
+IsLineOf kind before Nothing = Unit {0}
+IsLineOf kind before (Steps count) = (is_history kind ≡ true) × (1 ≤ count) × (before + count ≤ most_steps)
+IsLineOf kind before (One entry) = (is_step entry ≡ false) × (HasWorker kind → IsValid entry)
