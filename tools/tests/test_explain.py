@@ -34,20 +34,23 @@ class Explanations(ToolTest):
         self.expect_parts(["s7: source, line 7:\n    rule 10,"], 2, "source refused: line 7 rule 10", "check", "source")
         self.expect_parts(["s7: nowhere, line 7\n    rule 10,"], 2, "source refused: line 7 rule 10", "check", "nowhere")
 
-    def test_the_line_of_a_history_is_looked_for(self):
-        for text, part in (
-            ("// ok\nstep\nin 0 1\n", "hist, line 3: the value of an input byte is two hexadecimal digits\n        in 0 1\n"),
-            ("step 0\n", "hist, line 1: a number of steps is 1 to 1,000,000\n        step 0\n"),
-            ("tick 60001", "hist, line 1: a tick is 1 to 60,000 milliseconds\n        tick 60001\n"),
-            ("step\n  // x\n", "hist, line 2: a line is `step`"),
-            ("step\n \n", "hist, line 2: a line is `step`"),
-            ("arrive 35\n", "hist, line 1: an interrupt arrives for OB 10 to 17 or 40 to 47\n        arrive 35\n"),
-            ("arrive 40 ABC\n", "hist, line 1: the value of an arrival is eight hexadecimal digits\n"),
-            ("in 128 00\n", "hist, line 1: an input byte is 0 to 127 or 256 to 767\n        in 128 00\n"),
-            ("step 600000\nstep 400001\n", "hist, line 2: with this line there are more than 1,000,000 steps\n        step 400001\n"),
+    def test_what_is_wrong_in_a_history(self):
+        for line, rule, text, part in (
+            (3, 2, "// ok\nstep\nin 0 1\n", "hist, line 3: the value of an input byte is two hexadecimal digits\n        in 0 1\n"),
+            (1, 2, "step 0\n", "hist, line 1: a number of steps is 1 to 1,000,000\n        step 0\n"),
+            (1, 2, "tick 60001", "hist, line 1: a tick is 1 to 60,000 milliseconds\n        tick 60001\n"),
+            (2, 1, "step\n  // x\n", "hist, line 2: a line is `step`"),
+            (2, 1, "step\n \n", "hist, line 2: a line is `step`"),
+            (1, 2, "arrive 35\n", "hist, line 1: an interrupt arrives for OB 10 to 17 or 40 to 47\n        arrive 35\n"),
+            (1, 2, "arrive 40 ABC\n", "hist, line 1: the value of an arrival is eight hexadecimal digits\n"),
+            (1, 2, "in 128 00\n", "hist, line 1: an input byte is 0 to 127 or 256 to 767\n        in 128 00\n"),
+            (2, 6, "step 600000\nstep 400001\n", "hist, line 2: with this line there are more than 1,000,000 steps\n        step 400001\n"),
+            (1, 5, "op 5 diag\n", "hist, line 1: an operator is 1 to 4\n        op 5 diag\n"),
+            (1, 1, "op 1 reed MB0\n", "hist, line 1: a request is one of read, write"),
+            (2, 3, "step\nop 1 read \"nix\"\n", "hist, line 2:\n        op 1 read \"nix\"\n"),
         ):
             self.write("hist", text)
-            self.expect_parts([part, "    rule 99, broken where: "], 4, "history refused: line 0 rule 99", "go", "src", "hist")
+            self.expect_parts([part, f"    rule {rule}, broken where: "], 4, f"history refused: line {line} rule {rule}", "go", "src", "hist")
 
     def test_an_image(self):
         parts = ["s7: prog.img, byte 80 has the fault 10\n", "bytes behind the total length", 'docs/FORMATS.md, "Faults of an image"']
@@ -78,8 +81,9 @@ class Explanations(ToolTest):
 
     def test_each_rule_of_the_help_has_its_sentences(self):
         numbers = [number for number in range(100) if documents.rule(number)]
-        self.assertEqual(len(numbers), 44)
-        self.assertEqual([number for number in numbers if number != 99 and documents.short_rule(number).startswith("docs/")], [])
+        self.assertEqual(len(numbers), 43)
+        self.assertEqual([number for number in numbers if documents.short_rule(number).startswith("docs/")], [])
+        self.assertEqual([number for number in range(100) if documents.rule(number, "history")], list(range(1, 7)))
         for number in numbers:
             self.assertIn(f"rule {number}, broken where: ", self.explained(2, f"source refused: line 1 rule {number}", "check", "nowhere"))
         self.assertEqual([code for code in range(100) if documents.fault(code)], list(range(1, 11)))

@@ -227,7 +227,7 @@ class Proved(ScriptTest):
             (1, "words refused\n", "s7 check SRC"),
             (2, "source refused: line 1 rule 10\n", "rule 10, broken where: a clause isn't in the grammar"),
             (3, "image refused: offset 0 code 1\n", "has the fault 1"),
-            (4, "history refused: line 0 rule 99\n", "rule 99, broken where"),
+            (4, "history refused: line 1 rule 5\n", "rule 5, broken where: the operator"),
             (5, "read fault\n", ""),
             (8, "too long: source\n", "its limit (source) is 1,048,576"),
         ):

@@ -6,6 +6,7 @@ from texts.programs import TOP
 from texts.tool import Refused
 
 HELP_FILE = TOP / "crates" / "s7_cli" / "src" / "help.rt"
+HISTORY_RULES = "Rules of a history"
 CONSTANTS = {"help": "HELP", "version": "VERSION"}
 ESCAPES = {"\\n": "\n", '\\"': '"', "\\\\": "\\"}
 
@@ -60,9 +61,10 @@ def rows(name, first, second):
     return found
 
 
-def rule(number):
-    """The row of a rule in docs/REFUSALS.md, or None."""
-    return next((row for row in rows("REFUSALS.md", "Rule", "Broken where") if row.cells[0] == str(number)), None)
+def rule(number, kind="source"):
+    """The row of a rule in docs/REFUSALS.md for this kind of file, or None."""
+    found = rows("REFUSALS.md", "Rule", "Broken where")
+    return next((row for row in found if row.cells[0] == str(number) and (row.heading == HISTORY_RULES) == (kind == "history")), None)
 
 
 def fault(code):

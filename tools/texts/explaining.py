@@ -58,22 +58,19 @@ def of_line(call, text):
     kind, line, rule = match[1], int(match[2]), int(match[3])
     path = call.inputs().get(kind)
     lines = said_of_line(path, kind, line) if path else []
-    return lines + rule_lines(documents.rule(rule), rule)
+    return lines + rule_lines(documents.rule(rule, kind), rule)
 
 
 def said_of_line(path, kind, number):
-    """The file and the line that is refused. Of a history the program doesn't tell it (line 0), so it is looked for."""
+    """The file and the line that is refused, and of a history what is wrong there, where that is seen."""
     try:
         data = read_by_place(path, documents.limits()[kind])
     except (KeyError, OSError):
         return [f"{path}, line {number}"]
-    if number == 0:
-        wrong = read_history(data.decode("latin-1")).wrong
-        if not wrong:
-            return [path]
-        return [f"{path}, line {wrong.line}: {wrong.why}", *quoted(wrong.text.encode("latin-1"))]
+    wrong = read_history(data.decode("latin-1")).wrong if kind == "history" else None
+    why = f" {wrong.why}" if wrong and wrong.line == number else ""
     lines = data.split(b"\n")
-    return [f"{path}, line {number}:", *(quoted(lines[number - 1]) if number <= len(lines) else [])]
+    return [f"{path}, line {number}:{why}", *(quoted(lines[number - 1]) if number <= len(lines) else [])]
 
 
 def quoted(line):

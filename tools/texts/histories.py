@@ -8,10 +8,12 @@ from texts.tool import Refused, lines_of
 MOST_STEPS = 1_000_000
 LONGEST_TICK = 60_000
 ARRIVING = (*range(10, 18), *range(40, 48))
+OPERATORS = range(1, 5)
+REQUESTS = ("read", "write", "stop", "restart", "monitor", "diag")
 
 
 class Item(NamedTuple):
-    """A line of a history: `count` steps, an input, an arrival or a tick."""
+    """A line of a history: `count` steps, an input, an arrival, a tick or a request."""
 
     line: int
     kind: str
@@ -21,7 +23,7 @@ class Item(NamedTuple):
 
 
 class Wrong(NamedTuple):
-    """A line that isn't right, and why. Line 0 means that no single one is wrong."""
+    """A line that isn't right, and why. What a request says behind its first word is left to the program."""
 
     line: int
     text: str
@@ -65,7 +67,12 @@ def item_of(line, text):
     if kind == "tick" and len(operands) == 1:
         length = number_of(operands[0], range(1, LONGEST_TICK + 1))
         return Item(line, kind, number=length) if length else "a tick is 1 to 60,000 milliseconds"
-    return "a line is `step`, `step n`, `in b hh`, `arrive ob`, `arrive ob hhhhhhhh`, `tick n`, or a comment that begins with //"
+    if kind == "op" and len(operands) > 1:
+        operator = number_of(operands[0], OPERATORS)
+        if operator is None:
+            return "an operator is 1 to 4"
+        return Item(line, kind, number=operator) if operands[1] in REQUESTS else f"a request is one of {', '.join(REQUESTS)}"
+    return "a line is `step`, `step n`, `in b hh`, `arrive ob`, `arrive ob hhhhhhhh`, `tick n`, `op k REQUEST`, or a comment that begins with //"
 
 
 def read_history(text):

@@ -1,4 +1,4 @@
-ghost use Rattle.std.specs.Prelude.{◌≡◌, All, IfOk, Ok};
+ghost use Rattle.std.specs.Prelude.{◌≡◌, ◌≤◌, length, All, IfOk, Ok};
 ghost use Rattle.var_access.specs.Entry.{IsValid};
 ghost use Rattle.sem_kept.specs.Agreement.{KeepsSource, names_in};
 ghost use Rattle.event_text.specs.Texts.{history_of};
@@ -31,7 +31,8 @@ pub fn judge(
     text: &ProgramText,
     history: &[u8],
 ) -> Result<(Loaded, Entries), Failure>
-    requires { IsWithin text.now }
+    requires text { IsWithin text.now }
+    requires history { length history.now ≤ 4194304 }
     ensures keeps { IfOk result
         (λ v. KeepsSource text.now.source.items (symbols_of text.now) v.0.program) }
     ensures spells { IfOk result

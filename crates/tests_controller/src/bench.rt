@@ -129,7 +129,7 @@ fn write_data_block(
     Ok(())
 }
 
-fn write_end(rt: &impl Abort, out: &mut String, controller: &Controller) -> Written {
+pub(crate) fn write_end(rt: &impl Abort, out: &mut String, controller: &Controller) -> Written {
     let length = controller.history_len();
     write!(out, "END {length} ")?;
     write_mode(out, controller.mode())?;
@@ -176,19 +176,18 @@ pub(crate) fn apply_entry(
     Ok(())
 }
 
-/// The text of entries, from the controller's state on, with its end.
-pub(crate) fn entries_text(
-    alloc: Global,
+/// Applies an entry so often, and writes what it showed and was answered.
+fn apply_often(
     rt: &impl Abort,
     controller: &mut Controller,
-    entries: &[Entry],
-) -> Result<String, Fail> {
-    let mut out = String::new(alloc);
-    for entry in entries {
-        apply_entry(rt, controller, &mut out, *entry)?;
+    out: &mut String,
+    entry: &Entry,
+    count: u32,
+) -> Result<(), Fail> {
+    for _ in 0..count {
+        apply_entry(rt, controller, out, *entry)?;
     }
-    write_end(rt, &mut out, controller)?;
-    Ok(out)
+    Ok(())
 }
 
 /// Applies the entries of a line, and writes what they showed and were answered.
@@ -199,10 +198,7 @@ pub(crate) fn apply_line(
     line: &str,
 ) -> Result<(), Fail> {
     let (what, count) = line_of(line);
-    for _ in 0..count {
-        apply_entry(rt, controller, out, Entry { who: 1, what })?;
-    }
-    Ok(())
+    apply_often(rt, controller, out, &Entry { who: 1, what }, count)
 }
 
 /// The most entries of a run.

@@ -1,9 +1,9 @@
 //! Steps that show nothing are passed in a row, and all comes out as one by one.
-use crate::bench::{MOST_ENTRIES, apply_entry, apply_line, controller_of, entries_text};
+use crate::bench::{MOST_ENTRIES, apply_entry, apply_line, controller_of, write_end};
 use crate::compare::same;
 use controller::Controller;
 use plc_base::Mode;
-use std::alloc::{AllocError, Global};
+use std::alloc::Global;
 use std::process::Abort;
 use std::test::Fail;
 use var_access::{Entry, What};
@@ -58,23 +58,6 @@ fn entry_of(what: What) -> Entry {
     Entry { who: 1, what }
 }
 
-/// The entries behind so many.
-fn behind(entries: &[Entry], count: u8) -> &[Entry] {
-    entries.get(usize::from(count)..).unwrap_or(&[])
-}
-
-fn entries_of(alloc: Global, first: u8, then: u8) -> Result<Vec<Entry>, AllocError> {
-    let mut entries = Vec::new(alloc);
-    for _ in 0..first {
-        entries.push(entry_of(What::Step))?;
-    }
-    entries.push(entry_of(What::Input { byte: 0, value: 1 }))?;
-    for _ in 0..then {
-        entries.push(entry_of(What::Step))?;
-    }
-    Ok(entries)
-}
-
 /// Takes so many steps in a row, of which so many are made.
 fn pass_steps(
     rt: &impl Abort,
@@ -86,42 +69,88 @@ fn pass_steps(
     assert!(rt; controller.history_len() < MOST_ENTRIES);
     let most = u64::from(steps);
     controller.reserve(most)?;
-    let passed = controller.step_quietly(&entry_of(What::Step), most);
+    let step = Entry {
+        who: 1,
+        what: What::Step,
+    };
+    let passed = controller.step_quietly(&step, most);
     same(rt, when, passed, u64::from(made));
     Ok(())
 }
 
-/// The text of all entries, so many steps at their front in a row, of which so many are made.
-fn quiet_text(
-    alloc: Global,
+/// Makes so many steps, an input, and so many steps more, one by one.
+fn apply_each(
     rt: &impl Abort,
-    program: &str,
-    entries: &[Entry],
-    steps: u8,
-    made: u8,
-) -> Result<String, Fail> {
-    let mut controller = controller_of(alloc, program)?;
-    pass_steps(rt, &mut controller, program, steps, made)?;
-    same(rt, program, controller.history_len(), u64::from(made));
-    same(rt, program, controller.mode() == Mode::Startup, true);
-    entries_text(alloc, rt, &mut controller, behind(entries, made))
+    controller: &mut Controller,
+    out: &mut String,
+    first: u8,
+    then: u8,
+) -> Result<(), Fail> {
+    for _ in 0..first {
+        apply_entry(rt, controller, out, entry_of(What::Step))?;
+    }
+    apply_entry(
+        rt,
+        controller,
+        out,
+        entry_of(What::Input { byte: 0, value: 1 }),
+    )?;
+    for _ in 0..then {
+        apply_entry(rt, controller, out, entry_of(What::Step))?;
+    }
+    Ok(write_end(rt, out, controller)?)
 }
 
-/// The text of all entries, one by one.
-fn text(alloc: Global, rt: &impl Abort, program: &str, entries: &[Entry]) -> Result<String, Fail> {
-    let mut controller = controller_of(alloc, program)?;
-    entries_text(alloc, rt, &mut controller, entries)
+/// Makes the entries of a row, the first steps in a row as far as they show nothing, then one by one.
+fn write_in_a_row(
+    rt: &impl Abort,
+    controller: &mut Controller,
+    out: &mut String,
+    row: &Row,
+) -> Result<(), Fail> {
+    let (program, first, in_a_row, then, _) = *row;
+    pass_steps(rt, controller, program, first, in_a_row)?;
+    same(rt, program, controller.history_len(), u64::from(in_a_row));
+    same(rt, program, controller.mode() == Mode::Startup, true);
+    apply_each(rt, controller, out, first.saturating_sub(in_a_row), then)
+}
+
+/// Makes the entries of a row.
+fn write_row(
+    rt: &impl Abort,
+    controller: &mut Controller,
+    out: &mut String,
+    row: &Row,
+    in_a_row: bool,
+) -> Result<(), Fail> {
+    if in_a_row {
+        write_in_a_row(rt, controller, out, row)
+    } else {
+        apply_each(rt, controller, out, row.1, row.3)
+    }
+}
+
+/// The text of all entries of a row.
+fn text(alloc: Global, rt: &impl Abort, row: &Row, in_a_row: bool) -> Result<String, Fail> {
+    let mut controller = controller_of(alloc, row.0)?;
+    let mut out = String::new(alloc);
+    write_row(rt, &mut controller, &mut out, row, in_a_row)?;
+    Ok(out)
+}
+
+/// The text of a row is as it says.
+fn shows_as_said(alloc: Global, rt: &impl Abort, row: &Row, in_a_row: bool) -> Result<(), Fail> {
+    let shown = text(alloc, rt, row, in_a_row)?;
+    same(rt, (row.0, in_a_row), shown.as_str(), row.4);
+    Ok(())
 }
 
 #[test]
 fn steps_are_passed(rt: HostRuntime) -> Result<(), Fail> {
     let alloc = rt.alloc();
-    for (program, first, in_a_row, then, shown) in &ROWS {
-        let entries = entries_of(alloc, *first, *then)?;
-        let one_by_one = text(alloc, &rt, program, entries.as_slice())?;
-        same(&rt, *program, one_by_one.as_str(), *shown);
-        let quiet = quiet_text(alloc, &rt, program, entries.as_slice(), *first, *in_a_row)?;
-        same(&rt, *program, quiet.as_str(), *shown);
+    for row in &ROWS {
+        shows_as_said(alloc, &rt, row, false)?;
+        shows_as_said(alloc, &rt, row, true)?;
     }
     Ok(())
 }

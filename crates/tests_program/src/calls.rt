@@ -92,7 +92,7 @@ fn are_told<R: Abort + Threads + Wait + Sync>(
     Ok(())
 }
 
-static RUNS: [Row; 15] = [
+static RUNS: [Row; 17] = [
     (RUNG, ONE_RUN, 0, b"@7 PQ 4 = 01\nEND 7 RUN\n"),
     (RUNG, b"in 0 01\nstep 5\n", 0, b"END 6 RUN\n"),
     (b"", b"step 2\n", 0, b"END 2 RUN\n"),
@@ -146,7 +146,14 @@ static RUNS: [Row; 15] = [
         b"@7 PQ 4 = 01\nEND 7 RUN\n",
     ),
     // A line that is no entry; a statement outside of a block, whatever the history is.
-    (RUNG, b"tick 0\n", 4, b"history refused: line 0 rule 99\n"),
+    (RUNG, b"tick 0\n", 4, b"history refused: line 1 rule 2\n"),
+    (
+        RUNG,
+        b"step\narrive 50\n",
+        4,
+        b"history refused: line 2 rule 2\n",
+    ),
+    (RUNG, b"op 5 diag\n", 4, b"history refused: line 1 rule 5\n"),
     (b"L 1;\n", ONE_RUN, 2, b"source refused: line 1 rule 11\n"),
     (
         b"L 1;\n",

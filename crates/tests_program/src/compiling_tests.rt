@@ -13,6 +13,9 @@ use std::test::Fail;
 /// The most bytes of a source, and of a symbols file.
 const LIMIT: usize = 1_048_576;
 
+/// The most bytes of a history.
+const HISTORY_LIMIT: usize = 4_194_304;
+
 /// OB 1 by symbols, and their file.
 const BY_SYMBOLS: &[u8] =
     b"ORGANIZATION_BLOCK OB 1\nBEGIN\nA \"On\";\n= \"Lamp\";\nEND_ORGANIZATION_BLOCK\n";
@@ -30,7 +33,8 @@ fn runs(
 ) -> Result<(), Fail> {
     assert!(rt; source.len() <= LIMIT && symbols.len() <= LIMIT);
     let program = compiled(alloc, source, symbols)?;
-    let entries = read_history(alloc, history)?;
+    assert!(rt; history.len() <= HISTORY_LIMIT);
+    let entries = read_history(alloc, history, program.names())?;
     replay_text(alloc, program, &entries, out)?;
     Ok(())
 }

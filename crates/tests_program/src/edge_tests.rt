@@ -1,14 +1,19 @@
 use crate::compare::same;
-use event_text::{HistoryFault, read_history};
+use event_text::{TextFault, read_history};
+use flat_code::Names;
 use monitor::Line;
 use plc_base::Refusal;
 use s7_cli::{Failure, File, Status, failure_line};
+use std::alloc::Global;
 use std::process::Abort;
 use std::test::Fail;
-use var_access::{Entry, What};
+use var_access::{Entry, Request, What};
+
+/// The most bytes of a history.
+const HISTORY_LIMIT: usize = 4_194_304;
 
 // How many entries each text spells, counted by hand: one for each step, input and arrival.
-static RIGHT: [(&str, usize); 12] = [
+static RIGHT: [(&str, u64); 12] = [
     ("", 0),
     ("\n\r\n// step\n//\n", 0),
     ("step\nstep 3", 4),
@@ -23,66 +28,94 @@ static RIGHT: [(&str, usize); 12] = [
     ("arrive 41\n", 1),
 ];
 
+/// The names of the variables of no program.
+fn no_names(alloc: Global) -> Names {
+    Names::new(Vec::new(alloc))
+}
+
 #[test]
 fn right_histories(rt: HostRuntime) -> Result<(), Fail> {
+    let names = no_names(rt.alloc());
     for (text, count) in &RIGHT {
-        let entries = read_history(rt.alloc(), text.as_bytes())?;
+        assert!(&rt; text.len() <= HISTORY_LIMIT);
+        let entries = read_history(rt.alloc(), text.as_bytes(), &names)?;
         same(&rt, *text, entries.len(), *count);
     }
     Ok(())
 }
 
-static WRONG: [&str; 34] = [
-    " \n",
-    " // step\n",
-    "step\r",
-    "STEP\n",
-    "step 0\n",
-    "step 1000001\n",
-    "step 99999999999999999999999\n",
-    "step -1\n",
-    "step +1\n",
-    "step 1 1\n",
-    "step1\n",
-    "step 1000000\nstep\n",
-    "in 128 00\n",
-    "in 255 00\n",
-    "in 768 00\n",
-    "in 65536 00\n",
-    "in 0 0\n",
-    "in 0 001\n",
-    "in 0 0g\n",
-    "in 0\n",
-    "in 0 00 00\n",
-    "arrive\n",
-    "arrive 1\n",
-    "arrive 9\n",
-    "arrive 18\n",
-    "arrive 39\n",
-    "arrive 48\n",
-    "arrive 40 0000000\n",
-    "arrive 40 000000000\n",
-    "arrive 40 0000000g\n",
-    "arrive 40 00000000 0\n",
-    "tick\n",
-    "tick 0\n",
-    "tick 60001\n",
+/// A text, and its first bad line with the least rule that this breaks.
+static WRONG: [(&str, u32, u16); 47] = [
+    (" \n", 1, 1),
+    (" // step\n", 1, 1),
+    ("step\r", 1, 1),
+    ("STEP\n", 1, 1),
+    ("step 0\n", 1, 2),
+    ("step 1000001\n", 1, 2),
+    ("step 99999999999999999999999\n", 1, 2),
+    ("step -1\n", 1, 1),
+    ("step +1\n", 1, 1),
+    ("step 1 1\n", 1, 1),
+    ("step1\n", 1, 1),
+    ("step 1000000\nstep\n", 2, 6),
+    ("in 128 00\n", 1, 2),
+    ("in 255 00\n", 1, 2),
+    ("in 768 00\n", 1, 2),
+    ("in 65536 00\n", 1, 2),
+    ("in 0 0\n", 1, 2),
+    ("in 0 001\n", 1, 2),
+    ("in 0 0g\n", 1, 1),
+    ("in 0\n", 1, 1),
+    ("in 0 00 00\n", 1, 1),
+    ("arrive\n", 1, 1),
+    ("arrive 1\n", 1, 2),
+    ("arrive 9\n", 1, 2),
+    ("arrive 18\n", 1, 2),
+    ("arrive 39\n", 1, 2),
+    ("arrive 48\n", 1, 2),
+    ("arrive 40 0000000\n", 1, 2),
+    ("arrive 40 000000000\n", 1, 2),
+    ("arrive 40 0000000g\n", 1, 1),
+    ("arrive 40 00000000 0\n", 1, 1),
+    ("tick\n", 1, 1),
+    ("tick 0\n", 1, 2),
+    ("tick 60001\n", 1, 2),
+    ("diag\n", 1, 4),
+    ("op 0 stop\n", 1, 5),
+    ("op 5 stop\n", 1, 5),
+    ("step\nop 1\n", 2, 1),
+    ("op 1 read\n", 1, 1),
+    ("op 1 read MB65536\n", 1, 2),
+    ("op 1 read M0.8\n", 1, 2),
+    ("op 1 read \"x\"\n", 1, 3),
+    ("op 1 write MB0 100\n", 1, 2),
+    ("op 1 write M0.0 2\n", 1, 2),
+    ("op 1 write MB0 0g\n", 1, 1),
+    ("op 1 monitor on DB 1\n", 1, 1),
+    ("op 1 monitor on OB 65536\n", 1, 2),
 ];
 
 #[test]
 fn wrong_histories(rt: HostRuntime) {
-    let refusal = Refusal { line: 0, rule: 99 };
-    for text in &WRONG {
-        let fault = read_history(rt.alloc(), text.as_bytes()).err();
-        same(&rt, *text, fault, Some(HistoryFault::Refused { refusal }));
+    let names = no_names(rt.alloc());
+    for (text, line, rule) in &WRONG {
+        assert!(&rt; text.len() <= HISTORY_LIMIT);
+        let fault = read_history(rt.alloc(), text.as_bytes(), &names).err();
+        let bad = TextFault::BadLine {
+            line: *line,
+            rule: *rule,
+        };
+        same(&rt, *text, fault, Some(bad));
     }
 }
 
 #[test]
 fn entries_in_order(rt: HostRuntime) -> Result<(), Fail> {
+    let names = no_names(rt.alloc());
     let entries = read_history(
         rt.alloc(),
-        b"in 3 A0\nstep\narrive 40\narrive 10 0102a0Ff\ntick 250\n",
+        b"in 3 A0\nstep\narrive 40\narrive 10 0102a0Ff\ntick 250\nop 4 diag\n",
+        &names,
     )?;
     let spelled = [
         Entry {
@@ -111,8 +144,17 @@ fn entries_in_order(rt: HostRuntime) -> Result<(), Fail> {
             who: 2,
             what: What::Tick { ms: 250 },
         },
+        Entry {
+            who: 6,
+            what: What::Ask {
+                request: Request::Diag,
+            },
+        },
     ];
-    same(&rt, "the entries", entries.as_slice(), spelled.as_slice());
+    same(&rt, "their number", entries.len(), spelled.len() as u64);
+    for (place, entry) in spelled.iter().enumerate() {
+        same(&rt, place, entries.entry(place as u64), Some(*entry));
+    }
     Ok(())
 }
 

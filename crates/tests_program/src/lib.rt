@@ -19,6 +19,8 @@ mod help_tests;
 #[cfg(test)]
 mod outside_tests;
 #[cfg(test)]
+mod request_tests;
+#[cfg(test)]
 mod run_tests;
 #[cfg(test)]
 mod symbols_tests;

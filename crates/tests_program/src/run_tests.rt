@@ -8,10 +8,10 @@ use std::test::Fail;
 use std::thread::Threads;
 
 /// A source, a history, and the text of the run.
-type Run = (&'static str, &'static str, &'static str);
+pub(crate) type Run = (&'static str, &'static str, &'static str);
 
 /// Runs each source along its history, with status 0.
-fn are_run<R: Abort + Threads + Wait + Sync>(
+pub(crate) fn are_run<R: Abort + Threads + Wait + Sync>(
     rt: &R,
     alloc: Global,
     runs: &[Run],

@@ -45,7 +45,7 @@ fn are_told<R: Abort + Threads + Wait + Sync>(
 const EXPORTED: &str =
     "ORGANIZATION_BLOCK OB 1\nBEGIN\nNETWORK\nTITLE = add\nA(    ;\nA     \"ENABLE\";\nJNB   _001;\nL     MW     2;\nL     5;\n+I    ;\nT     MW     4;\nAN    OV;\nSAVE  ;\nCLR   ;\n_001: A     BR;\n)     ;\n=     Q      4.0;\nEND_ORGANIZATION_BLOCK\n";
 
-static RUNS: [Row; 8] = [
+static RUNS: [Row; 11] = [
     (
         EXPORTED,
         "\"Enable\",\"I       0.0\",\"BOOL      \",\"on\"\r\n",
@@ -90,9 +90,31 @@ static RUNS: [Row; 8] = [
         "a,I 0.0,BOOL,\n",
         "stop\n",
         4,
-        "history refused: line 0 rule 99\n",
+        "history refused: line 1 rule 4\n",
     ),
     ("", "a,I 0.0,BOOL,\n", "step\n", 0, "END 1 RUN\n"),
+    // A history names variables by symbols too, whatever their case, and nothing else.
+    (
+        "",
+        "On,I 0.0,BOOL,\nSet value,MW 4,INT,\n",
+        "in 0 01\nop 1 write \"SET VALUE\" 00fF\nstep\nop 2 read \"on\", \"Set Value\", MB5\n",
+        0,
+        "@2 OP 1 DONE\n@4 OP 2 VALUES 1 00FF FF\nEND 4 RUN\n",
+    ),
+    (
+        "",
+        "On,I 0.0,BOOL,\nRun,T 1,TIMER,\n",
+        "op 1 read \"On\"\nop 1 read \"On\", \"Run\"\n",
+        4,
+        "history refused: line 2 rule 3\n",
+    ),
+    (
+        EXPORTED,
+        "\"Enable\",\"I       0.0\",\"BOOL      \",\"on\"\n",
+        "op 1 write MW2 0007\nin 0 01\nstep 15\nop 1 read MW4\nstep 1\n",
+        0,
+        "@1 OP 1 DONE\n@18 OP 1 VALUES 000C\n@19 PQ 4 = 01\nEND 19 RUN\n",
+    ),
 ];
 
 #[test]

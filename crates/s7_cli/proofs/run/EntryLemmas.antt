@@ -22,7 +22,7 @@ use Rattle.var_access.specs.declared.What.TheVariants.{Ask, Step}
 use Rattle.controller.specs.Asking.{answered}
 use Rattle.controller.specs.declared.Observed.{Observed}
 use Rattle.controller.specs.Quiet.{ShowNothing}
-use Rattle.controller.specs.Replay.{ContinuesByMore, Happened, happens, replay, reply_to, run_from}
+use Rattle.controller.specs.Replay.{ContinuesByMore, happens, replay, reply_to, run_from}
 use Rattle.event_text.specs.Replies.{reply_text}
 use Rattle.controller.specs.Shown.{nothing_shown}
 use Rattle.controller.specs.State.{State}

@@ -71,7 +71,7 @@ fn add_request(
     ensures applied { controller.new ≡ with_entries controller.old (entry.now ∷ []) }
     ensures lines { OnOk result (text.new.items ≡ text.old.items
         ++ entry_text (length controller.new.history) entry.now
-            (next_happens controller.old entry.now)) }
+        (next_happens controller.old entry.now)) }
 {
     let reply = controller.answer(request);
     controller.enter(entry);
@@ -81,28 +81,20 @@ fn add_request(
 }
 
 /// Applies an entry that is no request, and appends its lines.
-fn add_event(
-    controller: &mut Controller,
-    entry: &Entry,
-    text: &mut Vec<u8>,
-) -> Result<(), NoMemory>
+fn add_event(controller: &mut Controller, entry: &Entry, text: &mut Vec<u8>) -> Result<(), NoMemory>
     requires room { 1 ≤ controller.old.spare }
     requires valid { IsValid entry.now }
     ensures applied { controller.new ≡ with_entries controller.old (entry.now ∷ []) }
     ensures lines { OnOk result (text.new.items ≡ text.old.items
         ++ shown_text (length controller.new.history)
-            (next_happens controller.old entry.now).seen) }
+        (next_happens controller.old entry.now).seen) }
 {
     controller.enter(entry);
     add_shown(controller.history_len(), controller.observed(), text)
 }
 
 /// Applies an entry, and appends its lines.
-fn add_entry(
-    controller: &mut Controller,
-    entry: &Entry,
-    text: &mut Vec<u8>,
-) -> Result<(), NoMemory>
+fn add_entry(controller: &mut Controller, entry: &Entry, text: &mut Vec<u8>) -> Result<(), NoMemory>
     requires room { 1 ≤ controller.old.spare }
     requires valid { IsValid entry.now }
     ensures applied { controller.new ≡ with_entries controller.old (entry.now ∷ []) }

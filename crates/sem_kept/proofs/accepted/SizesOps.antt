@@ -31,7 +31,6 @@ use Rattle.stl_ast.specs.Statements.{is_empty}
 use Rattle.stl_ast.specs.declared.blocks.Block.{Block}
 use Rattle.stl_ast.specs.declared.blocks.PathStep.{PathStep}
 use Rattle.stl_ast.specs.declared.declarations.Simple.{Simple}
-use Rattle.stl_ast.specs.declared.literals.Literal.{Literal}
 use Rattle.stl_ast.specs.declared.mnemonics.Mnemonic.{Mnemonic}
 use Rattle.stl_ast.specs.declared.mnemonics.Mnemonic.TheVariants as code
 use Rattle.stl_ast.specs.declared.names.BlockName.{BlockName}

@@ -39,7 +39,7 @@ returns g c =
     let symbols : Option (List ℕ) = option_map (λ s. s.now) c.args.symbols in
     let contents : Contents = (g.F.Files.shown c.args.files.now).contents in
     let text = c.in_ok-text.text in
-    let runs = c.in_ok-judge_program.ensures.accepted.2 in
+    let runs = c.in_ok-judge_program.ensures.accepted.1.runs in
     comes-written (Check c.args.src.now symbols) _ _ _ (contents_of text) ok_line _ refl c.in_ok-text.ensures
     (check-said contents c.args.src.now symbols text.source.items (symbols_file text) _ c.in_ok-text.ensures.hold.1 (Ok runs.0, runs.1, refl))
     c.write_text.ensures

@@ -1,4 +1,4 @@
-use Rattle.std.proofs.Common.{◌≡◌, ap, refl, sym, ◌∙◌, subst, List, [], ◌∷◌, ◌++◌, ℕ, Vec, Global, Option, Ok, Err, append-nil}
+use Rattle.std.proofs.Common.{◌≡◌, ◌≤◌, ap, refl, sym, ◌∙◌, subst, List, [], ◌∷◌, ◌++◌, length, ℕ, Vec, Global, Option, Ok, Err, append-nil}
 use Rattle.std.specs.Option.{option_map}
 use Rattle.std.proofs.lemmas.Result.{err_from_is_err_and}
 use Rattle.plc_base.specs.declared.Profile.TheVariants.{Small}
@@ -51,8 +51,10 @@ returns-in_err-history g c =
     (file-unread bytes_of alone _ last _ _ refl c.in_err-history.ensures))
 
 pub judge-requires : goal.judge-requires
-judge-requires g c =
-    within (g.F.Files.shown c.args.files.now).contents c.args.src.now (option_map (λ s. s.now) c.args.symbols) c.in_ok-text.text c.in_ok-text.ensures.hold
+judge-requires g c = record {
+  text = within (g.F.Files.shown c.args.files.now).contents c.args.src.now (option_map (λ s. s.now) c.args.symbols) c.in_ok-text.text c.in_ok-text.ensures.hold;
+  history = subst (λ (bytes : List ℕ). length bytes ≤ 4194304) (sym c.deref.ensures.value) c.in_ok-history.ensures.1.within;
+}
 
 pub returns-in_err-program : goal.returns-in_err-program
 returns-in_err-program g c =

@@ -1,8 +1,9 @@
-use Rattle.std.proofs.Common.{◌∙◌, ap, sym, Err, List}
+use Rattle.std.proofs.Common.{◌∙◌, ap, subst, Err, List}
 use Rattle.std.proofs.lemmas.Result.{err_from_is_err_and}
 use Rattle.flat_code.specs.Programs.{NameEntry}
 use Rattle.image_file.specs.Loaded.{LoadedProgram}
 use Rattle.var_access.specs.Recorded.{Recorded}
+use Rattle.event_text.specs.TextFault.{IsTextFault}
 use Rattle.event_text.specs.Texts.{history_of}
 use Rattle.s7_cli.proofs.SaysLemmas.{go-refused, history-refused}
 use Rattle.s7_cli.proofs.judging.judge.Goals as goal
@@ -17,4 +18,6 @@ pub returns-in_err-entries-clause-refused : goal.returns-in_err-entries-clause-r
 returns-in_err-entries-clause-refused c =
     let fault = err_from_is_err_and c.from_residual-in_err-entries.result c.from_residual-in_err-entries.ensures.1 in
     history-refused (LoadedProgram × Recorded) _ _ _ _ _ c.args.history.now _ _ c.deref.ensures.value c.symbols.ensures
-    (fault.1 ∙ ap Err fault.2) c.in_ok-program.ensures.ok c.in_err-entries.ensures.refused
+    (fault.1 ∙ ap Err fault.2) c.in_ok-program.ensures.ok
+    (subst (λ (names : List NameEntry). IsTextFault (history_of names c.args.history.now) c.in_err-entries.field-0.0)
+    c.names.ensures c.in_err-entries.ensures.refused)

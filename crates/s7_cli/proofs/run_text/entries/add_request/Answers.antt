@@ -1,10 +1,6 @@
 use Rattle.std.proofs.Common.{◌≡◌, ◌∙◌, subst, ℕ, List, OnOk}
 use Rattle.s7_cli.proofs.run.EntryLemmas.{request-lines}
-use Rattle.s7_cli.proofs.run.ReplyLemmas.{answers-asked}
 use Rattle.s7_cli.proofs.run_text.entries.add_request.Goals as goal
-
-pub reply_lines-requires : goal.reply_lines-requires
-reply_lines-requires c = answers-asked _ _ _ _ c.answer-reply.ensures
 
 pub returns-clause-lines : goal.returns-clause-lines
 returns-clause-lines c =

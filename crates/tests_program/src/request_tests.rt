@@ -1,0 +1,122 @@
+//! Requests of operators and monitoring in whole runs: what `go` writes, worked out by hand.
+use crate::run_tests::{Run, are_run};
+use std::test::Fail;
+
+/// A monitored OB 1: the registers after each statement, and of the cycle point nothing.
+static MONITORED: [Run; 5] = [
+    // 32,767 + 1 is a positive overflow: OV and OS, CC 0/1, so JM jumps.
+    (
+        "ORGANIZATION_BLOCK OB 1\nBEGIN\nL 32767;\nL 1;\n+I;\nJM x;\nSET;\nx: NOP 0;\nEND_ORGANIZATION_BLOCK\n",
+        "op 1 monitor on OB 1\nstep 6\n",
+        "@1 OP 1 DONE\n@3 MON OB 1 LINE 3 STW 0000 A1 00007FFF A2 00000000\n@4 MON OB 1 LINE 4 STW 0000 A1 00000001 A2 00007FFF\n@5 MON OB 1 LINE 5 STW 0070 A1 00008000 A2 00007FFF\n@6 MON OB 1 LINE 6 STW 0070 A1 00008000 A2 00007FFF\n@7 MON OB 1 LINE 8 STW 0070 A1 00008000 A2 00007FFF\nEND 7 RUN\n",
+    ),
+    // The true sum -65,536: OV and OS, CC 0/0, so JZ jumps.
+    (
+        "ORGANIZATION_BLOCK OB 1\nBEGIN\nL -32768;\nL -32768;\n+I;\nJZ x;\nSET;\nx: NOP 0;\nEND_ORGANIZATION_BLOCK\n",
+        "op 1 monitor on OB 1\nstep 6\n",
+        "@1 OP 1 DONE\n@3 MON OB 1 LINE 3 STW 0000 A1 00008000 A2 00000000\n@4 MON OB 1 LINE 4 STW 0000 A1 00008000 A2 00008000\n@5 MON OB 1 LINE 5 STW 0030 A1 00000000 A2 00008000\n@6 MON OB 1 LINE 6 STW 0030 A1 00000000 A2 00008000\n@7 MON OB 1 LINE 8 STW 0030 A1 00000000 A2 00008000\nEND 7 RUN\n",
+    ),
+    // 13 / 4 is 3, remainder 1; a division by 0 gives CC 1/1, so JUO jumps.
+    (
+        "ORGANIZATION_BLOCK OB 1\nBEGIN\nL 13;\nL 4;\n/I;\nL 0;\n/I;\nJUO x;\nSET;\nx: NOP 0;\nEND_ORGANIZATION_BLOCK\n",
+        "op 1 monitor on OB 1\nstep 8\n",
+        "@1 OP 1 DONE\n@3 MON OB 1 LINE 3 STW 0000 A1 0000000D A2 00000000\n@4 MON OB 1 LINE 4 STW 0000 A1 00000004 A2 0000000D\n@5 MON OB 1 LINE 5 STW 0080 A1 00010003 A2 0000000D\n@6 MON OB 1 LINE 6 STW 0080 A1 00000000 A2 00010003\n@7 MON OB 1 LINE 7 STW 00F0 A1 00000000 A2 00010003\n@8 MON OB 1 LINE 8 STW 00F0 A1 00000000 A2 00010003\n@9 MON OB 1 LINE 10 STW 00F0 A1 00000000 A2 00010003\nEND 9 RUN\n",
+    ),
+    // A statement that stops shows its own line; in STOP nothing is executed. The record stands first.
+    (
+        "ORGANIZATION_BLOCK OB 1\nBEGIN\nOPN DB 1;\nL DBW 8;\nEND_ORGANIZATION_BLOCK\nDATA_BLOCK DB 1 STRUCT a : WORD; END_STRUCT; BEGIN END_DATA_BLOCK\n",
+        "op 2 monitor on OB 1\nstep 4\nop 2 monitor off\n",
+        "@1 OP 2 DONE\n@3 MON OB 1 LINE 3 STW 0000 A1 00000000 A2 00000000\n@4 MON OB 1 LINE 4 STW 0000 A1 00000000 A2 00000000\n@4 MODE STOP 3 AT OB 1 LINE 4\n@6 OP 2 DONE\nEND 6 STOP 3\nDB 1 0 0000\n",
+    ),
+    // One block at a time, which must be loaded; after off none.
+    (
+        "ORGANIZATION_BLOCK OB 1\nBEGIN\nL 1;\nL 2;\nL 3;\nEND_ORGANIZATION_BLOCK\n",
+        "step\nop 1 monitor on OB 1\nop 2 monitor on FC 7\nstep\nop 3 monitor off\nstep\n",
+        "@2 OP 1 DONE\n@3 OP 2 NOSUCH 1\n@4 MON OB 1 LINE 3 STW 0000 A1 00000001 A2 00000000\n@5 OP 3 DONE\nEND 6 RUN\n",
+    ),
+];
+
+#[test]
+fn monitored_statements(rt: HostRuntime) -> Result<(), Fail> {
+    are_run(&rt, rt.alloc(), &MONITORED)
+}
+
+const BRANCHES: &str =
+    "ORGANIZATION_BLOCK OB 1\nBEGIN\nA M 0.0;\nA M 0.1;\nO;\nA M 0.2;\nA M 0.3;\n= M 1.0;\nEND_ORGANIZATION_BLOCK\n";
+
+/// Variables are read and written between two statements.
+static VARIABLES: [Run; 6] = [
+    (
+        BRANCHES,
+        "op 1 write MB0 0E\nstep 7\nop 1 read MB1\n",
+        "@1 OP 1 DONE\n@9 OP 1 VALUES 01\nEND 9 RUN\n",
+    ),
+    // There is no byte 300; the first variable that is absent is told, and none is read.
+    (
+        BRANCHES,
+        "op 1 write MB0 0E\nstep 7\nop 1 read MB 300\nop 4 read M1.0, MD 254, QW 2, DB9.DBX0.1\nop 4 read M 1.0, QD 124, IW 2\n",
+        "@1 OP 1 DONE\n@9 OP 1 NOSUCH 1\n@10 OP 4 NOSUCH 2\n@11 OP 4 VALUES 1 00000000 0000\nEND 11 RUN\n",
+    ),
+    // An interrupt between the two statements of OB 1.
+    (
+        "ORGANIZATION_BLOCK OB 1\nBEGIN\nL 5;\nT MW 12;\nEND_ORGANIZATION_BLOCK\nORGANIZATION_BLOCK OB 40\nBEGIN\nL 99;\nT MW 10;\nEND_ORGANIZATION_BLOCK\n",
+        "step 2\narrive 40\nstep 2\nop 1 read MW10, MW12\nstep 2\nop 1 read MW10, MW12\n",
+        "@6 OP 1 VALUES 0063 0000\n@9 OP 1 VALUES 0063 0005\nEND 9 RUN\n",
+    ),
+    // Interrupts are delayed until the second EN_AIRT; the third one finds nothing to take back.
+    (
+        "ORGANIZATION_BLOCK OB 1\nBEGIN\nCALL SFC 41 (RET_VAL := MW 20);\nCALL SFC 41 (RET_VAL := MW 22);\nCALL SFC 42 (RET_VAL := MW 24);\nCALL SFC 42 (RET_VAL := MW 26);\nCALL SFC 42 (RET_VAL := MW 28);\nEND_ORGANIZATION_BLOCK\nORGANIZATION_BLOCK OB 40\nBEGIN\nL 7;\nT MB 30;\nEND_ORGANIZATION_BLOCK\n",
+        "step 3\narrive 40\nstep 2\nop 1 read MW24, MW26, MB30\nstep 4\nop 1 read MW20, MW22, MW28, MB30\n",
+        "@7 OP 1 VALUES 0001 0000 00\n@12 OP 1 VALUES 0001 0002 8080 07\nEND 12 RUN\n",
+    ),
+    // A word past the end of the open data block, with OB 121; then OB 1 goes on behind it.
+    (
+        "DATA_BLOCK DB 10 STRUCT a : ARRAY [0..9] OF BYTE; END_STRUCT; BEGIN END_DATA_BLOCK\nORGANIZATION_BLOCK OB 1\nBEGIN\nOPN DB 10;\nL DBW 100;\nT MW 0;\nEND_ORGANIZATION_BLOCK\nORGANIZATION_BLOCK OB 121\nBEGIN\nL 1;\nT MB 9;\nEND_ORGANIZATION_BLOCK\n",
+        "step 7\nop 1 read MB9, MW0\n",
+        "@8 OP 1 VALUES 01 0000\nEND 8 RUN\nDB 10 0 00000000000000000000\n",
+    ),
+    // The block's output is copied to its actual by the statement that returns.
+    (
+        "FUNCTION_BLOCK FB 1\nVAR_INPUT a : INT; END_VAR\nVAR_OUTPUT b : INT; END_VAR\nBEGIN\nL #a; L 1; +I; T #b;\nEND_FUNCTION_BLOCK\nDATA_BLOCK DB 5 FB 1 BEGIN END_DATA_BLOCK\nORGANIZATION_BLOCK OB 1\nBEGIN\nCALL FB 1, DB 5 (a := MW 0, b := MW 2);\nEND_ORGANIZATION_BLOCK\n",
+        "op 1 write MW0 0009\nstep 6\nop 1 read MW2\nstep 1\nop 1 read MW2\n",
+        "@1 OP 1 DONE\n@8 OP 1 VALUES 0000\n@10 OP 1 VALUES 000A\nEND 10 RUN\nDB 5 0 0009000A\n",
+    ),
+];
+
+#[test]
+fn variables_of_requests(rt: HostRuntime) -> Result<(), Fail> {
+    are_run(&rt, rt.alloc(), &VARIABLES)
+}
+
+/// STOP, warm restart and the last records of diagnostics.
+static CONTROL: [Run; 4] = [
+    // OB 40 isn't loaded, nor is OB 85: the output falls, and can still be read.
+    (
+        "ORGANIZATION_BLOCK OB 1\nBEGIN\nA I 0.0;\nAN I 0.1;\n= Q 4.0;\nEND_ORGANIZATION_BLOCK\n",
+        "in 0 01\nstep 6\narrive 40\nop 1 read QB4\n",
+        "@7 PQ 4 = 01\n@8 PQ 4 = 00\n@8 MODE STOP 8 AT OB 1 LINE 3\n@9 OP 1 VALUES 01\nEND 9 STOP 8\n",
+    ),
+    // OB 38 is due after 10 ms and, still pending, after 20: a time error.
+    (
+        "ORGANIZATION_BLOCK OB 38\nBEGIN\nNOP 0;\nEND_ORGANIZATION_BLOCK\nORGANIZATION_BLOCK OB 80\nBEGIN\nNOP 0;\nEND_ORGANIZATION_BLOCK\n",
+        "tick 20\nop 1 diag\n",
+        "@2 OP 1 DIAG 1\n@2 DIAG 1 1 38\nEND 2 RUN\n",
+    ),
+    // A restart keeps MB 3 and clears MB 20; in RUN it is refused, and a second STOP changes nothing.
+    (
+        "ORGANIZATION_BLOCK OB 100\nBEGIN\nL 1;\nT MB 20;\nEND_ORGANIZATION_BLOCK\n",
+        "step 3\nop 1 restart\nop 1 write MB3 AA\nop 1 stop\nop 1 restart\nop 2 read MB3, MB20\n",
+        "@3 MODE RUN\n@4 OP 1 NOTSTOPPED\n@5 OP 1 DONE\n@6 MODE STOP 2 AT NONE\n@6 OP 1 DONE\n@7 MODE STARTUP\n@7 OP 1 DONE\n@8 OP 2 VALUES AA 00\nEND 8 STARTUP\n",
+    ),
+    // A stop is recorded once, at the statement that would be next; a restart is recorded too.
+    (
+        "ORGANIZATION_BLOCK OB 1\nBEGIN\nSET;\n= Q 0.0;\nEND_ORGANIZATION_BLOCK\n",
+        "step 2\nop 1 stop\nop 2 stop\nop 3 diag\nop 3 restart\nop 4 diag\n",
+        "@3 MODE STOP 2 AT OB 1 LINE 4\n@3 OP 1 DONE\n@4 OP 2 DONE\n@5 OP 3 DIAG 1\n@5 DIAG 3 5 2\n@6 MODE RUN\n@6 OP 3 DONE\n@7 OP 4 DIAG 2\n@7 DIAG 3 5 2\n@7 DIAG 6 6 0\nEND 7 RUN\n",
+    ),
+];
+
+#[test]
+fn modes_by_requests(rt: HostRuntime) -> Result<(), Fail> {
+    are_run(&rt, rt.alloc(), &CONTROL)
+}
