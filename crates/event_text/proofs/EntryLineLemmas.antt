@@ -15,10 +15,10 @@ use Rattle.var_access.specs.declared.entries.What.{What}
 use Rattle.var_access.specs.declared.entries.What.TheVariants.{Step, Input, Arrive, Tick, Ask}
 use Rattle.var_access.specs.declared.requests.Request.{Request}
 use Rattle.event_text.specs.declared.kinds.TextKind.TheVariants.{History}
-use Rattle.event_text.specs.Lines.{one, steps, most_steps, step_count, count_behind, step_line, number_among, input_line, arrival_line, tick_line, operator_with, operator_line, line_with, is_skipped, line_read}
+use Rattle.event_text.specs.Lines.{one_entry, step_entries, most_steps, step_count, count_behind, step_line, number_among, input_line, arrival_line, tick_line, operator_with, operator_line, line_with, is_skipped, line_read}
 use Rattle.event_text.specs.Regular.{IsRegular}
-use Rattle.event_text.specs.Workers.{asked, fed, one_step, operator_of, worker_of}
-use Rattle.event_text.specs.Written.{arrival_text, request_text, what_text}
+use Rattle.event_text.specs.Workers.{request_entry, feeder_entry, one_step, operator_of, worker_of}
+use Rattle.event_text.specs.HistoryText.{arrival_text, request_text, what_text}
 use Rattle.event_text.proofs.AddressLemmas.{IsWritable, writable}
 use Rattle.event_text.proofs.ByteLemmas.{Each, Stops}
 use Rattle.event_text.proofs.NumberLemmas.{number-of, number_read, hex_read}
@@ -57,51 +57,51 @@ ob-ok : (n : ℕ) → is_arrivable n ≡ true → number_among is_arrivable (add
 ob-ok n h = among is_arrivable (address_number (decimal n)) n (number-of n (ob-small n h)) h
 
 in-line : (names : Names) (before byte value : ℕ) → is_peripheral_byte byte ≡ true → value < 256
-    → line_read History names before (codes "in " ++ (decimal byte ++ (codes " " ++ hex_text 2 value))) ≡ Ok (one (fed (Input byte value)))
+    → line_read History names before (codes "in " ++ (decimal byte ++ (codes " " ++ hex_text 2 value))) ≡ Ok (one_entry (feeder_entry (Input byte value)))
 unfolding input_line
 in-line names before byte value h small =
     let d : IsWord (decimal byte) = number-word byte (omega (arith, byte-small byte h)) in
     let x : IsWord (hex_text 2 value) = hex-word 2 value (omega arith) (omega arith) in
     by-word names before (codes "in") (32 ∷ (decimal byte ++ 32 ∷ hex_text 2 value)) (word-of (codes "in") (omega arith) (refl, (refl, tt))) refl (unskipped 105 (codes "n" ++ (32 ∷ (decimal byte ++ 32 ∷ hex_text 2 value))) refl)
-    ∙ ap (λ ws. reading_map one (input_line ws)) (words-two (decimal byte) (hex_text 2 value) d x)
-    ∙ ap (λ r. reading_map one (reading_map (λ p. fed (Input p.0 p.1)) r))
+    ∙ ap (λ ws. reading_map one_entry (input_line ws)) (words-two (decimal byte) (hex_text 2 value) d x)
+    ∙ ap (λ r. reading_map one_entry (reading_map (λ p. feeder_entry (Input p.0 p.1)) r))
     (both-read (number_among is_peripheral_byte (address_number (decimal byte))) (hex_of 2 (hex_text 2 value)) byte value (byte-ok byte h) (hex_read 2 value (omega arith) (omega arith)))
 
 arrive-plain : (names : Names) (before ob : ℕ) → is_arrivable ob ≡ true
-    → line_read History names before (codes "arrive " ++ (decimal ob ++ [])) ≡ Ok (one (fed (Arrive ob 0)))
+    → line_read History names before (codes "arrive " ++ (decimal ob ++ [])) ≡ Ok (one_entry (feeder_entry (Arrive ob 0)))
 unfolding arrival_line
 arrive-plain names before ob h =
     let d : IsWord (decimal ob) = number-word ob (omega (arith, ob-small ob h)) in
     ap (λ t. line_read History names before (codes "arrive " ++ t)) (append-nil (decimal ob))
     ∙ by-word names before (codes "arrive") (32 ∷ decimal ob) (word-of (codes "arrive") (omega arith) (refl, (refl, (refl, (refl, (refl, (refl, tt))))))) refl (unskipped 97 (codes "rrive" ++ (32 ∷ decimal ob)) refl)
-    ∙ ap (λ ws. reading_map one (arrival_line ws)) (words-one (decimal ob) d)
-    ∙ ap (λ r. reading_map one (reading_map (λ n. fed (Arrive n 0)) r)) (ob-ok ob h)
+    ∙ ap (λ ws. reading_map one_entry (arrival_line ws)) (words-one (decimal ob) d)
+    ∙ ap (λ r. reading_map one_entry (reading_map (λ n. feeder_entry (Arrive n 0)) r)) (ob-ok ob h)
 
 arrive-value : (names : Names) (before ob value : ℕ) → is_arrivable ob ≡ true → value < 2 ^ 32
-    → line_read History names before (codes "arrive " ++ (decimal ob ++ (codes " " ++ hex_text 8 value))) ≡ Ok (one (fed (Arrive ob value)))
+    → line_read History names before (codes "arrive " ++ (decimal ob ++ (codes " " ++ hex_text 8 value))) ≡ Ok (one_entry (feeder_entry (Arrive ob value)))
 unfolding arrival_line
 arrive-value names before ob value h small =
     let d : IsWord (decimal ob) = number-word ob (omega (arith, ob-small ob h)) in
     let x : IsWord (hex_text 8 value) = hex-word 8 value (omega arith) (omega arith) in
     by-word names before (codes "arrive") (32 ∷ (decimal ob ++ 32 ∷ hex_text 8 value)) (word-of (codes "arrive") (omega arith) (refl, (refl, (refl, (refl, (refl, (refl, tt))))))) refl (unskipped 97 (codes "rrive" ++ (32 ∷ (decimal ob ++ 32 ∷ hex_text 8 value))) refl)
-    ∙ ap (λ ws. reading_map one (arrival_line ws)) (words-two (decimal ob) (hex_text 8 value) d x)
-    ∙ ap (λ r. reading_map one (reading_map (λ p. fed (Arrive p.0 p.1)) r))
+    ∙ ap (λ ws. reading_map one_entry (arrival_line ws)) (words-two (decimal ob) (hex_text 8 value) d x)
+    ∙ ap (λ r. reading_map one_entry (reading_map (λ p. feeder_entry (Arrive p.0 p.1)) r))
     (both-read (number_among is_arrivable (address_number (decimal ob))) (hex_of 8 (hex_text 8 value)) ob value (ob-ok ob h) (hex_read 8 value (omega arith) (omega arith)))
 
 arrive-line : (names : Names) (before ob value : ℕ) → is_arrivable ob ≡ true → value < 2 ^ 32
-    → line_read History names before (codes "arrive " ++ (decimal ob ++ arrival_text value)) ≡ Ok (one (fed (Arrive ob value)))
+    → line_read History names before (codes "arrive " ++ (decimal ob ++ arrival_text value)) ≡ Ok (one_entry (feeder_entry (Arrive ob value)))
 arrive-line names before ob zero h small = arrive-plain names before ob h
 arrive-line names before ob (suc n) h small =
     let e : eqb (suc n) 0 ≡ false = grind (arith, nat_tests) in
     rw e (arrive-value names before ob (suc n) h small)
 
 tick-line : (names : Names) (before ms : ℕ) → 1 ≤ ms → ms ≤ 60000
-    → line_read History names before (codes "tick " ++ decimal ms) ≡ Ok (one (fed (Tick ms)))
+    → line_read History names before (codes "tick " ++ decimal ms) ≡ Ok (one_entry (feeder_entry (Tick ms)))
 unfolding tick_line
 tick-line names before ms least most =
     by-word names before (codes "tick") (32 ∷ decimal ms) (word-of (codes "tick") (omega arith) (refl, (refl, (refl, (refl, tt))))) refl (unskipped 116 (codes "ick" ++ (32 ∷ decimal ms)) refl)
-    ∙ ap (λ ws. reading_map one (tick_line ws)) (words-one (decimal ms) (number-word ms (omega arith)))
-    ∙ ap (λ r. reading_map one (reading_map (λ n. fed (Tick n)) r)) (number_read 1 60000 2 ms (omega arith) least most)
+    ∙ ap (λ ws. reading_map one_entry (tick_line ws)) (words-one (decimal ms) (number-word ms (omega arith)))
+    ∙ ap (λ r. reading_map one_entry (reading_map (λ n. feeder_entry (Tick n)) r)) (number_read 1 60000 2 ms (omega arith) least most)
 
 pub operator-is : (who : ℕ) → 3 ≤ who → who ≤ 6 → operator_of who ≡ who - 2
 operator-is who least most =
@@ -110,7 +110,7 @@ operator-is who least most =
     rw (a, b) refl
 
 op-line : (names : Names) (before who : ℕ) (r : Request) → 3 ≤ who → who ≤ 6 → IsWritable r
-    → line_read History names before (codes "op " ++ (decimal (operator_of who) ++ (codes " " ++ request_text r))) ≡ Ok (one (asked who r))
+    → line_read History names before (codes "op " ++ (decimal (operator_of who) ++ (codes " " ++ request_text r))) ≡ Ok (one_entry (request_entry who r))
 unfolding operator_line
 op-line names before who r least most h =
     let k : ℕ = who - 2 in
@@ -118,10 +118,10 @@ op-line names before who r least most h =
     let back : k + 2 ≡ who = omega arith in
     ap (λ n. line_read History names before (codes "op " ++ (decimal n ++ (codes " " ++ request_text r)))) (operator-is who least most)
     ∙ by-word names before (codes "op") (32 ∷ (decimal k ++ (32 ∷ request_text r))) (word-of (codes "op") (omega arith) (refl, (refl, tt))) refl (unskipped 111 (codes "p" ++ (32 ∷ (decimal k ++ (32 ∷ request_text r)))) refl)
-    ∙ ap (λ w. reading_map one (operator_with names w)) (first-word-behind (decimal k) (32 ∷ request_text r) d refl)
-    ∙ ap (λ x. reading_map one (reading_map (λ p. asked (worker_of p.0) p.1) x))
+    ∙ ap (λ w. reading_map one_entry (operator_with names w)) (first-word-behind (decimal k) (32 ∷ request_text r) d refl)
+    ∙ ap (λ x. reading_map one_entry (reading_map (λ p. request_entry (worker_of p.0) p.1) x))
     (both-read (number_in 1 4 5 (decimal k)) (request_line names (32 ∷ request_text r)) k r (number_read 1 4 5 k (omega arith) (omega arith) (omega arith)) (request-read names r h))
-    ∙ ap (λ w. Ok (one (asked w r))) back
+    ∙ ap (λ w. Ok (one_entry (request_entry w r))) back
 
 -- the line `step n`
 pub steps-line : (names : Names) (before n : ℕ) → 1 ≤ n → before + n ≤ most_steps
@@ -130,21 +130,21 @@ unfolding step_line
 steps-line names before n least most =
     let le : nat_le (before + n) most_steps ≡ true = grind (arith, nat_tests) in
     by-word names before (codes "step") (32 ∷ decimal n) (word-of (codes "step") (omega arith) (refl, (refl, (refl, (refl, tt))))) refl (unskipped 115 (codes "tep" ++ (32 ∷ decimal n)) refl)
-    ∙ ap (λ ws. reading_map steps (count_behind before (step_count ws))) (words-one (decimal n) (number-word n (omega arith)))
-    ∙ ap (λ r. reading_map steps (count_behind before r)) (number_read 1 1000000 2 n (omega arith) least (omega arith))
+    ∙ ap (λ ws. reading_map step_entries (count_behind before (step_count ws))) (words-one (decimal n) (number-word n (omega arith)))
+    ∙ ap (λ r. reading_map step_entries (count_behind before r)) (number_read 1 1000000 2 n (omega arith) least (omega arith))
     ∙ (rw le refl)
 
 -- the line of another entry
 pub entry-read : (names : Names) (before : ℕ) (e : Entry) → IsRegular e → is_step e ≡ false
-    → line_read History names before (what_text e.who e.what) ≡ Ok (one e)
+    → line_read History names before (what_text e.who e.what) ≡ Ok (one_entry e)
 unfolding what_text
 entry-read names before e h not-step = by e.who e.what h not-step where
   by : (who : ℕ) (what : What) → IsRegular (record { who = who; what = what }) → is_step (record { who = who; what = what }) ≡ false
-      → line_read History names before (what_text who what) ≡ Ok (one (record { who = who; what = what }))
+      → line_read History names before (what_text who what) ≡ Ok (one_entry (record { who = who; what = what }))
   by who Step h e = absurd (differ e) where
     differ : true ≡ false → ⊥
     differ p = cc
-  by who (Input byte value) h e = in-line names before byte value h.range (omega (arith, h.fields)) ∙ ap (λ w. Ok (one (record { who = w; what = Input byte value }))) (sym h.worker)
-  by who (Arrive ob value) h e = arrive-line names before ob value h.range h.fields ∙ ap (λ w. Ok (one (record { who = w; what = Arrive ob value }))) (sym h.worker)
-  by who (Tick ms) h e = tick-line names before ms h.range.0 h.range.1 ∙ ap (λ w. Ok (one (record { who = w; what = Tick ms }))) (sym h.worker)
+  by who (Input byte value) h e = in-line names before byte value h.range (omega (arith, h.fields)) ∙ ap (λ w. Ok (one_entry (record { who = w; what = Input byte value }))) (sym h.worker)
+  by who (Arrive ob value) h e = arrive-line names before ob value h.range h.fields ∙ ap (λ w. Ok (one_entry (record { who = w; what = Arrive ob value }))) (sym h.worker)
+  by who (Tick ms) h e = tick-line names before ms h.range.0 h.range.1 ∙ ap (λ w. Ok (one_entry (record { who = w; what = Tick ms }))) (sym h.worker)
   by who (Ask r) h e = op-line names before who r h.worker.0 h.worker.1 (writable r h.range h.fields)

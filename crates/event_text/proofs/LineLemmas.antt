@@ -4,8 +4,8 @@ use Rattle.std.specs.List.{All}
 use Rattle.std.proofs.lemmas.List.Elements.{All-nil, All-cons, All-replicate}
 use Rattle.var_access.specs.Entry.{IsValid}
 use Rattle.var_access.specs.Readings.{Reading, both}
-use Rattle.event_text.specs.LineEntries.{entries_of, HasWorker, IsFedLine, IsAskedLine, IsLineOf}
-use Rattle.event_text.specs.Lines.{script_worker, standing}
+use Rattle.event_text.specs.LineEntries.{entries_of, HasWorker, IsOtherLine, IsScriptLine, IsLineOf}
+use Rattle.event_text.specs.Lines.{script_worker, where_allowed}
 use Rattle.event_text.specs.Workers.{one_step}
 use Rattle.event_text.specs.declared.kinds.TextKind.{TextKind}
 use Rattle.event_text.specs.declared.kinds.TextKind.TheVariants.{History, Stimuli, Script}
@@ -26,14 +26,14 @@ both_second P (Err rule) (Ok b) x y is known = absurd (differ is)
 both_second P (Err rule) (Err other) x y is known = absurd (differ is)
 
 -- what is read where it stands is read as it is
-pub standing_ok : {A : Type 0} (P : A → Type 0) (stands : Bool) (r : Reading A) (a : A) → standing stands r ≡ Ok a → IfOk r P → P a
-standing_ok {A} P true (Ok b) a is known = subst P (ap value is) known where
+pub allowed_ok : {A : Type 0} (P : A → Type 0) (stands : Bool) (r : Reading A) (a : A) → where_allowed stands r ≡ Ok a → IfOk r P → P a
+allowed_ok {A} P true (Ok b) a is known = subst P (ap value is) known where
   value : Reading A → A
   value (Ok c) = c
   value (Err rule) = b
-standing_ok P true (Err rule) a is known = absurd (differ is)
-standing_ok P false (Ok b) a is known = absurd (differ is)
-standing_ok P false (Err rule) a is known = absurd (differ is)
+allowed_ok P true (Err rule) a is known = absurd (differ is)
+allowed_ok P false (Ok b) a is known = absurd (differ is)
+allowed_ok P false (Err rule) a is known = absurd (differ is)
 
 -- the worker of a script is numbered from 1
 pub worker_some : (kind : TextKind) → HasWorker kind → 1 ≤ script_worker kind
@@ -41,17 +41,17 @@ worker_some History h = omega arith
 worker_some Stimuli h = omega arith
 worker_some (Script who) h = h
 
-pub fed_line : (kind : TextKind) (before : ℕ) (r : Reading LineEntries) → IfOk r IsFedLine → IfOk r (IsLineOf kind before)
-fed_line kind before (Ok Nothing) is = tt
-fed_line kind before (Ok (Steps count)) is = absurd is
-fed_line kind before (Ok (One entry)) is = (is.other, λ worker. is.valid)
-fed_line kind before (Err rule) is = tt
+pub other_line : (kind : TextKind) (before : ℕ) (r : Reading LineEntries) → IfOk r IsOtherLine → IfOk r (IsLineOf kind before)
+other_line kind before (Ok Nothing) is = tt
+other_line kind before (Ok (Steps count)) is = absurd is
+other_line kind before (Ok (One entry)) is = (is.other, λ worker. is.valid)
+other_line kind before (Err rule) is = tt
 
-pub asked_line : (kind : TextKind) (before : ℕ) (r : Reading LineEntries) → IfOk r (IsAskedLine kind) → IfOk r (IsLineOf kind before)
-asked_line kind before (Ok Nothing) is = tt
-asked_line kind before (Ok (Steps count)) is = absurd is
-asked_line kind before (Ok (One entry)) is = is
-asked_line kind before (Err rule) is = tt
+pub script_line_of : (kind : TextKind) (before : ℕ) (r : Reading LineEntries) → IfOk r (IsScriptLine kind) → IfOk r (IsLineOf kind before)
+script_line_of kind before (Ok Nothing) is = tt
+script_line_of kind before (Ok (Steps count)) is = absurd is
+script_line_of kind before (Ok (One entry)) is = is
+script_line_of kind before (Err rule) is = tt
 
 -- the entries of a line are valid
 pub valid_line : (kind : TextKind) (before : ℕ) (found : LineEntries) → HasWorker kind → IsLineOf kind before found → All IsValid (entries_of found)

@@ -20,7 +20,7 @@ use Rattle.var_access.specs.Readings.{reading_map, all_read, address_number, tri
 use Rattle.var_access.specs.Variables.{Names, is_letter, is_quote, is_point, var_of, width_value, bit_value}
 use Rattle.var_access.specs.Requests.{is_comma, parts_from, few_vars, read_of, write_to, write_in, write_of, kind_of_word, monitor_of, one_word, request_of, request_by, request_line}
 use Rattle.monitor.specs.LineText.{hex_text, kind_text}
-use Rattle.event_text.specs.Written.{value_text, place_text, var_text, more_vars_text, vars_text, request_text, width_text, block_width_text, bit_text}
+use Rattle.event_text.specs.HistoryText.{value_text, place_text, var_text, more_vars_text, vars_text, request_text, width_text, block_width_text, bit_text}
 use Rattle.event_text.proofs.AddressLemmas.{HasArea, HasBit, IsAddress, AreAddresses, IsKind, IsWritable}
 use Rattle.event_text.proofs.ByteLemmas.{Each, each-append, each-weaker, Implies, Excludes, Stops, take-front, drop-front}
 use Rattle.event_text.proofs.NumberLemmas.{numeral, number-of, IsHex, hex-text, hex_read}

@@ -28,7 +28,7 @@ use Rattle.event_text.specs.Lines.{most_steps, line_read}
 use Rattle.event_text.specs.Regular.{IsRegular}
 use Rattle.event_text.specs.Texts.{steps_in, in_front, line_first, lines_read, text_read, history_of}
 use Rattle.event_text.specs.Workers.{one_step, operator_of}
-use Rattle.event_text.specs.Written.{var_text, more_vars_text, vars_text, value_text, arrival_text, request_text, what_text, entry_line, steps_text, written_behind, written}
+use Rattle.event_text.specs.HistoryText.{var_text, more_vars_text, vars_text, value_text, arrival_text, request_text, what_text, entry_line, steps_text, history_text_behind, history_text}
 use Rattle.event_text.proofs.AddressLemmas.{first-of, second-of, IsAddress, AreAddresses, IsWritable, writable}
 use Rattle.event_text.proofs.ByteLemmas.{split-at, Each, each-append, each-weaker, Implies, Excludes}
 use Rattle.event_text.proofs.EntryLineLemmas.{byte-small, ob-small, operator-is, steps-line, entry-read}
@@ -233,7 +233,7 @@ differ p = absurd (no p) where
   no : false ≡ true → ⊥
   no e = cc
 
--- a step of a regular history is reading_map by worker 1
+-- a step of a regular history is made by worker 1
 step-is : (e : Entry) → IsRegular e → is_step e ≡ true → one_step ≡ e
 step-is e h is = by e.who e.what h is where
   by : (who : ℕ) (what : What) → IsRegular (record { who = who; what = what }) → is_step (record { who = who; what = what }) ≡ true → one_step ≡ record { who = who; what = what }
@@ -251,8 +251,8 @@ entry-lines e rest h =
     ap lines (append_assoc (what_text e.who e.what) (10 ∷ []) rest) ∙ line-first (what_text e.who e.what) rest (entry-inner e h)
 
 from-read : (names : Names) (line before k : ℕ) (es : List Entry) → AllByRecursion IsRegular es → before + (k + steps_in es) ≤ most_steps
-    → Reads names line before (written_behind k es) (replicate k one_step ++ es)
-unfolding written_behind
+    → Reads names line before (history_text_behind k es) (replicate k one_step ++ es)
+unfolding history_text_behind
 from-read names line before k [] h few =
     ap (λ t. lines_read History names line before (lines t)) (steps-end k)
     ∙ behind-steps names line before k [] [] (omega arith) (λ line'. nothing-read names line' (before + k))
@@ -261,18 +261,18 @@ from-read names line before k (e ∷ es) h few = by (is_step e) refl
     (λ is line'. from-read names (line' + 1) (before + k + steps_in (e ∷ [])) 0 es h.1 (omega (arith, steps-first e es, steps-first e [])))
   where
     by : (v : Bool) → is_step e ≡ v
-        → (v ≡ true → Reads names line before (written_behind (k + 1) es) (replicate (k + 1) one_step ++ es))
-        → (v ≡ false → (line' : ℕ) → Reads names (line' + 1) (before + k + steps_in (e ∷ [])) (written_behind 0 es) es)
-        → Reads names line before (written_behind k (e ∷ es)) (replicate k one_step ++ e ∷ es)
+        → (v ≡ true → Reads names line before (history_text_behind (k + 1) es) (replicate (k + 1) one_step ++ es))
+        → (v ≡ false → (line' : ℕ) → Reads names (line' + 1) (before + k + steps_in (e ∷ [])) (history_text_behind 0 es) es)
+        → Reads names line before (history_text_behind k (e ∷ es)) (replicate k one_step ++ e ∷ es)
     by true is steps-more more =
         rw is (steps-more refl ∙ ap Ok (sym (replicate-more k es)) ∙ ap (λ x. Ok (replicate k one_step ++ (x ∷ es))) (step-is e h.0 is))
     by false is steps-more more =
-        rw is (behind-steps names line before k (entry_line e ++ written_behind 0 es) (e ∷ es) (omega arith)
-        (λ line'. ap (lines_read History names line' (before + k)) (entry-lines e (written_behind 0 es) h.0)
-        ∙ reads-on names line' (before + k) (what_text e.who e.what) (lines (written_behind 0 es)) (e ∷ []) es (entry-read names (before + k) e h.0 is)
+        rw is (behind-steps names line before k (entry_line e ++ history_text_behind 0 es) (e ∷ es) (omega arith)
+        (λ line'. ap (lines_read History names line' (before + k)) (entry-lines e (history_text_behind 0 es) h.0)
+        ∙ reads-on names line' (before + k) (what_text e.who e.what) (lines (history_text_behind 0 es)) (e ∷ []) es (entry-read names (before + k) e h.0 is)
         (more refl line')))
 
 pub written_is_read : (names : List NameEntry) (es : List Entry)
-    → All IsRegular es → steps_in es ≤ most_steps → history_of names (written es) ≡ Ok es
-unfolding written text_read
+    → All IsRegular es → steps_in es ≤ most_steps → history_of names (history_text es) ≡ Ok es
+unfolding history_text text_read
 written_is_read names es h few = from-read (find names) 1 0 0 es (recursion_from_All IsRegular es h) (omega arith)

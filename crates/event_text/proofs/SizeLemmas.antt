@@ -14,9 +14,9 @@ use Rattle.var_access.specs.Requests.{request_of}
 use Rattle.var_access.specs.Variables.{Names}
 use Rattle.var_access.specs.declared.entries.Entry.{Entry}
 use Rattle.var_access.specs.declared.requests.Request.{Request}
-use Rattle.event_text.specs.Lines.{one, steps, number_among, input_line, arrival_line, tick_line, step_line, operator_line, script_line, is_history, is_fed, is_script, script_worker, standing, line_with, is_skipped, line_read}
+use Rattle.event_text.specs.Lines.{one_entry, step_entries, number_among, input_line, arrival_line, tick_line, step_line, operator_line, script_line, is_history, has_feeder_lines, is_script, script_worker, where_allowed, line_with, is_skipped, line_read}
 use Rattle.event_text.specs.Texts.{in_front, line_first, lines_read, steps_in, text_read}
-use Rattle.event_text.specs.Workers.{asked}
+use Rattle.event_text.specs.Workers.{request_entry}
 use Rattle.event_text.specs.declared.kinds.TextKind.{TextKind}
 
 -- how many bytes texts have together
@@ -105,13 +105,13 @@ record IsOne (r : Reading Entry) (es : List Entry) : Type 0 where
   entry : Entry
   read : r ≡ Ok entry
 
-one-read : (stands : Bool) (r : Reading Entry) (es : List Entry) → reading_map one (standing stands r) ≡ Ok es → IsOne r es
+one-read : (stands : Bool) (r : Reading Entry) (es : List Entry) → reading_map one_entry (where_allowed stands r) ≡ Ok es → IsOne r es
 one-read true (Ok e) es is = record { count = ap length (sym (same is)); entry = e; read = refl }
 one-read true (Err rule) es is = absurd (differ is)
 one-read false (Ok e) es is = absurd (differ is)
 one-read false (Err rule) es is = absurd (differ is)
 
-elsewhere : {A B : Type 0} (f : A → B) (stands : Bool) (r : Reading A) (b : B) → stands ≡ false → reading_map f (standing stands r) ≡ Ok b → ⊥
+elsewhere : {A B : Type 0} (f : A → B) (stands : Bool) (r : Reading A) (b : B) → stands ≡ false → reading_map f (where_allowed stands r) ≡ Ok b → ⊥
 elsewhere f true r b stands is = absurd (no stands) where
   no : true ≡ false → ⊥
   no e = cc
@@ -154,23 +154,23 @@ request-long names word rest r is =
 script-long : (names : Names) (who : ℕ) (word rest : List ℕ) (e : Entry) → script_line names who word rest ≡ Ok e → 4 ≤ length word
 unfolding script_line
 script-long names who word rest e is = by (request_of names word rest) refl is where
-  by : (r : Reading Request) → request_of names word rest ≡ r → reading_map (asked who) r ≡ Ok e → 4 ≤ length word
+  by : (r : Reading Request) → request_of names word rest ≡ r → reading_map (request_entry who) r ≡ Ok e → 4 ≤ length word
   by (Ok request) at x = request-long names word rest request at
   by (Err rule) at x = absurd (differ x)
 
 with-size : (kind : TextKind) (names : Names) (before : ℕ) (w : List ℕ × List ℕ) (es : List Entry) → is_history kind ≡ false
     → line_with kind names before (Some w) ≡ Ok es → 4 * length es ≤ length w.0 + length w.1
 with-size kind names before w es other is =
-    pick (bytes_eq w.0 (codes "step")) _ _ es is (λ t x. absurd (elsewhere steps (is_history kind) (step_line before (words_of w.1)) es other x))
+    pick (bytes_eq w.0 (codes "step")) _ _ es is (λ t x. absurd (elsewhere step_entries (is_history kind) (step_line before (words_of w.1)) es other x))
     (λ t is. pick (bytes_eq w.0 (codes "in")) _ _ es is
-    (λ t x. let o = one-read (is_fed kind) (input_line (words_of w.1)) es x in
+    (λ t x. let o = one-read (has_feeder_lines kind) (input_line (words_of w.1)) es x in
     omega (arith, o.count, word-length w.0 (codes "in") t, input-long (words_of w.1) o.entry o.read, words-bytes w.1))
     (λ t is. pick (bytes_eq w.0 (codes "arrive")) _ _ es is
-    (λ t x. let o = one-read (is_fed kind) (arrival_line (words_of w.1)) es x in omega (arith, o.count, word-length w.0 (codes "arrive") t))
+    (λ t x. let o = one-read (has_feeder_lines kind) (arrival_line (words_of w.1)) es x in omega (arith, o.count, word-length w.0 (codes "arrive") t))
     (λ t is. pick (bytes_eq w.0 (codes "tick")) _ _ es is
-    (λ t x. let o = one-read (is_fed kind) (tick_line (words_of w.1)) es x in omega (arith, o.count, word-length w.0 (codes "tick") t))
+    (λ t x. let o = one-read (has_feeder_lines kind) (tick_line (words_of w.1)) es x in omega (arith, o.count, word-length w.0 (codes "tick") t))
     (λ t is. pick (bytes_eq w.0 (codes "op")) _ _ es is
-    (λ t x. absurd (elsewhere one (is_history kind) (operator_line names w.1) es other x))
+    (λ t x. absurd (elsewhere one_entry (is_history kind) (operator_line names w.1) es other x))
     (λ t is. let o = one-read (is_script kind) (script_line names (script_worker kind) w.0 w.1) es is in
     omega (arith, o.count, script-long names (script_worker kind) w.0 w.1 o.entry o.read))))))
 

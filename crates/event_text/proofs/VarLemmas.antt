@@ -11,7 +11,7 @@ use Rattle.var_access.specs.declared.requests.Var.{Var}
 use Rattle.plc_base.specs.Texts.{is_blank}
 use Rattle.var_access.specs.Readings.{Reading, both, reading_map, number_in, address_number, behind_blanks}
 use Rattle.var_access.specs.Variables.{Names, is_letter, letters_of, behind_letters, area_of_letters, width_of_letters, wide_of, db_width_of, var_at, wide_var, bit_var, block_var, block_bit, two_parts, var_of_parts, is_point, is_quote, var_of}
-use Rattle.event_text.specs.Written.{place_text, var_text}
+use Rattle.event_text.specs.HistoryText.{place_text, var_text}
 use Rattle.event_text.proofs.AddressLemmas.{HasArea, HasBit, IsAddress}
 use Rattle.event_text.proofs.ByteLemmas.{Each, each-append, each-weaker, Implies, Excludes, Stops, split-none, split-at, prefix-whole, prefix-none, take-front, drop-front}
 use Rattle.event_text.proofs.NumberLemmas.{numeral, number-of, number_read}

@@ -3,7 +3,7 @@ pub mod Lines
 pub mod Texts
 pub mod LineEntries
 pub mod TextFault
-pub mod Written
+pub mod HistoryText
 pub mod Regular
 pub mod RoundTrip
 pub mod Replies

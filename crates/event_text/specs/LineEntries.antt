@@ -7,23 +7,23 @@ use Rattle.event_text.specs.declared.kinds.TextKind.{TextKind}
 use Rattle.event_text.specs.declared.kinds.TextKind.TheVariants.{Script}
 use Rattle.event_text.specs.declared.lines.LineEntries.{LineEntries}
 use Rattle.event_text.specs.declared.lines.LineEntries.TheVariants.{Nothing, Steps, One}
-use Rattle.event_text.specs.Lines.{is_history, most_steps, one, steps}
+use Rattle.event_text.specs.Lines.{is_history, most_steps, one_entry, step_entries}
 
 -- the entries that it stands for
 abbrev pub entries_of : LineEntries → List Entry
 entries_of Nothing = []
-entries_of (Steps count) = steps count
-entries_of (One entry) = one entry
+entries_of (Steps count) = step_entries count
+entries_of (One entry) = one_entry entry
 
 -- a valid entry that is no step
-pub record IsFed (entry : Entry) : Type 0 where
+pub record IsOtherEntry (entry : Entry) : Type 0 where
   pub other : is_step entry ≡ false
   pub valid : IsValid entry
 
 -- an entry of such kind on a line of its own
-abbrev pub IsFedLine : LineEntries → Type 0
-IsFedLine (One entry) = IsFed entry
-IsFedLine _ = ⊥
+abbrev pub IsOtherLine : LineEntries → Type 0
+IsOtherLine (One entry) = IsOtherEntry entry
+IsOtherLine _ = ⊥
 
 -- workers are numbered from 1
 abbrev pub HasWorker : TextKind → Type 0
@@ -31,9 +31,9 @@ HasWorker (Script who) = 1 ≤ who
 HasWorker _ = Unit {0}
 
 -- an entry that is no step, and valid by such a worker
-abbrev pub IsAskedLine : TextKind → LineEntries → Type 0
-IsAskedLine kind (One entry) = (is_step entry ≡ false) × (HasWorker kind → IsValid entry)
-IsAskedLine kind _ = ⊥
+abbrev pub IsScriptLine : TextKind → LineEntries → Type 0
+IsScriptLine kind (One entry) = (is_step entry ≡ false) × (HasWorker kind → IsValid entry)
+IsScriptLine kind _ = ⊥
 
 -- steps come in histories alone, no more than there may be; any other entry is valid
 abbrev pub IsLineOf : TextKind → (before : ℕ) → LineEntries → Type 0

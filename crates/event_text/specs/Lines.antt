@@ -11,7 +11,7 @@ use Rattle.var_access.specs.declared.entries.Entry.{Entry}
 use Rattle.var_access.specs.declared.entries.What.TheVariants.{Input, Arrive, Tick}
 use Rattle.event_text.specs.declared.kinds.TextKind.{TextKind}
 use Rattle.event_text.specs.declared.kinds.TextKind.TheVariants.{History, Stimuli, Script}
-use Rattle.event_text.specs.Workers.{asked, fed, one_step, worker_of}
+use Rattle.event_text.specs.Workers.{request_entry, feeder_entry, one_step, worker_of}
 
 -- the most steps of a history
 abbrev pub most_steps : ℕ
@@ -40,26 +40,26 @@ number_among test (Ok n) = if test n then Ok n else Err 2
 -- `in b hh`: an existing peripheral byte takes a value
 unfoldable pub input_line : List (List ℕ) → Reading Entry
 input_line (byte ∷ value ∷ []) =
-    reading_map (λ p. fed (Input p.0 p.1)) (both (number_among is_peripheral_byte (address_number byte)) (hex_of 2 value))
+    reading_map (λ p. feeder_entry (Input p.0 p.1)) (both (number_among is_peripheral_byte (address_number byte)) (hex_of 2 value))
 input_line words = no_line
 
 -- `arrive ob`, `arrive ob hhhhhhhh`: an interrupt arrives, with the value 0 or another one
 unfoldable pub arrival_line : List (List ℕ) → Reading Entry
-arrival_line (ob ∷ []) = reading_map (λ n. fed (Arrive n 0)) (number_among is_arrivable (address_number ob))
+arrival_line (ob ∷ []) = reading_map (λ n. feeder_entry (Arrive n 0)) (number_among is_arrivable (address_number ob))
 arrival_line (ob ∷ value ∷ []) =
-    reading_map (λ p. fed (Arrive p.0 p.1)) (both (number_among is_arrivable (address_number ob)) (hex_of 8 value))
+    reading_map (λ p. feeder_entry (Arrive p.0 p.1)) (both (number_among is_arrivable (address_number ob)) (hex_of 8 value))
 arrival_line words = no_line
 
 -- `tick n`: 1 to 60,000 milliseconds pass
 unfoldable pub tick_line : List (List ℕ) → Reading Entry
-tick_line (number ∷ []) = reading_map (λ n. fed (Tick n)) (number_in 1 60000 2 number)
+tick_line (number ∷ []) = reading_map (λ n. feeder_entry (Tick n)) (number_in 1 60000 2 number)
 tick_line words = no_line
 
 -- the number of an operator, and the request behind it
 abbrev pub operator_with : Names → Option (List ℕ × List ℕ) → Reading Entry
 operator_with names None = no_line
 operator_with names (Some w) =
-    reading_map (λ p. asked (worker_of p.0) p.1) (both (number_in 1 4 5 w.0) (request_line names w.1))
+    reading_map (λ p. request_entry (worker_of p.0) p.1) (both (number_in 1 4 5 w.0) (request_line names w.1))
 
 -- `op k REQUEST`: operator k, 1 to 4, asks
 unfoldable pub operator_line : Names → (rest : List ℕ) → Reading Entry
@@ -67,7 +67,7 @@ operator_line names rest = operator_with names (first_word rest)
 
 -- `REQUEST`: a worker asks
 unfoldable pub script_line : Names → (who : ℕ) → (word rest : List ℕ) → Reading Entry
-script_line names who word rest = reading_map (asked who) (request_of names word rest)
+script_line names who word rest = reading_map (request_entry who) (request_of names word rest)
 
 -- `step` and `op` stand in histories
 abbrev pub is_history : TextKind → Bool
@@ -75,10 +75,10 @@ is_history History = true
 is_history _ = false
 
 -- `in`, `arrive` and `tick` stand in histories and stimuli
-abbrev pub is_fed : TextKind → Bool
-is_fed History = true
-is_fed Stimuli = true
-is_fed _ = false
+abbrev pub has_feeder_lines : TextKind → Bool
+has_feeder_lines History = true
+has_feeder_lines Stimuli = true
+has_feeder_lines _ = false
 
 -- requests stand alone in scripts
 abbrev pub is_script : TextKind → Bool
@@ -91,29 +91,29 @@ script_worker (Script who) = who
 script_worker _ = 1
 
 -- a line kind of another file breaks rule 4, or a lesser rule besides
-abbrev pub standing : {A : Type 0} → Bool → Reading A → Reading A
-standing true reading = reading
-standing false (Ok a) = Err 4
-standing false (Err rule) = Err (min rule 4)
+abbrev pub where_allowed : {A : Type 0} → Bool → Reading A → Reading A
+where_allowed true reading = reading
+where_allowed false (Ok a) = Err 4
+where_allowed false (Err rule) = Err (min rule 4)
 
 -- so many steps, one entry each
-abbrev pub steps : (count : ℕ) → List Entry
-steps count = replicate count one_step
+abbrev pub step_entries : (count : ℕ) → List Entry
+step_entries count = replicate count one_step
 
 -- a line with one entry
-abbrev pub one : Entry → List Entry
-one entry = entry ∷ []
+abbrev pub one_entry : Entry → List Entry
+one_entry entry = entry ∷ []
 
 -- a line by its first word
 abbrev pub line_with : TextKind → Names → (before : ℕ) → Option (List ℕ × List ℕ) → Reading (List Entry)
 line_with kind names before None = no_line
 line_with kind names before (Some w) =
-    if bytes_eq w.0 (codes "step") then reading_map steps (standing (is_history kind) (step_line before (words_of w.1)))
-    else if bytes_eq w.0 (codes "in") then reading_map one (standing (is_fed kind) (input_line (words_of w.1)))
-    else if bytes_eq w.0 (codes "arrive") then reading_map one (standing (is_fed kind) (arrival_line (words_of w.1)))
-    else if bytes_eq w.0 (codes "tick") then reading_map one (standing (is_fed kind) (tick_line (words_of w.1)))
-    else if bytes_eq w.0 (codes "op") then reading_map one (standing (is_history kind) (operator_line names w.1))
-    else reading_map one (standing (is_script kind) (script_line names (script_worker kind) w.0 w.1))
+    if bytes_eq w.0 (codes "step") then reading_map step_entries (where_allowed (is_history kind) (step_line before (words_of w.1)))
+    else if bytes_eq w.0 (codes "in") then reading_map one_entry (where_allowed (has_feeder_lines kind) (input_line (words_of w.1)))
+    else if bytes_eq w.0 (codes "arrive") then reading_map one_entry (where_allowed (has_feeder_lines kind) (arrival_line (words_of w.1)))
+    else if bytes_eq w.0 (codes "tick") then reading_map one_entry (where_allowed (has_feeder_lines kind) (tick_line (words_of w.1)))
+    else if bytes_eq w.0 (codes "op") then reading_map one_entry (where_allowed (is_history kind) (operator_line names w.1))
+    else reading_map one_entry (where_allowed (is_script kind) (script_line names (script_worker kind) w.0 w.1))
 
 -- empty lines and lines that begin with `//` are skipped
 abbrev pub is_skipped : (line : List ℕ) → Bool

@@ -8,7 +8,7 @@ use Rattle.var_access.specs.declared.requests.Request.{Request}
 use Rattle.var_access.specs.declared.requests.Request.TheVariants.{ReadVars}
 use Rattle.var_access.specs.declared.requests.Var.{Var}
 use Rattle.event_text.specs.Workers.{operator_of}
-use Rattle.event_text.specs.Written.{value_text}
+use Rattle.event_text.specs.HistoryText.{value_text}
 
 -- how the line begins: the number of the entry, and the operator who asked
 abbrev pub reply_head : (n who : ℕ) → List ℕ

@@ -6,10 +6,10 @@ use Rattle.var_access.specs.declared.entries.Entry.{Entry}
 use Rattle.event_text.specs.Lines.{most_steps}
 use Rattle.event_text.specs.Regular.{IsRegular}
 use Rattle.event_text.specs.Texts.{history_of, steps_in}
-use Rattle.event_text.specs.Written.{written}
+use Rattle.event_text.specs.HistoryText.{history_text}
 
 -- what is written of a regular history with at most 1,000,000 steps is read as that history
 abbrev pub WrittenIsRead : Type 0
 WrittenIsRead =
     (names : List NameEntry) (entries : List Entry)
-    → All IsRegular entries → steps_in entries ≤ most_steps → history_of names (written entries) ≡ Ok entries
+    → All IsRegular entries → steps_in entries ≤ most_steps → history_of names (history_text entries) ≡ Ok entries

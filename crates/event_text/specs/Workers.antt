@@ -5,17 +5,17 @@ use Rattle.var_access.specs.declared.entries.What.{What}
 use Rattle.var_access.specs.declared.entries.What.TheVariants.{Step, Ask}
 use Rattle.var_access.specs.declared.requests.Request.{Request}
 
--- a step is reading_map by worker 1
+-- a step is made by worker 1
 abbrev pub one_step : Entry
 one_step = record { who = 1; what = Step }
 
 -- inputs, arrivals and ticks are fed by worker 2
-abbrev pub fed : What → Entry
-fed what = record { who = 2; what = what }
+abbrev pub feeder_entry : What → Entry
+feeder_entry what = record { who = 2; what = what }
 
--- a request is reading_map by the worker who asks
-abbrev pub asked : (who : ℕ) → Request → Entry
-asked who request = record { who = who; what = Ask request }
+-- a request is made by the worker who asks
+abbrev pub request_entry : (who : ℕ) → Request → Entry
+request_entry who request = record { who = who; what = Ask request }
 
 -- the worker of operator 1, 2, 3 or 4
 abbrev pub worker_of : (operator : ℕ) → ℕ

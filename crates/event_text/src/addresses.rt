@@ -1,5 +1,5 @@
 ghost use Rattle.std.specs.Prelude.{◌≡◌, ◌≤◌, ◌+◌, ◌++◌, length};
-ghost use Rattle.event_text.specs.Written.{
+ghost use Rattle.event_text.specs.HistoryText.{
   area_text,
   bit_text,
   block_width_text,
@@ -63,7 +63,7 @@ fn add_bit(line: &mut Line, width: Width, bit: u8)
 }
 
 /// A variable by its address, with no blank inside: `M0.3`, `MW2`, `DB10.DBX0.1`, `DB10.DBW2`.
-#[tactic(auto, unfolding(crate::specs::Written::var_text))]
+#[tactic(auto, unfolding(crate::specs::HistoryText::var_text))]
 pub(crate) fn var_text(var: &Var) -> Line
     ensures { result ≡ var_text var.now }
 {
@@ -84,7 +84,7 @@ pub(crate) fn var_text(var: &Var) -> Line
 }
 
 /// A value at its width: two hexadecimal digits a byte, a bit as one digit.
-#[tactic(auto, unfolding(crate::specs::Written::value_text))]
+#[tactic(auto, unfolding(crate::specs::HistoryText::value_text))]
 pub(crate) fn value_text(width: Width, value: u32) -> Line
     ensures { result ≡ value_text width value }
 {

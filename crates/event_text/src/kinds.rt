@@ -1,5 +1,5 @@
 ghost use Rattle.std.specs.Prelude.{◌≡◌};
-ghost use Rattle.event_text.specs.Lines.{is_fed, is_history, is_script, script_worker};
+ghost use Rattle.event_text.specs.Lines.{has_feeder_lines, is_history, is_script, script_worker};
 
 /// What a text holds.
 #[derive(Clone, Copy, Debug, PartialEq, Eq)]
@@ -21,13 +21,13 @@ impl TextKind {
     }
 
     /// Whether inputs, arrivals and ticks stand in it.
-    pub(crate) fn is_fed(self) -> bool
-        ensures { result ≡ is_fed self }
+    pub(crate) fn has_feeder_lines(self) -> bool
+        ensures { result ≡ has_feeder_lines self }
     {
         matches!(self, TextKind::History | TextKind::Stimuli)
     }
 
-    /// Whether requests stand in it, each one_word on its line.
+    /// Whether requests stand in it, each alone on its line.
     pub(crate) fn is_script(self) -> bool
         ensures { result ≡ is_script self }
     {

@@ -4,26 +4,9 @@ ghost use Rattle.flat_code.specs.Names.{find};
 ghost use Rattle.var_access.specs.Entry.{is_arrivable as is_arrivable_of, IsRequest};
 ghost use Rattle.var_access.specs.Readings.{address_number as address_number_of, number_in, reading_map, words_of};
 ghost use Rattle.var_access.specs.Requests.{request_line};
-ghost use Rattle.event_text.specs.LineEntries.{entries_of, IsAskedLine, IsFed, IsFedLine, IsLineOf};
-ghost use Rattle.event_text.specs.Workers.{fed as fed_entry};
-ghost use Rattle.event_text.specs.Lines.{
-  arrival_line,
-  input_line,
-  is_script,
-  is_skipped as is_skipped_line,
-  line_read,
-  line_with,
-  most_steps,
-  number_among,
-  one,
-  operator_line,
-  script_line,
-  script_worker,
-  standing as standing_of,
-  step_count,
-  step_line,
-  tick_line,
-};
+ghost use Rattle.event_text.specs.LineEntries.{entries_of, IsScriptLine, IsOtherEntry, IsOtherLine, IsLineOf};
+ghost use Rattle.event_text.specs.Workers.{feeder_entry as feeder_entry_of};
+ghost use Rattle.event_text.specs.Lines.{arrival_line, input_line, is_script, is_skipped as is_skipped_line, line_read, line_with, most_steps, number_among, one_entry, operator_line, script_line, script_worker, where_allowed as where_allowed_of, step_count, step_line, tick_line};
 
 use crate::kinds::TextKind;
 use flat_code::Names;
@@ -63,8 +46,8 @@ pub(crate) enum LineEntries {
 }
 
 /// An entry of the feeder.
-fn fed(what: What) -> Entry
-    ensures { result ≡ fed_entry what }
+fn feeder_entry(what: What) -> Entry
+    ensures { result ≡ feeder_entry_of what }
 {
     Entry { who: FEEDER, what }
 }
@@ -114,7 +97,7 @@ fn read_byte(word: &[u8]) -> Result<u16, u16>
 #[tactic(auto, unfolding(crate::specs::Lines::input_line))]
 fn read_input(words: &[u8]) -> Result<Entry, u16>
     ensures value { result ≡ input_line (words_of words.now) }
-    ensures fed { IfOk result IsFed }
+    ensures other { IfOk result IsOtherEntry }
 {
     let Some((byte, rest)) = first_word(words) else {
         return Err(NOT_IN_GRAMMAR);
@@ -126,7 +109,7 @@ fn read_input(words: &[u8]) -> Result<Entry, u16>
         return Err(NOT_IN_GRAMMAR);
     }
     let (byte, value) = both(read_byte(byte), hex_of(value, 2))?;
-    Ok(fed(What::Input {
+    Ok(feeder_entry(What::Input {
         byte,
         value: value as u8,
     }))
@@ -149,27 +132,27 @@ fn read_ob(word: &[u8]) -> Result<u16, u16>
 #[tactic(auto, unfolding(crate::specs::Lines::arrival_line))]
 fn read_arrival(words: &[u8]) -> Result<Entry, u16>
     ensures value { result ≡ arrival_line (words_of words.now) }
-    ensures fed { IfOk result IsFed }
+    ensures other { IfOk result IsOtherEntry }
 {
     let Some((ob, rest)) = first_word(words) else {
         return Err(NOT_IN_GRAMMAR);
     };
     let Some((value, rest)) = first_word(rest) else {
         let ob = read_ob(ob)?;
-        return Ok(fed(What::Arrive { ob, value: 0 }));
+        return Ok(feeder_entry(What::Arrive { ob, value: 0 }));
     };
     if first_word(rest).is_some() {
         return Err(NOT_IN_GRAMMAR);
     }
     let (ob, value) = both(read_ob(ob), hex_of(value, 8))?;
-    Ok(fed(What::Arrive { ob, value }))
+    Ok(feeder_entry(What::Arrive { ob, value }))
 }
 
 /// The tick of the words behind `tick`: its milliseconds.
 #[tactic(auto, unfolding(crate::specs::Lines::tick_line))]
 fn read_tick(words: &[u8]) -> Result<Entry, u16>
     ensures value { result ≡ tick_line (words_of words.now) }
-    ensures fed { IfOk result IsFed }
+    ensures other { IfOk result IsOtherEntry }
 {
     let Some((number, rest)) = first_word(words) else {
         return Err(NOT_IN_GRAMMAR);
@@ -178,7 +161,7 @@ fn read_tick(words: &[u8]) -> Result<Entry, u16>
         return Err(NOT_IN_GRAMMAR);
     }
     let ms = number_in(number, 1, LONGEST_TICK, OUT_OF_RANGE)?;
-    Ok(fed(What::Tick { ms }))
+    Ok(feeder_entry(What::Tick { ms }))
 }
 
 /// The operator's number that a word spells, 1 to 4.
@@ -204,9 +187,9 @@ fn read_request(names: &Names, text: &[u8]) -> Result<Request, u16>
 
 /// The request of an operator, from the words behind `op`.
 #[tactic(auto, using(crate::proofs::LineLemmas::both_second), unfolding(crate::specs::Lines::operator_line))]
-fn read_asked(names: &Names, words: &[u8]) -> Result<Entry, u16>
+fn read_operator_line(names: &Names, words: &[u8]) -> Result<Entry, u16>
     ensures value { result ≡ operator_line (find names.now) words.now }
-    ensures valid { IfOk result IsFed }
+    ensures other { IfOk result IsOtherEntry }
 {
     let Some((operator, rest)) = first_word(words) else {
         return Err(NOT_IN_GRAMMAR);
@@ -219,8 +202,8 @@ fn read_asked(names: &Names, words: &[u8]) -> Result<Entry, u16>
 }
 
 /// What is read of a line, where such lines stand in the text; else rule 4, or a lesser one.
-fn standing<T: Drop>(stands: bool, reading: Result<T, u16>) -> Result<T, u16>
-    ensures { result ≡ standing_of stands reading }
+fn where_allowed<T: Drop>(stands: bool, reading: Result<T, u16>) -> Result<T, u16>
+    ensures { result ≡ where_allowed_of stands reading }
 {
     if stands {
         return reading;
@@ -239,12 +222,12 @@ fn is_skipped(line: &[u8]) -> bool
 }
 
 /// A line with one entry, where such lines stand in the text.
-fn entry_line(stands: bool, reading: Result<Entry, u16>) -> Result<LineEntries, u16>
-    requires { IfOk reading IsFed }
-    ensures value { reading_map entries_of result ≡ reading_map one (standing_of stands reading) }
-    ensures line { IfOk result IsFedLine }
+fn with_one_entry(stands: bool, reading: Result<Entry, u16>) -> Result<LineEntries, u16>
+    requires { IfOk reading IsOtherEntry }
+    ensures value { reading_map entries_of result ≡ reading_map one_entry (where_allowed_of stands reading) }
+    ensures line { IfOk result IsOtherLine }
 {
-    match standing(stands, reading) {
+    match where_allowed(stands, reading) {
         Ok(entry) => Ok(LineEntries::One { entry }),
         Err(rule) => Err(rule),
     }
@@ -258,11 +241,11 @@ fn read_script_line(
     word: &[u8],
     rest: &[u8],
 ) -> Result<LineEntries, u16>
-    ensures value { reading_map entries_of result ≡ reading_map one
-        (standing_of (is_script kind) (script_line (find names.now) (script_worker kind) word.now rest.now)) }
-    ensures line { IfOk result (IsAskedLine kind) }
+    ensures value { reading_map entries_of result ≡ reading_map one_entry
+        (where_allowed_of (is_script kind) (script_line (find names.now) (script_worker kind) word.now rest.now)) }
+    ensures line { IfOk result (IsScriptLine kind) }
 {
-    let request = standing(kind.is_script(), request_of(names, word, rest))?;
+    let request = where_allowed(kind.is_script(), request_of(names, word, rest))?;
     Ok(LineEntries::One {
         entry: Entry {
             who: kind.script_worker(),
@@ -285,20 +268,20 @@ fn read_words(
     ensures line { IfOk result (IsLineOf kind before) }
 {
     if word == b"step".as_slice() {
-        let count = standing(kind.is_history(), read_steps(before, rest))?;
+        let count = where_allowed(kind.is_history(), read_steps(before, rest))?;
         return Ok(LineEntries::Steps { count });
     }
     if word == b"in".as_slice() {
-        return entry_line(kind.is_fed(), read_input(rest));
+        return with_one_entry(kind.has_feeder_lines(), read_input(rest));
     }
     if word == b"arrive".as_slice() {
-        return entry_line(kind.is_fed(), read_arrival(rest));
+        return with_one_entry(kind.has_feeder_lines(), read_arrival(rest));
     }
     if word == b"tick".as_slice() {
-        return entry_line(kind.is_fed(), read_tick(rest));
+        return with_one_entry(kind.has_feeder_lines(), read_tick(rest));
     }
     if word == b"op".as_slice() {
-        return entry_line(kind.is_history(), read_asked(names, rest));
+        return with_one_entry(kind.is_history(), read_operator_line(names, rest));
     }
     read_script_line(kind, names, word, rest)
 }

@@ -3,7 +3,7 @@ ghost use Rattle.monitor.specs.LineText.{hex_text, kind_text};
 ghost use Rattle.var_access.specs.Runs.{AreRuns, is_step, written_out};
 ghost use Rattle.var_access.specs.declared.entries.Entry.{Entry};
 ghost use Rattle.event_text.specs.Workers.{operator_of as operator_number};
-ghost use Rattle.event_text.specs.Written.{
+ghost use Rattle.event_text.specs.HistoryText.{
   arrival_text,
   entry_line,
   more_vars_text,
@@ -13,8 +13,8 @@ ghost use Rattle.event_text.specs.Written.{
   var_text,
   vars_text,
   what_text,
-  written,
-  written_behind,
+  history_text,
+  history_text_behind,
 };
 
 use crate::addresses::{value_text, var_text};
@@ -132,7 +132,7 @@ fn append_write(var: &Var, value: u32, out: &mut Vec<u8>) -> Result<(), NoMemory
 }
 
 /// Appends a request.
-#[tactic(auto, unfolding(crate::specs::Written::request_text))]
+#[tactic(auto, unfolding(crate::specs::HistoryText::request_text))]
 fn append_request(request: &Request, out: &mut Vec<u8>) -> Result<(), NoMemory>
     ensures { OnOk result (out.new.items ≡ out.old.items ++ request_text request.now) }
 {
@@ -168,7 +168,7 @@ fn append_arrival_value(value: u32, out: &mut Vec<u8>) -> Result<(), NoMemory>
 }
 
 /// Appends what an entry does, without the line's end.
-#[tactic(auto, unfolding(crate::specs::Written::what_text))]
+#[tactic(auto, unfolding(crate::specs::HistoryText::what_text))]
 fn append_what(who: u8, what: &What, out: &mut Vec<u8>) -> Result<(), NoMemory>
     ensures { OnOk result (out.new.items ≡ out.old.items ++ what_text who what.now) }
 {
@@ -226,8 +226,8 @@ fn append_run(run: &Run, steps: u64, out: &mut Vec<u8>) -> Result<u64, NoMemory>
     requires bounded { steps + run.now.count < 2 ^ 64 }
     ensures few { IfOk result (λ left. left ≤ steps + run.now.count) }
     ensures text { IfOk result (λ left. (rest : List Entry)
-        → out.new.items ++ written_behind left rest
-        ≡ out.old.items ++ written_behind steps (replicate run.now.count run.now.entry ++ rest)) }
+        → out.new.items ++ history_text_behind left rest
+        ≡ out.old.items ++ history_text_behind steps (replicate run.now.count run.now.entry ++ rest)) }
 {
     if run.entry.is_step() {
         return Ok(steps + run.count);
@@ -242,7 +242,7 @@ fn append_run(run: &Run, steps: u64, out: &mut Vec<u8>) -> Result<u64, NoMemory>
 fn append_runs(runs: &[Run], out: &mut Vec<u8>) -> Result<(), NoMemory>
     requires are { AreRuns runs.now }
     requires bounded { length (written_out runs.now) < 2 ^ 64 }
-    ensures { OnOk result (out.new.items ≡ out.old.items ++ written (written_out runs.now)) }
+    ensures { OnOk result (out.new.items ≡ out.old.items ++ history_text (written_out runs.now)) }
 {
     let mut steps: u64 = 0;
     for run in runs {
@@ -256,7 +256,7 @@ fn append_runs(runs: &[Run], out: &mut Vec<u8>) -> Result<(), NoMemory>
 fn write_runs(alloc: Global, runs: &[Run]) -> Result<Vec<u8>, NoMemory>
     requires are { AreRuns runs.now }
     requires bounded { length (written_out runs.now) < 2 ^ 64 }
-    ensures { IfOk result (λ text. text.items ≡ written (written_out runs.now)) }
+    ensures { IfOk result (λ text. text.items ≡ history_text (written_out runs.now)) }
 {
     let mut out = Vec::new(alloc);
     append_runs(runs, &mut out)?;
@@ -273,7 +273,7 @@ fn write_runs(alloc: Global, runs: &[Run]) -> Result<Vec<u8>, NoMemory>
 ///
 /// `NoMemory` for want of memory.
 pub fn write_history(alloc: Global, controller: &Controller) -> Result<Vec<u8>, NoMemory>
-    ensures { IfOk result (λ text. text.items ≡ written controller.now.history) }
+    ensures { IfOk result (λ text. text.items ≡ history_text controller.now.history) }
 {
     // A history has fewer than 2^64 entries, and so has each row of steps.
     let _len = controller.history_len();

@@ -1,5 +1,5 @@
 use Rattle.std.proofs.Common.{◌≡◌, ◌++◌, length}
-use Rattle.event_text.specs.Written.{more_vars_text}
+use Rattle.event_text.specs.HistoryText.{more_vars_text}
 use Rattle.event_text.proofs.writing.append_more_vars.Given as goal
 
 -- what was written and the variables that are left make up the whole

@@ -98,12 +98,12 @@ steps_text zero = []
 steps_text (suc n) = codes "step " ++ (decimal (suc n) ++ codes "\n")
 
 -- entries, with so many steps in front of them
-unfoldable pub written_behind : (steps : ℕ) → List Entry → List ℕ
-written_behind steps [] = steps_text steps
-written_behind steps (e ∷ es) =
-    if is_step e then written_behind (steps + 1) es
-    else steps_text steps ++ (entry_line e ++ written_behind 0 es)
+unfoldable pub history_text_behind : (steps : ℕ) → List Entry → List ℕ
+history_text_behind steps [] = steps_text steps
+history_text_behind steps (e ∷ es) =
+    if is_step e then history_text_behind (steps + 1) es
+    else steps_text steps ++ (entry_line e ++ history_text_behind 0 es)
 
 -- a whole history
-unfoldable pub written : List Entry → List ℕ
-written entries = written_behind 0 entries
+unfoldable pub history_text : List Entry → List ℕ
+history_text entries = history_text_behind 0 entries
