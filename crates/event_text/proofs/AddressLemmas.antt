@@ -1,7 +1,8 @@
 -- Variables and requests that are written, part by part.
-use Rattle.std.proofs.Common.{◌≡◌, ◌≤◌, ◌<◌, ◌^◌, ℕ, Bool, true, false, ◌&&◌, List, [], ◌∷◌, length, refl, arith}
+use Rattle.std.proofs.Common.{◌≡◌, ◌≤◌, ◌<◌, ◌^◌, ℕ, true, List, [], ◌∷◌, length, arith}
 use Rattle.std.specs.List.{AllByRecursion, list_all}
 use Rattle.std.proofs.lemmas.Bool.{eqb-true, leb-true}
+use Rattle.plc_base.proofs.TruthLemmas.{and_first, and_second}
 use Rattle.plc_base.specs.Kinds.{is_code}
 use Rattle.plc_base.specs.Widths.{bit_count}
 use Rattle.plc_base.specs.declared.blocks.BlockKind.{BlockKind}
@@ -15,16 +16,6 @@ use Rattle.var_access.specs.declared.requests.Request.{Request}
 use Rattle.var_access.specs.declared.requests.Request.TheVariants.{ReadVars, WriteVar, Stop, Restart, MonitorOn, MonitorOff, Diag}
 use Rattle.var_access.specs.declared.requests.Var.{Var}
 use Rattle.event_text.specs.Regular.{FitsPlace, RequestFits}
-
-pub first-of : (x y : Bool) → (x && y) ≡ true → x ≡ true
-first-of true y k = refl
-first-of false y k = k
-
-pub second-of : (x y : Bool) → (x && y) ≡ true → y ≡ true
-second-of true y k = k
-second-of false y k = absurd (differ k) where
-  differ : false ≡ true → ⊥
-  differ e = cc
 
 -- I, Q and M have no block number
 abbrev pub HasArea : Area → ℕ → Type 0
@@ -65,8 +56,8 @@ pub address : (v : Var) → is_var v ≡ true → FitsPlace v → IsAddress v
 address v is fits = record {
   number = omega (arith, fits.0);
   byte = omega (arith, fits.1);
-  area = has-area v.place.area v.place.number (first-of _ _ is);
-  bit = has-bit v.width v.place.bit (second-of _ _ is);
+  area = has-area v.place.area v.place.number (and_first _ _ is);
+  bit = has-bit v.width v.place.bit (and_second _ _ is);
 }
 
 abbrev pub AreAddresses : List Var → Type 0
@@ -74,7 +65,7 @@ AreAddresses vs = AllByRecursion IsAddress vs
 
 addresses : (vs : List Var) → list_all is_var vs ≡ true → AllByRecursion FitsPlace vs → AreAddresses vs
 addresses [] is fits = tt
-addresses (v ∷ vs) is fits = (address v (first-of _ _ is) fits.0, addresses vs (second-of _ _ is) fits.1)
+addresses (v ∷ vs) is fits = (address v (and_first _ _ is) fits.0, addresses vs (and_second _ _ is) fits.1)
 
 -- a kind of blocks that can be monitored
 abbrev pub IsKind : BlockKind → Type 0

@@ -7,6 +7,7 @@ use Rattle.std.proofs.lemmas.Bool.Decides.{nat_tests}
 use Rattle.std.proofs.lemmas.List.Elements.{recursion_from_All}
 use Rattle.std.proofs.lemmas.List.Folds.{sum_by-replicate}
 use Rattle.std.proofs.lemmas.List.Sums.{sum_by-append}
+use Rattle.plc_base.proofs.TruthLemmas.{and_first, and_second}
 use Rattle.plc_base.specs.Widths.{bit_count}
 use Rattle.plc_base.specs.declared.blocks.BlockKind.{BlockKind}
 use Rattle.plc_base.specs.declared.blocks.BlockKind.TheVariants.{Ob, Fc, Fb, Db as DbKind, Sfc, Udt}
@@ -29,7 +30,7 @@ use Rattle.event_text.specs.Regular.{IsRegular}
 use Rattle.event_text.specs.Texts.{steps_in, in_front, line_first, lines_read, text_read, history_of}
 use Rattle.event_text.specs.Workers.{one_step, operator_of}
 use Rattle.event_text.specs.HistoryText.{var_text, more_vars_text, vars_text, value_text, arrival_text, request_text, what_text, entry_line, steps_text, history_text_behind, history_text}
-use Rattle.event_text.proofs.AddressLemmas.{first-of, second-of, IsAddress, AreAddresses, IsWritable, writable}
+use Rattle.event_text.proofs.AddressLemmas.{IsAddress, AreAddresses, IsWritable, writable}
 use Rattle.event_text.proofs.ByteLemmas.{split-at, Each, each-append, each-weaker, Implies, Excludes}
 use Rattle.event_text.proofs.EntryLineLemmas.{byte-small, ob-small, operator-is, steps-line, entry-read}
 use Rattle.event_text.proofs.NumberLemmas.{numeral, hex-text}
@@ -99,7 +100,7 @@ all-inner t = list_all is_inner t ≡ true
 
 inner-by : (t : List ℕ) → all-inner t → Each is_inner t
 inner-by [] h = tt
-inner-by (b ∷ t) h = (first-of (is_inner b) (list_all is_inner t) h, inner-by t (second-of (is_inner b) (list_all is_inner t) h))
+inner-by (b ∷ t) h = (and_first (is_inner b) (list_all is_inner t) h, inner-by t (and_second (is_inner b) (list_all is_inner t) h))
 
 var-inner : (v : Var) → IsAddress v → Each is_inner (var_text v)
 var-inner v h = each-weaker is_shown is_inner shown-inner _ (var-shown v h)
