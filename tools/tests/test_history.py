@@ -55,7 +55,7 @@ class Histories(ToolTest):
         self.assertEqual(self.entries("OB 40", "OB47 16#ABCD", "OB 10"), ["arrive 40", "arrive 47 0000ABCD", "arrive 10"])
 
     def test_lines_of_a_history_stand_for_themselves(self):
-        self.assertEqual(self.entries("in 0 03", "I 0.0 0", "step 4", "tick 7", "arrive 40"), ["in 0 03", "in 0 02", "step 4", "tick 7", "arrive 40"])
+        self.assertEqual(self.entries("in 0 03", "I 0.0 0", "step 4", "tick 7", "arrive 40", "op 1 read MW 2"), ["in 0 03", "in 0 02", "step 4", "tick 7", "arrive 40", "op 1 read MW 2"])
 
     def test_each_line_is_kept_as_a_comment(self):
         self.write("symbols", SYMBOLS)

@@ -94,7 +94,7 @@ class Writer:
         arrival = ARRIVAL.fullmatch(text)
         if arrival:
             return [self.arrival(int(arrival[1]), int(arrival[2] or "0", 16))]
-        if kind in ("step", "in", "arrive", "tick"):
+        if kind in ("step", "in", "arrive", "tick", "op"):
             return [self.history_line(text)]
         setting = SETTING.fullmatch(text)
         if setting:

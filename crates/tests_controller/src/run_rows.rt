@@ -176,14 +176,29 @@ fn has_runs(rt: &impl Abort, controller: &Controller, wanted: &[(u64, u8, &str, 
     );
 }
 
+/// Makes the entries of a row.
+fn enter_row(
+    rt: &impl Abort,
+    controller: &mut Controller,
+    row: &Row,
+    in_a_row: bool,
+) -> Result<(), Fail> {
+    for (who, word, count) in row.entries {
+        enter_all(rt, controller, &entry_of(*who, word), *count, in_a_row)?;
+    }
+    Ok(())
+}
+
+fn row_holds(alloc: Global, rt: &impl Abort, row: &Row, in_a_row: bool) -> Result<(), Fail> {
+    let mut controller = controller_of(alloc, QUIET)?;
+    enter_row(rt, &mut controller, row, in_a_row)?;
+    has_runs(rt, &controller, row.runs);
+    Ok(())
+}
+
 fn rows_hold(alloc: Global, rt: &impl Abort, in_a_row: bool) -> Result<(), Fail> {
     for row in &ROWS {
-        let mut controller = controller_of(alloc, QUIET)?;
-        for (who, word, count) in row.entries {
-            let entry = entry_of(*who, word);
-            enter_all(rt, &mut controller, &entry, *count, in_a_row)?;
-        }
-        has_runs(rt, &controller, row.runs);
+        row_holds(alloc, rt, row, in_a_row)?;
     }
     Ok(())
 }
