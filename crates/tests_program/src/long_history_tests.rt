@@ -15,29 +15,15 @@ fn commented(alloc: Global, length: usize, last: &str) -> Result<Vec<u8>, AllocE
     Ok(text)
 }
 
-// Bytes of a history, its last line, the status and the text.
-static LONG: [(usize, &str, u8, &str); 3] = [
-    (HISTORY_LIMIT, "in 0 01", 0, "END 1 RUN\n"),
-    (
-        HISTORY_LIMIT,
-        "in 0 0g\n",
-        4,
-        "history refused: line 2 rule 1\n",
-    ),
-    (4_194_305, "in 0 0g\n", 8, "too long: history\n"),
-];
-
+// The last line is read, too: its value has a digit that is none.
 #[test]
-fn histories_of_the_most_bytes(rt: HostRuntime) -> Result<(), Fail> {
+fn a_history_of_the_most_bytes(rt: HostRuntime) -> Result<(), Fail> {
     let alloc = rt.alloc();
-    for (length, last, status, text) in &LONG {
-        let history = commented(alloc, *length, last)?;
-        let files = two_files(alloc, b"", history.as_slice())?;
-        let out = MemSink::new(alloc, 64);
-        let wanted = (*status, text.as_bytes());
-        answers(&rt, alloc, (*length, *last), &GO, files, out, wanted)?;
-    }
-    Ok(())
+    let history = commented(alloc, HISTORY_LIMIT, "in 0 0g\n")?;
+    let files = two_files(alloc, b"", history.as_slice())?;
+    let out = MemSink::new(alloc, 64);
+    let wanted = (4, b"history refused: line 2 rule 1\n".as_slice());
+    answers(&rt, alloc, "the most bytes", &GO, files, out, wanted)
 }
 
 /// The same line so often.
@@ -49,20 +35,20 @@ fn lines(alloc: Global, line: &str, count: u32) -> Result<Vec<u8>, AllocError> {
     Ok(text)
 }
 
-/// What 100,000 reads of a byte of bit memory that is 0 are answered.
+/// What 10,000 reads of a byte of bit memory that is 0 are answered.
 fn replies(alloc: Global) -> Result<String, AllocError> {
     let mut text = String::new(alloc);
-    for n in 1_u32..100_001 {
+    for n in 1_u32..10_001 {
         write!(text, "@{n} OP 2 VALUES 00\n")?;
     }
-    text.push_str("END 100000 RUN\n")?;
+    text.push_str("END 10000 RUN\n")?;
     Ok(text)
 }
 
 #[test]
 fn many_requests(rt: HostRuntime) -> Result<(), Fail> {
     let alloc = rt.alloc();
-    let history = lines(alloc, "op 2 read MB7\n", 100_000)?;
+    let history = lines(alloc, "op 2 read MB7\n", 10_000)?;
     let files = two_files(alloc, b"", history.as_slice())?;
     let text = replies(alloc)?;
     let out = MemSink::new(alloc, 4096);
