@@ -17,6 +17,8 @@ mod gate_tests;
 #[cfg(test)]
 mod help_tests;
 #[cfg(test)]
+mod long_history_tests;
+#[cfg(test)]
 mod outside_tests;
 #[cfg(test)]
 mod request_tests;
