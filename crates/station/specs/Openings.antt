@@ -1,0 +1,28 @@
+-- What a station began with, and what the entries since then come to.
+use Rattle.std.specs.Prelude.{List, [], ◌∷◌, ◌++◌}
+use Rattle.plc_base.specs.declared.Mode.{Mode}
+use Rattle.plc_base.specs.declared.Profile.TheVariants.{Small}
+use Rattle.machine.specs.Flat.{code_of}
+use Rattle.var_access.specs.declared.Entry.{Entry}
+use Rattle.var_access.specs.declared.Reply.{Reply}
+use Rattle.controller.specs.Replay.{happens, replay}
+use Rattle.controller.specs.Replayed.{events}
+use Rattle.station.specs.declared.shared.Opening.{Opening}
+
+-- what a station began with, from the list of one that its lock shows
+abbrev pub the_opening : List Opening → Opening
+the_opening [] = record {
+  program = record { code_blocks = []; data_blocks = []; names = [] };
+  profile = Small;
+  first = [];
+}
+the_opening (o ∷ os) = o
+
+-- the mode after an entry that comes behind these, replayed from the first start on
+abbrev pub mode_after : Opening → (before : List Entry) → Entry → Mode
+mode_after o before e = (replay o.profile (code_of o.program) (events (o.first ++ before ++ e ∷ []))).mode
+
+-- the reply to an entry that comes behind these
+abbrev pub reply_after : Opening → (before : List Entry) → Entry → Reply
+reply_after o before e =
+    (happens (code_of o.program) (replay o.profile (code_of o.program) (events (o.first ++ before))) e.what).reply
