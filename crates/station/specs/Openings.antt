@@ -1,5 +1,5 @@
--- What a station began with, and what the entries since then come to.
-use Rattle.std.specs.Prelude.{List, [], ◌∷◌, ◌++◌}
+-- What a station began with, the entries since then, and what they come to.
+use Rattle.std.specs.Prelude.{List, [], ◌∷◌, ◌++◌, take, drop}
 use Rattle.plc_base.specs.declared.Mode.{Mode}
 use Rattle.plc_base.specs.declared.Profile.TheVariants.{Small}
 use Rattle.machine.specs.Flat.{code_of}
@@ -8,6 +8,19 @@ use Rattle.var_access.specs.declared.Reply.{Reply}
 use Rattle.controller.specs.Replay.{happens, replay}
 use Rattle.controller.specs.Replayed.{events}
 use Rattle.station.specs.declared.shared.Opening.{Opening}
+use Rattle.station.specs.declared.shared.Shared.{Shared}
+
+-- what a controller under the lock began with
+abbrev pub opening_of : Shared → Opening
+opening_of s = record {
+  program = s.controller.value.program;
+  profile = s.controller.value.profile;
+  first = take s.opened s.controller.value.history;
+}
+
+-- its entries since then
+abbrev pub entries_since : Shared → List Entry
+entries_since s = drop s.opened s.controller.value.history
 
 -- what a station began with, from the list of one that its lock shows
 abbrev pub the_opening : List Opening → Opening

@@ -1,5 +1,5 @@
 //! The controller under the lock.
-ghost use Rattle.std.specs.Prelude.{◌≤◌, ◌+◌, length, take, drop};
+ghost use Rattle.std.specs.Prelude.{◌≤◌, ◌+◌, length};
 ghost use Rattle.station.specs.declared.shared.TheConstants.{FULL};
 
 use controller::Controller;
@@ -36,13 +36,11 @@ impl Storied for Shared {
 
     type Entry = Entry;
 
-    ghost origin = { λ s. record {
-      program = s.controller.value.program;
-      profile = s.controller.value.profile;
-      first = take s.opened s.controller.value.history;
-    } };
+    ghost use Rattle.station.specs.Openings.{entries_since, opening_of};
 
-    ghost story = { λ s. drop s.opened s.controller.value.history };
+    ghost origin = { opening_of };
+
+    ghost story = { entries_since };
 
     ghost maker = { λ e. e.who };
 
