@@ -83,6 +83,8 @@ impl Station {
             × (mode ≡ mode_after (the_opening p.old.lock.origin) before
             (record { who = p.old.number; what = Step }))) }
         ensures err { IfErr result (λ fault. HasMadeNone p.old p.new fault) }
+        ensures pass { p.new ≡ record p.old { seen = p.new.seen; made = p.new.made } }
+        ensures made { IsMadeOf (λ e. e.who) p.new.seen p.new.made }
     {
         self.enter(rt, p, What::Step)
     }
@@ -105,6 +107,8 @@ impl Station {
         ensures ok { OnOk result ((before : List AnEntry)
             × HasMade p.old p.new before (record { who = p.old.number; what = what })) }
         ensures err { IfErr result (λ fault. HasMadeNone p.old p.new fault) }
+        ensures pass { p.new ≡ record p.old { seen = p.new.seen; made = p.new.made } }
+        ensures made { IsMadeOf (λ e. e.who) p.new.seen p.new.made }
     {
         match self.enter(rt, p, what) {
             Ok(_) => Ok(()),
@@ -131,6 +135,8 @@ impl Station {
             × (reply ≡ reply_after (the_opening p.old.lock.origin) before
             (record { who = p.old.number; what = Ask request }))) }
         ensures err { IfErr result (λ fault. HasMadeNone p.old p.new fault) }
+        ensures pass { p.new ≡ record p.old { seen = p.new.seen; made = p.new.made } }
+        ensures made { IsMadeOf (λ e. e.who) p.new.seen p.new.made }
     {
         let who = p.number();
         let mut held = self.lock.take(rt, p);
@@ -183,6 +189,8 @@ impl Station {
             × (mode ≡ mode_after (the_opening p.old.lock.origin) before
             (record { who = p.old.number; what = what }))) }
         ensures err { IfErr result (λ fault. HasMadeNone p.old p.new fault) }
+        ensures pass { p.new ≡ record p.old { seen = p.new.seen; made = p.new.made } }
+        ensures made { IsMadeOf (λ e. e.who) p.new.seen p.new.made }
     {
         let who = p.number();
         let mut held = self.lock.take(rt, p);
