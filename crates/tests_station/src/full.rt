@@ -4,7 +4,9 @@ use crate::compare::same;
 use controller::Controller;
 use plc_base::Mode;
 use station::{FULL, Station, StationFault};
+use std::alloc::Global;
 use std::process::Abort;
+use std::sync::Wait;
 use std::test::Fail;
 use var_access::{Entry, Reply, Request, What};
 
@@ -20,17 +22,28 @@ fn enter_steps(rt: &impl Abort, controller: &mut Controller, count: u64) -> Resu
     Ok(())
 }
 
-#[test]
-fn one_entry_more_and_then_it_is_full(rt: HostRuntime) -> Result<(), Fail> {
-    let (station, mut passes) = Station::start(rt.alloc(), empty_controller(rt.alloc())?, 1)?;
+/// A controller in STOP, by a request under a pass's number.
+fn stopped_controller<R: Abort + Wait>(rt: &R, alloc: Global) -> Result<Controller, Fail> {
+    let (station, mut passes) = Station::start(alloc, empty_controller(alloc)?, 1)?;
     let mut pass = passes.remove(0);
-    let reply = station.ask(&rt, &mut pass, Request::Stop);
-    same(&rt, "a stop", reply, Ok(Reply::Done));
-    let Ok(mut controller) = station.close(pass) else {
+    let reply = station.ask(rt, &mut pass, Request::Stop);
+    same(rt, "a stop", reply, Ok(Reply::Done));
+    let Ok(controller) = station.close(pass) else {
         panic!(rt; "the number is there")
     };
-    enter_steps(&rt, &mut controller, FULL - 2)?;
+    Ok(controller)
+}
 
+/// A controller in STOP, which can have one entry more.
+fn almost_full_controller<R: Abort + Wait>(rt: &R, alloc: Global) -> Result<Controller, Fail> {
+    let mut controller = stopped_controller(rt, alloc)?;
+    enter_steps(rt, &mut controller, FULL - 2)?;
+    Ok(controller)
+}
+
+#[test]
+fn one_entry_more_and_then_it_is_full(rt: HostRuntime) -> Result<(), Fail> {
+    let controller = almost_full_controller(&rt, rt.alloc())?;
     let (station, mut passes) = Station::start(rt.alloc(), controller, 1)?;
     let mut pass = passes.remove(0);
     let stop = Mode::Stop { cause: 2, at: None };
