@@ -11,8 +11,8 @@ use Rattle.station.specs.declared.shared.Opening.{Opening}
 use Rattle.station.specs.declared.shared.Shared.{Shared}
 
 -- what a controller under the lock began with
-abbrev pub opening_of : Shared → Opening
-opening_of s = record {
+abbrev pub station_opening : Shared → Opening
+station_opening s = record {
   program = s.controller.value.program;
   profile = s.controller.value.profile;
   first = take s.opened s.controller.value.history;
@@ -31,11 +31,11 @@ the_opening [] = record {
 }
 the_opening (o ∷ os) = o
 
--- the mode after an entry that comes behind these, replayed from the first start on
-abbrev pub mode_after : Opening → (before : List Entry) → Entry → Mode
-mode_after o before e = (replay o.profile (code_of o.program) (events (o.first ++ before ++ e ∷ []))).mode
+-- the mode after an entry at its place behind these, replayed from the first start on
+abbrev pub mode_at : Opening → (before : List Entry) → Entry → Mode
+mode_at o before e = (replay o.profile (code_of o.program) (events (o.first ++ before ++ e ∷ []))).mode
 
--- the reply to an entry that comes behind these
-abbrev pub reply_after : Opening → (before : List Entry) → Entry → Reply
-reply_after o before e =
+-- the reply to an entry at its place behind these
+abbrev pub reply_at : Opening → (before : List Entry) → Entry → Reply
+reply_at o before e =
     (happens (code_of o.program) (replay o.profile (code_of o.program) (events (o.first ++ before))) e.what).reply

@@ -13,12 +13,12 @@ use Rattle.station.specs.declared.shared.StationFault.TheVariants.{NoMemory, Ful
 use Rattle.station.specs.declared.shared.TheConstants.{FULL}
 use Rattle.station.specs.Openings.{the_opening}
 
--- an entry that comes from outside: an input, an arrival or a tick
-abbrev pub is_fed : What → Bool
-is_fed (Input byte value) = true
-is_fed (Arrive ob value) = true
-is_fed (Tick ms) = true
-is_fed _ = false
+-- a stimulus: an input, an arrival or a tick
+abbrev pub is_stimulus : What → Bool
+is_stimulus (Input byte value) = true
+is_stimulus (Arrive ob value) = true
+is_stimulus (Tick ms) = true
+is_stimulus _ = false
 
 -- whether a fault may come at a history of this length
 abbrev pub MayFail : StationFault → (len : ℕ) → Type 0

@@ -36,9 +36,9 @@ impl Storied for Shared {
 
     type Entry = Entry;
 
-    ghost use Rattle.station.specs.Openings.{entries_since, opening_of};
+    ghost use Rattle.station.specs.Openings.{entries_since, station_opening};
 
-    ghost origin = { opening_of };
+    ghost origin = { station_opening };
 
     ghost story = { entries_since };
 

@@ -6,8 +6,8 @@ ghost use Rattle.var_access.specs.declared.What.TheVariants.{Step, Ask};
 ghost use Rattle.var_access.specs.Entry.{IsInRange, IsRequest};
 ghost use Rattle.tracked_lock.specs.Passes.{IsCountOut, fresh_passes, joined_pass, missing};
 ghost use Rattle.tracked_lock.specs.Views.{IsMadeOf};
-ghost use Rattle.station.specs.Openings.{mode_after, reply_after, the_opening};
-ghost use Rattle.station.specs.Turns.{HasMade, HasMadeNone, is_fed};
+ghost use Rattle.station.specs.Openings.{mode_at, reply_at, the_opening};
+ghost use Rattle.station.specs.Turns.{HasMade, HasMadeNone, is_stimulus};
 ghost use Rattle.station.specs.Closing.{IsGivenBack};
 
 use crate::shared::{Shared, StationFault};
@@ -80,7 +80,7 @@ impl Station {
         requires free { p.old.out ≡ false }
         ensures ok { IfOk result (λ mode. (before : List AnEntry)
             × HasMade p.old p.new before (record { who = p.old.number; what = Step })
-            × (mode ≡ mode_after (the_opening p.old.lock.origin) before
+            × (mode ≡ mode_at (the_opening p.old.lock.origin) before
             (record { who = p.old.number; what = Step }))) }
         ensures err { IfErr result (λ fault. HasMadeNone p.old p.new fault) }
         ensures pass { p.new ≡ record p.old { seen = p.new.seen; made = p.new.made } }
@@ -102,7 +102,7 @@ impl Station {
     ) -> Result<(), StationFault>
         requires station { p.old.lock ≡ self.now }
         requires free { p.old.out ≡ false }
-        requires fed { is_fed what ≡ true }
+        requires fed { is_stimulus what ≡ true }
         requires valid { IsInRange what }
         ensures ok { OnOk result ((before : List AnEntry)
             × HasMade p.old p.new before (record { who = p.old.number; what = what })) }
@@ -132,7 +132,7 @@ impl Station {
         requires valid { IsRequest request }
         ensures ok { IfOk result (λ reply. (before : List AnEntry)
             × HasMade p.old p.new before (record { who = p.old.number; what = Ask request })
-            × (reply ≡ reply_after (the_opening p.old.lock.origin) before
+            × (reply ≡ reply_at (the_opening p.old.lock.origin) before
             (record { who = p.old.number; what = Ask request }))) }
         ensures err { IfErr result (λ fault. HasMadeNone p.old p.new fault) }
         ensures pass { p.new ≡ record p.old { seen = p.new.seen; made = p.new.made } }
@@ -186,7 +186,7 @@ impl Station {
         requires valid { IsInRange what }
         ensures ok { IfOk result (λ mode. (before : List AnEntry)
             × HasMade p.old p.new before (record { who = p.old.number; what = what })
-            × (mode ≡ mode_after (the_opening p.old.lock.origin) before
+            × (mode ≡ mode_at (the_opening p.old.lock.origin) before
             (record { who = p.old.number; what = what }))) }
         ensures err { IfErr result (λ fault. HasMadeNone p.old p.new fault) }
         ensures pass { p.new ≡ record p.old { seen = p.new.seen; made = p.new.made } }
