@@ -1,0 +1,3 @@
+pub mod Openings
+pub mod Turns
+pub mod Closing

@@ -1,0 +1,47 @@
+-- What a turn of a station does.
+use Rattle.std.specs.Prelude.{◌≡◌, ℕ, ◌+◌, ◌<◌, ◌≤◌, Bool, true, false, List, [], ◌∷◌, ◌++◌, length}
+use mathlib.Core.List.{IsPrefix}
+use Rattle.var_access.specs.declared.Entry.{Entry}
+use Rattle.var_access.specs.declared.What.{What}
+use Rattle.var_access.specs.declared.What.TheVariants.{Input, Arrive, Tick}
+use Rattle.controller.specs.Recorded.{Recorded}
+use Rattle.tracked_lock.specs.Passes.{Passed}
+use Rattle.tracked_lock.specs.Views.{made_more}
+use Rattle.station.specs.declared.shared.Opening.{Opening}
+use Rattle.station.specs.declared.shared.StationFault.{StationFault}
+use Rattle.station.specs.declared.shared.StationFault.TheVariants.{NoMemory, Full}
+use Rattle.station.specs.declared.shared.TheConstants.{FULL}
+use Rattle.station.specs.Openings.{the_opening}
+
+-- a stimulus: an input, an arrival or a tick
+abbrev pub is_stimulus : What → Bool
+is_stimulus (Input byte value) = true
+is_stimulus (Arrive ob value) = true
+is_stimulus (Tick ms) = true
+is_stimulus _ = false
+
+-- whether a fault may come at a history of this length
+abbrev pub MayFail : StationFault → (len : ℕ) → Type 0
+MayFail NoMemory len = len < FULL
+MayFail Full len = FULL ≤ len
+
+-- a controller got exactly this entry
+pub record AddsEntry (old new : Recorded) (e : Entry) : Type 0 where
+  pub program : new.program ≡ old.program
+  pub profile : new.profile ≡ old.profile
+  pub history : new.history ≡ old.history ++ e ∷ []
+  pub room : length old.history < FULL
+
+-- the pass made this entry: the list that it knows ends with it, behind `before`, which all that the pass had seen begins; of the
+-- entries under its own number it is the only new one, and those under its other numbers are as before
+pub record HasMade (old new : Passed Opening Entry) (before : List Entry) (e : Entry) : Type 0 where
+  pub ends : new.seen ≡ before ++ e ∷ []
+  pub begins : IsPrefix old.seen before
+  pub made : new.made ≡ made_more old.made (e ∷ [])
+  pub room : length (the_opening old.lock.origin).first + length new.seen ≤ FULL
+
+-- the pass made no entry, and may have seen more
+pub record HasMadeNone (old new : Passed Opening Entry) (fault : StationFault) : Type 0 where
+  pub begins : IsPrefix old.seen new.seen
+  pub made : new.made ≡ old.made
+  pub why : MayFail fault (length (the_opening old.lock.origin).first + length new.seen)
