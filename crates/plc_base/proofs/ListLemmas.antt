@@ -1,5 +1,5 @@
 -- What lists, taken apart and put together, keep.
-use Rattle.std.proofs.Common.{◌≡◌, ℕ, ◌+◌, ◌<◌, List, [], ◌∷◌, ◌++◌, length, drop, get_or, sym, ◌∙◌, ap}
+use Rattle.std.proofs.Common.{◌≡◌, ℕ, ◌+◌, ◌<◌, ◌≤◌, None, refl, arith, zero, suc, List, [], ◌∷◌, ◌++◌, length, drop, get_or, sym, ◌∙◌, ap, slice_get}
 use Rattle.std.specs.List.{AllByRecursion}
 use Rattle.std.proofs.lemmas.List.{drop_more}
 
@@ -21,3 +21,14 @@ all_append P (x ∷ xs) ys h k = (h.0, all_append P xs ys h.1 k)
 -- what is left from an element on begins with it
 pub drop_next : {A : Type 0} (xs : List A) (i : ℕ) (x : A) → i < length xs → x ≡ get_or xs i x → drop i xs ≡ x ∷ drop (i + 1) xs
 drop_next {A = A} xs i x within is = drop_more xs i x within ∙ ap (λ (y : A). y ∷ drop (i + 1) xs) (sym is)
+
+-- a list that is empty was put together of empty ones
+pub nil_parts : {A : Type 0} (xs ys : List A) → xs ++ ys ≡ [] → (xs ≡ []) × (ys ≡ [])
+nil_parts [] ys e = (refl, e)
+nil_parts (x ∷ xs) ys e = absurd cc
+
+-- past its end a list has no element
+pub get_past : {A : Type 0} (xs : List A) (i : ℕ) → length xs ≤ i → slice_get xs i ≡ None
+get_past [] i le = refl
+get_past (x ∷ xs) zero le = absurd (omega (arith, le))
+get_past (x ∷ xs) (suc i) le = get_past xs i (omega (arith, le))

@@ -1,6 +1,6 @@
 ghost use Rattle.std.specs.Prelude.{◌≡◌, ◌≤◌};
 ghost use Rattle.plc_base.specs.AreaBytes.{is_peripheral_byte};
-ghost use Rattle.plc_base.specs.Pointer.{area_number};
+ghost use Rattle.plc_base.specs.Pointer.{area_number, area_of};
 ghost use Rattle.plc_base.specs.Widths.{byte_count, bit_count, width_number};
 
 /// The width of an operand: one bit, or one, two or four bytes.
@@ -76,6 +76,22 @@ impl Area {
             Area::Db => 4,
             Area::Di => 5,
             Area::L => 6,
+        }
+    }
+
+    /// The area of this number in a pointer. `None` exactly for a number above 6.
+    pub fn from_number(number: u8) -> Option<Area>
+        ensures { result ≡ area_of number }
+    {
+        match number {
+            0 => Some(Area::P),
+            1 => Some(Area::I),
+            2 => Some(Area::Q),
+            3 => Some(Area::M),
+            4 => Some(Area::Db),
+            5 => Some(Area::Di),
+            6 => Some(Area::L),
+            _ => None,
         }
     }
 }

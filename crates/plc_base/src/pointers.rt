@@ -1,27 +1,11 @@
 ghost use Rattle.std.specs.Prelude.{◌≡◌, ◌≤◌, MatchResult};
-ghost use Rattle.plc_base.specs.Pointer.{area_of, place_of, pointer_of};
+ghost use Rattle.plc_base.specs.Pointer.{place_of, pointer_of};
 
 use crate::places::{Area, Place};
 
 /// A pointer names no area: its bit 31 is 0, or its area bits are 7.
 #[derive(Clone, Copy, Debug, PartialEq, Eq)]
 pub struct BadArea;
-
-/// The area of its number in a pointer. `None` exactly for a number above 6.
-fn area_of_number(number: u32) -> Option<Area>
-    ensures { result ≡ area_of number }
-{
-    match number {
-        0 => Some(Area::P),
-        1 => Some(Area::I),
-        2 => Some(Area::Q),
-        3 => Some(Area::M),
-        4 => Some(Area::Db),
-        5 => Some(Area::Di),
-        6 => Some(Area::L),
-        _ => None,
-    }
-}
 
 /// The place that an area-crossing pointer names. Its `number` is 0.
 ///
@@ -37,7 +21,7 @@ pub fn place_of_pointer(pointer: u32) -> Result<Place, BadArea>
     if pointer >> 31 == 0 {
         return Err(BadArea);
     }
-    match area_of_number((pointer >> 24) % 8) {
+    match Area::from_number(((pointer >> 24) % 8) as u8) {
         Some(area) => Ok(Place {
             area,
             number: 0,
