@@ -1,11 +1,12 @@
 -- What a call answers: how it comes out, its text, and its exit status.
 use Rattle.std.specs.Prelude.{ℕ, List, Result, Ok, Err}
 use Rattle.plc_base.specs.declared.refusals.Refusal.{Refusal}
+use Rattle.image_file.specs.declared.faults.LoadFault.{LoadFault}
 use Rattle.s7_cli.specs.declared.failures.File.{File}
-use Rattle.s7_cli.specs.declared.failures.File.TheVariants.{Source, Symbols, History}
+use Rattle.s7_cli.specs.declared.failures.File.TheVariants.{Source, Symbols, Image, History, Stimuli, Script}
 use Rattle.s7_cli.specs.declared.failures.Failure.{Failure}
-use Rattle.s7_cli.specs.declared.failures.Failure.TheVariants.{WordsRefused, ReadFault, TooLong, Refused, WriteFault, NoMemory}
-use Rattle.s7_cli.specs.Lines.{words_refused_text, read_fault_text, too_long_text, refusal_text}
+use Rattle.s7_cli.specs.declared.failures.Failure.TheVariants.{WordsRefused, ReadFault, TooLong, Refused, ImageRefused, WriteFault, NoMemory}
+use Rattle.s7_cli.specs.Lines.{words_refused_text, read_fault_text, too_long_text, refusal_text, image_refused_text}
 
 -- done, or why not
 abbrev pub Outcome : Type 0
@@ -24,6 +25,11 @@ done text = record { outcome = Ok tt; text = text }
 abbrev pub refused : File → Refusal → Answer
 refused file refusal = record { outcome = Err (Refused file refusal); text = refusal_text file refusal }
 
+-- an image isn't that of a program that verifies
+abbrev pub refused_image : LoadFault → Answer
+refused_image fault =
+    record { outcome = Err (ImageRefused fault); text = image_refused_text fault }
+
 -- a file holds a byte past its limit
 abbrev pub too_long : File → Answer
 too_long file = record { outcome = Err (TooLong file); text = too_long_text file }
@@ -40,13 +46,17 @@ words_refused = record { outcome = Err WordsRefused; text = words_refused_text }
 abbrev pub refused_code : File → ℕ
 refused_code Source = 2
 refused_code Symbols = 2
+refused_code Image = 3
 refused_code History = 4
+refused_code Stimuli = 4
+refused_code (Script number) = 4
 
 -- the exit status
 abbrev pub code_of : Outcome → ℕ
 code_of (Ok done) = 0
 code_of (Err WordsRefused) = 1
 code_of (Err (Refused file refusal)) = refused_code file
+code_of (Err (ImageRefused fault)) = 3
 code_of (Err ReadFault) = 5
 code_of (Err WriteFault) = 6
 code_of (Err NoMemory) = 7

@@ -1,13 +1,19 @@
 -- What the words of a call ask for, and which files that reads and writes.
-use Rattle.std.specs.Prelude.{ℕ, List, [], ◌∷◌, ◌++◌, Option, Some, None}
+use Rattle.std.specs.Prelude.{ℕ, ◌+◌, List, [], ◌∷◌, ◌++◌, Option, Some, None}
 use Rattle.s7_cli.specs.declared.failures.File.{File}
-use Rattle.s7_cli.specs.declared.failures.File.TheVariants.{Source, Symbols, History}
+use Rattle.s7_cli.specs.declared.failures.File.TheVariants.{Source, Symbols, Image, History, Stimuli, Script}
 
--- `go SRC HIST` runs a source along a history; `check SRC` checks a source; each with a file of
--- symbols where `--symbols FILE` names one
+-- `go SRC HIST` runs a source along a history, `check SRC` checks a source, `compile SRC IMG` writes
+-- its image; each with a file of symbols where `--symbols FILE` names one. `run IMG HIST` runs an
+-- image along a history, `gen NUMBER` a program and a history that are made of a number.
+-- `live IMG STIM OPS.. --steps N` has several workers run an image
 pub data Command : Type 0 where
   Go : (source : List ℕ) (symbols : Option (List ℕ)) (history : List ℕ) → Command
   Check : (source : List ℕ) (symbols : Option (List ℕ)) → Command
+  Compile : (source : List ℕ) (symbols : Option (List ℕ)) (image : List ℕ) → Command
+  Run : (image history : List ℕ) → Command
+  Gen : (number : ℕ) → Command
+  Live : (image stimuli : List ℕ) (scripts : List (List ℕ)) (steps : ℕ) → Command
 
 -- a file that a command reads: what it is read as, and its name
 pub record Input : Type 0 where
@@ -23,19 +29,39 @@ symbols_inputs (Some symbols) = record { file = Symbols; name = symbols } ∷ []
 abbrev pub program_inputs : (source : List ℕ) (symbols : Option (List ℕ)) → List Input
 program_inputs source symbols = record { file = Source; name = source } ∷ symbols_inputs symbols
 
+-- scripts, numbered from this one on
+abbrev pub script_inputs : (number : ℕ) → List (List ℕ) → List Input
+script_inputs number [] = []
+script_inputs number (script ∷ more) =
+    record { file = Script number; name = script } ∷ script_inputs (number + 1) more
+
 -- in the order in which they are read
 abbrev pub inputs_of : Command → List Input
 inputs_of (Go source symbols history) =
     program_inputs source symbols ++ record { file = History; name = history } ∷ []
 inputs_of (Check source symbols) = program_inputs source symbols
+inputs_of (Compile source symbols image) = program_inputs source symbols
+inputs_of (Run image history) =
+    record { file = Image; name = image } ∷ record { file = History; name = history } ∷ []
+inputs_of (Gen number) = []
+inputs_of (Live image stimuli scripts steps) =
+    record { file = Image; name = image } ∷ record { file = Stimuli; name = stimuli }
+    ∷ script_inputs 1 scripts
 
 -- the files that a command writes
 abbrev pub outputs_of : Command → List (List ℕ)
 outputs_of (Go source symbols history) = []
 outputs_of (Check source symbols) = []
+outputs_of (Compile source symbols image) = image ∷ []
+outputs_of (Run image history) = []
+outputs_of (Gen number) = []
+outputs_of (Live image stimuli scripts steps) = []
 
 -- the most bytes that each file may hold
 abbrev pub limit_of : File → ℕ
 limit_of Source = 1048576
 limit_of Symbols = 1048576
+limit_of Image = 8388608
 limit_of History = 4194304
+limit_of Stimuli = 4194304
+limit_of (Script number) = 1048576

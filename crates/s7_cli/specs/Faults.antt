@@ -1,11 +1,13 @@
 -- The failure of a command by the fault of a reader.
 use Rattle.event_text.specs.declared.TextFault.{TextFault}
 use Rattle.event_text.specs.declared.TextFault.TheVariants as text
+use Rattle.image_file.specs.declared.refusing.LoadError.{LoadError}
+use Rattle.image_file.specs.declared.refusing.LoadError.TheVariants as loading
 use Rattle.s7_cli.specs.declared.faults.CompileFault.{CompileFault}
 use Rattle.s7_cli.specs.declared.faults.CompileFault.TheVariants as compiling
 use Rattle.s7_cli.specs.declared.failures.File.TheVariants.{Source, Symbols, History}
 use Rattle.s7_cli.specs.declared.failures.Failure.{Failure}
-use Rattle.s7_cli.specs.declared.failures.Failure.TheVariants.{Refused, NoMemory}
+use Rattle.s7_cli.specs.declared.failures.Failure.TheVariants.{Refused, ImageRefused, NoMemory}
 
 -- the symbols file or the source is refused, or there is no memory
 abbrev pub failure_of_compiling : CompileFault → Failure
@@ -18,3 +20,8 @@ abbrev pub failure_of_history : TextFault → Failure
 failure_of_history (text.BadLine line rule) =
     Refused History (record { line = line; rule = rule })
 failure_of_history text.NoMemory = NoMemory
+
+-- the image is refused, or there is no memory
+abbrev pub failure_of_loading : LoadError → Failure
+failure_of_loading (loading.Fault fault) = ImageRefused fault
+failure_of_loading loading.NoMemory = NoMemory

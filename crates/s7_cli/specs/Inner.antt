@@ -2,12 +2,13 @@
 use Rattle.std.specs.Prelude.{◌≡◌, ◌≤◌, ◌⊎◌, ℕ, List, [], ◌∷◌, Option, Some, None, Result, Ok, Err}
 use Rattle.plc_io.specs.Contents.{SameFiles}
 use Rattle.plc_io.specs.Counts.{Rose, SameCounts, NeverFell}
-use Rattle.plc_io.specs.FileCalls.{Unchanged}
+use Rattle.plc_io.specs.FileCalls.{LeavesWritten, Unchanged}
 use Rattle.plc_io.specs.Moments.{FilesAt}
 use Rattle.plc_io.specs.Taken.{Took, TookPrefix}
+use Rattle.plc_io.specs.declared.faults.IoFault.TheVariants as fault
 use Rattle.s7_cli.specs.declared.failures.Failure.{Failure}
-use Rattle.s7_cli.specs.declared.failures.Failure.TheVariants.{ReadFault, TooLong, Refused, WriteFault, NoMemory}
-use Rattle.s7_cli.specs.Answer.{Answer, Outcome, refused, too_long, read_fault}
+use Rattle.s7_cli.specs.declared.failures.Failure.TheVariants.{ReadFault, TooLong, Refused, ImageRefused, WriteFault, NoMemory}
+use Rattle.s7_cli.specs.Answer.{Answer, Outcome, refused, refused_image, too_long, read_fault}
 use Rattle.s7_cli.specs.Command.{Command, Input}
 use Rattle.s7_cli.specs.Ends.{Taking, Answers, CountsReads, IsSaid, IsWriteFault, IsNoMemory}
 use Rattle.s7_cli.specs.Lines.{line_of}
@@ -53,6 +54,7 @@ AllRead view d is (Err failure) = ⊥
 abbrev pub RefusedBy : {V : Type 0} → (Answer → Type 0) → Result V Failure → Type 0
 RefusedBy says (Ok v) = Unit {0}
 RefusedBy says (Err (Refused file refusal)) = says (refused file refusal)
+RefusedBy says (Err (ImageRefused fault)) = says (refused_image fault)
 RefusedBy says (Err NoMemory) = Unit {0}
 RefusedBy says (Err failure) = ⊥
 
@@ -63,6 +65,16 @@ TextWritten text s (Err WriteFault) =
     TookPrefix s.before s.after text × Rose s.before.faults s.after.faults × (s.before.faults ≤ s.after.faults)
 TextWritten text s (Err NoMemory) = TookPrefix s.before s.after text × (s.after.faults ≡ s.before.faults)
 TextWritten text s (Err failure) = ⊥
+
+-- the writing of a whole output file
+abbrev pub FileWritten : Disk → (name bytes : List ℕ) → Outcome → Type 0
+FileWritten d name bytes (Ok done) =
+    LeavesWritten {X = Unit} d.before d.after name bytes (Ok done)
+FileWritten d name bytes (Err WriteFault) =
+    LeavesWritten {X = Unit} d.before d.after name bytes (Err fault.Failed)
+FileWritten d name bytes (Err NoMemory) =
+    LeavesWritten {X = Unit} d.before d.after name bytes (Err fault.NoMemory)
+FileWritten d name bytes (Err failure) = ⊥
 
 -- a failure whose line isn't written yet
 pub record Fails (c : Option Command) (d : Disk) (s : Taking) (failure : Failure) : Type 0 where

@@ -3,6 +3,7 @@ pub mod Command
 pub mod Compiling
 pub mod Ends
 pub mod Faults
+pub mod GenText
 pub mod Inner
 pub mod Lines
 pub mod Questions

@@ -1,16 +1,20 @@
 -- The one line of each refusal.
 use Rattle.std.specs.Prelude.{ℕ, List, ◌++◌, codes, decimal, Option, Some, None}
 use Rattle.plc_base.specs.declared.refusals.Refusal.{Refusal}
+use Rattle.image_file.specs.declared.faults.LoadFault.{LoadFault}
 use Rattle.s7_cli.specs.declared.failures.File.{File}
-use Rattle.s7_cli.specs.declared.failures.File.TheVariants.{Source, Symbols, History}
+use Rattle.s7_cli.specs.declared.failures.File.TheVariants.{Source, Symbols, Image, History, Stimuli, Script}
 use Rattle.s7_cli.specs.declared.failures.Failure.{Failure}
-use Rattle.s7_cli.specs.declared.failures.Failure.TheVariants.{WordsRefused, ReadFault, TooLong, Refused, WriteFault, NoMemory}
+use Rattle.s7_cli.specs.declared.failures.Failure.TheVariants.{WordsRefused, ReadFault, TooLong, Refused, ImageRefused, WriteFault, NoMemory}
 
 -- the word for a file
 unfoldable pub file_text : File → List ℕ
 file_text Source = codes "source"
 file_text Symbols = codes "symbols"
+file_text Image = codes "image"
 file_text History = codes "history"
+file_text Stimuli = codes "stimuli"
+file_text (Script number) = codes "script " ++ decimal number
 
 -- the words of the call are refused
 unfoldable pub words_refused_text : List ℕ
@@ -29,7 +33,12 @@ unfoldable pub refusal_text : File → Refusal → List ℕ
 refusal_text file refusal =
     file_text file ++ codes " refused: line " ++ decimal refusal.line ++ codes " rule " ++ decimal refusal.rule ++ codes "\n"
 
--- what `check` writes for a source that is accepted
+-- a refused image: the offset of its least fault, and the fault's code
+unfoldable pub image_refused_text : LoadFault → List ℕ
+image_refused_text fault =
+    codes "image refused: offset " ++ decimal fault.at ++ codes " code " ++ decimal fault.code ++ codes "\n"
+
+-- what `check` writes for a source that is accepted, and `compile` where it has written the image
 unfoldable pub ok_line : List ℕ
 ok_line = codes "OK\n"
 
@@ -39,5 +48,6 @@ line_of WordsRefused = Some words_refused_text
 line_of ReadFault = Some read_fault_text
 line_of (TooLong file) = Some (too_long_text file)
 line_of (Refused file refusal) = Some (refusal_text file refusal)
+line_of (ImageRefused fault) = Some (image_refused_text fault)
 line_of WriteFault = None
 line_of NoMemory = None

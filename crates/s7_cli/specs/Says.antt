@@ -3,14 +3,22 @@ use Rattle.std.specs.Prelude.{◌≡◌, ℕ, List, [], ◌∷◌, Some, None, R
 use Rattle.plc_base.specs.declared.Refusal.{Refusal}
 use Rattle.plc_base.specs.declared.Profile.TheVariants.{Small}
 use Rattle.var_access.specs.declared.Entry.{Entry}
+use Rattle.flat_code.specs.Loading.{Gives, IsLoadable, faults_of}
+use Rattle.flat_code.specs.Programs.{Program}
+use Rattle.image_file.specs.Least.{IsLeast}
+use Rattle.image_file.specs.declared.faults.LoadFault.{LoadFault}
 use Rattle.machine.specs.Code.{Code}
-use Rattle.sem_kept.specs.Agreement.{names_in}
+use Rattle.machine.specs.Flat.{code_of}
+use Rattle.generator.specs.History.{history}
+use Rattle.generator.specs.Source.{source_text}
+use Rattle.sem_kept.specs.Agreement.{ImageKeepsSource, names_in}
 use Rattle.sem_kept.specs.Meaning.{IsJudged, Refused, InSymbols, InSource}
 use Rattle.event_text.specs.Texts.{history_of}
 use Rattle.s7_cli.specs.run_text.RunText.{run_text}
 use Rattle.s7_cli.specs.declared.failures.File.TheVariants.{Source, Symbols, History}
-use Rattle.s7_cli.specs.Answer.{Answer, done, refused}
-use Rattle.s7_cli.specs.Command.{Command, Go, Check}
+use Rattle.s7_cli.specs.Answer.{Answer, done, refused, refused_image}
+use Rattle.s7_cli.specs.Command.{Command, Go, Check, Compile, Run, Gen, Live}
+use Rattle.s7_cli.specs.GenText.{summary_text}
 use Rattle.s7_cli.specs.Lines.{ok_line}
 
 -- a source is refused by what its symbols break, or by what it breaks itself
@@ -25,7 +33,7 @@ go_answer (Err why) history = refused_program why
 go_answer (Ok code) (Err refusal) = refused History refusal
 go_answer (Ok code) (Ok entries) = done (run_text Small code entries)
 
--- `check`: the source with its symbols is checked
+-- `check` and `compile`: the source with its symbols is checked
 abbrev pub check_answer : Result Code Refused → Answer
 check_answer (Err why) = refused_program why
 check_answer (Ok code) = done ok_line
@@ -36,7 +44,40 @@ GoSays source symbols history answer =
     (judged : Result Code Refused) × IsJudged source symbols judged
     × (answer ≡ go_answer judged (history_of (names_in symbols) history))
 
--- what `check` answers, over the contents of its files
+-- bytes load as a program: they are read without a fault, are its image, and it verifies. Or they are refused by their least fault,
+-- by offset, then code
+abbrev pub LoadsAs : List ℕ → Result Program LoadFault → Type 0
+LoadsAs bytes (Ok program) = Gives bytes program × IsLoadable bytes program
+LoadsAs bytes (Err fault) = IsLeast fault (faults_of bytes)
+
+-- `run`: the image is loaded first, and then the history is checked; else the text of the run is told
+abbrev pub ran : Program → Result (List Entry) Refusal → Answer
+ran program (Err refusal) = refused History refusal
+ran program (Ok entries) = done (run_text Small (code_of program) entries)
+
+-- a history may name the variables whose names stand in the image
+abbrev pub run_answer : Result Program LoadFault → (history : List ℕ) → Answer
+run_answer (Err fault) history = refused_image fault
+run_answer (Ok program) history = ran program (history_of program.names history)
+
+-- what `run` answers, over the contents of its files
+abbrev pub RunSays : (image history : List ℕ) → Answer → Type 0
+RunSays image history answer =
+    (loaded : Result Program LoadFault) × LoadsAs image loaded
+    × (answer ≡ run_answer loaded history)
+
+-- `gen`: the source of the number is checked; its run along the history of the number is summed up
+abbrev pub gen_answer : (number : ℕ) → Result Code Refused → Answer
+gen_answer number (Err why) = refused_program why
+gen_answer number (Ok code) = done (summary_text number Small code (history number))
+
+-- what `gen` answers; it reads no file
+abbrev pub GenSays : (number : ℕ) → Answer → Type 0
+GenSays number answer =
+    (judged : Result Code Refused) × IsJudged (source_text number) [] judged
+    × (answer ≡ gen_answer number judged)
+
+-- what `check` and `compile` answer, over the contents of their files
 abbrev pub CheckSays : (source symbols : List ℕ) → Answer → Type 0
 CheckSays source symbols answer =
     (judged : Result Code Refused) × IsJudged source symbols judged × (answer ≡ check_answer judged)
@@ -49,9 +90,21 @@ Says (Go _ (Some _) _) (source ∷ symbols ∷ history ∷ []) answer =
     GoSays source symbols history answer
 Says (Check _ None) (source ∷ []) answer = CheckSays source [] answer
 Says (Check _ (Some _)) (source ∷ symbols ∷ []) answer = CheckSays source symbols answer
+Says (Compile _ None _) (source ∷ []) answer = CheckSays source [] answer
+Says (Compile _ (Some _) _) (source ∷ symbols ∷ []) answer = CheckSays source symbols answer
+Says (Run _ _) (image ∷ history ∷ []) answer = RunSays image history answer
+Says (Gen number) [] answer = GenSays number answer
 Says _ contents answer = ⊥
 
 -- what the command writes to an output file, over the same contents
 abbrev pub Writes : Command → List (List ℕ) → (name bytes : List ℕ) → Type 0
+Writes (Compile _ None image) (source ∷ []) name bytes =
+    (name ≡ image) × ImageKeepsSource bytes source []
+Writes (Compile _ (Some _) image) (source ∷ symbols ∷ []) name bytes =
+    (name ≡ image) × ImageKeepsSource bytes source symbols
+Writes (Compile _ _ _) contents name bytes = ⊥
 Writes (Go _ _ _) contents name bytes = ⊥
 Writes (Check _ _) contents name bytes = ⊥
+Writes (Run _ _) contents name bytes = ⊥
+Writes (Gen _) contents name bytes = ⊥
+Writes (Live _ _ _ _) contents name bytes = ⊥

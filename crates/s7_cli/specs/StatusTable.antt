@@ -15,7 +15,7 @@ use Rattle.s7_cli.specs.Says.{Says}
 abbrev pub IsAllowed : Command → Disk → Answer → Type 0
 IsAllowed k d answer = Allows d.before.contents (inputs_of k) (Says k) answer
 
--- told files allow one answer, and the call gave it: 0, 2, 4 and 8 come exactly where the files say so
+-- told files allow one answer, and the call gave it: 0, 2, 3, 4 and 8 come exactly where the files say so
 pub record IsDecided (k : Command) (d : Disk) (s : Taking) (code : ℕ) : Type 0 where
   pub answer : Answer
   pub allowed : IsAllowed k d answer
@@ -30,7 +30,7 @@ IsCutOff code = (code ≡ 6) ⊎ (code ≡ 7)
 -- the table of statuses
 pub record StatusTable (c : Option Command) (d : Disk) (s : Taking) (code : ℕ) : Type 0 where
   -- no other status than these
-  pub statuses : (code ≤ 2) ⊎ (code ≡ 4) ⊎ (code ≡ 5) ⊎ (code ≡ 6) ⊎ (code ≡ 7) ⊎ (code ≡ 8)
+  pub statuses : code ≤ 8
   -- over files that tell what they hold: the one answer that they allow, unless a read of a file on the way fails (5), a write fails
   -- (6), or memory is wanting (7); an input file that is absent allows 5 alone
   pub decided : (k : Command) → c ≡ Some k → d.before.contents.told ≡ true
@@ -42,7 +42,7 @@ pub record StatusTable (c : Option Command) (d : Disk) (s : Taking) (code : ℕ)
   -- 1: exactly where the words are refused, whatever the files hold; a write may fail, or memory be wanting, at its line
   pub words_refused_only : code ≡ 1 → c ≡ None
   pub words_refused : c ≡ None → (code ≡ 1) ⊎ IsCutOff code
-  -- 1, 2, 4, 5, 8: the sink took the one line of the failure
+  -- 1, 2, 3, 4, 5, 8: the sink took the one line of the failure
   pub takes_line : code ≢ 0 → (IsCutOff code → ⊥)
       → (failure : Failure) × (line : List ℕ) × (code ≡ code_of (Err failure)) × (line_of failure ≡ Some line) × Took s.before s.after line
   -- 5: only where the count of failed reads of an input file rose

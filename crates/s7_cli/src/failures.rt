@@ -1,9 +1,10 @@
 ghost use Rattle.std.specs.Prelude.{◌≡◌};
 ghost use Rattle.s7_cli.specs.Answer.{code_of, refused_code};
-ghost use Rattle.s7_cli.specs.Faults.{failure_of_compiling, failure_of_history};
+ghost use Rattle.s7_cli.specs.Faults.{failure_of_compiling, failure_of_history, failure_of_loading};
 
 use crate::faults::CompileFault;
 use event_text::TextFault;
+use image_file::{LoadError, LoadFault};
 use plc_base::Refusal;
 use std::alloc::AllocError;
 
@@ -12,7 +13,11 @@ use std::alloc::AllocError;
 pub enum File {
     Source,
     Symbols,
+    Image,
     History,
+    Stimuli,
+    /// The script of an operator, by his number.
+    Script { number: u8 },
 }
 
 /// Why a command wasn't done.
@@ -26,6 +31,8 @@ pub enum Failure {
     TooLong { file: File },
     /// A file breaks a rule.
     Refused { file: File, refusal: Refusal },
+    /// An image isn't that of a program that verifies.
+    ImageRefused { fault: LoadFault },
     /// The sink or an output file couldn't be written.
     WriteFault,
     /// Memory ran out.
@@ -60,6 +67,17 @@ impl From<CompileFault> for Failure {
     }
 }
 
+impl From<LoadError> for Failure {
+    ghost from_gives = { λ fault failure. failure ≡ failure_of_loading fault };
+
+    fn from(error: LoadError) -> Failure {
+        match error {
+            LoadError::Fault { fault } => Failure::ImageRefused { fault },
+            LoadError::NoMemory => Failure::NoMemory,
+        }
+    }
+}
+
 impl From<TextFault> for Failure {
     ghost from_gives = { λ fault failure. failure ≡ failure_of_history fault };
 
@@ -86,7 +104,8 @@ fn refused_code(file: File) -> u8
 {
     match file {
         File::Source | File::Symbols => 2,
-        File::History => 4,
+        File::Image => 3,
+        File::History | File::Stimuli | File::Script { .. } => 4,
     }
 }
 
@@ -99,6 +118,7 @@ impl Status {
             Ok(()) => 0,
             Err(Failure::WordsRefused) => 1,
             Err(Failure::Refused { file, .. }) => refused_code(file),
+            Err(Failure::ImageRefused { .. }) => 3,
             Err(Failure::ReadFault) => 5,
             Err(Failure::WriteFault) => 6,
             Err(Failure::NoMemory) => 7,

@@ -15,8 +15,14 @@ const SOURCE_LIMIT: usize = 1_048_576;
 /// The most bytes of a symbols file.
 const SYMBOLS_LIMIT: usize = 1_048_576;
 
-/// The most bytes of a history.
+/// The most bytes of an image.
+const IMAGE_LIMIT: usize = 8_388_608;
+
+/// The most bytes of a history, and of stimuli.
 const HISTORY_LIMIT: usize = 4_194_304;
+
+/// The most bytes of a script.
+const SCRIPT_LIMIT: usize = 1_048_576;
 
 /// What the files of a program hold.
 #[derive(Drop)]
@@ -46,7 +52,9 @@ fn limit_of(file: File) -> usize
     match file {
         File::Source => SOURCE_LIMIT,
         File::Symbols => SYMBOLS_LIMIT,
-        File::History => HISTORY_LIMIT,
+        File::Image => IMAGE_LIMIT,
+        File::History | File::Stimuli => HISTORY_LIMIT,
+        File::Script { .. } => SCRIPT_LIMIT,
     }
 }
 

@@ -1,0 +1,31 @@
+-- The line of `gen NUMBER`.
+use Rattle.std.specs.Prelude.{ℕ, List, ◌++◌, codes, decimal, length, sum, take}
+use Rattle.plc_base.specs.declared.Mode.{Mode}
+use Rattle.plc_base.specs.declared.Mode.TheVariants.{Run, Startup, Stop}
+use Rattle.plc_base.specs.declared.Profile.{Profile}
+use Rattle.var_access.specs.declared.Entry.{Entry}
+use Rattle.machine.specs.Code.{Code}
+use Rattle.controller.specs.Replay.{replay}
+use Rattle.controller.specs.Replayed.{events}
+use Rattle.controller.specs.State.{State}
+
+-- a mode; that of a stop with its cause
+unfoldable pub mode_words : Mode → List ℕ
+mode_words Run = codes "RUN"
+mode_words Startup = codes "STARTUP"
+mode_words (Stop cause at) = codes "STOP " ++ decimal cause
+
+-- the bytes MB 0 to MB 255, added up
+abbrev pub bit_memory_sum : State → ℕ
+bit_memory_sum s = sum (take 256 s.world.memory.bit_memory)
+
+-- how many entries the history has, the mode after them, and the sum of the bit memory
+unfoldable pub summary_of : (number entries : ℕ) → State → List ℕ
+summary_of number entries s =
+    codes "GEN " ++ decimal number ++ codes " ENTRIES " ++ decimal entries ++ codes " MODE " ++ mode_words s.mode
+    ++ codes " SUM " ++ decimal (bit_memory_sum s) ++ codes "\n"
+
+-- the summary of a program's run along a history, at a profile
+abbrev pub summary_text : (number : ℕ) → Profile → Code → List Entry → List ℕ
+summary_text number profile code entries =
+    summary_of number (length entries) (replay profile code (events entries))
