@@ -1,4 +1,4 @@
-use Rattle.std.proofs.Common.{◌≡◌, ◌∙◌, ap, ℕ, ◌++◌}
+use Rattle.std.proofs.Common.{◌∙◌, ap, ℕ, ◌++◌}
 use Rattle.monitor.specs.LineText.{hex_text, registers_text}
 use Rattle.monitor.proofs.PartLemmas.{six-parts}
 use Rattle.monitor.proofs.texts.add_registers.Goals as goal
