@@ -11,11 +11,17 @@ mod compiling_tests;
 #[cfg(test)]
 mod count_tests;
 #[cfg(test)]
+mod device_tests;
+#[cfg(test)]
 mod edge_tests;
 #[cfg(test)]
 mod gate_tests;
 #[cfg(test)]
+mod gen_tests;
+#[cfg(test)]
 mod help_tests;
+#[cfg(test)]
+mod image_tests;
 #[cfg(test)]
 mod long_history_tests;
 #[cfg(test)]

@@ -1,6 +1,9 @@
-//! Whole runs of the language: what `go` writes of a source along a history, worked out by hand.
-use crate::calls::{GO, answers, two_files};
-use plc_io::MemSink;
+//! Whole runs of the language: what `go` writes of a source along a history, and `run` of its image, worked out by
+//! hand.
+use crate::calls::{GO, answers, call, two_files};
+use crate::compare::same;
+use crate::image_tests::{COMPILE, RUN};
+use plc_io::{MemFiles, MemSink};
 use std::alloc::Global;
 use std::process::Abort;
 use std::sync::Wait;
@@ -10,7 +13,22 @@ use std::thread::Threads;
 /// A source, a history, and the text of the run.
 pub(crate) type Run = (&'static str, &'static str, &'static str);
 
-/// Runs each source along its history, with status 0.
+/// Compiles a source, and runs its image along the history.
+fn runs_by_image<R: Abort + Threads + Wait + Sync>(
+    rt: &R,
+    alloc: Global,
+    what: &str,
+    mut files: MemFiles,
+    text: &[u8],
+) -> Result<(), Fail> {
+    let mut out = MemSink::new(alloc, 1000);
+    let code = call(rt, alloc, &COMPILE, &mut files, &mut out)?;
+    same(rt, what, (code, out.taken.as_slice()), (0, b"OK\n".as_slice()));
+    let out = MemSink::new(alloc, 1000);
+    answers(rt, alloc, what, &RUN, files, out, (0, text))
+}
+
+/// Runs each source along its history, and its image too, with status 0.
 pub(crate) fn are_run<R: Abort + Threads + Wait + Sync>(
     rt: &R,
     alloc: Global,
@@ -20,6 +38,8 @@ pub(crate) fn are_run<R: Abort + Threads + Wait + Sync>(
         let files = two_files(alloc, source.as_bytes(), history.as_bytes())?;
         let out = MemSink::new(alloc, 1000);
         answers(rt, alloc, *source, &GO, files, out, (0, text.as_bytes()))?;
+        let files = two_files(alloc, source.as_bytes(), history.as_bytes())?;
+        runs_by_image(rt, alloc, *source, files, text.as_bytes())?;
     }
     Ok(())
 }
