@@ -168,25 +168,24 @@ fn images_with_a_wrong_end(rt: HostRuntime) -> Result<(), Fail> {
     image_answers(&rt, rt.alloc(), "81 bytes", &long, (3, text))
 }
 
-// The image comes first, then the history: its lines, and its length. Image, history, status, text.
-static BOTH: [(&[u8], &[u8], u8, &[u8]); 3] = [
-    (b"", b"tick 0\n", 3, b"image refused: offset 0 code 3\n"),
-    (&IMAGE, b"tick 0\n", 4, b"history refused: line 1 rule 2\n"),
-    (
-        &IMAGE,
-        b"op 1 read \"Start\"\n",
-        4,
-        b"history refused: line 1 rule 3\n",
-    ),
-];
-
+// The image comes first, then the history. Image, history, status, text.
 #[test]
 fn images_before_histories(rt: HostRuntime) -> Result<(), Fail> {
-    for (image, history, status, text) in &BOTH {
+    let table: [(&[u8], &[u8], u8, &[u8]); 3] = [
+        (b"", b"tick 0\n", 3, b"image refused: offset 0 code 3\n"),
+        (&IMAGE, b"tick 0\n", 4, b"history refused: line 1 rule 2\n"),
+        (
+            &IMAGE,
+            b"op 1 read \"Start\"\n",
+            4,
+            b"history refused: line 1 rule 3\n",
+        ),
+    ];
+    for (image, history, status, text) in table {
         let files = image_files(rt.alloc(), image, history)?;
         let out = MemSink::new(rt.alloc(), 64);
         let what = history.len();
-        answers(&rt, rt.alloc(), what, &RUN, files, out, (*status, text))?;
+        answers(&rt, rt.alloc(), what, &RUN, files, out, (status, text))?;
     }
     Ok(())
 }

@@ -23,6 +23,8 @@ mod help_tests;
 #[cfg(test)]
 mod image_tests;
 #[cfg(test)]
+mod limit_tests;
+#[cfg(test)]
 mod long_history_tests;
 #[cfg(test)]
 mod outside_tests;
