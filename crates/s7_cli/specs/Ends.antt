@@ -82,12 +82,12 @@ abbrev pub LeavesFiles : Option Command → Disk → Outcome → Type 0
 LeavesFiles c d (Ok done) = ChangesOutputs c d × WritesOutputs c d
 LeavesFiles c d (Err failure) = SameFiles d.before.contents d.after.contents
 
--- the call was cut short: a front was taken of the text of an answer that these files, and these counts of failed reads, allow, or
--- nothing was taken
+-- the call was cut short: nothing was taken, or a front of the text of an answer that these files, and these counts of failed reads,
+-- allow, and the files are as that answer leaves them: no `OK` before the image stands whole
 abbrev pub CutShort : Option Command → Disk → Taking → Type 0
 CutShort c d s =
     (s.after.taken ≡ s.before.taken)
-    ⊎ ((answer : Answer) × Answers c d answer × CountsReads d answer.outcome × TookPrefix s.before s.after answer.text)
+    ⊎ ((answer : Answer) × Answers c d answer × CountsReads d answer.outcome × LeavesFiles c d answer.outcome × TookPrefix s.before s.after answer.text)
 
 -- the call said its whole text
 pub record IsSaid (c : Option Command) (d : Disk) (s : Taking) (answer : Answer) : Type 0 where

@@ -9,7 +9,7 @@ use Rattle.image_file.specs.Least.{IsLeast}
 use Rattle.image_file.specs.declared.faults.LoadFault.{LoadFault}
 use Rattle.machine.specs.Code.{Code}
 use Rattle.machine.specs.Flat.{code_of}
-use Rattle.generator.specs.History.{history}
+use Rattle.generator.specs.History.{history as generated_history}
 use Rattle.generator.specs.Source.{source_text}
 use Rattle.sem_kept.specs.Agreement.{ImageKeepsSource, names_in}
 use Rattle.sem_kept.specs.Meaning.{IsJudged, Refused, InSymbols, InSource}
@@ -69,7 +69,7 @@ RunSays image history answer =
 -- `gen`: the source of the number is checked; its run along the history of the number is summed up
 abbrev pub gen_answer : (number : ℕ) → Result Code Refused → Answer
 gen_answer number (Err why) = refused_program why
-gen_answer number (Ok code) = done (summary_text number Small code (history number))
+gen_answer number (Ok code) = done (summary_text number Small code (generated_history number))
 
 -- what `gen` answers; it reads no file
 abbrev pub GenSays : (number : ℕ) → Answer → Type 0
@@ -108,3 +108,10 @@ Writes (Check _ _) contents name bytes = ⊥
 Writes (Run _ _) contents name bytes = ⊥
 Writes (Gen _) contents name bytes = ⊥
 Writes (Live _ _ _ _) contents name bytes = ⊥
+
+-- where an image keeps a source with its symbols, `run` answers for the image what `go` may answer for the source
+abbrev pub KeptRunsAsSource : Type 0
+KeptRunsAsSource =
+    (image source symbols history : List ℕ) (answer : Answer)
+    → ImageKeepsSource image source symbols
+    → RunSays image history answer → GoSays source symbols history answer
