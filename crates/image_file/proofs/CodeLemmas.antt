@@ -74,7 +74,7 @@ nothing_left : (judged : Bool) (ops : List OpData) (left : List ℕ) → stop_at
 nothing_left judged ops [] h = refl
 nothing_left judged ops (byte ∷ left) h = absurd (first_some (only judged (overlong 0 0 ops)) (length (code_bytes ops)) h)
 
-is_none : (o : Option ℕ) → is_nowhere o ≡ true → o ≡ None
+pub is_none : (o : Option ℕ) → is_nowhere o ≡ true → o ≡ None
 is_none None h = refl
 is_none (Some at) h = absurd cc
 
