@@ -1,13 +1,13 @@
 -- The table by which a block is found.
-use Rattle.std.proofs.Common.{◌≡◌, ℕ, zero, suc, ◌+◌, ◌*◌, ◌<◌, ◌≤◌, Bool, true, false, cond, eqb, ltb, ◌&&◌, List, [], ◌∷◌, length, drop, get_or, set, slice_get, is_some, IsTrue, Option, Some, None, option_map, option_and_then, refl, sym, ap, subst, ◌∙◌, arith}
-use Rattle.std.proofs.lemmas.Bool.{eqb-true, eqb-false, ne_eqb, eq-eqb, ltb-true, lt-ltb, and_parts}
+use Rattle.std.proofs.Common.{◌≡◌, ℕ, ◌+◌, ◌*◌, ◌<◌, ◌≤◌, Bool, true, false, cond, eqb, ltb, ◌&&◌, List, [], ◌∷◌, length, drop, get_or, set, slice_get, is_some, Option, Some, None, option_map, option_and_then, refl, sym, ap, ◌∙◌, arith}
+use Rattle.std.proofs.lemmas.Bool.{eqb-true, eqb-false, eq-eqb, ltb-true, lt-ltb, and_parts}
 use Rattle.std.proofs.lemmas.List.{get_or-set_same, get_or-set_other, length-set}
 use Rattle.std.proofs.lemmas.Option.{same_Some, slice_get-get_or}
 use Rattle.std.proofs.Math.ListN.{drop_of_length-le}
 use Rattle.plc_base.specs.Kinds.{kind_order}
 use Rattle.plc_base.specs.declared.blocks.BlockId.{BlockId}
 use Rattle.plc_base.proofs.ListLemmas.{drop_next, get_past}
-use Rattle.flat_code.specs.Programs.{CodeBlock, Program}
+use Rattle.flat_code.specs.Programs.{CodeBlock}
 use Rattle.image_file.specs.Readers.{same_id, block_of}
 use Rattle.image_file.specs.Seats.{slots, slot_of, FindsBlocks, HaveSlots}
 

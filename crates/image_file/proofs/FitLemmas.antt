@@ -1,10 +1,10 @@
 -- The counts and lengths of a program fit their fields.
-use Rattle.std.proofs.Common.{◌≡◌, ℕ, zero, suc, ◌<◌, true, false, ltb, List, [], ◌∷◌, length, map, All, subst}
+use Rattle.std.proofs.Common.{◌≡◌, ℕ, zero, suc, ◌<◌, true, false, List, [], ◌∷◌, length, map, All, subst}
 use Rattle.std.proofs.lemmas.Bool.{and_parts, ltb-true}
 use Rattle.std.proofs.lemmas.List.{length-map}
 use Rattle.std.proofs.lemmas.List.Elements.{All-nil, All-cons}
 use Rattle.flat_code.specs.Layout.{chain, good_many}
-use Rattle.flat_code.specs.Image.{plain_u16, plain_u32, zero_u16, kind_field, parameter_count, block_number, local_bytes, instance_bytes, Head, head, statements_in, code_len_in, record_of_block, name_of_entry, raw_of_block, raw_of_data, raw_of_name, code_block, after_block, code_blocks, data_number, instance_field, data_len, contents, raw_data, data_block, after_data, data_blocks, name_len, name_bytes, name_area, width_field, name_bit, raw_name, name_record, after_name, names, data_count, Counts, counts, raw_of_records, records_of, body, IsProgram}
+use Rattle.flat_code.specs.Image.{plain_u16, zero_u16, statements_in, code_len_in, record_of_block, name_of_entry, raw_of_block, raw_of_data, raw_of_name, code_block, after_block, code_blocks, data_number, instance_field, data_len, contents, raw_data, data_block, after_data, data_blocks, name_len, name_bytes, name_area, width_field, name_bit, raw_name, name_record, after_name, names, data_count, Counts, counts, raw_of_records, records_of, body, IsProgram}
 use Rattle.flat_code.specs.Programs.{CodeBlock, DataBlock, NameEntry, Program}
 use Rattle.flat_code.proofs.PartLemmas.{chain_parts, dword_fits, head_parts, word_fits}
 use Rattle.image_file.specs.Writing.{BlockFits, DataFits, NameFits, ProgramFits}

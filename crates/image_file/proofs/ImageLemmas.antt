@@ -1,6 +1,6 @@
 -- The image is laid out exactly.
-use Rattle.std.proofs.Common.{◌≡◌, ℕ, zero, suc, ◌+◌, ◌-◌, ◌*◌, ◌^◌, ◌<◌, ◌≤◌, Bool, true, false, cond, eqb, ltb, leb, not, ◌&&◌, ◌||◌, List, [], ◌∷◌, ◌++◌, map, length, take, drop, get_or, Option, Some, None, refl, sym, ap, subst, ◌∙◌, append_assoc, length-append, arith, inl, inr}
-use Rattle.std.proofs.lemmas.Bool.{cases_lt, eq-eqb, and_parts, and_from, eqb-true, leb-true, ltb-false, ltb-true, le-ltb, lt-ltb, or_from}
+use Rattle.std.proofs.Common.{◌≡◌, ℕ, zero, suc, ◌+◌, ◌-◌, ◌≤◌, Bool, true, false, cond, eqb, ltb, leb, ◌&&◌, ◌||◌, List, [], ◌∷◌, ◌++◌, map, length, take, drop, Option, Some, None, refl, sym, ap, subst, ◌∙◌, length-append, arith, inl, inr}
+use Rattle.std.proofs.lemmas.Bool.{cases_lt, eq-eqb, and_parts, and_from, eqb-true, leb-true, ltb-false, le-ltb, lt-ltb, or_from}
 use Rattle.std.proofs.lemmas.List.{append-nil, take_at, drop_at, take-append-drop, nil_from_length, get_or-drop, get_or-take, get_or_past, length-take}
 use Rattle.std.proofs.lemmas.Option.{same_Some}
 use Rattle.plc_base.specs.Widths.{width_number}
@@ -9,25 +9,24 @@ use Rattle.plc_base.specs.declared.blocks.BlockKind.{BlockKind}
 use Rattle.plc_base.specs.declared.blocks.BlockKind.TheVariants as kind
 use Rattle.plc_base.specs.declared.places.Area.{Area}
 use Rattle.plc_base.specs.declared.places.Area.TheVariants as area
-use Rattle.plc_base.specs.declared.places.Place.{Place}
 use Rattle.plc_base.specs.declared.places.Width.{Width}
 use Rattle.plc_base.specs.declared.places.Width.TheVariants as width
 use Rattle.flat_code.specs.declared.programs.Param.{Param}
 use Rattle.flat_code.specs.declared.image_fields.ParameterRecord.{ParameterRecord}
 use Rattle.flat_code.specs.declared.image_fields.Field.TheVariants.{StatementCount, Line}
-use Rattle.flat_code.specs.Coding.{Coding, u8, u16, u32}
+use Rattle.flat_code.specs.Coding.{u8, u16, u32}
 use Rattle.flat_code.specs.Forms.{area_code, width_of_number}
 use Rattle.flat_code.specs.Ops.{OpData}
 use Rattle.flat_code.specs.Programs.{CodeBlock, DataBlock, NameEntry, Program}
 use Rattle.flat_code.specs.Records.{BlockRecord, NameRecord, Records}
 use Rattle.flat_code.specs.Faults.{fault_of, name_fault, unless, lies_within}
-use Rattle.flat_code.specs.Layout.{Note, Faulty, Whole, AllBlocks, Cursor, Read, Layout, ended, given, bind, noted, is_fine, field, chain, checked, located, spell_many, many, good_many, seen_as, remembered, faults_in}
+use Rattle.flat_code.specs.Layout.{Faulty, AllBlocks, Cursor, Read, Layout, ended, bind, is_fine, chain, spell_many, good_many, faults_in}
 use Rattle.flat_code.specs.Codes.{are_ops, code_bytes, stop_at, is_nowhere, code_of, only}
 use Rattle.flat_code.specs.Image.{plain, plain_u16, plain_u32, zero_u8, zero_u16, width_field, bytes_fit, bytes, section_field, parameter_byte, parameter_bit, RawParameter, raw_parameter, parameter_of_raw, raw_of_parameter, parameter, kind_field, parameter_count, block_number, local_bytes, instance_bytes, Head, head, params_in, instance_in, statements_in, code_len_in, same_state, parameters, end_marks, line_after, line_field, lines_of, code_and_lines, RawBlock, raw_block, block_of_raw, raw_of_block, plain_block, whole_at, code_block_at, code_block, after_block, data_number, instance_field, data_len, contents, RawData, raw_data, instance_of_number, number_of_instance, data_of_raw, raw_of_data, data_block, after_data, name_len, name_bytes, name_area, name_bit, RawName, raw_name, name_of_raw, raw_of_name, name_record, after_name, data_count, Counts, counts, code_blocks, plain_data_blocks, data_blocks, names, RawRecords, raw_records, records_of_raw, raw_of_records, records, kind_of_number, area_of_number, number_of_area, param_of, record_of_param, block_of_record, record_of_block, entry_of_name, name_of_entry, program_of, records_of, body, magic_field, version_field, Front, front, front_size, front_of, image, IsProgram, IsRight, at_end, cut, read_by, read_image}
 use Rattle.flat_code.proofs.CodingLemmas.{IsBytes, Takes, IsExact, pair_is, u8_exact, u16_exact, u32_exact}
 use Rattle.flat_code.proofs.PartLemmas.{BlockParts, behind_head, block_parts, chain_parts, from_params, head_parts, head_params, unless_fine}
 use Rattle.image_file.specs.Typing.{AreFew}
-use Rattle.image_file.proofs.LayoutLemmas.{at_place, Finds, Spells, IsLaidOut, Parts, bind_parts, bind_finds, given_finds, field_laid, chain_laid, checked_laid, seen_laid, remembered_laid, many_laid, located_laid, no_faults, no_faults_join}
+use Rattle.image_file.proofs.LayoutLemmas.{at_place, Finds, IsLaidOut, bind_parts, bind_finds, field_laid, chain_laid, checked_laid, seen_laid, remembered_laid, many_laid, located_laid, no_faults}
 use Rattle.image_file.proofs.CodeLemmas.{code_laid, cond_finds, ended_finds}
 
 -- ---- runs of bytes

@@ -1,5 +1,5 @@
 -- What a program's records have: small numbers, and a slot for each block.
-use Rattle.std.proofs.Common.{◌≡◌, ℕ, zero, suc, ◌+◌, ◌*◌, ◌<◌, ◌≤◌, Bool, true, false, cond, eqb, ltb, leb, not, ◌&&◌, ◌||◌, List, [], ◌∷◌, length, map, is_some, Option, Some, None, refl, sym, ap, subst, ◌∙◌, arith}
+use Rattle.std.proofs.Common.{◌≡◌, ℕ, zero, suc, ◌+◌, ◌<◌, ◌≤◌, Bool, true, false, cond, eqb, ltb, leb, not, ◌&&◌, ◌||◌, List, [], ◌∷◌, length, map, is_some, Option, Some, None, refl, ap, subst, arith}
 use Rattle.std.proofs.lemmas.Bool.{and_parts, eqb-true, ltb-true, leb-true, lt-ltb}
 use Rattle.std.proofs.lemmas.Bool.Decides.{nat_tests}
 use Rattle.std.proofs.lemmas.List.{length-map}
@@ -10,20 +10,19 @@ use Rattle.plc_base.specs.declared.blocks.BlockId.{BlockId}
 use Rattle.plc_base.specs.declared.blocks.BlockKind.{BlockKind}
 use Rattle.plc_base.specs.declared.blocks.BlockKind.TheVariants as kinds
 use Rattle.flat_code.specs.Faults.{fault_of, unless, lies_within, is_ob_number, has_number}
-use Rattle.flat_code.specs.Layout.{Layout, is_fine, chain, good_many}
+use Rattle.flat_code.specs.Layout.{is_fine, chain, good_many}
 use Rattle.flat_code.specs.Codes.{size, code_bytes, code_of, are_ops, ends, overlong, first_of, is_nowhere, last_place, stop_at, only}
 use Rattle.flat_code.specs.declared.image_fields.Field.TheVariants.{StatementCount}
 use Rattle.flat_code.specs.Ops.{OpData, is_op}
 use Rattle.flat_code.specs.Programs.{CodeBlock, Program}
 use Rattle.flat_code.specs.declared.programs.Param.{Param}
-use Rattle.flat_code.specs.Records.{BlockRecord}
-use Rattle.flat_code.specs.Image.{plain_u16, plain_u32, zero_u16, kind_field, parameter_count, block_number, local_bytes, instance_bytes, Head, head, counts, data_count, code_block, code_blocks, after_block, raw_of_block, records, records_of, raw_of_records, body, record_of_block, IsProgram, IsRight, end_marks, statements_in, lines_of, line_field, line_after, record_of_param}
+use Rattle.flat_code.specs.Image.{plain_u16, zero_u16, parameter_count, block_number, local_bytes, Head, head, counts, data_count, code_block, code_blocks, after_block, raw_of_block, records_of, raw_of_records, body, record_of_block, IsProgram, IsRight, end_marks, statements_in, lines_of, line_field, line_after, record_of_param}
 use Rattle.flat_code.specs.declared.image_fields.OpenBracket.{OpenBracket}
 use Rattle.flat_code.specs.Placed.{Placed, placed, places, opened, before_next}
 use Rattle.flat_code.proofs.PartLemmas.{all_of_blocks, chain_parts, dword_fits, head_parts, unless_fine, word_fits}
 use Rattle.image_file.specs.Verified.{place_at, Begins, BlockIsRight}
 use Rattle.image_file.specs.Readers.{same_id, block_of}
-use Rattle.image_file.specs.Seats.{nowhere, IsSmall, AreSmall, slot_of, HaveSlots}
+use Rattle.image_file.specs.Seats.{AreSmall, slot_of, HaveSlots}
 use Rattle.image_file.proofs.ImageLemmas.{records_parts, record_parts_of, head_kind}
 
 ob_small : (n : ℕ) → is_ob_number n ≡ true → n < 2048

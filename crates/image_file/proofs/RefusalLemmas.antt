@@ -9,7 +9,7 @@ use Rattle.flat_code.specs.Ops.{OpData}
 use Rattle.flat_code.specs.Codes.{are_ops, code_bytes, code_fault, code_of, is_nowhere}
 use Rattle.flat_code.specs.Blocks.{at_offset}
 use Rattle.flat_code.specs.Faults.{fault_of}
-use Rattle.flat_code.specs.Image.{end_marks, raw_of_block, code_len_in, line_field, line_after, lines_of, code_block, after_block, code_blocks, records_of, record_of_block, body, image, IsProgram, IsRight}
+use Rattle.flat_code.specs.Image.{end_marks, raw_of_block, code_len_in, line_field, line_after, lines_of, code_block, records_of, record_of_block, body, image, IsProgram, IsRight}
 use Rattle.flat_code.specs.Layout.{Cursor, good_many, is_fine}
 use Rattle.flat_code.specs.Loading.{lens_of, around, AreVerified, Verifies, Gives, faults_of}
 use Rattle.flat_code.specs.Programs.{CodeBlock, Program}

@@ -8,7 +8,7 @@ use Rattle.plc_base.proofs.ListLemmas.{drop_next, get_past}
 use Rattle.flat_code.specs.Ops.{OpData, op_bytes}
 use Rattle.flat_code.specs.Codes.{size, code_bytes}
 use Rattle.flat_code.specs.declared.image_fields.OpenBracket.{OpenBracket}
-use Rattle.flat_code.specs.Blocks.{Signature, Callee, block_with, data_len}
+use Rattle.flat_code.specs.Blocks.{Signature, block_with, data_len}
 use Rattle.flat_code.specs.Placed.{op_placed, line_placed, Spot, spots, spots_from, spot_at, few, opened}
 use Rattle.flat_code.specs.Programs.{CodeBlock}
 use Rattle.image_file.specs.declared.seats.Seat.{Seat}

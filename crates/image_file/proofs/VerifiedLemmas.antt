@@ -1,21 +1,19 @@
 -- What a program that verifies gives.
-use Rattle.std.proofs.Common.{◌≡◌, ◌⊎◌, ℕ, zero, suc, ◌+◌, ◌-◌, ◌<◌, ◌≤◌, Bool, true, false, cond, eqb, leb, ltb, not, ◌&&◌, ◌||◌, List, [], ◌∷◌, ◌++◌, length, map, take, drop, slice_get, length-append, Option, Some, None, option_map, refl, sym, ap, subst, ◌∙◌, arith, inl, inr}
-use Rattle.std.proofs.lemmas.Bool.{and_parts, eqb-true, eqb-false, eq-eqb, ne_eqb, leb-true, le-leb, ltb-false, cases_lt}
+use Rattle.std.proofs.Common.{◌≡◌, ◌⊎◌, ℕ, zero, suc, ◌+◌, ◌-◌, ◌<◌, ◌≤◌, Bool, true, false, cond, eqb, leb, not, List, [], ◌∷◌, ◌++◌, length, map, take, drop, slice_get, length-append, Option, Some, None, refl, sym, ap, subst, ◌∙◌, arith, inl, inr}
+use Rattle.std.proofs.lemmas.Bool.{and_parts, eqb-true, eqb-false, eq-eqb, ne_eqb, le-leb, cases_lt}
 use Rattle.std.proofs.lemmas.Option.{same_Some}
 use Rattle.plc_base.proofs.ListLemmas.{nil_parts}
 use Rattle.flat_code.specs.declared.image_fields.OpenBracket.{OpenBracket}
-use Rattle.flat_code.specs.declared.operands.Operand.{Operand}
-use Rattle.flat_code.specs.declared.operands.Operand.TheVariants as operand
 use Rattle.flat_code.specs.Ops.{OpData, op_bytes}
-use Rattle.flat_code.specs.Codes.{size, code_bytes, ends, overlong}
-use Rattle.flat_code.specs.Programs.{CodeBlock, DataBlock, Program}
+use Rattle.flat_code.specs.Codes.{size, ends, overlong}
+use Rattle.flat_code.specs.Programs.{CodeBlock, Program}
 use Rattle.flat_code.specs.Records.{BlockRecord}
 use Rattle.flat_code.specs.Image.{record_of_block, end_marks}
-use Rattle.flat_code.specs.Loading.{Verifies, AreVerified, lens_of, around}
-use Rattle.flat_code.specs.Placed.{Placed, placed, places, op_placed, line_placed, begins, is_empty, bracket_codes, few, Spot, spots, spots_from, spot_at, opens, inner, opened, open_behind, before_next}
-use Rattle.flat_code.specs.Blocks.{Around, same_codes, differing, target_fault, is_bad_list, jump_fault, operand_fault, call_fault, mark_fault, bracket_fault, at_offset, op_faults, faults_over, open_faults, block_faults, prepares, leads, seven_if}
+use Rattle.flat_code.specs.Loading.{AreVerified, lens_of, around}
+use Rattle.flat_code.specs.Placed.{Placed, placed, places, op_placed, line_placed, begins, is_empty, Spot, spots, opens, inner, opened, open_behind, before_next}
+use Rattle.flat_code.specs.Blocks.{Around, operand_fault, call_fault, mark_fault, bracket_fault, at_offset, op_faults, faults_over, open_faults, block_faults, prepares, seven_if}
 use Rattle.image_file.specs.Readers.{same_id, block_of}
-use Rattle.image_file.specs.Verified.{place_at, IsOp, IsRead, Next, Lands, BracketsAreRight, StatementIsRight, HasLine}
+use Rattle.image_file.specs.Verified.{place_at, IsOp, Next, BracketsAreRight, StatementIsRight, HasLine}
 
 -- ---- no fault of a block is none of its ops
 

@@ -1,5 +1,5 @@
 -- The blocks that reading notes are those of the program that it finds.
-use Rattle.std.proofs.Common.{◌≡◌, ℕ, zero, suc, ◌+◌, ◌-◌, ◌<◌, ◌≤◌, Bool, true, false, cond, eqb, ltb, not, ◌&&◌, ◌||◌, List, [], ◌∷◌, ◌++◌, map, length, take, get_or, Option, Some, None, refl, sym, ap, subst, ◌∙◌, append_assoc, arith}
+use Rattle.std.proofs.Common.{◌≡◌, ℕ, zero, suc, ◌+◌, ◌-◌, Bool, true, false, cond, eqb, ltb, ◌||◌, List, [], ◌∷◌, ◌++◌, map, length, take, Option, Some, None, refl, sym, ap, subst, ◌∙◌}
 use Rattle.std.proofs.lemmas.List.{append-nil}
 use Rattle.std.proofs.lemmas.Option.{same_Some}
 use Rattle.std.specs.Option.{option_map}
@@ -9,16 +9,15 @@ use Rattle.flat_code.specs.Ops.{OpData}
 use Rattle.flat_code.specs.Programs.{DataBlock, Program}
 use Rattle.flat_code.specs.Records.{BlockRecord, NameRecord, Records}
 use Rattle.flat_code.specs.declared.image_fields.ParameterRecord.{ParameterRecord}
-use Rattle.flat_code.specs.Faults.{fault_of, name_fault}
 use Rattle.flat_code.specs.Layout.{Note, Faulty, Whole, AllBlocks, Cursor, Read, Layout, ended, given, go_on, bind, noted, field_of, field, chain, checked, located, read_many, many, seen_as, remembered, faults_in}
-use Rattle.flat_code.specs.Codes.{ops_from, stop_at, read_ops, placed_ops, read_code, code_of, only}
-use Rattle.flat_code.specs.Image.{plain, plain_u16, plain_u32, zero_u8, zero_u16, width_field, bytes, section_field, parameter_byte, parameter_bit, RawParameter, raw_parameter, parameter_of_raw, raw_of_parameter, parameter, kind_field, parameter_count, block_number, local_bytes, instance_bytes, Head, head, params_in, instance_in, statements_in, code_len_in, same_state, parameters, line_after, line_field, lines_of, code_and_lines, RawBlock, raw_block, block_of_raw, raw_of_block, plain_block, whole_at, code_block_at, code_block, after_block, data_number, instance_field, data_len, contents, RawData, raw_data, data_of_raw, raw_of_data, data_block, after_data, name_len, name_bytes, name_area, name_bit, RawName, raw_name, name_of_raw, raw_of_name, name_record, after_name, data_count, Counts, counts, code_blocks, plain_data_blocks, data_blocks, names, RawRecords, raw_records, records_of_raw, raw_of_records, records, record_of_block, block_of_record, program_of, records_of, body, magic_field, version_field, Front, front, front_size, image, IsProgram, at_end, cut, read_by, read_image, end_marks}
+use Rattle.flat_code.specs.Codes.{ops_from, stop_at, read_ops, read_code, code_of}
+use Rattle.flat_code.specs.Image.{plain, plain_u16, plain_u32, zero_u8, zero_u16, width_field, bytes, section_field, parameter_byte, parameter_bit, raw_parameter, parameter_of_raw, raw_of_parameter, parameter, kind_field, parameter_count, block_number, local_bytes, instance_bytes, Head, head, params_in, instance_in, statements_in, code_len_in, same_state, parameters, line_after, line_field, lines_of, code_and_lines, RawBlock, raw_block, block_of_raw, raw_of_block, plain_block, whole_at, code_block_at, code_block, after_block, data_number, instance_field, data_len, contents, raw_data, data_of_raw, raw_of_data, data_block, after_data, name_len, name_bytes, name_area, name_bit, raw_name, name_of_raw, raw_of_name, name_record, after_name, data_count, Counts, counts, code_blocks, plain_data_blocks, data_blocks, names, RawRecords, raw_records, records_of_raw, raw_of_records, records, record_of_block, program_of, records_of, body, magic_field, version_field, Front, front, front_size, at_end, cut, read_by, read_image}
 use Rattle.flat_code.specs.declared.image_fields.OpenBracket.{OpenBracket}
 use Rattle.flat_code.specs.Placed.{Placed, Spot, spots, places, open_behind}
 use Rattle.flat_code.specs.Blocks.{Around, operand_fault, call_fault, mark_fault, bracket_fault, at_offset, op_faults, faults_over, open_faults, block_faults}
-use Rattle.flat_code.specs.Loading.{lens_of, later, around, wholes, all_blocks, blocks_of, judged_blocks, faults_in_notes, faults_of, Gives, AreVerified, Verifies, IsLoadable}
+use Rattle.flat_code.specs.Loading.{lens_of, later, around, wholes, all_blocks, blocks_of, judged_blocks, faults_of, Gives, AreVerified, IsLoadable}
 use Rattle.flat_code.proofs.CodingLemmas.{IsBytes}
-use Rattle.image_file.proofs.LayoutLemmas.{at_place, Finds, no_faults}
+use Rattle.image_file.proofs.LayoutLemmas.{at_place, no_faults}
 use Rattle.image_file.proofs.ImageLemmas.{image_again, image_takes, records_back, records_laid, front_laid, bytes_taken}
 
 -- the code blocks that notes tell of, and the data blocks, once all were read

@@ -1,16 +1,15 @@
 -- One pass over an image as a whole.
-use Rattle.std.proofs.Common.{◌≡◌, ℕ, ◌+◌, ◌-◌, ◌<◌, ◌≤◌, Bool, true, false, cond, eqb, ltb, not, ◌||◌, List, [], ◌∷◌, ◌++◌, length, take, Option, Some, None, Err, Ok, refl, sym, ap, subst, ◌∙◌, arith}
+use Rattle.std.proofs.Common.{◌≡◌, ℕ, ◌-◌, ◌<◌, ◌≤◌, Bool, true, false, cond, eqb, ltb, not, ◌||◌, List, [], ◌∷◌, ◌++◌, length, take, Err, refl, sym, ap, ◌∙◌}
 use Rattle.std.proofs.lemmas.Bool.{le-ltb, lt-ltb, or_from}
 use Rattle.plc_base.proofs.TruthLemmas.{or_met_behind}
 use Rattle.flat_code.specs.Programs.{DataBlock, Program}
 use Rattle.flat_code.specs.Records.{BlockRecord, NameRecord, Records}
-use Rattle.flat_code.specs.Layout.{Note, Faulty, Whole, AllBlocks, Cursor, Read, Layout, ended, bind, chain, many}
-use Rattle.flat_code.specs.Image.{Counts, counts, code_blocks, data_blocks, plain_data_blocks, names, name_record, after_name, raw_records, records_of_raw, raw_of_records, records, program_of, records_of, body, Front, front, front_size, at_end, cut, read_by, read_image}
+use Rattle.flat_code.specs.Layout.{Faulty, Cursor, Read, Layout, ended, bind, chain, many}
+use Rattle.flat_code.specs.Image.{Counts, counts, code_blocks, data_blocks, names, name_record, after_name, raw_records, records_of_raw, raw_of_records, records, program_of, records_of, body, Front, front, front_size, at_end, cut, read_by, read_image}
 use Rattle.image_file.specs.declared.stops.Stop.{Stop}
 use Rattle.image_file.specs.declared.stops.Stop.TheVariants as stop
 use Rattle.image_file.specs.declared.reader.Reader.{Reader}
-use Rattle.image_file.specs.Least.{with_faults}
-use Rattle.image_file.specs.Running.{Sees, SeesBlocks, SeesDatas, SeesRecords, SeesImage, Log, logged, Ran, Goes, Stops, ran, run, ran_read, then_run, log_of, place_of}
+use Rattle.image_file.specs.Running.{Sees, SeesBlocks, SeesDatas, SeesRecords, SeesImage, Log, logged, Ran, Goes, Stops, run, ran_read, then_run, log_of}
 use Rattle.image_file.proofs.RunLemmas.{chain_goes, chain_ends, chain_breaks, seen_goes, seen_ends, go_read, run_is_read, ended_read, noted_read}
 
 abbrev after_codes : Counts → Layout (List DataBlock × List NameRecord)
