@@ -12,17 +12,9 @@ ghost use Rattle.monitor.specs.LineText.{
   row_text,
 };
 
-use crate::lines::Line;
 use crate::records::{DiagRecord, MonRecord};
 use crate::texts::{byte_text, diag_text, end_text, mode_text, mon_text, output_text, row_head};
 use plc_base::{Mode, NoMemory};
-
-fn append(line: &Line, out: &mut Vec<u8>) -> Result<(), NoMemory>
-    ensures ok { OnOk result (out.new.items ≡ out.old.items ++ line.now) }
-    ensures err { OnErr result (out.new.items ≡ out.old.items) }
-{
-    out.extend_from_slice(line.as_slice())
-}
 
 /// Appends the line `@N MON KIND n LINE l STW hhhh A1 hhhhhhhh A2 hhhhhhhh` of a statement of the
 /// monitored block that entry `n` executed.
@@ -34,7 +26,7 @@ pub fn mon_line(n: u64, record: &MonRecord, out: &mut Vec<u8>) -> Result<(), NoM
     ensures ok { OnOk result (out.new.items ≡ out.old.items ++ mon_text n record.now) }
     ensures err { OnErr result (out.new.items ≡ out.old.items) }
 {
-    append(&mon_text(n, record), out)
+    mon_text(n, record).append_to(out)
 }
 
 /// Appends the line `@N PQ b = hh` of a peripheral output byte that entry `n` changed, with its new
@@ -47,7 +39,7 @@ pub fn output_line(n: u64, byte: u16, value: u8, out: &mut Vec<u8>) -> Result<()
     ensures ok { OnOk result (out.new.items ≡ out.old.items ++ output_text n (byte, value)) }
     ensures err { OnErr result (out.new.items ≡ out.old.items) }
 {
-    append(&output_text(n, (byte, value)), out)
+    output_text(n, (byte, value)).append_to(out)
 }
 
 /// Appends the line `@N MODE ..` of a mode that entry `n` began.
@@ -59,7 +51,7 @@ pub fn mode_line(n: u64, mode: &Mode, out: &mut Vec<u8>) -> Result<(), NoMemory>
     ensures ok { OnOk result (out.new.items ≡ out.old.items ++ mode_text n mode.now) }
     ensures err { OnErr result (out.new.items ≡ out.old.items) }
 {
-    append(&mode_text(n, *mode), out)
+    mode_text(n, *mode).append_to(out)
 }
 
 /// Appends the line `@N DIAG e code info` of a record of diagnostics, in the answer to entry `n`.
@@ -71,7 +63,7 @@ pub fn diag_line(n: u64, record: &DiagRecord, out: &mut Vec<u8>) -> Result<(), N
     ensures ok { OnOk result (out.new.items ≡ out.old.items ++ diag_text n record.now) }
     ensures err { OnErr result (out.new.items ≡ out.old.items) }
 {
-    append(&diag_text(n, record), out)
+    diag_text(n, record).append_to(out)
 }
 
 /// Appends the line `END N ..` of the mode after `n` entries.
@@ -83,7 +75,7 @@ pub fn end_line(n: u64, mode: &Mode, out: &mut Vec<u8>) -> Result<(), NoMemory>
     ensures ok { OnOk result (out.new.items ≡ out.old.items ++ end_text n mode.now) }
     ensures err { OnErr result (out.new.items ≡ out.old.items) }
 {
-    append(&end_text(n, *mode), out)
+    end_text(n, *mode).append_to(out)
 }
 
 // The bytes of a data block as hexadecimal digits, behind what stands there.
@@ -102,7 +94,7 @@ fn append_row(number: u16, at: u16, bytes: &[u8], out: &mut Vec<u8>) -> Result<(
     ensures ok { OnOk result (out.new.items ≡ out.old.items ++ row_text number at bytes.now) }
     ensures err { OnErr result (take (length out.old.items) out.new.items ≡ out.old.items) }
 {
-    append(&row_head(number, usize::from(at)), out)?;
+    row_head(number, usize::from(at)).append_to(out)?;
     append_bytes(bytes, out)?;
     out.extend_from_slice(b"\n")
 }

@@ -12,4 +12,4 @@ pub use appending::{db_line, diag_line, end_line, mode_line, mon_line, output_li
 pub use diagnostics::{DiagRing, Records};
 pub use lines::Line;
 pub use records::{DiagRecord, MonRecord};
-pub use texts::{ROW_BYTES, end_text, mode_text, mon_text, output_text, row_text};
+pub use texts::{ROW_BYTES, end_text, kind_text, row_text};

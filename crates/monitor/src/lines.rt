@@ -3,6 +3,7 @@ ghost use Rattle.monitor.specs.LineText.{hex_digit};
 
 use arrayvec::ArrayVec;
 use itoa::Buffer;
+use plc_base::NoMemory;
 use std::marker::Model;
 
 /// The most bytes of a line. No line of a fixed form is longer.
@@ -35,7 +36,7 @@ impl Model for Line {
 }
 
 impl Line {
-    ghost use Rattle.std.specs.Prelude.{◌≡◌, ◌+◌, ◌≤◌, [], ◌++◌, length, decimal};
+    ghost use Rattle.std.specs.Prelude.{◌≡◌, ◌+◌, ◌≤◌, [], ◌++◌, length, decimal, OnErr, OnOk};
     ghost use Rattle.monitor.specs.LineText.{hex_text};
 
     /// An empty line.
@@ -52,6 +53,18 @@ impl Line {
         ensures { result.now ≡ self.now }
     {
         self.bytes.as_slice()
+    }
+
+    /// Appends the line to a text.
+    ///
+    /// # Errors
+    ///
+    /// `NoMemory` for want of memory; the text is then as before.
+    pub fn append_to(&self, out: &mut Vec<u8>) -> Result<(), NoMemory>
+        ensures ok { OnOk result (out.new.items ≡ out.old.items ++ self.now) }
+        ensures err { OnErr result (out.new.items ≡ out.old.items) }
+    {
+        out.extend_from_slice(self.as_slice())
     }
 
     /// Appends these bytes.

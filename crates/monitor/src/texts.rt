@@ -31,7 +31,7 @@ pub(crate) fn byte_text(byte: u8) -> [u8; 2]
 
 /// The kind of a block, as STEP 7 abbreviates it.
 #[tactic(auto, unfolding(crate::specs::LineText::kind_text))]
-fn kind_text(kind: BlockKind) -> &'static [u8]
+pub fn kind_text(kind: BlockKind) -> &'static [u8]
     ensures value { result.now ≡ kind_text kind }
     ensures short { length result.now ≤ 3 }
 {
@@ -47,7 +47,7 @@ fn kind_text(kind: BlockKind) -> &'static [u8]
 
 /// The line `@N PQ b = hh` of a peripheral output byte that entry `n` changed, with its new value.
 #[tactic(auto, unfolding(crate::specs::LineText::output_text))]
-pub fn output_text(n: u64, output: (u16, u8)) -> Line
+pub(crate) fn output_text(n: u64, output: (u16, u8)) -> Line
     ensures { result ≡ output_text n output }
 {
     let (byte, value) = output;
@@ -62,54 +62,51 @@ pub fn output_text(n: u64, output: (u16, u8)) -> Line
     line
 }
 
-/// A statement, by its block and its source line: `KIND n LINE l`.
+/// Appends a statement by its block and its source line: `KIND n LINE l`.
 #[tactic(auto, unfolding(crate::specs::LineText::spot_text))]
-fn spot_text(at: Spot) -> Line
-    ensures value { result ≡ spot_text at }
-    ensures short { length result ≤ 96 }
+fn add_spot(line: &mut Line, at: Spot)
+    requires { length line.old ≤ 160 }
+    ensures value { line.new ≡ line.old ++ spot_text at }
+    ensures len { length line.new ≤ length line.old + 96 }
 {
-    let mut line = Line::new();
     line.add(kind_text(at.block.kind));
     line.add(b" ");
     line.add_number(u64::from(at.block.number));
     line.add(b" LINE ");
     line.add_number(u64::from(at.line));
-    line
 }
 
-/// Where a stop happened: `KIND n LINE l`, or `NONE`.
-fn stop_text(at: Option<Spot>) -> Line
-    ensures value { result ≡ stop_text at }
-    ensures short { length result ≤ 96 }
+/// Appends where a stop happened: `KIND n LINE l`, or `NONE`.
+fn add_stop(line: &mut Line, at: Option<Spot>)
+    requires { length line.old ≤ 160 }
+    ensures value { line.new ≡ line.old ++ stop_text at }
+    ensures len { length line.new ≤ length line.old + 96 }
 {
-    let mut line = Line::new();
     match at {
         None => line.add(b"NONE"),
-        Some(spot) => line.add(spot_text(spot).as_slice()),
+        Some(spot) => add_spot(line, spot),
     }
-    line
 }
 
-/// The registers that monitoring shows: ` STW hhhh A1 hhhhhhhh A2 hhhhhhhh`.
+/// Appends the registers that monitoring shows: ` STW hhhh A1 hhhhhhhh A2 hhhhhhhh`.
 #[tactic(auto, unfolding(crate::specs::LineText::registers_text))]
-fn registers_text(record: &MonRecord) -> Line
-    ensures value { result ≡ registers_text record.now }
-    ensures short { length result ≤ 40 }
+fn add_registers(line: &mut Line, record: &MonRecord)
+    requires { length line.old ≤ 160 }
+    ensures value { line.new ≡ line.old ++ registers_text record.now }
+    ensures len { length line.new ≤ length line.old + 40 }
 {
-    let mut line = Line::new();
     line.add(b" STW ");
     line.add_hex(u32::from(record.stw), 4);
     line.add(b" A1 ");
     line.add_hex(record.a1, 8);
     line.add(b" A2 ");
     line.add_hex(record.a2, 8);
-    line
 }
 
 /// The line `@N MON KIND n LINE l STW hhhh A1 hhhhhhhh A2 hhhhhhhh` of a statement of the monitored
 /// block that entry `n` executed.
 #[tactic(auto, unfolding(crate::specs::LineText::mon_text))]
-pub fn mon_text(n: u64, record: &MonRecord) -> Line
+pub(crate) fn mon_text(n: u64, record: &MonRecord) -> Line
     ensures { result ≡ mon_text n record.now }
 {
     let at = Spot {
@@ -120,15 +117,15 @@ pub fn mon_text(n: u64, record: &MonRecord) -> Line
     line.add(b"@");
     line.add_number(n);
     line.add(b" MON ");
-    line.add(spot_text(at).as_slice());
-    line.add(registers_text(record).as_slice());
+    add_spot(&mut line, at);
+    add_registers(&mut line, record);
     line.add(b"\n");
     line
 }
 
 /// The line `@N MODE ..` of a mode that entry `n` began.
 #[tactic(auto, unfolding(crate::specs::LineText::mode_text))]
-pub fn mode_text(n: u64, mode: Mode) -> Line
+pub(crate) fn mode_text(n: u64, mode: Mode) -> Line
     ensures { result ≡ mode_text n mode }
 {
     let mut line = Line::new();
@@ -141,7 +138,7 @@ pub fn mode_text(n: u64, mode: Mode) -> Line
             line.add(b" MODE STOP ");
             line.add_number(u64::from(cause));
             line.add(b" AT ");
-            line.add(stop_text(at).as_slice());
+            add_stop(&mut line, at);
             line.add(b"\n");
         }
     }
