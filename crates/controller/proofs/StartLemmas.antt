@@ -11,12 +11,13 @@ use Rattle.plc_base.specs.declared.BlockId.{BlockId}
 use Rattle.plc_base.specs.declared.blocks.BlockKind.{BlockKind}
 use Rattle.plc_base.specs.declared.blocks.BlockKind.TheVariants as kinds
 use Rattle.flat_code.specs.Faults.{fault_of, lies_within, unless}
-use Rattle.flat_code.specs.Image.{kind_field, parameter_count, block_number, local_bytes, instance_bytes, plain_u16, plain_u32, zero_u16, head, record_of_block, raw_of_block, code_block, code_blocks, after_block, data_number, instance_field, data_len, contents, raw_data, raw_of_data, data_block, after_data, data_blocks, records_of, body}
+use Rattle.flat_code.specs.Image.{kind_field, zero_u16, record_of_block, raw_of_block, code_block, code_blocks, after_block, data_number, instance_field, data_len, contents, raw_data, raw_of_data, data_block, after_data, data_blocks, records_of, body}
 use Rattle.flat_code.specs.Layout.{chain, good_many, is_fine}
 use Rattle.flat_code.specs.Loading.{Verifies}
 use Rattle.flat_code.specs.Programs.{CodeBlock, DataBlock, Program}
+use Rattle.flat_code.proofs.PartLemmas.{chain_parts, head_parts, unless_fine}
 use Rattle.image_file.specs.Readers.{data_id, ids_of}
-use Rattle.image_file.proofs.ImageLemmas.{chain_parts, record_parts_of, records_parts, unless_fine}
+use Rattle.image_file.proofs.ImageLemmas.{record_parts_of, records_parts}
 use Rattle.plc_mem.specs.Blocks as owned
 use Rattle.machine.specs.Flat.{numbered_bytes}
 use Rattle.controller.specs.Starting.{is_data_block, numbers_in, read_block, numbers_of}
@@ -73,12 +74,10 @@ head_kind before n good =
     (and_parts (lies_within 1 3 n) (leb before n) (unless_fine right 4 fine.1)).0
 
 block_kind : (s : ℕ × ℕ) (b : CodeBlock) → (code_block true s).good (record_of_block b) ≡ true → is_data_block b.id ≡ false
-unfolding head
 block_kind s b good =
     let h = (raw_of_block (record_of_block b)).0 in
     let parts = record_parts_of true s (record_of_block b) good in
-    let a = chain_parts (kind_field s.0) (λ kind. chain (parameter_count kind) (λ params. chain (block_number s.0 s.1 kind) (λ number. chain (local_bytes kind) (λ locals. chain (instance_bytes kind) (λ instance. chain plain_u16 (λ statements. chain zero_u16 (λ zero. plain_u32))))))) h parts.head_good in
-    kind_right b.id.kind (head_kind s.0 (kind_number b.id.kind) a.0)
+    kind_right b.id.kind (head_kind s.0 (kind_number b.id.kind) (head_parts s h parts.head_good).kind_good)
 
 abbrev AreCode : List CodeBlock → Type 0
 AreCode [] = Unit {0}

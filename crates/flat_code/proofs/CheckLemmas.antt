@@ -86,10 +86,6 @@ pub met : (a b : Bool) → a ≡ true → (a && b) ≡ b
 met true b h = refl
 met false b h = absurd cc
 
-pub unmet : (a b : Bool) → a ≡ false → (a && b) ≡ false
-unmet true b h = absurd cc
-unmet false b h = refl
-
 counts_good : (a b c : ℕ) → counts.good (a, (b, (c, 0))) ≡ good_counts a b c
 unfolding counts plain_u16 data_count zero_u16 fault_of
 counts_good a b c = grind (arith, nat_tests)

@@ -1,6 +1,6 @@
 -- The faults that are checked over whole blocks, op by op: 6 jump targets, 7 operands, 8 brackets.
-use Rattle.std.specs.Prelude.{ℕ, zero, suc, ◌+◌, nat_le, nat_lt, ◌==◌, Bool, true, false, ◌&&◌, ◌||◌, not, is_some, if◌then◌else◌, List, [], ◌∷◌, ◌++◌, length, map, slice_get, Option, Some, None}
-use Rattle.std.specs.Option.{option_map, option_and_then}
+use Rattle.std.specs.Prelude.{ℕ, zero, suc, ◌+◌, nat_le, nat_lt, ◌==◌, Bool, true, false, ◌&&◌, ◌||◌, not, if◌then◌else◌, List, [], ◌∷◌, ◌++◌, length, slice_get, Option, Some, None}
+use Rattle.std.specs.Option.{option_map}
 use Rattle.plc_base.specs.declared.places.Area.{Area}
 use Rattle.plc_base.specs.declared.places.Area.TheVariants as area
 use Rattle.plc_base.specs.Widths.{byte_count, width_number}
@@ -12,11 +12,10 @@ use Rattle.flat_code.specs.declared.operands.Operand.TheVariants as operand
 use Rattle.flat_code.specs.declared.operands.Passed.{Passed}
 use Rattle.flat_code.specs.declared.operands.Passed.TheVariants as passed
 use Rattle.flat_code.specs.Ops.{OpData}
-use Rattle.flat_code.specs.Programs.{DataBlock}
 use Rattle.flat_code.specs.Records.{BlockRecord}
-use Rattle.flat_code.specs.Codes.{size, first_of, is_nowhere}
+use Rattle.flat_code.specs.Codes.{size, first_of}
 use Rattle.flat_code.specs.declared.image_fields.OpenBracket.{OpenBracket}
-use Rattle.flat_code.specs.Placed.{Placed, places, begins, is_empty, ending, last_op, opens, open_behind, few, Spot, spots, spot_at}
+use Rattle.flat_code.specs.Placed.{Placed, places, begins, is_empty, last_op, opens, open_behind, few, Spot, spots, spot_at}
 use Rattle.flat_code.specs.Table.{takes_of, has_width}
 
 -- what a CALL sees of a block: kind and number, the bytes of an instance, the parameters

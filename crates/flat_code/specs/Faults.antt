@@ -2,7 +2,8 @@
 -- out of order, 9 statement count and lines.
 use Rattle.std.specs.Prelude.{ℕ, nat_le, nat_lt, ◌+◌, ◌==◌, Bool, true, false, ◌&&◌, ◌||◌, not, if◌then◌else◌, List, [], ◌∷◌, Option, Some, None}
 use Rattle.plc_base.specs.Widths.{byte_count}
-use Rattle.flat_code.specs.Forms.{width_of_number}
+use Rattle.plc_base.specs.declared.places.Area.TheVariants as area
+use Rattle.flat_code.specs.Forms.{area_code, width_of_number}
 use Rattle.flat_code.specs.declared.image_fields.Field.{Field}
 use Rattle.flat_code.specs.declared.image_fields.Field.TheVariants as field
 
@@ -50,7 +51,7 @@ fault_of (field.DataNumber before number) = unless (lies_within 1 2047 number &&
 fault_of (field.InstanceOf number) = unless (nat_le number 2048) 4
 fault_of (field.DataBytes before bytes) = unless (nat_le bytes 16384 && nat_le (before + bytes) 2097152) 4
 fault_of (field.NameLength bytes) = unless (lies_within 1 24 bytes) 4
-fault_of (field.NameArea area) = unless (lies_within 129 131 area) 4
+fault_of (field.NameArea number) = unless (lies_within (area_code area.I) (area_code area.M) number) 4
 fault_of (field.NameBit width bit) = unless (nat_le bit 7 && (width == 1 || bit == 0)) 4
 -- 9: as many statements as end marks; a line isn't 0, and none falls
 fault_of (field.StatementCount end_marks count) = unless (end_marks == count) 9

@@ -1,8 +1,10 @@
 -- The forms of operands: the payload of each, as the table of forms has it.
-use Rattle.std.specs.Prelude.{ℕ, ◌+◌, ◌==◌, Bool, true, false, ◌||◌, if◌then◌else◌, List, [], ◌∷◌, Option, Some, None}
+use Rattle.std.specs.Prelude.{ℕ, nat_lt, ◌+◌, ◌-◌, ◌==◌, Bool, true, false, ◌||◌, if◌then◌else◌, List, [], ◌∷◌, Option, Some, None}
 use Rattle.std.specs.Option.{option_map}
-use Rattle.plc_base.specs.Pointer.{area_number}
+use Rattle.plc_base.specs.Pointer.{area_number, area_of}
 use Rattle.plc_base.specs.Widths.{width_number}
+use Rattle.plc_base.specs.declared.blocks.BlockKind.{BlockKind}
+use Rattle.plc_base.specs.declared.blocks.BlockKind.TheVariants as kind
 use Rattle.plc_base.specs.declared.places.Area.{Area}
 use Rattle.plc_base.specs.declared.places.Area.TheVariants as area
 use Rattle.plc_base.specs.declared.places.Width.{Width}
@@ -17,17 +19,9 @@ use Rattle.flat_code.specs.Coding.{Coding, u8, u16, u32, named, such_that, withi
 abbrev pub area_code : Area → ℕ
 area_code a = 128 + area_number a
 
--- the area that a byte names
+-- the area that a byte names: that of the number above 128; a byte below names none
 abbrev pub area_of_code : ℕ → Option Area
-area_of_code n =
-    if n == 128 then Some area.P
-    else if n == 129 then Some area.I
-    else if n == 130 then Some area.Q
-    else if n == 131 then Some area.M
-    else if n == 132 then Some area.Db
-    else if n == 133 then Some area.Di
-    else if n == 134 then Some area.L
-    else None
+area_of_code n = if nat_lt n 128 then None else area_of (n - 128)
 
 -- the width that a byte names
 abbrev pub width_of_code : ℕ → Option Width
@@ -36,6 +30,15 @@ width_of_code n =
     else if n == 2 then Some width.Byte
     else if n == 3 then Some width.Word
     else if n == 4 then Some width.Dword
+    else None
+
+-- the kind of block that a byte names; the kinds without a number have none
+abbrev pub kind_of_code : ℕ → Option BlockKind
+kind_of_code n =
+    if n == 1 then Some kind.Ob
+    else if n == 2 then Some kind.Fc
+    else if n == 3 then Some kind.Fb
+    else if n == 5 then Some kind.Sfc
     else None
 
 -- a width that may be missing: without one, a bit

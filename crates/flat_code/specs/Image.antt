@@ -10,7 +10,7 @@ use Rattle.flat_code.specs.declared.programs.Param.{Param}
 use Rattle.flat_code.specs.declared.image_fields.ParameterRecord.{ParameterRecord}
 use Rattle.flat_code.specs.declared.image_fields.Field.TheVariants as field_of
 use Rattle.flat_code.specs.Coding.{Coding, u8, u16, u32}
-use Rattle.flat_code.specs.Forms.{area_code, width_of_number}
+use Rattle.flat_code.specs.Forms.{area_code, area_of_code, kind_of_code, width_of_number}
 use Rattle.flat_code.specs.Ops.{OpData}
 use Rattle.flat_code.specs.Programs.{CodeBlock, DataBlock, NameEntry, Program}
 use Rattle.flat_code.specs.Records.{BlockRecord, NameRecord, Records}
@@ -356,13 +356,27 @@ raw_of_records r = ((length r.code_blocks, (length r.data_blocks, (length r.name
 unfoldable pub records : Bool → Layout Records
 records judged = seen_as records_of_raw raw_of_records (raw_records judged)
 
--- A PROGRAM of these records, and back: kinds, widths and areas by their numbers
-abbrev pub kind_of_number : ℕ → BlockKind
-kind_of_number n = if n == 1 then kind.Ob else if n == 2 then kind.Fc else if n == 3 then kind.Fb else kind.Udt
+-- the kind where an image has blocks of code of it: OB, FC or FB; a data type in place of the others
+abbrev pub or_type : Option BlockKind → BlockKind
+or_type (Some kind.Ob) = kind.Ob
+or_type (Some kind.Fc) = kind.Fc
+or_type (Some kind.Fb) = kind.Fb
+or_type _ = kind.Udt
 
--- 16#81 I, 16#82 Q, 16#83 M; a number that names none of them is a fault, and stands for M
+-- A PROGRAM of these records, and back: kinds, widths and areas by their numbers. A kind's number
+-- that names none of OB, FC and FB is a fault, and stands for a data type
+abbrev pub kind_of_number : ℕ → BlockKind
+kind_of_number n = or_type (kind_of_code n)
+
+-- the area where a named variable may lie in it: I, Q or M; M in place of the others
+abbrev pub or_m : Option Area → Area
+or_m (Some area.I) = area.I
+or_m (Some area.Q) = area.Q
+or_m _ = area.M
+
+-- a number that names none of I, Q and M is a fault, and stands for M
 abbrev pub area_of_number : ℕ → Area
-area_of_number n = if n == 129 then area.I else if n == 130 then area.Q else area.M
+area_of_number n = or_m (area_of_code n)
 
 -- only a place of no data block, in I, Q or M, has a number
 abbrev pub number_of_area : ℕ → Area → ℕ

@@ -1,7 +1,8 @@
 ghost use Rattle.std.specs.Prelude.{◌≡◌, ◌≤◌};
 ghost use Rattle.flat_code.specs.Faults.{fault_of, has_number, holds_parameter, is_ob_number, unless};
 
-use crate::record_numbers::width_of_number;
+use crate::record_numbers::{code_of_area, width_of_number};
+use plc_base::Area;
 
 /// A field of an image, with what of the fields before it is needed to check it. Numbers are as
 /// written in the image: kinds 1 OB, 2 FC, 3 FB; sections 1 IN, 2 OUT, 3 IN_OUT; widths 1 bit,
@@ -213,7 +214,10 @@ impl Field {
                 fault_unless(bytes <= 16_384 && all <= 2_097_152, 4)
             }
             Field::NameLength { bytes } => fault_unless(1 <= bytes && bytes <= 24, 4),
-            Field::NameArea { area } => fault_unless(129 <= area && area <= 131, 4),
+            Field::NameArea { area } => {
+                let (first, last) = (code_of_area(Area::I), code_of_area(Area::M));
+                fault_unless(first <= area && area <= last, 4)
+            },
             Field::NameBit { width, bit } => fault_unless(bit <= 7 && (width == 1 || bit == 0), 4),
         }
     }

@@ -28,7 +28,9 @@ pub use names::{NameEntry, Names, ends_blank, is_name_before, is_upper_case, ord
 pub use operands::{Operand, Passed};
 pub use ops::Op;
 pub use programs::{CodeBlock, DataBlock, Param, Program};
-pub use record_numbers::{area_number, width_of_number};
+pub use record_numbers::{
+    area_number, area_of_number, kind_of_code, kind_of_number, width_of_number,
+};
 pub use table::{Takes, taken_by, taken_by_word};
 pub use words::{
     Adding, CallWord, EndWord, Logic, Number, PointerWord, Shift, WORDS, Word, word_of,

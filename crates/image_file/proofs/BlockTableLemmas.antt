@@ -1,13 +1,13 @@
 -- The table by which a block is found.
-use Rattle.std.proofs.Common.{◌≡◌, ℕ, zero, suc, ◌+◌, ◌*◌, ◌<◌, ◌≤◌, Bool, true, false, cond, eqb, ltb, ◌&&◌, List, [], ◌∷◌, length, drop, get_or, set, slice_get, is_some, IsTrue, Option, Some, None, option_map, option_and_then, refl, sym, ap, subst, ◌∙◌, arith}
-use Rattle.std.proofs.lemmas.Bool.{eqb-true, eqb-false, ne_eqb, eq-eqb, ltb-true, lt-ltb, and_parts}
+use Rattle.std.proofs.Common.{◌≡◌, ℕ, ◌+◌, ◌*◌, ◌<◌, ◌≤◌, Bool, true, false, cond, eqb, ltb, ◌&&◌, List, [], ◌∷◌, length, drop, get_or, set, slice_get, is_some, Option, Some, None, option_map, option_and_then, refl, sym, ap, ◌∙◌, arith}
+use Rattle.std.proofs.lemmas.Bool.{eqb-true, eqb-false, eq-eqb, ltb-true, lt-ltb, and_parts}
 use Rattle.std.proofs.lemmas.List.{get_or-set_same, get_or-set_other, length-set}
 use Rattle.std.proofs.lemmas.Option.{same_Some, slice_get-get_or}
 use Rattle.std.proofs.Math.ListN.{drop_of_length-le}
 use Rattle.plc_base.specs.Kinds.{kind_order}
 use Rattle.plc_base.specs.declared.blocks.BlockId.{BlockId}
-use Rattle.plc_base.proofs.ListLemmas.{drop_next}
-use Rattle.flat_code.specs.Programs.{CodeBlock, Program}
+use Rattle.plc_base.proofs.ListLemmas.{drop_next, get_past}
+use Rattle.flat_code.specs.Programs.{CodeBlock}
 use Rattle.image_file.specs.Readers.{same_id, block_of}
 use Rattle.image_file.specs.Seats.{slots, slot_of, FindsBlocks, HaveSlots}
 
@@ -55,11 +55,6 @@ no_slot a b s q none e =
 pub record Finds (blocks : List CodeBlock) (i : ℕ) (table : List ℕ) : Type 0 where
   pub size : length table ≡ slots
   pub there : (id : BlockId) (slot : ℕ) → slot_of id ≡ Some slot → slice_get blocks (get_or table slot 0) ≡ block_of id (drop i blocks)
-
-get_past : {A : Type 0} (xs : List A) (i : ℕ) → length xs ≤ i → slice_get xs i ≡ None
-get_past [] i le = refl
-get_past (x ∷ xs) zero le = absurd (omega (arith, le))
-get_past (x ∷ xs) (suc i) le = get_past xs i (omega (arith, le))
 
 pub finds_none : (blocks : List CodeBlock) (i : ℕ) (table : List ℕ) → length blocks ≤ i → length blocks ≤ 0xFFFF → length table ≡ slots → ((slot : ℕ) → slot < slots → get_or table slot 0 ≡ 0xFFFF) → Finds blocks i table
 finds_none blocks i table past few size all = record {

@@ -1,13 +1,12 @@
 -- The code of a block is laid out exactly.
-use Rattle.std.proofs.Common.{◌≡◌, ℕ, zero, suc, ◌+◌, ◌-◌, ◌*◌, ◌<◌, ◌≤◌, Bool, true, false, cond, eqb, ltb, not, ◌&&◌, ◌||◌, List, [], ◌∷◌, ◌++◌, length, take, drop, get_or, Option, Some, None, refl, sym, ap, subst, ◌∙◌, append_assoc, length-append, length-drop, arith, inl, inr}
-use Rattle.std.proofs.lemmas.Bool.{ne_eqb, cases_lt, eq-eqb, and_parts, and_from, eqb-true, ltb-false, le-ltb, lt-ltb}
+use Rattle.std.proofs.Common.{◌≡◌, ℕ, zero, suc, ◌+◌, ◌<◌, ◌≤◌, Bool, true, false, cond, eqb, ltb, ◌&&◌, List, [], ◌∷◌, ◌++◌, length, take, drop, Option, Some, None, refl, sym, ap, subst, ◌∙◌, append_assoc, length-append, length-drop, arith, inl, inr}
+use Rattle.std.proofs.lemmas.Bool.{cases_lt, eq-eqb, and_parts, and_from, eqb-true, ltb-false, le-ltb}
 use Rattle.std.proofs.lemmas.List.{append-nil, take_at, drop_at, take-append-drop, nil_from_length, get_or-drop, get_or-take, get_or_past, length-take}
-use Rattle.std.proofs.lemmas.Option.{same_Some}
-use Rattle.flat_code.specs.Ops.{OpData, is_op, IsOp, op_bytes, op_at}
+use Rattle.flat_code.specs.Ops.{OpData, is_op, op_bytes, op_at}
 use Rattle.flat_code.proofs.CodingLemmas.{IsBytes, Takes}
 use Rattle.flat_code.proofs.OpLemmas.{op_again, op_takes, long_enough}
-use Rattle.flat_code.specs.Layout.{Note, Cursor, Read, Layout, ended, given, faults_in}
-use Rattle.flat_code.specs.Codes.{cons_op, ops_next, ops_from, ends, are_ops, code_bytes, only, overlong, first_of, stop_at, read_ops, placed_ops, read_code, is_nowhere, code_of, size, last_place}
+use Rattle.flat_code.specs.Layout.{Cursor, Read, ended, given}
+use Rattle.flat_code.specs.Codes.{cons_op, ops_next, ops_from, ends, are_ops, code_bytes, only, overlong, first_of, stop_at, read_ops, read_code, is_nowhere, code_of, size, last_place}
 use Rattle.image_file.specs.Walking.{ops_behind_front, HasRead}
 use Rattle.image_file.proofs.LayoutLemmas.{at_place, Finds, Spells, IsLaidOut, given_finds}
 
@@ -74,7 +73,7 @@ nothing_left : (judged : Bool) (ops : List OpData) (left : List ℕ) → stop_at
 nothing_left judged ops [] h = refl
 nothing_left judged ops (byte ∷ left) h = absurd (first_some (only judged (overlong 0 0 ops)) (length (code_bytes ops)) h)
 
-is_none : (o : Option ℕ) → is_nowhere o ≡ true → o ≡ None
+pub is_none : (o : Option ℕ) → is_nowhere o ≡ true → o ≡ None
 is_none None h = refl
 is_none (Some at) h = absurd cc
 

@@ -1,12 +1,12 @@
 -- Where reading ends, a fault was noted.
-use Rattle.std.proofs.Common.{◌≡◌, ℕ, zero, suc, ◌+◌, ◌-◌, Bool, true, false, cond, eqb, ltb, ◌||◌, List, [], ◌∷◌, ◌++◌, length, take, Option, Some, None, refl, sym, ap, ◌∙◌}
+use Rattle.std.proofs.Common.{◌≡◌, ℕ, zero, suc, ◌+◌, ◌-◌, Bool, true, false, cond, eqb, ltb, ◌||◌, List, [], ◌∷◌, ◌++◌, length, take, Option, Some, None, refl}
 use Rattle.flat_code.specs.Coding.{Coding, u8, u16, u32}
 use Rattle.flat_code.specs.Ops.{OpData}
 use Rattle.flat_code.specs.Programs.{DataBlock, Program}
-use Rattle.flat_code.specs.Records.{BlockRecord, NameRecord, Records}
+use Rattle.flat_code.specs.Records.{BlockRecord, NameRecord}
 use Rattle.flat_code.specs.declared.image_fields.ParameterRecord.{ParameterRecord}
-use Rattle.flat_code.specs.Layout.{Note, Faulty, Whole, AllBlocks, Cursor, Read, Layout, ended, given, go_on, bind, noted, field_of, field, chain, checked, located, read_many, many, seen_as, remembered, faults_in}
-use Rattle.flat_code.specs.Codes.{ops_from, stop_at, read_ops, placed_ops, read_code, code_of, only}
+use Rattle.flat_code.specs.Layout.{Note, Faulty, AllBlocks, Cursor, Read, Layout, ended, given, go_on, bind, noted, field_of, field, chain, checked, located, read_many, many, seen_as, remembered, faults_in}
+use Rattle.flat_code.specs.Codes.{ops_from, stop_at, read_ops, read_code, code_of}
 use Rattle.flat_code.specs.Image.{plain, plain_u16, plain_u32, zero_u8, zero_u16, width_field, bytes, section_field, parameter_byte, parameter_bit, raw_parameter, parameter_of_raw, raw_of_parameter, parameter, kind_field, parameter_count, block_number, local_bytes, instance_bytes, Head, head, params_in, instance_in, statements_in, code_len_in, same_state, parameters, line_after, line_field, lines_of, code_and_lines, RawBlock, raw_block, block_of_raw, raw_of_block, plain_block, whole_at, code_block_at, code_block, after_block, data_number, instance_field, data_len, contents, raw_data, data_of_raw, raw_of_data, data_block, after_data, name_len, name_bytes, name_area, name_bit, raw_name, name_of_raw, raw_of_name, name_record, after_name, data_count, Counts, counts, code_blocks, plain_data_blocks, data_blocks, names, raw_records, records_of_raw, raw_of_records, records, program_of, records_of, body, magic_field, version_field, Front, front, front_size, at_end, cut, read_by, read_image}
 use Rattle.image_file.proofs.LayoutLemmas.{no_faults, at_place}
 

@@ -1,38 +1,20 @@
 -- The counts and lengths of a program fit their fields.
-use Rattle.std.proofs.Common.{◌≡◌, ℕ, zero, suc, ◌<◌, true, false, ltb, List, [], ◌∷◌, length, map, All, subst}
+use Rattle.std.proofs.Common.{◌≡◌, ℕ, zero, suc, ◌<◌, true, false, List, [], ◌∷◌, length, map, All, subst}
 use Rattle.std.proofs.lemmas.Bool.{and_parts, ltb-true}
 use Rattle.std.proofs.lemmas.List.{length-map}
 use Rattle.std.proofs.lemmas.List.Elements.{All-nil, All-cons}
 use Rattle.flat_code.specs.Layout.{chain, good_many}
-use Rattle.flat_code.specs.Image.{plain_u16, plain_u32, zero_u16, kind_field, parameter_count, block_number, local_bytes, instance_bytes, Head, head, statements_in, code_len_in, record_of_block, name_of_entry, raw_of_block, raw_of_data, raw_of_name, code_block, after_block, code_blocks, data_number, instance_field, data_len, contents, raw_data, data_block, after_data, data_blocks, name_len, name_bytes, name_area, width_field, name_bit, raw_name, name_record, after_name, names, data_count, Counts, counts, raw_of_records, records_of, body, IsProgram}
+use Rattle.flat_code.specs.Image.{plain_u16, zero_u16, statements_in, code_len_in, record_of_block, name_of_entry, raw_of_block, raw_of_data, raw_of_name, code_block, after_block, code_blocks, data_number, instance_field, data_len, contents, raw_data, data_block, after_data, data_blocks, name_len, name_bytes, name_area, width_field, name_bit, raw_name, name_record, after_name, names, data_count, Counts, counts, raw_of_records, records_of, body, IsProgram}
 use Rattle.flat_code.specs.Programs.{CodeBlock, DataBlock, NameEntry, Program}
+use Rattle.flat_code.proofs.PartLemmas.{chain_parts, dword_fits, head_parts, word_fits}
 use Rattle.image_file.specs.Writing.{BlockFits, DataFits, NameFits, ProgramFits}
-use Rattle.image_file.proofs.ImageLemmas.{chain_parts, record_parts_of, RecordParts, records_parts}
-
-word_fits : (n : ℕ) → plain_u16.good n ≡ true → n < 65536
-unfolding plain_u16
-word_fits n good = ltb-true n 65536 (and_parts (ltb n 65536) true good).0
-
-dword_fits : (n : ℕ) → plain_u32.good n ≡ true → n < 4294967296
-unfolding plain_u32
-dword_fits n good = ltb-true n 4294967296 (and_parts (ltb n 4294967296) true good).0
-
-head_fits : (before : ℕ × ℕ) (h : Head) → (head before).good h ≡ true → (statements_in h < 65536) × (code_len_in h < 4294967296)
-unfolding head
-head_fits before h good =
-    let a = chain_parts (kind_field before.0) (λ kind. chain (parameter_count kind) (λ params. chain (block_number before.0 before.1 kind) (λ number. chain (local_bytes kind) (λ locals. chain (instance_bytes kind) (λ instance. chain plain_u16 (λ statements. chain zero_u16 (λ zero. plain_u32))))))) h good in
-    let b = chain_parts (parameter_count h.0) (λ params. chain (block_number before.0 before.1 h.0) (λ number. chain (local_bytes h.0) (λ locals. chain (instance_bytes h.0) (λ instance. chain plain_u16 (λ statements. chain zero_u16 (λ zero. plain_u32)))))) h.1 a.1 in
-    let c = chain_parts (block_number before.0 before.1 h.0) (λ number. chain (local_bytes h.0) (λ locals. chain (instance_bytes h.0) (λ instance. chain plain_u16 (λ statements. chain zero_u16 (λ zero. plain_u32))))) h.1.1 b.1 in
-    let d = chain_parts (local_bytes h.0) (λ locals. chain (instance_bytes h.0) (λ instance. chain plain_u16 (λ statements. chain zero_u16 (λ zero. plain_u32)))) h.1.1.1 c.1 in
-    let e = chain_parts (instance_bytes h.0) (λ instance. chain plain_u16 (λ statements. chain zero_u16 (λ zero. plain_u32))) h.1.1.1.1 d.1 in
-    let f = chain_parts plain_u16 (λ statements. chain zero_u16 (λ zero. plain_u32)) h.1.1.1.1.1 e.1 in
-    let g = chain_parts zero_u16 (λ zero. plain_u32) h.1.1.1.1.1.1 f.1 in
-    (word_fits h.1.1.1.1.1.0 f.0, dword_fits h.1.1.1.1.1.1.1 g.1)
+use Rattle.image_file.proofs.ImageLemmas.{record_parts_of, RecordParts, records_parts}
 
 block_fits : (before : ℕ × ℕ) (b : CodeBlock) → (code_block false before).good (record_of_block b) ≡ true → BlockFits b
 block_fits before b good =
-    let h = head_fits before (raw_of_block (record_of_block b)).0 (record_parts_of false before (record_of_block b) good).head_good in
-    record { lines = h.0; code = h.1 }
+    let r = raw_of_block (record_of_block b) in
+    let h = head_parts before r.0 (record_parts_of false before (record_of_block b) good).head_good in
+    record { lines = word_fits (statements_in r.0) h.statements_good; code = dword_fits (code_len_in r.0) h.size_good }
 
 blocks_fit : (s : ℕ × ℕ) (n : ℕ) (bs : List CodeBlock) → good_many (code_block false) after_block s n (map record_of_block bs) ≡ true → All BlockFits bs
 blocks_fit s n [] h = All-nil BlockFits

@@ -1,6 +1,6 @@
 -- The image is laid out exactly.
-use Rattle.std.proofs.Common.{◌≡◌, ℕ, zero, suc, ◌+◌, ◌-◌, ◌*◌, ◌^◌, ◌<◌, ◌≤◌, Bool, true, false, cond, eqb, ltb, leb, not, ◌&&◌, ◌||◌, List, [], ◌∷◌, ◌++◌, map, length, take, drop, get_or, Option, Some, None, refl, sym, ap, subst, ◌∙◌, append_assoc, length-append, arith, inl, inr}
-use Rattle.std.proofs.lemmas.Bool.{cases_lt, eq-eqb, and_parts, and_from, eqb-true, eqb-false, leb-true, ltb-false, ltb-true, le-ltb, lt-ltb, or_from}
+use Rattle.std.proofs.Common.{◌≡◌, ℕ, zero, suc, ◌+◌, ◌-◌, ◌≤◌, Bool, true, false, cond, eqb, ltb, leb, ◌&&◌, ◌||◌, List, [], ◌∷◌, ◌++◌, map, length, take, drop, Option, Some, None, refl, sym, ap, subst, ◌∙◌, length-append, arith, inl, inr}
+use Rattle.std.proofs.lemmas.Bool.{cases_lt, eq-eqb, and_parts, and_from, eqb-true, leb-true, ltb-false, le-ltb, lt-ltb, or_from}
 use Rattle.std.proofs.lemmas.List.{append-nil, take_at, drop_at, take-append-drop, nil_from_length, get_or-drop, get_or-take, get_or_past, length-take}
 use Rattle.std.proofs.lemmas.Option.{same_Some}
 use Rattle.plc_base.specs.Widths.{width_number}
@@ -9,24 +9,24 @@ use Rattle.plc_base.specs.declared.blocks.BlockKind.{BlockKind}
 use Rattle.plc_base.specs.declared.blocks.BlockKind.TheVariants as kind
 use Rattle.plc_base.specs.declared.places.Area.{Area}
 use Rattle.plc_base.specs.declared.places.Area.TheVariants as area
-use Rattle.plc_base.specs.declared.places.Place.{Place}
 use Rattle.plc_base.specs.declared.places.Width.{Width}
 use Rattle.plc_base.specs.declared.places.Width.TheVariants as width
 use Rattle.flat_code.specs.declared.programs.Param.{Param}
 use Rattle.flat_code.specs.declared.image_fields.ParameterRecord.{ParameterRecord}
 use Rattle.flat_code.specs.declared.image_fields.Field.TheVariants.{StatementCount, Line}
-use Rattle.flat_code.specs.Coding.{Coding, u8, u16, u32}
-use Rattle.flat_code.specs.Forms.{width_of_number}
+use Rattle.flat_code.specs.Coding.{u8, u16, u32}
+use Rattle.flat_code.specs.Forms.{area_code, width_of_number}
 use Rattle.flat_code.specs.Ops.{OpData}
 use Rattle.flat_code.specs.Programs.{CodeBlock, DataBlock, NameEntry, Program}
 use Rattle.flat_code.specs.Records.{BlockRecord, NameRecord, Records}
 use Rattle.flat_code.specs.Faults.{fault_of, name_fault, unless, lies_within}
-use Rattle.flat_code.specs.Layout.{Note, Faulty, Whole, AllBlocks, Cursor, Read, Layout, ended, given, bind, noted, is_fine, field, chain, checked, located, spell_many, many, good_many, seen_as, remembered, faults_in}
+use Rattle.flat_code.specs.Layout.{Faulty, AllBlocks, Cursor, Read, Layout, ended, bind, is_fine, chain, spell_many, good_many, faults_in}
 use Rattle.flat_code.specs.Codes.{are_ops, code_bytes, stop_at, is_nowhere, code_of, only}
 use Rattle.flat_code.specs.Image.{plain, plain_u16, plain_u32, zero_u8, zero_u16, width_field, bytes_fit, bytes, section_field, parameter_byte, parameter_bit, RawParameter, raw_parameter, parameter_of_raw, raw_of_parameter, parameter, kind_field, parameter_count, block_number, local_bytes, instance_bytes, Head, head, params_in, instance_in, statements_in, code_len_in, same_state, parameters, end_marks, line_after, line_field, lines_of, code_and_lines, RawBlock, raw_block, block_of_raw, raw_of_block, plain_block, whole_at, code_block_at, code_block, after_block, data_number, instance_field, data_len, contents, RawData, raw_data, instance_of_number, number_of_instance, data_of_raw, raw_of_data, data_block, after_data, name_len, name_bytes, name_area, name_bit, RawName, raw_name, name_of_raw, raw_of_name, name_record, after_name, data_count, Counts, counts, code_blocks, plain_data_blocks, data_blocks, names, RawRecords, raw_records, records_of_raw, raw_of_records, records, kind_of_number, area_of_number, number_of_area, param_of, record_of_param, block_of_record, record_of_block, entry_of_name, name_of_entry, program_of, records_of, body, magic_field, version_field, Front, front, front_size, front_of, image, IsProgram, IsRight, at_end, cut, read_by, read_image}
 use Rattle.flat_code.proofs.CodingLemmas.{IsBytes, Takes, IsExact, pair_is, u8_exact, u16_exact, u32_exact}
+use Rattle.flat_code.proofs.PartLemmas.{BlockParts, behind_head, block_parts, chain_parts, from_params, head_parts, head_params, unless_fine}
 use Rattle.image_file.specs.Typing.{AreFew}
-use Rattle.image_file.proofs.LayoutLemmas.{at_place, Finds, Spells, IsLaidOut, Parts, bind_parts, bind_finds, given_finds, field_laid, chain_laid, checked_laid, seen_laid, remembered_laid, many_laid, located_laid, no_faults, no_faults_join}
+use Rattle.image_file.proofs.LayoutLemmas.{at_place, Finds, IsLaidOut, bind_parts, bind_finds, field_laid, chain_laid, checked_laid, seen_laid, remembered_laid, many_laid, located_laid, no_faults}
 use Rattle.image_file.proofs.CodeLemmas.{code_laid, cond_finds, ended_finds}
 
 -- ---- runs of bytes
@@ -66,10 +66,6 @@ run_exact n = record {
 
 -- ---- what no fault says
 
-pub unless_fine : (b : Bool) (code : ℕ) → is_fine (unless b code) ≡ true → b ≡ true
-unless_fine true code h = refl
-unless_fine false code h = absurd cc
-
 zero_u8_is : (n : ℕ) → zero_u8.good n ≡ true → n ≡ 0
 unfolding zero_u8 fault_of
 zero_u8_is n good = eqb-true n 0 (unless_fine (eqb n 0) 4 (and_parts (ltb n 256) (is_fine (unless (eqb n 0) 4)) good).1)
@@ -91,9 +87,6 @@ many_count l next s zero [] h = refl
 many_count l next s zero (x ∷ xs) h = absurd cc
 many_count l next s (suc n) [] h = absurd cc
 many_count l next s (suc n) (x ∷ xs) h = ap suc (many_count l next (next s x) n xs (and_parts ((l s).good x) (good_many l next (next s x) n xs) h).1)
-
-pub chain_parts : {A B : Type 0} (l : Layout A) (m : A → Layout B) (x : A × B) → (chain l m).good x ≡ true → (l.good x.0 ≡ true) × ((m x.0).good x.1 ≡ true)
-chain_parts l m x h = and_parts (l.good x.0) ((m x.0).good x.1) h
 
 -- ---- parameters
 
@@ -124,27 +117,6 @@ parameters_laid h = many_laid (λ s. parameter h.0 (instance_in h)) same_state (
 
 -- ---- code blocks
 
-abbrev pub from_size : Layout ℕ
-from_size = plain_u32
-
-abbrev pub from_zero : Layout (ℕ × ℕ)
-from_zero = chain zero_u16 (λ zero. from_size)
-
-abbrev pub from_statements : Layout (ℕ × (ℕ × ℕ))
-from_statements = chain plain_u16 (λ statements. from_zero)
-
-abbrev pub from_instance : ℕ → Layout (ℕ × (ℕ × (ℕ × ℕ)))
-from_instance kind = chain (instance_bytes kind) (λ instance. from_statements)
-
-abbrev pub from_locals : ℕ → Layout (ℕ × (ℕ × (ℕ × (ℕ × ℕ))))
-from_locals kind = chain (local_bytes kind) (λ locals. from_instance kind)
-
-abbrev pub from_number : ℕ × ℕ → ℕ → Layout (ℕ × (ℕ × (ℕ × (ℕ × (ℕ × ℕ)))))
-from_number before kind = chain (block_number before.0 before.1 kind) (λ number. from_locals kind)
-
-abbrev pub from_params : ℕ × ℕ → ℕ → Layout (ℕ × (ℕ × (ℕ × (ℕ × (ℕ × (ℕ × ℕ))))))
-from_params before kind = chain (parameter_count kind) (λ params. from_number before kind)
-
 head_laid : (before : ℕ × ℕ) → IsLaidOut Head (head before)
 unfolding head kind_field parameter_count block_number local_bytes instance_bytes zero_u16 plain_u16 plain_u32
 head_laid before =
@@ -158,22 +130,12 @@ head_laid before =
     field_laid u32 plain u32_exact)))))))
 
 head_zero : (before : ℕ × ℕ) (h : Head) → (head before).good h ≡ true → h.1.1.1.1.1.1.0 ≡ 0
-unfolding head
-head_zero before h good =
-    let a = chain_parts (kind_field before.0) (from_params before) h good in
-    let b = chain_parts (parameter_count h.0) (λ params. from_number before h.0) h.1 a.1 in
-    let c = chain_parts (block_number before.0 before.1 h.0) (λ number. from_locals h.0) h.1.1 b.1 in
-    let d = chain_parts (local_bytes h.0) (λ locals. from_instance h.0) h.1.1.1 c.1 in
-    let e = chain_parts (instance_bytes h.0) (λ instance. from_statements) h.1.1.1.1 d.1 in
-    let f = chain_parts plain_u16 (λ statements. from_zero) h.1.1.1.1.1 e.1 in
-    let g = chain_parts zero_u16 (λ zero. from_size) h.1.1.1.1.1.1 f.1 in
-    zero_u16_is h.1.1.1.1.1.1.0 g.0
+head_zero before h good = zero_u16_is h.1.1.1.1.1.1.0 (head_parts before h good).zero_good
 
 pub head_kind : (before : ℕ × ℕ) (h : Head) → (head before).good h ≡ true → lies_within 1 3 h.0 ≡ true
-unfolding head kind_field fault_of
+unfolding kind_field fault_of
 head_kind before h good =
-    let a = chain_parts (kind_field before.0) (from_params before) h good in
-    let b = and_parts (ltb h.0 256) (is_fine (unless (lies_within 1 3 h.0 && leb before.0 h.0) 4)) a.0 in
+    let b = and_parts (ltb h.0 256) (is_fine (unless (lies_within 1 3 h.0 && leb before.0 h.0) 4)) (head_parts before h good).kind_good in
     (and_parts (lies_within 1 3 h.0) (leb before.0 h.0) (unless_fine _ 4 b.1)).0
 
 lines_laid : (judged : Bool) (start : ℕ) (h : Head) (ops : List OpData) → IsLaidOut (List ℕ) (lines_of judged start h ops)
@@ -183,9 +145,6 @@ lines_laid judged start h ops = checked_laid (start + 8) (only judged (fault_of 
 code_and_lines_laid : (judged : Bool) (start : ℕ) (h : Head) → IsLaidOut (List OpData × List ℕ) (code_and_lines judged start h)
 unfolding code_and_lines
 code_and_lines_laid judged start h = chain_laid (code_of judged (code_len_in h)) (lines_of judged start h) (code_laid judged (code_len_in h)) (lines_laid judged start h)
-
-abbrev behind_head : Bool → ℕ → Head → Layout (List ParameterRecord × (List OpData × List ℕ))
-behind_head judged start h = chain (parameters h) (λ params. code_and_lines judged start h)
 
 raw_block_laid : (judged : Bool) (before : ℕ × ℕ) (start : ℕ) → IsLaidOut RawBlock (raw_block judged before start)
 unfolding raw_block
@@ -209,21 +168,6 @@ lines_count judged start h ops lines good =
 code_size : (judged : Bool) (n : ℕ) (ops : List OpData) → (code_of judged n).good ops ≡ true → length (code_bytes ops) ≡ n
 unfolding code_of
 code_size judged n ops good = eqb-true (length (code_bytes ops)) n (and_parts (are_ops ops && is_nowhere (stop_at judged ops [])) (eqb (length (code_bytes ops)) n) good).1
-
--- the parts of a block without fault
-pub record BlockParts (judged : Bool) (before : ℕ × ℕ) (start : ℕ) (x : RawBlock) : Type 0 where
-  pub head_good : (head before).good x.0 ≡ true
-  pub params_good : (parameters x.0).good x.1.0 ≡ true
-  pub code_good : (code_of judged (code_len_in x.0)).good x.1.1.0 ≡ true
-  pub lines_good : (lines_of judged start x.0 x.1.1.0).good x.1.1.1 ≡ true
-
-block_parts : (judged : Bool) (before : ℕ × ℕ) (start : ℕ) (x : RawBlock) → (raw_block judged before start).good x ≡ true → BlockParts judged before start x
-unfolding raw_block code_and_lines
-block_parts judged before start x good =
-    let a = chain_parts (head before) (behind_head judged start) x good in
-    let b = chain_parts (parameters x.0) (λ params. code_and_lines judged start x.0) x.1 a.1 in
-    let c = chain_parts (code_of judged (code_len_in x.0)) (lines_of judged start x.0) x.1.1 b.1 in
-    record { head_good = a.0; params_good = b.0; code_good = c.0; lines_good = c.1 }
 
 -- a block without fault has the counts of its lists
 raw_is : (judged : Bool) (before : ℕ × ℕ) (start : ℕ) (x : RawBlock) → (raw_block judged before start).good x ≡ true → raw_of_block (block_of_raw x) ≡ x
@@ -326,16 +270,16 @@ raw_name_laid before =
 
 pub record NameParts (before : List ℕ) (x : RawName) : Type 0 where
   pub len_is : length x.1.0 ≡ x.0
-  pub area_good : lies_within 129 131 x.1.1.0 ≡ true
+  pub area_good : lies_within (area_code area.I) (area_code area.M) x.1.1.0 ≡ true
   pub width_good : lies_within 1 4 x.1.1.1.0 ≡ true
 
 within_width : (w : ℕ) → width_field.good w ≡ true → lies_within 1 4 w ≡ true
 unfolding width_field fault_of
 within_width w good = unless_fine (lies_within 1 4 w) 4 (and_parts (ltb w 256) (is_fine (unless (lies_within 1 4 w) 4)) good).1
 
-within_area : (a : ℕ) → name_area.good a ≡ true → lies_within 129 131 a ≡ true
+within_area : (a : ℕ) → name_area.good a ≡ true → lies_within (area_code area.I) (area_code area.M) a ≡ true
 unfolding name_area fault_of
-within_area a good = unless_fine (lies_within 129 131 a) 4 (and_parts (ltb a 256) (is_fine (unless (lies_within 129 131 a) 4)) good).1
+within_area a good = unless_fine (lies_within (area_code area.I) (area_code area.M) a) 4 (and_parts (ltb a 256) (is_fine (unless (lies_within (area_code area.I) (area_code area.M) a) 4)) good).1
 
 name_parts : (before : List ℕ) (x : RawName) → (raw_name before).good x ≡ true → NameParts before x
 unfolding raw_name
@@ -458,7 +402,7 @@ width_there width.Byte = refl
 width_there width.Word = refl
 width_there width.Dword = refl
 
-area_there : (number : ℕ) (a : Area) → lies_within 129 131 (number_of_area number a) ≡ true → (number ≡ 0) × (area_of_number (number_of_area number a) ≡ a)
+area_there : (number : ℕ) (a : Area) → lies_within (area_code area.I) (area_code area.M) (number_of_area number a) ≡ true → (number ≡ 0) × (area_of_number (number_of_area number a) ≡ a)
 area_there zero area.I h = (refl, refl)
 area_there zero area.Q h = (refl, refl)
 area_there zero area.M h = (refl, refl)
@@ -468,19 +412,18 @@ area_there zero area.Di h = absurd cc
 area_there zero area.L h = absurd cc
 area_there (suc n) a h = absurd cc
 
-area_shape : (n : ℕ) → lies_within 129 131 n ≡ true → (e : Bool) → eqb n 129 ≡ e → (f : Bool) → eqb n 130 ≡ f → number_of_area 0 (cond e area.I (cond f area.Q area.M)) ≡ n
-area_shape n h true p f q = sym (eqb-true n 129 p)
-area_shape n h false p true q = sym (eqb-true n 130 q)
-area_shape n h false p false q =
-    let b = and_parts (leb 129 n) (leb n 131) h in
-    let low = leb-true 129 n b.0 in
-    let high = leb-true n 131 b.1 in
-    let not_i = eqb-false n 129 p in
-    let not_q = eqb-false n 130 q in
-    grind (arith, low, high, not_i, not_q)
+area_shape : (n above : ℕ) → n ≡ 129 + above → above ≤ 2 → number_of_area 0 (area_of_number n) ≡ n
+area_shape n zero is le = rw is refl
+area_shape n (suc zero) is le = rw is refl
+area_shape n (suc (suc zero)) is le = rw is refl
+area_shape n (suc (suc (suc above))) is le = absurd (omega (arith, le))
 
-area_back : (n : ℕ) → lies_within 129 131 n ≡ true → number_of_area 0 (area_of_number n) ≡ n
-area_back n h = area_shape n h (eqb n 129) refl (eqb n 130) refl
+area_back : (n : ℕ) → lies_within (area_code area.I) (area_code area.M) n ≡ true → number_of_area 0 (area_of_number n) ≡ n
+area_back n h =
+    let b = and_parts (leb (area_code area.I) n) (leb n (area_code area.M)) h in
+    let low : 129 ≤ n = leb-true (area_code area.I) n b.0 in
+    let high : n ≤ 131 = leb-true n (area_code area.M) b.1 in
+    area_shape n (n - 129) (omega (arith, low)) (omega (arith, high))
 
 there_many : {S A B : Type 0} (l : S → Layout A) (next : S → A → S) (to : A → B) (from : B → A) → ((s : S) (x : A) → (l s).good x ≡ true → from (to x) ≡ x) → (s : S) (n : ℕ) (xs : List A) → good_many l next s n xs ≡ true → map from (map to xs) ≡ xs
 there_many l next to from h s zero [] good = refl
@@ -799,15 +742,6 @@ image_takes text p end are h =
 pub program_again : (p : Program) → IsProgram p → program_of (records_of p) ≡ p
 unfolding body
 program_again p h = records_there false p h.good
-
-head_params : (before : ℕ × ℕ) (h : Head) → (head before).good h ≡ true → params_in h ≤ 60
-unfolding head parameter_count fault_of
-head_params before h good =
-    let a = chain_parts (kind_field before.0) (from_params before) h good in
-    let b = chain_parts (parameter_count h.0) (λ params. from_number before h.0) h.1 a.1 in
-    let test = leb h.1.0 60 && (not (eqb h.0 1) || eqb h.1.0 0) in
-    let c = and_parts (ltb h.1.0 256) (is_fine (unless test 4)) b.0 in
-    leb-true h.1.0 60 (and_parts (leb h.1.0 60) (not (eqb h.0 1) || eqb h.1.0 0) (unless_fine test 4 c.1)).0
 
 block_few : (judged : Bool) (before : ℕ × ℕ) (b : BlockRecord) → (code_block judged before).good b ≡ true → length b.params ≤ 60
 block_few judged before b good = head_params before (raw_of_block b).0 (record_parts_of judged before b good).head_good

@@ -1,5 +1,5 @@
 -- Where the jumps of a program that verifies lead.
-use Rattle.std.proofs.Common.{◌≡◌, ◌⊎◌, ℕ, zero, suc, ◌+◌, ◌<◌, ◌≤◌, Bool, true, false, cond, eqb, leb, ◌&&◌, List, [], ◌∷◌, length, Option, Some, None, refl, sym, ap, subst, ◌∙◌, arith, inl, inr}
+use Rattle.std.proofs.Common.{◌≡◌, ◌⊎◌, ℕ, ◌+◌, ◌<◌, ◌≤◌, Bool, true, false, cond, eqb, leb, List, [], ◌∷◌, length, Option, Some, None, refl, sym, ap, subst, ◌∙◌, arith, inl, inr}
 use Rattle.std.proofs.lemmas.Bool.{and_parts, eqb-true, ne_eqb, le-leb, cases_lt, not-false}
 use Rattle.std.proofs.lemmas.Option.{same_Some}
 use Rattle.flat_code.specs.declared.image_fields.OpenBracket.{OpenBracket}
@@ -8,8 +8,8 @@ use Rattle.flat_code.specs.declared.operands.Operand.TheVariants as operand
 use Rattle.flat_code.specs.Ops.{OpData}
 use Rattle.flat_code.specs.Codes.{size}
 use Rattle.flat_code.specs.Programs.{CodeBlock, Program}
-use Rattle.flat_code.specs.Placed.{Placed, placed, places, begins, is_empty, bracket_codes, few, Spot, spots, spots_from, spot_at, opened, before_next}
-use Rattle.flat_code.specs.Blocks.{same_codes, differing, target_fault, is_bad_list, jump_fault, operand_fault, leads}
+use Rattle.flat_code.specs.Placed.{Placed, placed, places, is_empty, bracket_codes, few, Spot, spots, spots_from, spot_at, opened, before_next}
+use Rattle.flat_code.specs.Blocks.{same_codes, target_fault, is_bad_list, operand_fault, leads}
 use Rattle.image_file.specs.Verified.{place_at, IsOp, Lands}
 use Rattle.image_file.proofs.VerifiedLemmas.{chosen, none_if, empty_next, op_long, place_offset, op_none, around_in, brackets_right}
 

@@ -1,12 +1,11 @@
 -- A layout is exact: what was spelled is read again with no fault, and what is read with no fault is
 -- spelled so.
-use Rattle.std.proofs.Common.{◌≡◌, ℕ, zero, suc, ◌+◌, ◌-◌, ◌*◌, ◌<◌, ◌≤◌, Bool, true, false, cond, ◌&&◌, List, [], ◌∷◌, ◌++◌, length, Option, Some, None, refl, sym, ap, subst, ◌∙◌, append_assoc, length-append, arith, add_assoc}
+use Rattle.std.proofs.Common.{◌≡◌, ℕ, zero, suc, ◌+◌, ◌-◌, true, List, [], ◌∷◌, ◌++◌, length, Option, Some, None, refl, sym, ap, subst, ◌∙◌, append_assoc, length-append, arith}
 use Rattle.std.proofs.lemmas.Bool.{and_parts, and_from}
-use Rattle.std.proofs.lemmas.List.{append-nil}
 use Rattle.std.proofs.lemmas.Option.{same_Some}
 use Rattle.flat_code.specs.Coding.{Coding}
 use Rattle.flat_code.proofs.CodingLemmas.{IsBytes, Takes, IsExact}
-use Rattle.flat_code.specs.Layout.{Note, Faulty, Whole, AllBlocks, Cursor, Read, Layout, ended, given, go_on, bind, noted, is_fine, field_of, field, chain, checked, located, spell_many, good_many, read_many, many, seen_as, remembered, faults_in}
+use Rattle.flat_code.specs.Layout.{Note, Faulty, Whole, AllBlocks, Cursor, Read, Layout, given, go_on, bind, noted, is_fine, field_of, field, chain, checked, located, spell_many, good_many, read_many, many, seen_as, remembered, faults_in}
 
 -- ---- faults of notes
 

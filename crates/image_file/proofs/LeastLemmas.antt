@@ -1,9 +1,9 @@
 -- The fault that one pass keeps is the least.
-use Rattle.std.proofs.Common.{◌⊎◌, ◌≡◌, ℕ, ◌+◌, ◌<◌, ◌≤◌, Bool, true, false, cond, eqb, ltb, ◌&&◌, ◌||◌, List, [], ◌∷◌, ◌++◌, Option, Some, None, refl, sym, ap, subst, ◌∙◌, arith, inl, inr}
+use Rattle.std.proofs.Common.{◌⊎◌, ◌≡◌, ℕ, Bool, true, false, cond, eqb, ltb, ◌&&◌, ◌||◌, List, [], ◌∷◌, Some, None, refl, sym, ap, subst, ◌∙◌, arith, inl, inr}
 use Rattle.std.proofs.lemmas.Bool.{ltb-true, ltb-false, eqb-true, eqb-false}
 use Rattle.std.proofs.lemmas.Option.{same_Some}
 use Rattle.image_file.specs.declared.faults.LoadFault.{LoadFault}
-use Rattle.image_file.specs.Least.{is_less, fault, with_fault, with_faults, IsUpTo, IsLeast, IsAmong}
+use Rattle.image_file.specs.Least.{is_less, fault, with_faults, IsUpTo, IsLeast, IsAmong}
 
 not_less : (f : ℕ × ℕ) (g : LoadFault) (b c d : Bool) → ltb f.0 g.at ≡ b → eqb f.0 g.at ≡ c → ltb f.1 g.code ≡ d → (b || c && d) ≡ false → IsUpTo g f
 not_less f g true c d p q r e = absurd cc

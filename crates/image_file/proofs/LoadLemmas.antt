@@ -1,13 +1,13 @@
 -- The faults of all blocks that were read.
-use Rattle.std.proofs.Common.{Bool, true, false, cond, append_assoc, ◌≡◌, ℕ, suc, ◌+◌, ◌<◌, ◌≤◌, List, [], ◌∷◌, ◌++◌, map, length, drop, get_or, Option, Some, None, refl, sym, ap, subst, ◌∙◌, arith}
+use Rattle.std.proofs.Common.{Bool, true, false, cond, append_assoc, ◌≡◌, ℕ, ◌+◌, ◌<◌, ◌≤◌, List, [], ◌∷◌, ◌++◌, map, length, drop, get_or, Option, Some, None, refl, sym, ap, subst, ◌∙◌}
 use Rattle.std.proofs.Math.ListN.{drop_of_length-le}
 use Rattle.std.specs.Option.{option_map}
 use Rattle.std.proofs.lemmas.List.{append-nil}
 use Rattle.std.proofs.lemmas.Option.{same_Some}
-use Rattle.plc_base.proofs.ListLemmas.{drop_next}
+use Rattle.plc_base.proofs.ListLemmas.{drop_next, nil_parts}
 use Rattle.flat_code.specs.Programs.{CodeBlock, DataBlock, NameEntry, Program}
-use Rattle.flat_code.specs.Records.{BlockRecord, NameRecord, Records}
-use Rattle.flat_code.specs.Layout.{Note, Faulty, Whole, AllBlocks, Cursor, Read, faults_in}
+use Rattle.flat_code.specs.Records.{BlockRecord, NameRecord}
+use Rattle.flat_code.specs.Layout.{Note, Faulty, Whole, AllBlocks, Cursor, faults_in}
 use Rattle.flat_code.specs.Image.{program_of, read_image, IsProgram, record_of_block, block_of_record, entry_of_name}
 use Rattle.flat_code.specs.Blocks.{Signature, signature_of, Around, block_faults}
 use Rattle.flat_code.specs.Loading.{around, judged_blocks, lens_of, later, wholes, all_blocks, blocks_of, faults_of, Gives, Verifies}
@@ -129,13 +129,9 @@ unfolding with_faults
 none_left [] e = refl
 none_left (x ∷ fs) e = absurd (some_stays fs (fault x) e)
 
-nil_front : (xs ys : List (ℕ × ℕ)) → xs ++ ys ≡ [] → xs ≡ []
-nil_front [] ys e = refl
-nil_front (x ∷ xs) ys e = absurd cc
-
 fields_clean : (text : List ℕ) → faults_of text ≡ [] → faults_in (read_image text).notes ≡ []
 unfolding faults_of
-fields_clean text e = nil_front (faults_in (read_image text).notes) _ e
+fields_clean text e = (nil_parts (faults_in (read_image text).notes) _ e).0
 
 -- reading doesn't end without a fault
 pub never_ends : (text : List ℕ) (bs : List (ℕ × BlockRecord)) (ds : Option (List DataBlock)) → faults_of text ≡ [] → HasFound text bs ds None → ⊥

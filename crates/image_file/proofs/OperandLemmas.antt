@@ -1,5 +1,5 @@
 -- What operands, prepared ops and calls of a program that verifies have.
-use Rattle.std.proofs.Common.{◌≡◌, ◌⊎◌, ℕ, zero, suc, ◌+◌, ◌<◌, ◌≤◌, Bool, true, false, cond, eqb, ltb, not, ◌&&◌, ◌||◌, List, [], ◌∷◌, length, map, slice_get, Option, Some, None, option_map, refl, sym, ap, subst, ◌∙◌, arith, inl, inr}
+use Rattle.std.proofs.Common.{◌≡◌, ◌⊎◌, ℕ, ◌+◌, Bool, true, false, cond, eqb, not, ◌&&◌, ◌||◌, List, [], ◌∷◌, map, slice_get, Option, Some, None, option_map, refl, sym, ap, subst, ◌∙◌, inl, inr}
 use Rattle.std.proofs.lemmas.Bool.{and_parts, eqb-true, eq-eqb, ne_eqb, ltb-false, or_parts, not-false}
 use Rattle.std.proofs.lemmas.Option.{same_Some, slice_get-map}
 use Rattle.plc_base.specs.Kinds.{kind_number, kind_order}
@@ -17,17 +17,16 @@ use Rattle.flat_code.specs.declared.operands.Passed.{Passed}
 use Rattle.flat_code.specs.declared.operands.Passed.TheVariants as passed
 use Rattle.flat_code.specs.Forms.{width_of_number}
 use Rattle.plc_base.specs.Widths.{byte_count, width_number}
-use Rattle.flat_code.specs.Ops.{OpData}
 use Rattle.flat_code.specs.Programs.{CodeBlock, Program}
-use Rattle.flat_code.specs.Image.{kind_of_number, record_of_param, record_of_block}
-use Rattle.flat_code.specs.Loading.{Verifies, lens_of}
+use Rattle.flat_code.specs.Image.{record_of_param, record_of_block}
+use Rattle.flat_code.specs.Loading.{lens_of}
 use Rattle.flat_code.specs.Table.{takes_of, has_width}
-use Rattle.flat_code.specs.Placed.{Placed, spots, begins, last_op, is_empty}
-use Rattle.flat_code.specs.Blocks.{Around, Signature, signature_of, Callee, block_with, callee, is_odd_bit, is_past_locals, is_bad_place, lacks_width, writes, own_parameter, lacks_own, is_input, is_in_db, is_above, pass_before, is_stray_use_db, is_stray_pass, is_bad_actual, misfits_parameter, misfits_index, misfits_callee, misfits_call, are_passed, is_bad_instance, is_bad_call, seven_if, operand_fault, call_fault, call_fault_among}
+use Rattle.flat_code.specs.Placed.{Placed, spots, begins, last_op}
+use Rattle.flat_code.specs.Blocks.{signature_of, Callee, block_with, callee, is_odd_bit, is_past_locals, is_bad_place, lacks_width, writes, own_parameter, lacks_own, is_input, is_in_db, is_above, pass_before, is_stray_pass, is_bad_actual, misfits_index, misfits_callee, misfits_call, are_passed, is_bad_instance, is_bad_call, seven_if, operand_fault, call_fault_among}
 use Rattle.image_file.specs.Readers.{same_id, block_of}
 use Rattle.image_file.specs.Verified.{IsOp, LiesWithin, HasParam, FitsOperand, FitsPassed, FitsPrepared, signatures, FitsCall, FitsParameter, IsCalled}
 use Rattle.image_file.proofs.ImageLemmas.{width_there}
-use Rattle.image_file.proofs.VerifiedLemmas.{NoFault, op_none, around_in}
+use Rattle.image_file.proofs.VerifiedLemmas.{op_none, around_in}
 
 seven_none : (b : Bool) → seven_if b ≡ None → b ≡ false
 seven_none true e = absurd cc

@@ -3,7 +3,7 @@ use Rattle.std.proofs.Common.{◌≡◌, ℕ, zero, suc, ◌+◌, ◌-◌, ◌<�
 use Rattle.std.proofs.lemmas.Bool.{and_parts, and_from, ne_eqb}
 use Rattle.std.proofs.Math.ListN.{drop_of_length-le}
 use Rattle.std.proofs.lemmas.List.{take-append-drop}
-use Rattle.plc_base.proofs.ListLemmas.{drop_next}
+use Rattle.plc_base.proofs.ListLemmas.{drop_next, nil_parts}
 use Rattle.flat_code.specs.declared.image_fields.Field.TheVariants.{StatementCount, Line}
 use Rattle.flat_code.specs.Ops.{OpData}
 use Rattle.flat_code.specs.Codes.{size, are_ops, code_bytes, code_fault, code_of, ends, is_nowhere, last_place, overlong, stop_at}
@@ -14,12 +14,13 @@ use Rattle.flat_code.specs.Layout.{good_many, is_fine}
 use Rattle.flat_code.specs.Loading.{lens_of, around, AreVerified, Verifies}
 use Rattle.flat_code.specs.Programs.{CodeBlock, Program}
 use Rattle.flat_code.specs.Records.{BlockRecord}
+use Rattle.flat_code.proofs.PartLemmas.{BlockParts}
 use Rattle.image_file.specs.declared.faults.LoadFault.{LoadFault}
 use Rattle.image_file.specs.declared.faults.VerifyFault.{VerifyFault}
 use Rattle.image_file.specs.Least.{with_faults, IsLeast}
 use Rattle.image_file.specs.Verifying.{line_faults, count_faults, faults_unless, faults_of_block, are_whole, lens_where, lens_judged, DecidesFor, IsFirstOf, AreClean, IsClean}
 use Rattle.image_file.proofs.CodeLemmas.{bytes-append, ends_at, last_of}
-use Rattle.image_file.proofs.ImageLemmas.{BlockParts, record_parts_of, RecordParts, records_parts}
+use Rattle.image_file.proofs.ImageLemmas.{record_parts_of, RecordParts, records_parts}
 use Rattle.image_file.proofs.LeastLemmas.{kept_is_least}
 use Rattle.image_file.proofs.LoadLemmas.{none_left}
 use Rattle.image_file.proofs.RunLemmas.{with_more}
@@ -141,10 +142,6 @@ no_fives : (o : Option ℕ) (around : Around) (b : BlockRecord) → faults_unles
 no_fives None around b e = refl
 no_fives (Some at) around b e = absurd cc
 
-pub nil_front : (xs ys : List (ℕ × ℕ)) → xs ++ ys ≡ [] → (xs ≡ []) × (ys ≡ [])
-nil_front [] ys e = (refl, e)
-nil_front (x ∷ xs) ys e = absurd cc
-
 -- what a block without faults says
 pub record Clean (around : Around) (b : BlockRecord) : Type 0 where
   pub code : code_fault b.code ≡ None
@@ -156,8 +153,8 @@ clean_parts : (around : Around) (b : BlockRecord) → faults_of_block around b �
 clean_parts around b e =
     let none = no_fives (code_fault b.code) around b e in
     let all : count_faults b ++ line_faults 0 b.lines ++ block_faults around 0 b.code ≡ [] = ap (λ (z : Option ℕ). faults_unless z around b) (sym none) ∙ e in
-    let a = nil_front (count_faults b ++ line_faults 0 b.lines) (block_faults around 0 b.code) all in
-    let c = nil_front (count_faults b) (line_faults 0 b.lines) a.0 in
+    let a = nil_parts (count_faults b ++ line_faults 0 b.lines) (block_faults around 0 b.code) all in
+    let c = nil_parts (count_faults b) (line_faults 0 b.lines) a.0 in
     record { code = none; count = c.0; lines = c.1; ops = a.1 }
 
 pub clean_from : (around : Around) (b : BlockRecord) → Clean around b → faults_of_block around b ≡ []
@@ -182,7 +179,7 @@ lines_right zero before (line ∷ lines) h e = absurd cc
 lines_right (suc n) before [] h e = absurd cc
 lines_right (suc n) before (line ∷ lines) h e =
     let g = and_parts (ltb line 4294967296 && true) (good_many (line_field false) line_after line n lines) h in
-    let p = nil_front (at_offset 0 (fault_of (Line before line))) (line_faults line lines) e in
+    let p = nil_parts (at_offset 0 (fault_of (Line before line))) (line_faults line lines) e in
     and_from (ltb line 4294967296 && is_fine (fault_of (Line before line))) (good_many (line_field true) line_after line n lines)
     (and_from (ltb line 4294967296) (is_fine (fault_of (Line before line))) (and_parts (ltb line 4294967296) true g.0).0 (fine (fault_of (Line before line)) p.0))
     (lines_right n line lines g.1 p.1)

@@ -1,28 +1,29 @@
 -- What a program's records have: small numbers, and a slot for each block.
-use Rattle.std.proofs.Common.{◌≡◌, ℕ, zero, suc, ◌+◌, ◌*◌, ◌<◌, ◌≤◌, Bool, true, false, cond, eqb, ltb, leb, not, ◌&&◌, ◌||◌, List, [], ◌∷◌, length, map, is_some, Option, Some, None, refl, sym, ap, subst, ◌∙◌, arith}
+use Rattle.std.proofs.Common.{◌≡◌, ℕ, zero, suc, ◌+◌, ◌<◌, ◌≤◌, Bool, true, false, cond, eqb, ltb, leb, not, ◌&&◌, ◌||◌, List, [], ◌∷◌, length, map, is_some, Option, Some, None, refl, ap, subst, arith}
 use Rattle.std.proofs.lemmas.Bool.{and_parts, eqb-true, ltb-true, leb-true, lt-ltb}
 use Rattle.std.proofs.lemmas.Bool.Decides.{nat_tests}
 use Rattle.std.proofs.lemmas.List.{length-map}
 use Rattle.std.proofs.lemmas.Option.{same_Some}
+use Rattle.std.specs.List.{AllByRecursion}
 use Rattle.plc_base.specs.Kinds.{kind_number, kind_order}
 use Rattle.plc_base.specs.declared.blocks.BlockId.{BlockId}
 use Rattle.plc_base.specs.declared.blocks.BlockKind.{BlockKind}
 use Rattle.plc_base.specs.declared.blocks.BlockKind.TheVariants as kinds
 use Rattle.flat_code.specs.Faults.{fault_of, unless, lies_within, is_ob_number, has_number}
-use Rattle.flat_code.specs.Layout.{Layout, is_fine, chain, good_many}
+use Rattle.flat_code.specs.Layout.{is_fine, chain, good_many}
 use Rattle.flat_code.specs.Codes.{size, code_bytes, code_of, are_ops, ends, overlong, first_of, is_nowhere, last_place, stop_at, only}
 use Rattle.flat_code.specs.declared.image_fields.Field.TheVariants.{StatementCount}
 use Rattle.flat_code.specs.Ops.{OpData, is_op}
 use Rattle.flat_code.specs.Programs.{CodeBlock, Program}
 use Rattle.flat_code.specs.declared.programs.Param.{Param}
-use Rattle.flat_code.specs.Records.{BlockRecord}
-use Rattle.flat_code.specs.Image.{plain_u16, plain_u32, zero_u16, kind_field, parameter_count, block_number, local_bytes, instance_bytes, Head, head, counts, data_count, code_block, code_blocks, after_block, raw_of_block, records, records_of, raw_of_records, body, record_of_block, IsProgram, IsRight, end_marks, statements_in, lines_of, line_field, line_after, record_of_param}
+use Rattle.flat_code.specs.Image.{plain_u16, zero_u16, parameter_count, block_number, local_bytes, Head, head, counts, data_count, code_block, code_blocks, after_block, raw_of_block, records_of, raw_of_records, body, record_of_block, IsProgram, IsRight, end_marks, statements_in, lines_of, line_field, line_after, record_of_param}
 use Rattle.flat_code.specs.declared.image_fields.OpenBracket.{OpenBracket}
 use Rattle.flat_code.specs.Placed.{Placed, placed, places, opened, before_next}
+use Rattle.flat_code.proofs.PartLemmas.{all_of_blocks, chain_parts, dword_fits, head_parts, unless_fine, word_fits}
 use Rattle.image_file.specs.Verified.{place_at, Begins, BlockIsRight}
 use Rattle.image_file.specs.Readers.{same_id, block_of}
-use Rattle.image_file.specs.Seats.{nowhere, IsSmall, AreSmall, slot_of, HaveSlots}
-use Rattle.image_file.proofs.ImageLemmas.{chain_parts, unless_fine, records_parts, record_parts_of, head_kind, from_size, from_zero, from_statements, from_instance, from_locals, from_number, from_params}
+use Rattle.image_file.specs.Seats.{AreSmall, slot_of, HaveSlots}
+use Rattle.image_file.proofs.ImageLemmas.{records_parts, record_parts_of, head_kind}
 
 ob_small : (n : ℕ) → is_ob_number n ≡ true → n < 2048
 ob_small n h = grind (arith, nat_tests, h)
@@ -38,23 +39,17 @@ record HasSmall (h : Head) : Type 0 where
   code : h.1.1.1.1.1.1.1 < 4294967296
 
 head_small : (before : ℕ × ℕ) (h : Head) → (head before).good h ≡ true → HasSmall h
-unfolding head block_number plain_u16 plain_u32 fault_of
+unfolding block_number fault_of
 head_small before h good =
-    let a = chain_parts (kind_field before.0) (from_params before) h good in
-    let b = chain_parts (parameter_count h.0) (λ params. from_number before h.0) h.1 a.1 in
-    let c = chain_parts (block_number before.0 before.1 h.0) (λ number. from_locals h.0) h.1.1 b.1 in
-    let d = chain_parts (local_bytes h.0) (λ locals. from_instance h.0) h.1.1.1 c.1 in
-    let e = chain_parts (instance_bytes h.0) (λ instance. from_statements) h.1.1.1.1 d.1 in
-    let f = chain_parts plain_u16 (λ statements. from_zero) h.1.1.1.1.1 e.1 in
-    let g = chain_parts zero_u16 (λ zero. from_size) h.1.1.1.1.1.1 f.1 in
+    let parts = head_parts before h good in
     let n = h.1.1.0 in
     let rises = not (eqb h.0 before.0) || ltb before.1 n in
-    let fine = and_parts (ltb n 65536) (is_fine (unless (has_number h.0 n && rises) 4)) c.0 in
+    let fine = and_parts (ltb n 65536) (is_fine (unless (has_number h.0 n && rises) 4)) parts.number_good in
     let right = and_parts (has_number h.0 n) rises (unless_fine (has_number h.0 n && rises) 4 fine.1) in
     record {
       number = number_small (eqb h.0 1) n right.0;
-      statements = ltb-true h.1.1.1.1.1.0 65536 (and_parts (ltb h.1.1.1.1.1.0 65536) true f.0).0;
-      code = ltb-true h.1.1.1.1.1.1.1 4294967296 (and_parts (ltb h.1.1.1.1.1.1.1 4294967296) true g.1).0;
+      statements = word_fits h.1.1.1.1.1.0 parts.statements_good;
+      code = dword_fits h.1.1.1.1.1.1.1 parts.size_good;
     }
 
 kind_small : (k : BlockKind) → lies_within 1 3 (kind_number k) ≡ true → ltb (kind_order k) 3 ≡ true
@@ -122,8 +117,7 @@ pub record IsRightCode (b : CodeBlock) : Type 0 where
   pub organization : b.id.kind ≡ kinds.Ob → (b.params ≡ []) × (20 ≤ b.local_len)
 
 abbrev pub AreRight : List CodeBlock → Type 0
-AreRight [] = Unit {0}
-AreRight (b ∷ bs) = IsRightCode b × AreRight bs
+AreRight bs = AllByRecursion IsRightCode bs
 
 stops_nowhere : (long : Option ℕ) (last : ℕ) (ended : Bool) → is_nowhere (first_of long (cond ended None (Some last))) ≡ true → (long ≡ None) × (ended ≡ true)
 stops_nowhere None last true h = (refl, refl)
@@ -146,30 +140,23 @@ room_if_ob : (kind bytes : ℕ) → kind ≡ 1 → (not (eqb kind 1) || leb 20 b
 room_if_ob kind bytes is h = leb-true 20 bytes (rw is at h)
 
 locals_right : (before : ℕ × ℕ) (h : Head) → (head before).good h ≡ true → h.1.1.1.0 ≤ 1024
-unfolding head local_bytes fault_of
+unfolding local_bytes fault_of
 locals_right before h good =
-    let a = chain_parts (kind_field before.0) (from_params before) h good in
-    let b = chain_parts (parameter_count h.0) (λ params. from_number before h.0) h.1 a.1 in
-    let c = chain_parts (block_number before.0 before.1 h.0) (λ number. from_locals h.0) h.1.1 b.1 in
-    let d = chain_parts (local_bytes h.0) (λ locals. from_instance h.0) h.1.1.1 c.1 in
     let bytes = h.1.1.1.0 in
     let has_room = not (eqb h.0 1) || leb 20 bytes in
-    let long = and_parts (ltb bytes 65536) (is_fine (unless (leb bytes 1024 && has_room) 4)) d.0 in
+    let long = and_parts (ltb bytes 65536) (is_fine (unless (leb bytes 1024 && has_room) 4)) (head_parts before h good).locals_good in
     leb-true bytes 1024 (and_parts (leb bytes 1024) has_room (unless_fine (leb bytes 1024 && has_room) 4 long.1)).0
 
 ob_right : (before : ℕ × ℕ) (h : Head) → (head before).good h ≡ true → h.0 ≡ 1 → (h.1.0 ≡ 0) × (20 ≤ h.1.1.1.0)
-unfolding head parameter_count local_bytes fault_of
+unfolding parameter_count local_bytes fault_of
 ob_right before h good is =
-    let a = chain_parts (kind_field before.0) (from_params before) h good in
-    let b = chain_parts (parameter_count h.0) (λ params. from_number before h.0) h.1 a.1 in
-    let c = chain_parts (block_number before.0 before.1 h.0) (λ number. from_locals h.0) h.1.1 b.1 in
-    let d = chain_parts (local_bytes h.0) (λ locals. from_instance h.0) h.1.1.1 c.1 in
+    let parts = head_parts before h good in
     let count = h.1.0 in
     let bytes = h.1.1.1.0 in
     let no_params = not (eqb h.0 1) || eqb count 0 in
     let has_room = not (eqb h.0 1) || leb 20 bytes in
-    let few = and_parts (ltb count 256) (is_fine (unless (leb count 60 && no_params) 4)) b.0 in
-    let long = and_parts (ltb bytes 65536) (is_fine (unless (leb bytes 1024 && has_room) 4)) d.0 in (
+    let few = and_parts (ltb count 256) (is_fine (unless (leb count 60 && no_params) 4)) parts.params_good in
+    let long = and_parts (ltb bytes 65536) (is_fine (unless (leb bytes 1024 && has_room) 4)) parts.locals_good in (
       none_if_ob h.0 count is (and_parts (leb count 60) no_params (unless_fine (leb count 60 && no_params) 4 few.1)).1,
       room_if_ob h.0 bytes is (and_parts (leb bytes 1024) has_room (unless_fine (leb bytes 1024 && has_room) 4 long.1)).1,
     )
@@ -189,24 +176,16 @@ lines_right start h ops lines good =
     let c = and_parts (is_fine (only true (fault_of (StatementCount (end_marks ops) (statements_in h))))) (good_many (line_field true) line_after 0 (statements_in h) lines) good in
     eqb-true (end_marks ops) (statements_in h) (unless_fine (eqb (end_marks ops) (statements_in h)) 9 c.0)
 
-blocks_right : (s : ℕ × ℕ) (n : ℕ) (bs : List CodeBlock) → good_many (code_block true) after_block s n (map record_of_block bs) ≡ true → AreRight bs
-blocks_right s zero [] h = tt
-blocks_right s zero (b ∷ bs) h = absurd cc
-blocks_right s (suc n) [] h = absurd cc
-blocks_right s (suc n) (b ∷ bs) h =
+right_code : (s : ℕ × ℕ) (b : CodeBlock) → (code_block true s).good (record_of_block b) ≡ true → IsRightCode b
+right_code s b good =
     let r = record_of_block b in
-    let g = and_parts ((code_block true s).good r) (good_many (code_block true) after_block (after_block s r) n (map record_of_block bs)) h in
-    let p = record_parts_of true s r g.0 in
+    let p = record_parts_of true s r good in
     let c = code_right (length (code_bytes b.code)) b.code p.code_good in
-    (record { ended = c.1; few = c.0; ops = c.2; room = locals_right s (raw_of_block r).0 p.head_good; organization = λ is. ob_block s b p.head_good is; marks = lines_right 0 (raw_of_block r).0 b.code b.lines p.lines_good }, blocks_right (after_block s r) n bs g.1)
-
-codes_right : (n : ℕ) (bs : List CodeBlock) → (code_blocks true n).good (map record_of_block bs) ≡ true → AreRight bs
-unfolding code_blocks
-codes_right n bs good = blocks_right (0, 0) n bs good
+    record { ended = c.1; few = c.0; ops = c.2; room = locals_right s (raw_of_block r).0 p.head_good; organization = λ is. ob_block s b p.head_good is; marks = lines_right 0 (raw_of_block r).0 b.code b.lines p.lines_good }
 
 pub program_right : (p : Program) → IsRight p → AreRight p.code_blocks
 unfolding body
-program_right p h = let q = records_parts true (records_of p) h in codes_right (length (map record_of_block p.code_blocks)) p.code_blocks q.codes_good
+program_right p h = let q = records_parts true (records_of p) h in all_of_blocks true IsRightCode right_code (length (map record_of_block p.code_blocks)) p.code_blocks q.codes_good
 
 pub right_at : (bs : List CodeBlock) (b : CodeBlock) (id : BlockId) → AreRight bs → block_of id bs ≡ Some b → IsRightCode b
 right_at [] b id h found = absurd cc

@@ -2,13 +2,14 @@
 use Rattle.std.proofs.Common.{◌≡◌, ℕ, zero, suc, ◌<◌, ◌⊎◌, true, ltb, eqb, ◌&&◌, List, [], ◌∷◌, ◌++◌, length, map, get_or, Option, Some, None, Result, Ok, Err, IfOk, IfErr, refl, sym, ap, subst, ◌∙◌, arith, inl, inr}
 use Rattle.std.proofs.lemmas.Bool.{and_parts, and_from}
 use Rattle.std.proofs.lemmas.Option.{same_Some}
+use Rattle.std.specs.List.{AllByRecursion}
 use Rattle.plc_base.specs.declared.blocks.BlockId.{BlockId}
 use Rattle.flat_code.specs.declared.image_fields.Field.TheVariants.{StatementCount, Line}
 use Rattle.flat_code.specs.Ops.{OpData}
 use Rattle.flat_code.specs.Codes.{are_ops, code_bytes, code_fault, code_of, is_nowhere}
 use Rattle.flat_code.specs.Blocks.{at_offset}
 use Rattle.flat_code.specs.Faults.{fault_of}
-use Rattle.flat_code.specs.Image.{end_marks, raw_of_block, code_len_in, line_field, line_after, lines_of, code_block, after_block, code_blocks, records_of, record_of_block, body, image, IsProgram, IsRight}
+use Rattle.flat_code.specs.Image.{end_marks, raw_of_block, code_len_in, line_field, line_after, lines_of, code_block, records_of, record_of_block, body, image, IsProgram, IsRight}
 use Rattle.flat_code.specs.Layout.{Cursor, good_many, is_fine}
 use Rattle.flat_code.specs.Loading.{lens_of, around, AreVerified, Verifies, Gives, faults_of}
 use Rattle.flat_code.specs.Programs.{CodeBlock, Program}
@@ -22,6 +23,8 @@ use Rattle.image_file.specs.Least.{with_faults, IsUpTo, IsLeast}
 use Rattle.image_file.specs.Loaded.{LoadedProgram}
 use Rattle.image_file.specs.Refusing.{IsRefusedBy}
 use Rattle.image_file.specs.Verifying.{line_faults, count_faults, faults_of_block, are_whole, lens_judged, DecidesFor, IsFirstOf, IsFaultOf, AreClean, IsClean}
+use Rattle.flat_code.proofs.PartLemmas.{all_of_blocks}
+use Rattle.image_file.proofs.CodeLemmas.{is_none}
 use Rattle.image_file.proofs.ImageLemmas.{record_parts_of, records_parts}
 use Rattle.image_file.proofs.LeastLemmas.{kept_is_least}
 use Rattle.image_file.proofs.LoadLemmas.{none_left}
@@ -29,10 +32,6 @@ use Rattle.image_file.proofs.ProgramFaultLemmas.{Lens, is_whole, clean_from, len
 use Rattle.image_file.proofs.WholeLemmas.{image_gives}
 
 -- ---- a program that verifies is clean
-
-is_none : (o : Option ℕ) → is_nowhere o ≡ true → o ≡ None
-is_none None e = refl
-is_none (Some at) e = absurd cc
 
 no_fault : (o : Option ℕ) → is_fine o ≡ true → at_offset 0 o ≡ []
 no_fault None e = refl
@@ -60,6 +59,12 @@ record Right (b : BlockRecord) : Type 0 where
   count : count_faults b ≡ []
   lines : line_faults 0 b.lines ≡ []
 
+abbrev IsRightBlock : CodeBlock → Type 0
+IsRightBlock b = Right (record_of_block b)
+
+abbrev AreRight : List CodeBlock → Type 0
+AreRight bs = AllByRecursion IsRightBlock bs
+
 lines_of_clean : (b : BlockRecord) → (lines_of true 0 (raw_of_block b).0 b.code).good b.lines ≡ true → (count_faults b ≡ []) × (line_faults 0 b.lines ≡ [])
 unfolding lines_of
 lines_of_clean b h =
@@ -67,40 +72,22 @@ lines_of_clean b h =
     let g = and_parts (is_fine f) (good_many (line_field true) line_after 0 (length b.lines) b.lines) h in
     (no_fault f g.0, lines_clean (length b.lines) 0 b.lines g.1)
 
-block_right : (before : ℕ × ℕ) (b : BlockRecord) → (code_block true before).good b ≡ true → Right b
-block_right before b h =
+block_right : (before : ℕ × ℕ) (block : CodeBlock) → (code_block true before).good (record_of_block block) ≡ true → IsRightBlock block
+block_right before block h =
+    let b = record_of_block block in
     let p = record_parts_of true before b h in
     let l = lines_of_clean b p.lines_good in
     record { code = code_clean (code_len_in (raw_of_block b).0) b.code p.code_good; count = l.0; lines = l.1 }
 
-AreRight : List CodeBlock → Type 0
-AreRight [] = Unit {0}
-AreRight (b ∷ bs) = Right (record_of_block b) × AreRight bs
-
-blocks_right : (s : ℕ × ℕ) (n : ℕ) (bs : List CodeBlock) → good_many (code_block true) after_block s n (map record_of_block bs) ≡ true → AreRight bs
-unfolding AreRight
-blocks_right s n [] h = tt
-blocks_right s zero (b ∷ bs) h = absurd cc
-blocks_right s (suc n) (b ∷ bs) h =
-    let r = record_of_block b in
-    let g = and_parts ((code_block true s).good r) (good_many (code_block true) after_block (after_block s r) n (map record_of_block bs)) h in
-    (block_right s r g.0, blocks_right (after_block s r) n bs g.1)
-
-codes_right : (n : ℕ) (bs : List CodeBlock) → (code_blocks true n).good (map record_of_block bs) ≡ true → AreRight bs
-unfolding code_blocks
-codes_right n bs h = blocks_right (0, 0) n bs h
-
 program_right : (p : Program) → IsRight p → AreRight p.code_blocks
 unfolding body
-program_right p h = codes_right (length (map record_of_block p.code_blocks)) p.code_blocks (records_parts true (records_of p) h).codes_good
+program_right p h = all_of_blocks true IsRightBlock block_right (length (map record_of_block p.code_blocks)) p.code_blocks (records_parts true (records_of p) h).codes_good
 
 right_whole : (bs : List CodeBlock) → AreRight bs → are_whole (map record_of_block bs) ≡ true
-unfolding AreRight
 right_whole [] h = refl
 right_whole (b ∷ bs) h = and_from _ _ (is_whole (code_fault b.code) h.0.code) (right_whole bs h.1)
 
 ops_clean : (lens : List (ℕ × ℕ)) (all : List BlockRecord) (bs : List CodeBlock) → AreRight bs → AreVerified lens all (map record_of_block bs) → AreClean (Some lens) all bs
-unfolding AreRight
 ops_clean lens all [] h v = tt
 ops_clean lens all (b ∷ bs) h v =
     let r = record_of_block b in

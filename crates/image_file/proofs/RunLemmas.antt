@@ -1,17 +1,17 @@
 -- One pass over a chain of layouts is a pass over each.
-use Rattle.std.proofs.Common.{◌≡◌, ℕ, zero, suc, ◌+◌, ◌-◌, ◌*◌, ◌<◌, ◌≤◌, List, [], ◌∷◌, ◌++◌, Bool, length, map, drop, get_or, drop-cons, add-one, Option, Some, None, Err, refl, sym, ap, ◌∙◌, append_assoc, arith, true}
+use Rattle.std.proofs.Common.{◌≡◌, ℕ, suc, ◌+◌, ◌-◌, ◌<◌, ◌≤◌, List, [], ◌∷◌, ◌++◌, map, Option, Some, None, Err, refl, sym, ap, ◌∙◌, append_assoc, arith, true}
 use Rattle.std.proofs.lemmas.List.{append-nil, map-append}
-use Rattle.flat_code.specs.Image.{code_block_at, plain_block, code_block, whole_at, after_block, data_blocks, plain_data_blocks}
+use Rattle.flat_code.specs.Image.{code_block_at, plain_block, code_block, whole_at, after_block}
 use Rattle.flat_code.specs.Layout.{Note, Faulty, Whole, AllBlocks, Cursor, Read, Layout, ended, given, go_on, bind, chain, checked, located, seen_as, remembered, noted, read_many, many, faults_in}
 use Rattle.flat_code.specs.Programs.{DataBlock}
-use Rattle.flat_code.specs.Records.{BlockRecord, NameRecord}
+use Rattle.flat_code.specs.Records.{BlockRecord}
 use Rattle.image_file.specs.declared.faults.LoadFault.{LoadFault}
 use Rattle.image_file.specs.declared.stops.Stop.{Stop}
 use Rattle.image_file.specs.declared.stops.Stop.TheVariants as stop
 use Rattle.image_file.specs.declared.reader.Reader.{Reader}
 use Rattle.image_file.specs.declared.records.Started.{Started}
 use Rattle.image_file.specs.Least.{with_fault, with_faults}
-use Rattle.image_file.specs.Running.{Sees, SeesBlock, SeesBlocks, started, Log, with_wholes, with_all, logged, Ran, Goes, Stops, ran, run, ran_read, then_run, with_front, log_of, place_of}
+use Rattle.image_file.specs.Running.{Sees, SeesBlock, SeesBlocks, started, Log, with_wholes, with_all, logged, Ran, Goes, Stops, ran, run, ran_read, then_run, with_front, log_of}
 use Rattle.image_file.proofs.LayoutLemmas.{faults-append}
 
 pub with_more : (least : Option LoadFault) (a b : List (ℕ × ℕ)) → with_faults least (a ++ b) ≡ with_faults (with_faults least a) b

@@ -4,11 +4,11 @@ use Rattle.std.proofs.lemmas.Bool.{eqb-true, eqb-false, eq-eqb, ne_eqb, lt-ltb, 
 use Rattle.std.proofs.lemmas.List.{append-nil, get_or-set_same, get_or-set_other, length-set, length-map, take_more}
 use Rattle.std.proofs.lemmas.Option.{slice_get-get_or}
 use Rattle.std.proofs.Math.ListN.{drop_of_length-le}
-use Rattle.plc_base.proofs.ListLemmas.{drop_next}
+use Rattle.plc_base.proofs.ListLemmas.{drop_next, get_past}
 use Rattle.flat_code.specs.Ops.{OpData, op_bytes}
 use Rattle.flat_code.specs.Codes.{size, code_bytes}
 use Rattle.flat_code.specs.declared.image_fields.OpenBracket.{OpenBracket}
-use Rattle.flat_code.specs.Blocks.{Signature, Callee, block_with, data_len}
+use Rattle.flat_code.specs.Blocks.{Signature, block_with, data_len}
 use Rattle.flat_code.specs.Placed.{op_placed, line_placed, Spot, spots, spots_from, spot_at, few, opened}
 use Rattle.flat_code.specs.Programs.{CodeBlock}
 use Rattle.image_file.specs.declared.seats.Seat.{Seat}
@@ -119,11 +119,6 @@ seat_count from begins (op ∷ ops) lines = ap suc (seat_count (from + size op) 
 pub start_count : (from : ℕ) (ops : List OpData) → length (starts_of from ops) ≡ length ops
 start_count from [] = refl
 start_count from (op ∷ ops) = ap suc (start_count (from + size op) ops)
-
-pub get_past : {A : Type 0} (xs : List A) (i : ℕ) → length xs ≤ i → slice_get xs i ≡ None
-get_past [] i le = refl
-get_past (x ∷ xs) zero le = absurd (omega (arith, le))
-get_past (x ∷ xs) (suc i) le = get_past xs i (omega (arith, le))
 
 -- ---- what the readers give
 

@@ -1,26 +1,21 @@
 -- What a program that verifies gives.
-use Rattle.std.proofs.Common.{◌≡◌, ◌⊎◌, ℕ, zero, suc, ◌+◌, ◌-◌, ◌<◌, ◌≤◌, Bool, true, false, cond, eqb, leb, ltb, not, ◌&&◌, ◌||◌, List, [], ◌∷◌, ◌++◌, length, map, take, drop, slice_get, length-append, Option, Some, None, option_map, refl, sym, ap, subst, ◌∙◌, arith, inl, inr}
-use Rattle.std.proofs.lemmas.Bool.{and_parts, eqb-true, eqb-false, eq-eqb, ne_eqb, leb-true, le-leb, ltb-false, cases_lt}
+use Rattle.std.proofs.Common.{◌≡◌, ◌⊎◌, ℕ, zero, suc, ◌+◌, ◌-◌, ◌<◌, ◌≤◌, Bool, true, false, cond, eqb, leb, not, List, [], ◌∷◌, ◌++◌, length, map, take, drop, slice_get, length-append, Option, Some, None, refl, sym, ap, subst, ◌∙◌, arith, inl, inr}
+use Rattle.std.proofs.lemmas.Bool.{and_parts, eqb-true, eqb-false, eq-eqb, ne_eqb, le-leb, cases_lt}
 use Rattle.std.proofs.lemmas.Option.{same_Some}
+use Rattle.plc_base.proofs.ListLemmas.{nil_parts}
 use Rattle.flat_code.specs.declared.image_fields.OpenBracket.{OpenBracket}
-use Rattle.flat_code.specs.declared.operands.Operand.{Operand}
-use Rattle.flat_code.specs.declared.operands.Operand.TheVariants as operand
 use Rattle.flat_code.specs.Ops.{OpData, op_bytes}
-use Rattle.flat_code.specs.Codes.{size, code_bytes, ends, overlong}
-use Rattle.flat_code.specs.Programs.{CodeBlock, DataBlock, Program}
+use Rattle.flat_code.specs.Codes.{size, ends, overlong}
+use Rattle.flat_code.specs.Programs.{CodeBlock, Program}
 use Rattle.flat_code.specs.Records.{BlockRecord}
 use Rattle.flat_code.specs.Image.{record_of_block, end_marks}
-use Rattle.flat_code.specs.Loading.{Verifies, AreVerified, lens_of, around}
-use Rattle.flat_code.specs.Placed.{Placed, placed, places, op_placed, line_placed, begins, is_empty, bracket_codes, few, Spot, spots, spots_from, spot_at, opens, inner, opened, open_behind, before_next}
-use Rattle.flat_code.specs.Blocks.{Around, same_codes, differing, target_fault, is_bad_list, jump_fault, operand_fault, call_fault, mark_fault, bracket_fault, at_offset, op_faults, faults_over, open_faults, block_faults, prepares, leads, seven_if}
+use Rattle.flat_code.specs.Loading.{AreVerified, lens_of, around}
+use Rattle.flat_code.specs.Placed.{Placed, placed, places, op_placed, line_placed, begins, is_empty, Spot, spots, opens, inner, opened, open_behind, before_next}
+use Rattle.flat_code.specs.Blocks.{Around, operand_fault, call_fault, mark_fault, bracket_fault, at_offset, op_faults, faults_over, open_faults, block_faults, prepares, seven_if}
 use Rattle.image_file.specs.Readers.{same_id, block_of}
-use Rattle.image_file.specs.Verified.{place_at, IsOp, IsRead, Next, Lands, BracketsAreRight, StatementIsRight, HasLine}
+use Rattle.image_file.specs.Verified.{place_at, IsOp, Next, BracketsAreRight, StatementIsRight, HasLine}
 
 -- ---- no fault of a block is none of its ops
-
-nil_left : {A : Type 0} (xs ys : List A) → xs ++ ys ≡ [] → (xs ≡ []) × (ys ≡ [])
-nil_left [] ys e = (refl, e)
-nil_left (x ∷ xs) ys e = absurd cc
 
 pub chosen : {A : Type 0} (b : Bool) (x : A) (o : Option A) (y : A) → cond b (Some x) o ≡ Some y → (P : Type 0) → (b ≡ true → x ≡ y → P) → (b ≡ false → o ≡ Some y → P) → P
 chosen true x o y e P f g = f refl (same_Some x y e)
@@ -45,9 +40,9 @@ no_fault a ss start q none =
     let two = at_offset at (call_fault a a.data_lens q) in
     let three = at_offset at (mark_fault q.op) in
     let four = at_offset at (bracket_fault q.op.code q.brackets) in
-    let x = nil_left (one ++ two ++ three) four none in
-    let y = nil_left (one ++ two) three x.0 in
-    let z = nil_left one two y.0 in
+    let x = nil_parts (one ++ two ++ three) four none in
+    let y = nil_parts (one ++ two) three x.0 in
+    let z = nil_parts one two y.0 in
     record {
       operand = none_here at (operand_fault a ss q q.op.operand) z.0;
       call = none_here at (call_fault a a.data_lens q) z.1;
@@ -58,7 +53,7 @@ no_fault a ss start q none =
 each : (a : Around) (ss : List Spot) (start : ℕ) (rest : List Placed) (at : ℕ) (q : Placed) → faults_over a ss start rest ≡ [] → place_at at rest ≡ Some q → op_faults a ss start q ≡ []
 each a ss start [] at q none found = absurd cc
 each a ss start (p ∷ rest) at q none found =
-    let n = nil_left (op_faults a ss start p) (faults_over a ss start rest) none in
+    let n = nil_parts (op_faults a ss start p) (faults_over a ss start rest) none in
     chosen (eqb p.at at) p (place_at at rest) q found (op_faults a ss start q ≡ [])
     (λ t e. subst (λ (z : Placed). op_faults a ss start z ≡ []) e n.0)
     (λ f e. each a ss start rest at q n.1 e)
@@ -86,7 +81,7 @@ none_open start (b ∷ bs) e = absurd cc
 none_in : (a : Around) (ops : List OpData) → block_faults a 0 ops ≡ [] → NoneIn a ops
 unfolding block_faults
 none_in a ops e =
-    let n = nil_left (faults_over a (spots ops) 0 (places ops)) (open_faults 0 (open_behind 0 [] ops)) e in
+    let n = nil_parts (faults_over a (spots ops) 0 (places ops)) (open_faults 0 (open_behind 0 [] ops)) e in
     record { over = n.0; ends = none_open 0 (open_behind 0 [] ops) n.1 }
 
 none_of : (p : Program) (b : CodeBlock) (q : Placed) → IsOp p b q → NoneIn (around_in p b) b.code
@@ -248,7 +243,7 @@ few_at : (a : Around) (ss : List Spot) (from : ℕ) (brackets : List OpenBracket
 few_at a ss from brackets before [] at q none most found = absurd cc
 few_at a ss from brackets before (o ∷ ops) at q none most found =
     let here : Placed = record { at = from; brackets = brackets; before = before; op = o; rest = ops } in
-    let n = nil_left (op_faults a ss 0 here) (faults_over a ss 0 (placed (from + size o) (opened from o.code brackets) (before_next o before) ops)) none in
+    let n = nil_parts (op_faults a ss 0 here) (faults_over a ss 0 (placed (from + size o) (opened from o.code brackets) (before_next o before) ops)) none in
     chosen (eqb from at) here (place_at at (placed (from + size o) (opened from o.code brackets) (before_next o before) ops)) q found (length q.brackets ≤ 7)
     (λ t e. subst (λ (z : Placed). length z.brackets ≤ 7) e most)
     (λ f e. few_at a ss (from + size o) (opened from o.code brackets) (before_next o before) ops at q n.1 (few_opened from o.code brackets (no_fault a ss 0 here n.0).bracket most) e)

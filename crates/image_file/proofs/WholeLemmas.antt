@@ -1,23 +1,23 @@
 -- The blocks that reading notes are those of the program that it finds.
-use Rattle.std.proofs.Common.{◌≡◌, ℕ, zero, suc, ◌+◌, ◌-◌, ◌<◌, ◌≤◌, Bool, true, false, cond, eqb, ltb, not, ◌&&◌, ◌||◌, List, [], ◌∷◌, ◌++◌, map, length, take, get_or, Option, Some, None, refl, sym, ap, subst, ◌∙◌, append_assoc, arith}
+use Rattle.std.proofs.Common.{◌≡◌, ℕ, zero, suc, ◌+◌, ◌-◌, Bool, true, false, cond, eqb, ltb, ◌||◌, List, [], ◌∷◌, ◌++◌, map, length, take, Option, Some, None, refl, sym, ap, subst, ◌∙◌}
 use Rattle.std.proofs.lemmas.List.{append-nil}
 use Rattle.std.proofs.lemmas.Option.{same_Some}
 use Rattle.std.specs.Option.{option_map}
+use Rattle.plc_base.proofs.ListLemmas.{nil_parts}
 use Rattle.flat_code.specs.Coding.{Coding, u8, u16, u32}
 use Rattle.flat_code.specs.Ops.{OpData}
 use Rattle.flat_code.specs.Programs.{DataBlock, Program}
 use Rattle.flat_code.specs.Records.{BlockRecord, NameRecord, Records}
 use Rattle.flat_code.specs.declared.image_fields.ParameterRecord.{ParameterRecord}
-use Rattle.flat_code.specs.Faults.{fault_of, name_fault}
 use Rattle.flat_code.specs.Layout.{Note, Faulty, Whole, AllBlocks, Cursor, Read, Layout, ended, given, go_on, bind, noted, field_of, field, chain, checked, located, read_many, many, seen_as, remembered, faults_in}
-use Rattle.flat_code.specs.Codes.{ops_from, stop_at, read_ops, placed_ops, read_code, code_of, only}
-use Rattle.flat_code.specs.Image.{plain, plain_u16, plain_u32, zero_u8, zero_u16, width_field, bytes, section_field, parameter_byte, parameter_bit, RawParameter, raw_parameter, parameter_of_raw, raw_of_parameter, parameter, kind_field, parameter_count, block_number, local_bytes, instance_bytes, Head, head, params_in, instance_in, statements_in, code_len_in, same_state, parameters, line_after, line_field, lines_of, code_and_lines, RawBlock, raw_block, block_of_raw, raw_of_block, plain_block, whole_at, code_block_at, code_block, after_block, data_number, instance_field, data_len, contents, RawData, raw_data, data_of_raw, raw_of_data, data_block, after_data, name_len, name_bytes, name_area, name_bit, RawName, raw_name, name_of_raw, raw_of_name, name_record, after_name, data_count, Counts, counts, code_blocks, plain_data_blocks, data_blocks, names, RawRecords, raw_records, records_of_raw, raw_of_records, records, record_of_block, block_of_record, program_of, records_of, body, magic_field, version_field, Front, front, front_size, image, IsProgram, at_end, cut, read_by, read_image, end_marks}
+use Rattle.flat_code.specs.Codes.{ops_from, stop_at, read_ops, read_code, code_of}
+use Rattle.flat_code.specs.Image.{plain, plain_u16, plain_u32, zero_u8, zero_u16, width_field, bytes, section_field, parameter_byte, parameter_bit, raw_parameter, parameter_of_raw, raw_of_parameter, parameter, kind_field, parameter_count, block_number, local_bytes, instance_bytes, Head, head, params_in, instance_in, statements_in, code_len_in, same_state, parameters, line_after, line_field, lines_of, code_and_lines, RawBlock, raw_block, block_of_raw, raw_of_block, plain_block, whole_at, code_block_at, code_block, after_block, data_number, instance_field, data_len, contents, raw_data, data_of_raw, raw_of_data, data_block, after_data, name_len, name_bytes, name_area, name_bit, raw_name, name_of_raw, raw_of_name, name_record, after_name, data_count, Counts, counts, code_blocks, plain_data_blocks, data_blocks, names, RawRecords, raw_records, records_of_raw, raw_of_records, records, record_of_block, program_of, records_of, body, magic_field, version_field, Front, front, front_size, at_end, cut, read_by, read_image}
 use Rattle.flat_code.specs.declared.image_fields.OpenBracket.{OpenBracket}
 use Rattle.flat_code.specs.Placed.{Placed, Spot, spots, places, open_behind}
 use Rattle.flat_code.specs.Blocks.{Around, operand_fault, call_fault, mark_fault, bracket_fault, at_offset, op_faults, faults_over, open_faults, block_faults}
-use Rattle.flat_code.specs.Loading.{lens_of, later, around, wholes, all_blocks, blocks_of, judged_blocks, faults_in_notes, faults_of, Gives, AreVerified, Verifies, IsLoadable}
+use Rattle.flat_code.specs.Loading.{lens_of, later, around, wholes, all_blocks, blocks_of, judged_blocks, faults_of, Gives, AreVerified, IsLoadable}
 use Rattle.flat_code.proofs.CodingLemmas.{IsBytes}
-use Rattle.image_file.proofs.LayoutLemmas.{at_place, Finds, no_faults}
+use Rattle.image_file.proofs.LayoutLemmas.{at_place, no_faults}
 use Rattle.image_file.proofs.ImageLemmas.{image_again, image_takes, records_back, records_laid, front_laid, bytes_taken}
 
 -- the code blocks that notes tell of, and the data blocks, once all were read
@@ -412,10 +412,6 @@ image_noted text p end are e clean =
 
 -- ---- verifying
 
-nil_left : {A : Type 0} (xs ys : List A) → xs ++ ys ≡ [] → (xs ≡ []) × (ys ≡ [])
-nil_left [] ys e = (refl, e)
-nil_left (x ∷ xs) ys e = absurd cc
-
 nil_join : {A : Type 0} {xs ys : List A} → xs ≡ [] → ys ≡ [] → xs ++ ys ≡ []
 nil_join p q = rw (p, q) refl
 
@@ -432,15 +428,15 @@ op_moved around ps start other p e =
     let b = at_offset at (call_fault around around.data_lens p) in
     let c = at_offset at (mark_fault p.op) in
     let d = at_offset at (bracket_fault p.op.code p.brackets) in
-    let n = nil_left ((a ++ b) ++ c) d e in
-    let m = nil_left (a ++ b) c n.0 in
-    let l = nil_left a b m.0 in
+    let n = nil_parts ((a ++ b) ++ c) d e in
+    let m = nil_parts (a ++ b) c n.0 in
+    let l = nil_parts a b m.0 in
     nil_join (nil_join (nil_join (elsewhere at to (operand_fault around ps p p.op.operand) l.0) (elsewhere at to (call_fault around around.data_lens p) l.1)) (elsewhere at to (mark_fault p.op) m.1)) (elsewhere at to (bracket_fault p.op.code p.brackets) n.1)
 
 over_moved : (around : Around) (ps : List Spot) (start other : ℕ) (rest : List Placed) → faults_over around ps start rest ≡ [] → faults_over around ps other rest ≡ []
 over_moved around ps start other [] e = refl
 over_moved around ps start other (p ∷ rest) e =
-    let n = nil_left (op_faults around ps start p) (faults_over around ps start rest) e in
+    let n = nil_parts (op_faults around ps start p) (faults_over around ps start rest) e in
     nil_join (op_moved around ps start other p n.0) (over_moved around ps start other rest n.1)
 
 open_moved : (start other : ℕ) (bs : List OpenBracket) → open_faults start bs ≡ [] → open_faults other bs ≡ []
@@ -451,13 +447,13 @@ open_moved start other (b ∷ bs) e = absurd cc
 pub moved : (around : Around) (start other : ℕ) (ops : List OpData) → block_faults around start ops ≡ [] → block_faults around other ops ≡ []
 unfolding block_faults
 moved around start other ops e =
-    let n = nil_left (faults_over around (spots ops) start (places ops)) (open_faults start (open_behind 0 [] ops)) e in
+    let n = nil_parts (faults_over around (spots ops) start (places ops)) (open_faults start (open_behind 0 [] ops)) e in
     nil_join (over_moved around (spots ops) start other (places ops) n.0) (open_moved start other (open_behind 0 [] ops) n.1)
 
 verified : (lens : List (ℕ × ℕ)) (all : List BlockRecord) (bs : List (ℕ × BlockRecord)) → judged_blocks (Some lens) all bs ≡ [] → AreVerified lens all (blocks_of bs)
 verified lens all [] e = tt
 verified lens all (b ∷ bs) e =
-    let n = nil_left (block_faults (around (Some lens) all b.1) b.0 b.1.code) (judged_blocks (Some lens) all bs) e in
+    let n = nil_parts (block_faults (around (Some lens) all b.1) b.0 b.1.code) (judged_blocks (Some lens) all bs) e in
     (moved (around (Some lens) all b.1) b.0 0 b.1.code n.0, verified lens all bs n.1)
 
 unjudged : (lens : List (ℕ × ℕ)) (all : List BlockRecord) (bs : List (ℕ × BlockRecord)) → AreVerified lens all (blocks_of bs) → judged_blocks (Some lens) all bs ≡ []
@@ -468,7 +464,7 @@ pub gives_image : (text : List ℕ) (p : Program) → IsBytes text → Gives tex
 unfolding faults_of
 gives_image text p are g =
     let notes = (read_image text).notes in
-    let n = nil_left (faults_in notes) (judged_blocks (option_map lens_of (all_blocks notes)) (blocks_of (wholes notes)) (wholes notes)) g.clean in
+    let n = nil_parts (faults_in notes) (judged_blocks (option_map lens_of (all_blocks notes)) (blocks_of (wholes notes)) (wholes notes)) g.clean in
     let t = image_takes text p g.end are (record { found = g.found; clean = n.0 }) in
     let m = image_noted text p g.end are g.found n.0 in
     let judged : judged_blocks (Some (lens_of p.data_blocks)) (blocks_of (wholes notes)) (wholes notes) ≡ [] = ap (λ (z : Option (List DataBlock)). judged_blocks (option_map lens_of z) (blocks_of (wholes notes)) (wholes notes)) (sym m.datas) ∙ n.1 in

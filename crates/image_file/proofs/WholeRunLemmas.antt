@@ -1,15 +1,15 @@
 -- One pass over an image as a whole.
-use Rattle.std.proofs.Common.{◌≡◌, ℕ, ◌+◌, ◌-◌, ◌<◌, ◌≤◌, Bool, true, false, cond, eqb, ltb, not, ◌||◌, List, [], ◌∷◌, ◌++◌, length, take, Option, Some, None, Err, Ok, refl, sym, ap, subst, ◌∙◌, arith}
+use Rattle.std.proofs.Common.{◌≡◌, ℕ, ◌-◌, ◌<◌, ◌≤◌, Bool, true, false, cond, eqb, ltb, not, ◌||◌, List, [], ◌∷◌, ◌++◌, length, take, Err, refl, sym, ap, ◌∙◌}
 use Rattle.std.proofs.lemmas.Bool.{le-ltb, lt-ltb, or_from}
+use Rattle.plc_base.proofs.TruthLemmas.{or_met_behind}
 use Rattle.flat_code.specs.Programs.{DataBlock, Program}
 use Rattle.flat_code.specs.Records.{BlockRecord, NameRecord, Records}
-use Rattle.flat_code.specs.Layout.{Note, Faulty, Whole, AllBlocks, Cursor, Read, Layout, ended, bind, chain, many}
-use Rattle.flat_code.specs.Image.{Counts, counts, code_blocks, data_blocks, plain_data_blocks, names, name_record, after_name, raw_records, records_of_raw, raw_of_records, records, program_of, records_of, body, Front, front, front_size, at_end, cut, read_by, read_image}
+use Rattle.flat_code.specs.Layout.{Faulty, Cursor, Read, Layout, ended, bind, chain, many}
+use Rattle.flat_code.specs.Image.{Counts, counts, code_blocks, data_blocks, names, name_record, after_name, raw_records, records_of_raw, raw_of_records, records, program_of, records_of, body, Front, front, front_size, at_end, cut, read_by, read_image}
 use Rattle.image_file.specs.declared.stops.Stop.{Stop}
 use Rattle.image_file.specs.declared.stops.Stop.TheVariants as stop
 use Rattle.image_file.specs.declared.reader.Reader.{Reader}
-use Rattle.image_file.specs.Least.{with_faults}
-use Rattle.image_file.specs.Running.{Sees, SeesBlocks, SeesDatas, SeesRecords, SeesImage, Log, logged, Ran, Goes, Stops, ran, run, ran_read, then_run, log_of, place_of}
+use Rattle.image_file.specs.Running.{Sees, SeesBlocks, SeesDatas, SeesRecords, SeesImage, Log, logged, Ran, Goes, Stops, run, ran_read, then_run, log_of}
 use Rattle.image_file.proofs.RunLemmas.{chain_goes, chain_ends, chain_breaks, seen_goes, seen_ends, go_read, run_is_read, ended_read, noted_read}
 
 abbrev after_codes : Counts → Layout (List DataBlock × List NameRecord)
@@ -134,10 +134,6 @@ or_true : (a b : Bool) → a ≡ true → (a || b) ≡ true
 or_true true b e = refl
 or_true false b e = absurd cc
 
-or_right : (a b : Bool) → b ≡ true → (a || b) ≡ true
-or_right true b e = refl
-or_right false b e = e
-
 bad_total : (size total : ℕ) (cur : Cursor) (log : Log) → (ltb total 20 || ltb size total) ≡ true → ◌≡◌ {A = Ran Program} (ran_read (cut true size total cur) log) (Stops (logged log (Faulty 8 3 ∷ [])))
 bad_total size total cur log bad =
     let shape : cut true size total cur ≡ ended 8 3 = rw bad refl in
@@ -147,7 +143,7 @@ pub small_total : (size total : ℕ) (cur : Cursor) (log : Log) → total < 20 �
 small_total size total cur log lt = bad_total size total cur log (or_true (ltb total 20) (ltb size total) (lt-ltb total 20 lt))
 
 pub far_total : (size total : ℕ) (cur : Cursor) (log : Log) → size < total → ◌≡◌ {A = Ran Program} (ran_read (cut true size total cur) log) (Stops (logged log (Faulty 8 3 ∷ [])))
-far_total size total cur log lt = bad_total size total cur log (or_right (ltb total 20) (ltb size total) (lt-ltb size total lt))
+far_total size total cur log lt = bad_total size total cur log (or_met_behind (ltb total 20) (ltb size total) (lt-ltb size total lt))
 
 pub great_total : (size total : ℕ) (cur : Cursor) (log : Log) → 20 ≤ total → total ≤ size → 8388608 < total → ◌≡◌ {A = Ran Program} (ran_read (cut true size total cur) log) (Stops (logged log (Faulty 8 4 ∷ [])))
 great_total size total cur log low there high =

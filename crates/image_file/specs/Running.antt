@@ -1,5 +1,5 @@
 -- Reading in one pass with the least fault so far.
-use Rattle.std.specs.Prelude.{◌≡◌, ℕ, ◌+◌, nat_lt, ◌==◌, Bool, true, false, ◌&&◌, ◌||◌, if◌then◌else◌, List, [], ◌∷◌, ◌++◌, length, map, Option, Some, None, Result, Ok, Err}
+use Rattle.std.specs.Prelude.{◌≡◌, ℕ, List, [], ◌∷◌, ◌++◌, map, Option, Some, None, Result, Ok, Err}
 use Rattle.std.specs.Option.{option_map}
 use Rattle.std.specs.Borrow.{Bor}
 use Rattle.flat_code.specs.declared.image_fields.Field.{Field}
@@ -18,7 +18,7 @@ use Rattle.image_file.specs.declared.records.Started.{Started}
 use Rattle.image_file.specs.declared.stops.Ended.{Ended}
 use Rattle.image_file.specs.declared.stops.Stop.{Stop}
 use Rattle.image_file.specs.declared.stops.Stop.TheVariants as stop
-use Rattle.image_file.specs.Least.{with_fault, with_faults}
+use Rattle.image_file.specs.Least.{with_faults}
 
 -- the faults of a field that begins at an offset: one, or none
 abbrev pub judged : ℕ → Field → List (ℕ × ℕ)

@@ -1,5 +1,5 @@
 -- WHAT A PROGRAM THAT VERIFIES GIVES: laws of each op of each of its blocks, in its place in the code.
-use Rattle.std.specs.Prelude.{◌≡◌, ◌⊎◌, ℕ, ◌+◌, ◌<◌, ◌≤◌, nat_le, Bool, true, false, ◌&&◌, not, List, [], ◌∷◌, length, map, slice_get, ◌==◌, if◌then◌else◌, Option, Some, None}
+use Rattle.std.specs.Prelude.{◌≡◌, ◌⊎◌, ℕ, ◌+◌, ◌<◌, ◌≤◌, true, false, not, List, [], ◌∷◌, length, map, slice_get, ◌==◌, if◌then◌else◌, Option, Some, None}
 use Rattle.plc_base.specs.declared.blocks.BlockId.{BlockId}
 use Rattle.plc_base.specs.declared.blocks.BlockKind.TheVariants as kinds
 use Rattle.plc_base.specs.declared.places.Area.{Area}
@@ -19,7 +19,7 @@ use Rattle.flat_code.specs.Image.{record_of_block, record_of_param, kind_of_numb
 use Rattle.flat_code.specs.Loading.{Verifies, lens_of, around}
 use Rattle.flat_code.specs.Table.{takes_of, has_width}
 use Rattle.flat_code.specs.Placed.{Placed, op_placed, line_placed, places, begins, bracket_codes, opens, opened, before_next, last_op}
-use Rattle.flat_code.specs.Blocks.{Around, Signature, signature_of, Callee, callee, writes, prepares, is_odd_bit, is_in_db, is_above, pass_before, are_passed, is_bad_instance, misfits_parameter, leads}
+use Rattle.flat_code.specs.Blocks.{Signature, signature_of, Callee, callee, writes, prepares, is_odd_bit, is_in_db, is_above, pass_before, are_passed, is_bad_instance, misfits_parameter, leads}
 use Rattle.image_file.specs.Readers.{block_of}
 
 -- the op of code that begins at an offset

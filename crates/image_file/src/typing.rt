@@ -1,6 +1,6 @@
 //! A program made of the records that were read.
 ghost use Rattle.std.specs.Prelude.{◌≡◌, ◌≤◌, length, map, IfOk};
-ghost use Rattle.flat_code.specs.Image.{kind_of_number, area_of_number, param_of, block_of_record, entry_of_name, IsProgram};
+ghost use Rattle.flat_code.specs.Image.{param_of, block_of_record, entry_of_name, IsProgram};
 ghost use Rattle.flat_code.specs.Loading.{blocks_of};
 ghost use Rattle.image_file.specs.Running.{started};
 ghost use Rattle.image_file.specs.Typing.{AreFew, program_from};
@@ -8,31 +8,11 @@ ghost use Rattle.image_file.specs.Typing.{AreFew, program_from};
 use crate::records::{BlockRead, NameRead, Started};
 use arrayvec::ArrayVec;
 use flat_code::{
-    CodeBlock, DataBlock, NameEntry, Names, Param, ParameterRecord, Program, width_of_number,
+    CodeBlock, DataBlock, NameEntry, Names, Param, ParameterRecord, Program, area_of_number,
+    kind_of_number, width_of_number,
 };
-use plc_base::{Area, BlockId, BlockKind, NoMemory, Place};
+use plc_base::{BlockId, NoMemory, Place};
 use std::alloc::Global;
-
-fn kind_of(number: u8) -> BlockKind
-    ensures { result ≡ kind_of_number number }
-{
-    match number {
-        1 => BlockKind::Ob,
-        2 => BlockKind::Fc,
-        3 => BlockKind::Fb,
-        _ => BlockKind::Udt,
-    }
-}
-
-fn area_of(number: u8) -> Area
-    ensures { result ≡ area_of_number number }
-{
-    match number {
-        129 => Area::I,
-        130 => Area::Q,
-        _ => Area::M,
-    }
-}
 
 fn param_of(parameter: &ParameterRecord) -> Param
     ensures { result ≡ param_of parameter.now }
@@ -61,7 +41,7 @@ fn block_of(block: BlockRead) -> CodeBlock
 {
     CodeBlock {
         id: BlockId {
-            kind: kind_of(block.kind),
+            kind: kind_of_number(block.kind),
             number: block.number,
         },
         local_len: block.local_len,
@@ -88,7 +68,7 @@ fn entry_of(name: NameRead) -> NameEntry
     ensures { result ≡ entry_of_name name }
 {
     let place = Place {
-        area: area_of(name.area),
+        area: area_of_number(name.area),
         number: 0,
         byte: name.byte,
         bit: name.bit,

@@ -5,17 +5,11 @@ use Rattle.std.proofs.lemmas.List.{append-nil, drop_more}
 use Rattle.std.specs.List.{AllByRecursion, flat_map}
 use Rattle.std.specs.Option.{IfNone}
 use Rattle.plc_base.proofs.ListLemmas.{all_front, all_back}
+use Rattle.plc_base.proofs.TruthLemmas.{and_unmet, and_unmet_behind}
 use Rattle.flat_code.specs.Codes.{are_ops}
 use Rattle.flat_code.specs.Ops.{OpData, is_op}
 use Rattle.stl_codegen.specs.Compiled.{aimed_op}
 use Rattle.stl_codegen.specs.Fitting.{Added, Appended, HasNoOp}
-
-and_left : (a b : Bool) → a ≡ false → (a && b) ≡ false
-and_left a b h = ap (λ (t : Bool). t && b) h
-
-and_right : (a b : Bool) → b ≡ false → (a && b) ≡ false
-and_right true b h = h
-and_right false b h = refl
 
 and_same : (a b c : Bool) → (a && (b && c)) ≡ ((a && b) && c)
 and_same true b c = refl
@@ -29,10 +23,10 @@ are_both f (x ∷ xs) ys =
 
 -- one of the first is no op, or one of the others
 pub front_has_none : (xs ys : List OpData) → HasNoOp xs → HasNoOp (xs ++ ys)
-front_has_none xs ys h = record { never = λ f. are_both f xs ys ∙ and_left _ _ (h.never f) }
+front_has_none xs ys h = record { never = λ f. are_both f xs ys ∙ and_unmet _ _ (h.never f) }
 
 pub back_has_none : (xs ys : List OpData) → HasNoOp ys → HasNoOp (xs ++ ys)
-back_has_none xs ys h = record { never = λ f. are_both f xs ys ∙ and_right _ _ (h.never f) }
+back_has_none xs ys h = record { never = λ f. are_both f xs ys ∙ and_unmet_behind _ _ (h.never f) }
 
 -- ops behind others that were appended
 pub appended_then : (old now new xs ys : List OpData) (done : Option (Unit {0})) → now ≡ old ++ xs → Appended now new ys done → Appended old new (xs ++ ys) done

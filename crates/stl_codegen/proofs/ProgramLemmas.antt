@@ -22,11 +22,11 @@ out_of_step : {A : Type 0} (P : A → Type 0) (x y : A) (more ys : List A) (behi
 out_of_step P x y more ys true out h = let o = out h.1 in (o.0, (h.0, o.1))
 out_of_step P x y more ys false out h = h
 
-out_of : {A : Type 0} (P : A → Type 0) (before : A → A → Bool) (x : A) (ys : List A) → AllByRecursion P (inserted before x ys) → P x × AllByRecursion P ys
+pub out_of : {A : Type 0} (P : A → Type 0) (before : A → A → Bool) (x : A) (ys : List A) → AllByRecursion P (inserted before x ys) → P x × AllByRecursion P ys
 out_of P before x [] h = h
 out_of P before x (y ∷ ys) h = out_of_step P x y (inserted before x ys) ys (before y x) (out_of P before x ys) h
 
-all_before : {A : Type 0} (P : A → Type 0) (before : A → A → Bool) (xs : List A) → AllByRecursion P (sorted before xs) → AllByRecursion P xs
+pub all_before : {A : Type 0} (P : A → Type 0) (before : A → A → Bool) (xs : List A) → AllByRecursion P (sorted before xs) → AllByRecursion P xs
 unfolding sorted
 all_before P before [] h = h
 all_before P before (x ∷ xs) h = let o = out_of P before x (sorted before xs) h in (o.0, all_before P before xs o.1)

@@ -1,7 +1,7 @@
 //! The numbers of kinds, areas and widths in the records of an image.
 
 use crate::compare::same;
-use flat_code::{area_number, width_of_number};
+use flat_code::{area_number, area_of_number, kind_of_code, kind_of_number, width_of_number};
 use plc_base::{Area, BlockKind, Place, Width};
 
 #[test]
@@ -68,5 +68,42 @@ fn numbers_of_areas(rt: HostRuntime) {
             };
             same(&rt, (area, number), area_number(&place), want);
         }
+    }
+}
+
+/// A number that names none of I, Q and M gives M, also where it names another area.
+#[test]
+fn areas_of_numbers(rt: HostRuntime) {
+    for (number, area) in [
+        (0, Area::M),
+        (1, Area::M),
+        (0x80, Area::M),
+        (0x81, Area::I),
+        (0x82, Area::Q),
+        (0x83, Area::M),
+        (0x84, Area::M),
+        (0x86, Area::M),
+        (0x87, Area::M),
+        (255, Area::M),
+    ] {
+        same(&rt, number, area_of_number(number), area);
+    }
+}
+
+/// System functions have a number, but no record.
+#[test]
+fn kinds_of_numbers(rt: HostRuntime) {
+    for (number, named, of_record) in [
+        (0, None, BlockKind::Udt),
+        (1, Some(BlockKind::Ob), BlockKind::Ob),
+        (2, Some(BlockKind::Fc), BlockKind::Fc),
+        (3, Some(BlockKind::Fb), BlockKind::Fb),
+        (4, None, BlockKind::Udt),
+        (5, Some(BlockKind::Sfc), BlockKind::Udt),
+        (6, None, BlockKind::Udt),
+        (255, None, BlockKind::Udt),
+    ] {
+        same(&rt, number, kind_of_code(number), named);
+        same(&rt, number, kind_of_number(number), of_record);
     }
 }

@@ -1,9 +1,11 @@
 -- Requests, read part by part.
 use Rattle.std.proofs.Common.{◌≡◌, ◌≤◌, ◌<◌, ◌+◌, ℕ, zero, suc, List, [], ◌∷◌, ◌++◌, length, take, drop, map, min, Ok, Err, refl, sym, ap, ◌∙◌, arith, length-append}
-use Rattle.std.specs.Prelude.{IfOk, nat_le, if◌then◌else◌}
+use Rattle.std.specs.Prelude.{IfOk}
 use Rattle.std.proofs.lemmas.Bool.{le-leb, lt-leb}
 use Rattle.std.proofs.lemmas.List.{map-append, length-map}
-use Rattle.var_access.specs.Readings.{Reading, all_read, both, no_line, reading_map}
+use Rattle.var_access.specs.Readings.{Reading, all_read, both, reading_map}
+use Rattle.var_access.specs.Requests.{few_vars}
+use Rattle.var_access.specs.declared.requests.Var.{Var}
 
 -- one part more
 abbrev pub with_more : {A : Type 0} → Reading (List A) → Reading A → Reading (List A)
@@ -86,14 +88,10 @@ read_length n (Ok xs) (Err rule) is = tt
 read_length n (Err rule) (Ok x) is = tt
 read_length n (Err rule) (Err other) is = tt
 
--- at most eight parts, or none
-abbrev pub few_read : {A : Type 0} → List (Reading A) → Reading (List A)
-few_read rs = if nat_le (length rs) 8 then all_read rs else no_line
-
 -- the last part
-pub read_last : {A : Type 0} (f : List ℕ → Reading A) (parts : List (List ℕ)) (i : ℕ) (part : List ℕ) (all : Reading (List A))
+pub read_last : (f : List ℕ → Reading Var) (parts : List (List ℕ)) (i : ℕ) (part : List ℕ) (all : Reading (List Var))
     → drop i parts ≡ part ∷ [] → i < 8 → all ≡ all_read (map f (take i parts))
-    → with_more all (f part) ≡ few_read (map f parts)
+    → with_more all (f part) ≡ few_vars (map f parts)
 read_last f parts i part all at few is =
     let whole = all_taken parts i part at in
     let len : length (map f parts) ≡ suc i = length-map parts f ∙ whole.1 in
@@ -103,8 +101,8 @@ read_last f parts i part all at few is =
     ∙ sym (rw (le-leb (length (map f parts)) 8 (omega (arith, len, few))) refl)
 
 -- a ninth part
-pub read_many : {A : Type 0} (f : List ℕ → Reading A) (parts rest : List (List ℕ)) (n : ℕ) → 8 ≤ n → drop n parts ≡ rest
-    → 0 < length rest → Err 1 ≡ few_read (map f parts)
+pub read_many : (f : List ℕ → Reading Var) (parts rest : List (List ℕ)) (n : ℕ) → 8 ≤ n → drop n parts ≡ rest
+    → 0 < length rest → Err 1 ≡ few_vars (map f parts)
 read_many f parts rest n ninth at some =
     let many : n < length parts = more_left parts n (rw at some) in
     sym (rw (lt-leb (length (map f parts)) 8 (omega (arith, ninth, many, length-map parts f))) refl)

@@ -17,7 +17,8 @@ use Rattle.plc_base.specs.declared.places.Width.{Width}
 use Rattle.plc_base.specs.declared.places.Width.TheVariants.{Bit, Byte, Word, Dword}
 use Rattle.var_access.specs.Entry.{has_bit, has_variables, is_var, IsRequest}
 use Rattle.var_access.specs.Readings.{Reading, address_number, all_read, both, first_word, hex_of, is_hex, number_in, reading_map, trim, words_of}
-use Rattle.var_access.specs.Requests.{few_vars, kind_of_word, monitor_of, monitor_on, one_word, parts_from, read_of, request_by, request_line, request_of, write_of, write_to}
+use Rattle.std.proofs.lemmas.Result.{IfOk-weaker}
+use Rattle.var_access.specs.Requests.{few_vars, kind_of_word, monitor_of, monitor_on, one_word, parts_from, read_of, request_by, request_line, request_of, vars_of, write_of, write_to}
 use Rattle.var_access.specs.Variables.{Names, area_of_letters, behind_letters, bit_number, bit_value, bit_var, block_bit, block_var, closed_name, db_width_of, is_point, is_quote, letters_of, named_var, two_parts, var_at, var_of, var_of_parts, wide_in, wide_of, wide_var, width_of_letters, width_value}
 use Rattle.var_access.specs.declared.requests.Request.{Request}
 use Rattle.var_access.specs.declared.requests.Request.TheVariants.{ReadVars, WriteVar, Stop, Restart, MonitorOff, Diag}
@@ -218,10 +219,10 @@ vars-valid f each (part ∷ parts) =
     (both-valid IsVar (λ vars. (list_all is_var vars ≡ true) × (length vars ≡ length parts)) (f part) (all_read (map f parts)) (each part) (vars-valid f each parts))
 
 few-valid : (f : List ℕ → Reading Var) → ((part : List ℕ) → IfOk (f part) IsVar) → (parts : List (List ℕ)) → 0 < length parts
-    → IfOk (few_vars (map f parts)) IsRequest
+    → IfOk (few_vars (map f parts)) (λ vars. IsRequest (ReadVars vars))
 few-valid f each parts some =
-    if-valid IsRequest (nat_le (length (map f parts)) 8) _ (Err 1)
-    (λ few. map-valid ReadVars (λ vars. (list_all is_var vars ≡ true) × (length vars ≡ length parts)) IsRequest (all_read (map f parts))
+    if-valid (λ vars. IsRequest (ReadVars vars)) (nat_le (length (map f parts)) 8) _ (Err 1)
+    (λ few. IfOk-weaker (all_read (map f parts)) (λ vars. (list_all is_var vars ≡ true) × (length vars ≡ length parts)) (λ vars. IsRequest (ReadVars vars))
     (λ vars are. (omega (arith, some, are.1), omega (arith, are.1, length-map parts f, leb-true (length (map f parts)) 8 few), are.0))
     (vars-valid f each parts))
     (λ _. tt)
@@ -229,7 +230,8 @@ few-valid f each parts some =
 read-valid : (names : Names) (text : List ℕ) → IfOk (read_of names text) IsRequest
 unfolding read_of
 read-valid names text =
-    few-valid (λ part. var_of names (trim part)) (λ part. var-valid names (trim part)) (parts_from false text) (parts_some text)
+    map-valid ReadVars (λ vars. IsRequest (ReadVars vars)) IsRequest (vars_of names text) (λ vars are. are)
+    (few-valid (λ part. var_of names (trim part)) (λ part. var-valid names (trim part)) (parts_from false text) (parts_some text))
 
 kind-valid : (word : List ℕ) → IfOk (kind_of_word word) (λ kind. is_code kind ≡ true)
 unfolding kind_of_word

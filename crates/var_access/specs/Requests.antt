@@ -28,13 +28,17 @@ part_len quoted (b ∷ t) =
     if is_quote b then suc (part_len (not quoted) t)
     else if is_comma b && not quoted then 0 else suc (part_len quoted t)
 
--- a read of at most eight variables; more are not in the grammar
-abbrev pub few_vars : List (Reading Var) → Reading Request
-few_vars vars = if nat_le (length vars) 8 then reading_map ReadVars (all_read vars) else no_line
+-- at most eight variables; more are not in the grammar
+abbrev pub few_vars : List (Reading Var) → Reading (List Var)
+few_vars vars = if nat_le (length vars) 8 then all_read vars else no_line
+
+-- the variables of a read, with commas between
+abbrev pub vars_of : Names → List ℕ → Reading (List Var)
+vars_of names text = few_vars (map (λ part. var_of names (trim part)) (parts_from false text))
 
 -- `read V, V ..`
 unfoldable pub read_of : Names → List ℕ → Reading Request
-read_of names rest = few_vars (map (λ part. var_of names (trim part)) (parts_from false rest))
+read_of names rest = reading_map ReadVars (vars_of names rest)
 
 -- the value that a variable is to take; for a variable that breaks a rule it is any hexadecimal number
 abbrev pub write_to : Reading Var → List ℕ → Reading Request

@@ -1,11 +1,10 @@
 //! Requests as texts spell them.
-ghost use Rattle.std.specs.Prelude.{◌≡◌, ◌==◌, ◌∷◌, ◌++◌, ◌≤◌, ◌<◌, [], map, length, take, drop, codes, bytes_eq, false, nat_le, Ok, if◌then◌else◌, IfOk, IfErr, IfSome, MatchOption};
+ghost use Rattle.std.specs.Prelude.{◌≡◌, ◌∷◌, ◌++◌, ◌≤◌, ◌<◌, [], length, false, IfOk, MatchOption};
 ghost use Rattle.flat_code.specs.Names.{find};
 ghost use Rattle.var_access.specs.Entry.{IsRequest};
-ghost use Rattle.var_access.specs.Readings.{all_read, both as both_of, no_line, reading_map, trim as trim_of, words_of};
+ghost use Rattle.var_access.specs.Readings.{both as both_of, reading_map, words_of};
 ghost use Rattle.var_access.specs.RequestFault.{request_or_fault};
-ghost use Rattle.var_access.specs.Requests.{few_vars, kind_of_word, monitor_of, monitor_on, one_word, part_len, parts_from, read_of, request_line, request_of, write_of, write_to};
-ghost use Rattle.var_access.specs.Variables.{var_of as var_of_text};
+ghost use Rattle.var_access.specs.Requests.{kind_of_word, monitor_of, monitor_on, one_word, part_len, parts_from, read_of, request_line, request_of, vars_of, write_of, write_to};
 
 use crate::readings::{address_number, both, first_word, is_hex, last_word, trim};
 use crate::requests::{MOST_VARS, Request, Var, Vars};
@@ -68,8 +67,7 @@ fn with_var(vars: Result<Vars, u16>, var: Result<Var, u16>) -> Result<Vars, u16>
 
 /// The variables of a read, with commas between.
 fn read_vars(names: &Names, text: &[u8]) -> Result<Vars, u16>
-    ensures { let vars = map (λ part. var_of_text (find names.now) (trim_of part)) (parts_from false text.now) in
-        result ≡ (if nat_le (length vars) 8 then all_read vars else no_line) }
+    ensures { result ≡ vars_of (find names.now) text.now }
 {
     let mut vars = Ok(Vars::new());
     let mut left = text;

@@ -1,6 +1,6 @@
-use Rattle.std.proofs.Common.{true, arith, length, sym}
+use Rattle.std.proofs.Common.{arith, sym}
 use Rattle.std.proofs.lemmas.Bool.{ne_eqb, eq-eqb}
-use Rattle.image_file.proofs.CodeLemmas.{read_starts, read_goes, read_65th, read_bad, read_open, read_whole}
+use Rattle.image_file.proofs.CodeLemmas.{read_goes, read_65th, read_bad}
 use Rattle.image_file.proofs.codes.ops_in.Goals as goal
 
 pub loop-found-preserved : goal.loop-found-preserved

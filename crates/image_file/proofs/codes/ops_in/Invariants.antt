@@ -1,6 +1,5 @@
 use Rattle.std.proofs.Common.{◌-◌, ◌≤◌, length}
 use Rattle.image_file.specs.Walking.{HasRead}
-use Rattle.image_file.proofs.CodeLemmas.{read_starts}
 use Rattle.image_file.proofs.codes.ops_in.Given as goal
 
 abbrev pub invariant-loop-found : goal.invariant-loop-found

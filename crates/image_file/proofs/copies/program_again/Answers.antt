@@ -1,4 +1,4 @@
-use Rattle.std.proofs.Common.{◌≡◌, true, List, [], ap, sym, subst, ◌∙◌}
+use Rattle.std.proofs.Common.{◌≡◌, true, List, [], sym, subst, ◌∙◌}
 use Rattle.flat_code.specs.Names.{names_rise}
 use Rattle.flat_code.specs.Programs.{NameEntry}
 use Rattle.flat_code.proofs.ProgramLemmas.{names_of_program}

@@ -1,5 +1,4 @@
 use Rattle.std.proofs.Common.{true}
-use Rattle.flat_code.specs.Loading.{Gives}
 use Rattle.image_file.proofs.ImageLemmas.{image_again, image_one, image_takes}
 use Rattle.image_file.proofs.laws.one_program.Goals as goal
 

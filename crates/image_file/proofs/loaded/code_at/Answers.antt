@@ -1,4 +1,4 @@
-use Rattle.std.proofs.Common.{◌≡◌, Option, Some, arith, ap, sym, ◌∙◌}
+use Rattle.std.proofs.Common.{Some, arith, ap, sym, ◌∙◌}
 use Rattle.std.proofs.lemmas.Option.{slice_get-get_or}
 use Rattle.flat_code.specs.Programs.{CodeBlock}
 use Rattle.image_file.proofs.SeatLemmas.{seated_at, seated_count}

@@ -1,10 +1,9 @@
 use Rattle.std.proofs.Common.{◌≡◌, ℕ, List, [], map, Option, Some, None, Vec, Global, refl, ap, subst, ◌∙◌}
 use Rattle.std.specs.Option.{option_map}
 use Rattle.flat_code.specs.declared.programs.DataBlock.{DataBlock as Block}
-use Rattle.flat_code.specs.Records.{BlockRecord, NameRecord}
+use Rattle.flat_code.specs.Records.{NameRecord}
 use Rattle.flat_code.specs.Image.{read_image}
 use Rattle.flat_code.specs.Loading.{lens_of, blocks_of, judged_blocks}
-use Rattle.image_file.specs.declared.records.NameRead.{NameRead}
 use Rattle.image_file.specs.declared.records.Started.{Started}
 use Rattle.image_file.specs.declared.reader.Reader.{Reader}
 use Rattle.image_file.specs.Least.{with_faults}

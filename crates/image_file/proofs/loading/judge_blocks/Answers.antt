@@ -1,5 +1,4 @@
-use Rattle.std.proofs.Common.{◌∙◌, map, ◌≡◌}
-use Rattle.std.specs.Option.{option_map}
+use Rattle.std.proofs.Common.{◌∙◌, map}
 use Rattle.flat_code.specs.Loading.{blocks_of}
 use Rattle.image_file.specs.Running.{started}
 use Rattle.image_file.proofs.LoadLemmas.{judged_next, judged_done}

@@ -1,17 +1,13 @@
 use Rattle.std.proofs.Common.{◌≡◌, ℕ, List, [], map, Option, Some, None, sym, ap, subst, ◌∙◌, arith}
 use Rattle.std.specs.Option.{option_map}
-use Rattle.flat_code.specs.Programs.{DataBlock, Program}
+use Rattle.flat_code.specs.Programs.{DataBlock}
 use Rattle.flat_code.specs.Records.{NameRecord}
-use Rattle.flat_code.specs.Loading.{faults_of, Gives, Verifies}
-use Rattle.flat_code.proofs.CodingLemmas.{IsBytes}
-use Rattle.image_file.specs.declared.faults.LoadFault.{LoadFault}
+use Rattle.flat_code.specs.Loading.{faults_of, Verifies}
 use Rattle.image_file.specs.declared.loading.Judged.{Judged}
 use Rattle.image_file.specs.Least.{with_faults}
-use Rattle.image_file.specs.Refusing.{IsRefusedBy}
 use Rattle.image_file.specs.Running.{started, HasFound}
-use Rattle.image_file.specs.Typing.{program_from}
 use Rattle.image_file.proofs.LeastLemmas.{kept_is_least}
-use Rattle.image_file.proofs.LoadLemmas.{Loads, none_left, never_ends, has_datas, loads}
+use Rattle.image_file.proofs.LoadLemmas.{none_left, never_ends, has_datas, loads}
 use Rattle.image_file.proofs.loading.load.Goals as goal
 
 abbrev Found : List ℕ → Judged → Type 0

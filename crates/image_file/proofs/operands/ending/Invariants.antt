@@ -1,4 +1,4 @@
-use Rattle.std.proofs.Common.{◌≡◌, drop, None}
+use Rattle.std.proofs.Common.{◌≡◌, drop}
 use Rattle.flat_code.specs.Placed.{ending}
 use Rattle.image_file.proofs.operands.ending.Given as goal
 

@@ -1,4 +1,4 @@
-use Rattle.std.proofs.Common.{◌≡◌, drop, None}
+use Rattle.std.proofs.Common.{◌≡◌, drop}
 use Rattle.flat_code.specs.Blocks.{is_passed}
 use Rattle.image_file.proofs.operands.is_passed.Given as goal
 

@@ -1,8 +1,6 @@
-use Rattle.std.proofs.Common.{arith, ◌≡◌, ◌∙◌, ap, length, List, drop, ◌+◌, ℕ, ◌-◌, sym}
+use Rattle.std.proofs.Common.{arith, ◌∙◌, ap, drop, ◌+◌, ℕ, ◌-◌, sym}
 use Rattle.std.proofs.lemmas.Bool.{ne_eqb}
 use Rattle.plc_base.proofs.ListLemmas.{drop_next}
-use Rattle.flat_code.specs.Ops.{OpData}
-use Rattle.flat_code.specs.Codes.{size, code_bytes}
 use Rattle.flat_code.specs.Blocks.{leads}
 use Rattle.image_file.proofs.JudgeLemmas.{leads_step, left_next, here_fits}
 use Rattle.image_file.proofs.operands.leads.Goals as goal

@@ -1,7 +1,7 @@
-use Rattle.std.proofs.Common.{arith, ◌≡◌, ◌∙◌, sym, ap, subst, ◌+◌, ◌++◌, true, cond, drop, ℕ, Bool}
+use Rattle.std.proofs.Common.{arith, ◌≡◌, ◌∙◌, ap, subst, ◌+◌, ◌++◌, cond, drop, Bool}
 use Rattle.image_file.specs.Seats.{seats_of}
 use Rattle.image_file.proofs.JudgeLemmas.{here_fits, left_next}
-use Rattle.image_file.proofs.SeatLemmas.{seats_next, seats_done}
+use Rattle.image_file.proofs.SeatLemmas.{seats_next}
 use Rattle.image_file.proofs.seats.seats_of.Goals as goal
 
 pub overflow_add-next : goal.overflow_add-next

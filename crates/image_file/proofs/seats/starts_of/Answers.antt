@@ -1,6 +1,6 @@
-use Rattle.std.proofs.Common.{arith, ◌∙◌, sym, ap, ◌+◌, ℕ}
+use Rattle.std.proofs.Common.{arith, ◌∙◌, ap, ◌+◌}
 use Rattle.image_file.proofs.JudgeLemmas.{here_fits, left_next}
-use Rattle.image_file.proofs.SeatLemmas.{starts_next, starts_done}
+use Rattle.image_file.proofs.SeatLemmas.{starts_next}
 use Rattle.image_file.proofs.seats.starts_of.Goals as goal
 
 pub overflow_add-at : goal.overflow_add-at

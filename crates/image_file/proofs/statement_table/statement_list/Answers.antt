@@ -1,7 +1,5 @@
-use Rattle.std.proofs.Common.{arith, ◌∙◌, ap, ◌+◌, ℕ, cond, ◌++◌, ◌∷◌, [], List, refl, ◌≡◌}
-use Rattle.flat_code.specs.declared.image_fields.OpenBracket.{OpenBracket}
-use Rattle.flat_code.specs.Placed.{Spot, few, spots_from}
-use Rattle.image_file.proofs.JudgeLemmas.{here_fits, left_next, spots_next, spots_done}
+use Rattle.std.proofs.Common.{arith, ◌∙◌, ap, ◌+◌, ℕ}
+use Rattle.image_file.proofs.JudgeLemmas.{here_fits, left_next, spots_next}
 use Rattle.image_file.proofs.statement_table.statement_list.Goals as goal
 
 pub overflow_add-at : goal.overflow_add-at

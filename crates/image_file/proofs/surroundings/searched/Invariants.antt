@@ -1,4 +1,4 @@
-use Rattle.std.proofs.Common.{◌≡◌, drop, None}
+use Rattle.std.proofs.Common.{◌≡◌, drop}
 use Rattle.flat_code.specs.Blocks.{block_with}
 use Rattle.image_file.proofs.surroundings.searched.Given as goal
 

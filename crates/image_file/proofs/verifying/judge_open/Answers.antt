@@ -1,4 +1,4 @@
-use Rattle.std.proofs.Common.{arith, ◌∙◌, get_or, length}
+use Rattle.std.proofs.Common.{arith, ◌∙◌}
 use Rattle.image_file.proofs.JudgeLemmas.{up_to_at, open_faults_next, open_faults_done}
 use Rattle.image_file.proofs.verifying.judge_open.Goals as goal
 

@@ -1,5 +1,5 @@
-use Rattle.std.proofs.Common.{arith, ◌∙◌, ap, ◌+◌, ◌≤◌, ℕ, length, drop, get_or, refl, List}
-use Rattle.flat_code.specs.Codes.{size, code_bytes}
+use Rattle.std.proofs.Common.{arith, ◌∙◌, ap, ◌+◌, ℕ, length, drop, refl, List}
+use Rattle.flat_code.specs.Codes.{code_bytes}
 use Rattle.flat_code.specs.Ops.{OpData}
 use Rattle.flat_code.specs.declared.image_fields.OpenBracket.{OpenBracket}
 use Rattle.flat_code.specs.Blocks.{open_faults}

@@ -1,6 +1,6 @@
-use Rattle.std.proofs.Common.{◌≡◌, ◌+◌, ◌++◌, length, drop, []}
+use Rattle.std.proofs.Common.{◌≡◌, ◌+◌, length, drop, []}
 use Rattle.flat_code.specs.Codes.{code_bytes}
-use Rattle.flat_code.specs.Placed.{spots, placed, places, open_behind}
+use Rattle.flat_code.specs.Placed.{placed, places, open_behind}
 use Rattle.flat_code.specs.Blocks.{faults_over}
 use Rattle.image_file.specs.Least.{with_faults}
 use Rattle.image_file.specs.Judging.{AllUpTo, around_of}

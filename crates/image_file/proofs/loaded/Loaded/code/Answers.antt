@@ -1,5 +1,4 @@
-use Rattle.std.proofs.Common.{◌≡◌, ◌∙◌, sym, ap, option_and_then, option_map, slice_get, get_or, List, ℕ, Option, Some}
-use Rattle.flat_code.specs.Programs.{CodeBlock}
+use Rattle.std.proofs.Common.{◌≡◌, ◌∙◌, sym, ap, option_and_then, option_map, slice_get, get_or, List, ℕ, Option}
 use Rattle.image_file.specs.Loaded.{LoadedProgram}
 use Rattle.image_file.specs.Readers.{block_of}
 use Rattle.image_file.specs.Seats.{slot_of}

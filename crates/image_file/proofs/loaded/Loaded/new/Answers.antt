@@ -1,4 +1,4 @@
-use Rattle.std.proofs.Common.{◌≡◌, ◌≤◌, ◌∙◌, ◌++◌, length, map, List, arith, ap, sym, subst}
+use Rattle.std.proofs.Common.{◌∙◌, ◌++◌, length, map, List, arith, ap, sym, subst}
 use Rattle.flat_code.specs.Programs.{CodeBlock, DataBlock, Program}
 use Rattle.image_file.specs.Readers.{data_id}
 use Rattle.image_file.specs.Seats.{AreSmall, HaveSlots, AreSeated, FindsBlocks}

@@ -1,4 +1,4 @@
-use Rattle.std.proofs.Common.{◌≡◌, ℕ, List, Option, Some, None, option_and_then, slice_get, true, ap, sym, ◌∙◌}
+use Rattle.std.proofs.Common.{ℕ, List, Option, option_and_then, slice_get, true, ap, sym, ◌∙◌}
 use Rattle.flat_code.specs.Placed.{line_placed}
 use Rattle.flat_code.specs.Programs.{CodeBlock}
 use Rattle.image_file.specs.declared.seats.Seat.{Seat}

@@ -1,4 +1,4 @@
-use Rattle.std.proofs.Common.{◌≡◌, ℕ, List, Option, Some, None, option_map, option_and_then, slice_get, true, ap, sym, ◌∙◌}
+use Rattle.std.proofs.Common.{ℕ, List, Option, option_map, option_and_then, slice_get, ap, sym, ◌∙◌}
 use Rattle.std.specs.Borrow.{Bor}
 use Rattle.flat_code.specs.declared.ops.Op.{Op}
 use Rattle.flat_code.specs.Ops.{OpData}

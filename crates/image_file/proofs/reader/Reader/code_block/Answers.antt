@@ -1,4 +1,4 @@
-use Rattle.std.proofs.Common.{refl, ◌+◌, ◌*◌, length, ap}
+use Rattle.std.proofs.Common.{refl, ◌+◌, ◌*◌, length}
 use Rattle.std.proofs.lemmas.Result.{err_from_is_err_and}
 use Rattle.flat_code.specs.Records.{BlockRecord}
 use Rattle.image_file.specs.Running.{place_of, log_of}

@@ -1,8 +1,7 @@
-use Rattle.std.proofs.Common.{true, ◌≡◌, ◌++◌, ◌∷◌, [], ◌∙◌, arith, refl}
+use Rattle.std.proofs.Common.{true, ◌++◌, ◌∷◌, [], ◌∙◌, refl}
 use Rattle.std.proofs.lemmas.Result.{err_from_is_err_and}
-use Rattle.flat_code.specs.Layout.{many}
 use Rattle.flat_code.specs.Image.{code_block, code_blocks, after_block}
-use Rattle.image_file.specs.Running.{run, place_of, log_of}
+use Rattle.image_file.specs.Running.{place_of, log_of}
 use Rattle.image_file.proofs.RunLemmas.{more_starts, more_goes, more_done, blocks_stop}
 use Rattle.image_file.proofs.reader.Reader.code_blocks.Goals as goal
 

@@ -1,8 +1,8 @@
-use Rattle.std.proofs.Common.{true, ◌≡◌, ℕ, length, refl, sym, ap, subst, ◌∙◌, arith, Vec, Global}
+use Rattle.std.proofs.Common.{◌≡◌, length, sym, ap, subst, ◌∙◌, arith, Vec, Global}
 use Rattle.std.proofs.lemmas.Result.{err_from_is_err_and}
 use Rattle.flat_code.specs.Programs.{Program}
 use Rattle.image_file.specs.declared.records.NameRead.{NameRead}
-use Rattle.image_file.specs.Running.{Log, Ran, Stops, run, ran_read, place_of, log_of, front_values, SeesImage}
+use Rattle.image_file.specs.Running.{Log, Ran, Stops, place_of, log_of, front_values, SeesImage}
 use Rattle.image_file.proofs.WholeRunLemmas.{front_stops, cut_image, small_total, far_total, great_total}
 use Rattle.image_file.proofs.reader.Reader.image.Goals as goal
 

@@ -1,8 +1,7 @@
-use Rattle.std.proofs.Common.{true, ◌≡◌, ◌++◌, ◌∷◌, [], ◌∙◌, arith}
+use Rattle.std.proofs.Common.{true, ◌∙◌}
 use Rattle.std.proofs.lemmas.Result.{err_from_is_err_and}
-use Rattle.flat_code.specs.Layout.{many}
 use Rattle.flat_code.specs.Image.{line_field, line_after}
-use Rattle.image_file.specs.Running.{run, place_of, log_of}
+use Rattle.image_file.specs.Running.{place_of, log_of}
 use Rattle.image_file.proofs.RunLemmas.{more_goes, more_stops, more_done}
 use Rattle.image_file.proofs.reader.Reader.lines.Goals as goal
 

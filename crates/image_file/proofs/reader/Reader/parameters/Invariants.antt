@@ -1,4 +1,4 @@
-use Rattle.std.proofs.Common.{true, ◌≡◌, ◌≤◌, ◌+◌, ◌*◌, ◌-◌, length, vec_len}
+use Rattle.std.proofs.Common.{◌≡◌, ◌+◌, ◌*◌, ◌-◌, length, vec_len}
 use Rattle.flat_code.specs.Layout.{many}
 use Rattle.flat_code.specs.Image.{parameter, same_state}
 use Rattle.image_file.specs.Running.{run, place_of, log_of, with_front}

@@ -1,12 +1,11 @@
-use Rattle.std.proofs.Common.{true, ◌≡◌, ◌++◌, ◌∷◌, [], ◌∙◌, arith, refl, List, ap, ◌+◌, ℕ}
+use Rattle.std.proofs.Common.{◌∙◌, arith}
 use Rattle.std.proofs.lemmas.Result.{err_from_is_err_and}
 use Rattle.std.proofs.Common.{Vec, Global}
 use Rattle.flat_code.specs.declared.programs.DataBlock.{DataBlock as Block}
 use Rattle.flat_code.specs.Programs.{DataBlock}
-use Rattle.flat_code.specs.Layout.{many}
 use Rattle.flat_code.specs.Image.{data_block, after_data}
-use Rattle.image_file.specs.Running.{run, place_of, log_of}
-use Rattle.image_file.proofs.RunLemmas.{more_starts, more_goes, more_done, sees_stops}
+use Rattle.image_file.specs.Running.{place_of, log_of}
+use Rattle.image_file.proofs.RunLemmas.{more_goes, more_done, sees_stops}
 use Rattle.image_file.proofs.reader.Reader.plain_data_blocks.Goals as goal
 
 pub returns-in_err-block-clause-read : goal.returns-in_err-block-clause-read

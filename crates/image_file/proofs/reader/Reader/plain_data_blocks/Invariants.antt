@@ -1,4 +1,4 @@
-use Rattle.std.proofs.Common.{true, ◌≡◌, ◌≤◌, ◌+◌, ◌*◌, ◌-◌, length}
+use Rattle.std.proofs.Common.{◌≡◌, ◌≤◌, ◌+◌, ◌*◌, ◌-◌, length}
 use Rattle.flat_code.specs.Layout.{many}
 use Rattle.flat_code.specs.Image.{data_block, after_data}
 use Rattle.image_file.specs.Running.{run, place_of, log_of, with_front}

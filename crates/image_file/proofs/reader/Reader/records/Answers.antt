@@ -1,7 +1,7 @@
-use Rattle.std.proofs.Common.{true, ◌≡◌, refl, Vec, Global}
+use Rattle.std.proofs.Common.{refl, Vec, Global}
 use Rattle.image_file.specs.declared.records.NameRead.{NameRead}
 use Rattle.std.proofs.lemmas.Result.{err_from_is_err_and}
-use Rattle.image_file.specs.Running.{run, place_of, log_of, counts_values}
+use Rattle.image_file.specs.Running.{place_of, log_of, counts_values}
 use Rattle.image_file.proofs.WholeRunLemmas.{counts_stop, codes_stop, datas_stop, names_stop, records_go}
 use Rattle.image_file.proofs.reader.Reader.records.Goals as goal
 

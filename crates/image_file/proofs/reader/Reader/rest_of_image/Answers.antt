@@ -1,8 +1,8 @@
-use Rattle.std.proofs.Common.{true, ◌≡◌, ℕ, List, ◌-◌, not, eqb, length, take, refl, ap, ◌∙◌, Vec, Global}
+use Rattle.std.proofs.Common.{◌≡◌, ℕ, List, ◌-◌, not, eqb, take, refl, ap, Vec, Global}
 use Rattle.std.proofs.lemmas.Result.{err_from_is_err_and}
 use Rattle.flat_code.specs.Layout.{Cursor}
 use Rattle.image_file.specs.declared.records.NameRead.{NameRead}
-use Rattle.image_file.specs.Running.{run, place_of, log_of}
+use Rattle.image_file.specs.Running.{place_of, log_of}
 use Rattle.image_file.proofs.WholeRunLemmas.{rest_stops, rest_goes}
 use Rattle.image_file.proofs.reader.Reader.rest_of_image.Goals as goal
 

@@ -1,0 +1,116 @@
+-- The parts of an image's records: without fault where the records are.
+use Rattle.std.proofs.Common.{◌≡◌, ℕ, zero, suc, ◌<◌, ◌≤◌, Bool, true, false, eqb, ltb, leb, not, ◌&&◌, ◌||◌, List, [], ◌∷◌, map, refl}
+use Rattle.std.proofs.lemmas.Bool.{and_parts, ltb-true, leb-true}
+use Rattle.std.specs.List.{AllByRecursion}
+use Rattle.flat_code.specs.Codes.{code_of}
+use Rattle.flat_code.specs.Faults.{fault_of, unless}
+use Rattle.flat_code.specs.Image.{Head, RawBlock, after_block, block_number, code_and_lines, code_block, code_blocks, code_len_in, head, instance_bytes, instance_in, kind_field, lines_of, local_bytes, parameter_count, parameters, params_in, plain_u16, plain_u32, raw_block, record_of_block, statements_in, zero_u16}
+use Rattle.flat_code.specs.Layout.{Layout, chain, good_many, is_fine}
+use Rattle.flat_code.specs.declared.image_fields.ParameterRecord.{ParameterRecord}
+use Rattle.flat_code.specs.Ops.{OpData}
+use Rattle.flat_code.specs.Programs.{CodeBlock}
+
+pub unless_fine : (b : Bool) (code : ℕ) → is_fine (unless b code) ≡ true → b ≡ true
+unless_fine true code h = refl
+unless_fine false code h = absurd cc
+
+pub chain_parts : {A B : Type 0} (l : Layout A) (m : A → Layout B) (x : A × B) → (chain l m).good x ≡ true → (l.good x.0 ≡ true) × ((m x.0).good x.1 ≡ true)
+chain_parts l m x h = and_parts (l.good x.0) ((m x.0).good x.1) h
+
+-- what holds of each record without fault holds of all of a list without fault
+pub all_of_many : {S A B : Type 0} (l : S → Layout A) (next : S → A → S) (record_of : B → A) (P : B → Type 0)
+    → ((s : S) (y : B) → (l s).good (record_of y) ≡ true → P y)
+    → (s : S) (n : ℕ) (ys : List B) → good_many l next s n (map record_of ys) ≡ true → AllByRecursion P ys
+all_of_many l next record_of P each s n [] h = tt
+all_of_many l next record_of P each s zero (y ∷ ys) h = absurd cc
+all_of_many l next record_of P each s (suc n) (y ∷ ys) h =
+    let g = and_parts ((l s).good (record_of y)) (good_many l next (next s (record_of y)) n (map record_of ys)) h in
+    (each s y g.0, all_of_many l next record_of P each (next s (record_of y)) n ys g.1)
+
+pub word_fits : (n : ℕ) → plain_u16.good n ≡ true → n < 65536
+unfolding plain_u16
+word_fits n good = ltb-true n 65536 (and_parts (ltb n 65536) true good).0
+
+pub dword_fits : (n : ℕ) → plain_u32.good n ≡ true → n < 4294967296
+unfolding plain_u32
+dword_fits n good = ltb-true n 4294967296 (and_parts (ltb n 4294967296) true good).0
+
+-- ---- the head of a code block, from each of its fields on
+
+abbrev pub from_size : Layout ℕ
+from_size = plain_u32
+
+abbrev pub from_zero : Layout (ℕ × ℕ)
+from_zero = chain zero_u16 (λ zero. from_size)
+
+abbrev pub from_statements : Layout (ℕ × (ℕ × ℕ))
+from_statements = chain plain_u16 (λ statements. from_zero)
+
+abbrev pub from_instance : ℕ → Layout (ℕ × (ℕ × (ℕ × ℕ)))
+from_instance kind = chain (instance_bytes kind) (λ instance. from_statements)
+
+abbrev pub from_locals : ℕ → Layout (ℕ × (ℕ × (ℕ × (ℕ × ℕ))))
+from_locals kind = chain (local_bytes kind) (λ locals. from_instance kind)
+
+abbrev pub from_number : ℕ × ℕ → ℕ → Layout (ℕ × (ℕ × (ℕ × (ℕ × (ℕ × ℕ)))))
+from_number before kind = chain (block_number before.0 before.1 kind) (λ number. from_locals kind)
+
+abbrev pub from_params : ℕ × ℕ → ℕ → Layout (ℕ × (ℕ × (ℕ × (ℕ × (ℕ × (ℕ × ℕ))))))
+from_params before kind = chain (parameter_count kind) (λ params. from_number before kind)
+
+-- the fields of a head without fault
+pub record HeadParts (before : ℕ × ℕ) (h : Head) : Type 0 where
+  pub kind_good : (kind_field before.0).good h.0 ≡ true
+  pub params_good : (parameter_count h.0).good (params_in h) ≡ true
+  pub number_good : (block_number before.0 before.1 h.0).good h.1.1.0 ≡ true
+  pub locals_good : (local_bytes h.0).good h.1.1.1.0 ≡ true
+  pub instance_good : (instance_bytes h.0).good (instance_in h) ≡ true
+  pub statements_good : plain_u16.good (statements_in h) ≡ true
+  pub zero_good : zero_u16.good h.1.1.1.1.1.1.0 ≡ true
+  pub size_good : plain_u32.good (code_len_in h) ≡ true
+
+pub head_parts : (before : ℕ × ℕ) (h : Head) → (head before).good h ≡ true → HeadParts before h
+unfolding head
+head_parts before h good =
+    let a = chain_parts (kind_field before.0) (from_params before) h good in
+    let b = chain_parts (parameter_count h.0) (λ params. from_number before h.0) h.1 a.1 in
+    let c = chain_parts (block_number before.0 before.1 h.0) (λ number. from_locals h.0) h.1.1 b.1 in
+    let d = chain_parts (local_bytes h.0) (λ locals. from_instance h.0) h.1.1.1 c.1 in
+    let e = chain_parts (instance_bytes h.0) (λ instance. from_statements) h.1.1.1.1 d.1 in
+    let f = chain_parts plain_u16 (λ statements. from_zero) h.1.1.1.1.1 e.1 in
+    let g = chain_parts zero_u16 (λ zero. from_size) h.1.1.1.1.1.1 f.1 in
+    record { kind_good = a.0; params_good = b.0; number_good = c.0; locals_good = d.0; instance_good = e.0; statements_good = f.0; zero_good = g.0; size_good = g.1 }
+
+-- a block has at most 60 parameters
+pub head_params : (before : ℕ × ℕ) (h : Head) → (head before).good h ≡ true → params_in h ≤ 60
+unfolding parameter_count fault_of
+head_params before h good =
+    let test = leb h.1.0 60 && (not (eqb h.0 1) || eqb h.1.0 0) in
+    let c = and_parts (ltb h.1.0 256) (is_fine (unless test 4)) (head_parts before h good).params_good in
+    leb-true h.1.0 60 (and_parts (leb h.1.0 60) (not (eqb h.0 1) || eqb h.1.0 0) (unless_fine test 4 c.1)).0
+
+-- ---- a code block
+
+abbrev pub behind_head : Bool → ℕ → Head → Layout (List ParameterRecord × (List OpData × List ℕ))
+behind_head judged start h = chain (parameters h) (λ params. code_and_lines judged start h)
+
+-- the parts of a block without fault
+pub record BlockParts (judged : Bool) (before : ℕ × ℕ) (start : ℕ) (x : RawBlock) : Type 0 where
+  pub head_good : (head before).good x.0 ≡ true
+  pub params_good : (parameters x.0).good x.1.0 ≡ true
+  pub code_good : (code_of judged (code_len_in x.0)).good x.1.1.0 ≡ true
+  pub lines_good : (lines_of judged start x.0 x.1.1.0).good x.1.1.1 ≡ true
+
+pub block_parts : (judged : Bool) (before : ℕ × ℕ) (start : ℕ) (x : RawBlock) → (raw_block judged before start).good x ≡ true → BlockParts judged before start x
+unfolding raw_block code_and_lines
+block_parts judged before start x good =
+    let a = chain_parts (head before) (behind_head judged start) x good in
+    let b = chain_parts (parameters x.0) (λ params. code_and_lines judged start x.0) x.1 a.1 in
+    let c = chain_parts (code_of judged (code_len_in x.0)) (lines_of judged start x.0) x.1.1 b.1 in
+    record { head_good = a.0; params_good = b.0; code_good = c.0; lines_good = c.1 }
+
+-- what holds of each code block without fault holds of all of a program
+pub all_of_blocks : (judged : Bool) (P : CodeBlock → Type 0) → ((s : ℕ × ℕ) (b : CodeBlock) → (code_block judged s).good (record_of_block b) ≡ true → P b)
+    → (n : ℕ) (bs : List CodeBlock) → (code_blocks judged n).good (map record_of_block bs) ≡ true → AllByRecursion P bs
+unfolding code_blocks
+all_of_blocks judged P each n bs good = all_of_many (code_block judged) after_block record_of_block P each (0, 0) n bs good
