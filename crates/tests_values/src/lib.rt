@@ -19,6 +19,8 @@ mod number_formats;
 #[cfg(test)]
 mod number_instructions;
 #[cfg(test)]
+mod numbered_programs;
+#[cfg(test)]
 mod requests;
 #[cfg(test)]
 mod runs;

@@ -1,0 +1,16 @@
+-- Numbers drawn one behind the other, by a linear congruence.
+use Rattle.std.specs.Prelude.{ℕ, zero, suc, ◌+◌, ◌*◌, ◌/◌, ◌%◌, ◌^◌, List, [], ◌∷◌}
+use Rattle.std.specs.Fn.{iterate}
+
+-- the state that a draw leaves
+abbrev pub next_state : ℕ → ℕ
+next_state x = (1103515245 * x + 12345) % 2 ^ 31
+
+-- the state that so many draws leave
+unfoldable pub state_behind : (count x : ℕ) → ℕ
+state_behind count x = iterate next_state count x
+
+-- so many draws from a state on: each gives the state that it leaves without its lowest 16 bits
+unfoldable pub draws : (count x : ℕ) → List ℕ
+draws zero x = []
+draws (suc count) x = next_state x / 65536 ∷ draws count (next_state x)
