@@ -100,11 +100,10 @@ fn add_event(controller: &mut Controller, entry: &Entry, text: &mut Vec<u8>) -> 
         (next_happens controller.old entry.now).seen) }
 {
     controller.enter(entry);
-    let seen = controller.observed();
-    if is_silent(seen) {
+    if is_silent(controller.observed()) {
         return Ok(());
     }
-    add_shown(controller.history_len(), seen, text)
+    add_shown(controller.history_len(), controller.observed(), text)
 }
 
 /// Applies an entry, and appends its lines.
