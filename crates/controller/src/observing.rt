@@ -126,6 +126,39 @@ fn changed_mode(before: Mode, after: Mode) -> Option<Mode>
     }
 }
 
+// Nothing in a place, which mostly holds nothing: it is written only where it does.
+fn clear<T: Drop>(shown: &mut Option<T>)
+    ensures { shown.new ≡ None }
+{
+    if shown.is_some() {
+        *shown = None;
+    }
+}
+
+// The record of an entry in place of the one before.
+fn show_record(shown: &mut Option<MonRecord>, mon: Option<MonRecord>)
+    ensures { shown.new ≡ mon }
+{
+    match mon {
+        None => clear(shown),
+        Some(record) => *shown = Some(record),
+    }
+}
+
+// The mode after an entry in place of the one before, and that it changed.
+fn show_mode(kept: &mut Mode, shown: &mut Option<Mode>, now: &Mode)
+    ensures kept { kept.new ≡ now.now }
+    ensures shown { shown.new ≡ mode_changed kept.old now.now }
+{
+    match (&*kept, now) {
+        (Mode::Run, Mode::Run) | (Mode::Startup, Mode::Startup) => clear(shown),
+        _ => {
+            *shown = changed_mode(*kept, *now);
+            *kept = *now;
+        }
+    }
+}
+
 impl Observer {
     /// Nothing was shown yet.
     #[tactic(auto, using(crate::proofs::ObservingLemmas::outputs_have_parts))]
@@ -155,18 +188,17 @@ impl Observer {
             &mut self.seen.outputs,
             cpu.memory.outputs(),
         );
-        self.seen.mon = mon;
-        self.seen.mode = changed_mode(self.mode, cpu.mode);
-        self.mode = cpu.mode;
+        show_record(&mut self.seen.mon, mon);
+        show_mode(&mut self.mode, &mut self.seen.mode, &cpu.mode);
     }
 
     /// An entry has shown nothing.
     pub fn pass(&mut self)
         ensures { self.new ≡ record self.old { seen = nothing_shown } }
     {
-        self.seen.mon = None;
+        clear(&mut self.seen.mon);
         self.seen.outputs.clear();
-        self.seen.mode = None;
+        clear(&mut self.seen.mode);
     }
 
     /// What the last entry showed.

@@ -146,16 +146,17 @@ count-each names [] = refl
 count-each names (v ∷ vs) = ap (λ n. suc n) (count-each names vs)
 
 few-read : (names : Names) (vs : List Var) → length vs ≤ 8 → AreAddresses vs
-    → few_vars (map (λ part. var_of names (trim part)) (map spaced vs)) ≡ Ok (ReadVars vs)
+    → few_vars (map (λ part. var_of names (trim part)) (map spaced vs)) ≡ Ok vs
 few-read names vs few h =
     let le : nat_le (length (map (λ part. var_of names (trim part)) (map spaced vs))) 8 ≡ true = ap (λ n. nat_le n 8) (count-each names vs) ∙ grind (arith, nat_tests) in
-    rw le (ap (λ r. reading_map (λ xs. ReadVars xs) r) (read-each names vs h))
+    rw le (read-each names vs h)
 
 pub read-read : (names : Names) (vs : List Var) → 1 ≤ length vs → length vs ≤ 8 → AreAddresses vs → read_of names (32 ∷ vars_text vs) ≡ Ok (ReadVars vs)
 unfolding read_of
 read-read names [] some few h = absurd (omega arith)
 read-read names (v ∷ vs) some few h =
-    ap (λ ps. few_vars (map (λ part. var_of names (trim part)) ps)) (parts-of v vs h) ∙ few-read names (v ∷ vs) few h
+    ap (λ ps. reading_map (λ xs. ReadVars xs) (few_vars (map (λ part. var_of names (trim part)) ps))) (parts-of v vs h)
+    ∙ ap (λ r. reading_map (λ xs. ReadVars xs) r) (few-read names (v ∷ vs) few h)
 
 -- ---- write
 

@@ -1,6 +1,7 @@
 -- What a line was read as.
 use Rattle.std.specs.Prelude.{◌≡◌, ◌≤◌, ◌+◌, ℕ, true, false, List, []}
 use Rattle.var_access.specs.Entry.{IsValid}
+use Rattle.var_access.specs.Readings.{Reading, reading_map}
 use Rattle.var_access.specs.Runs.{is_step}
 use Rattle.var_access.specs.declared.entries.Entry.{Entry}
 use Rattle.event_text.specs.declared.kinds.TextKind.{TextKind}
@@ -14,6 +15,10 @@ abbrev pub entries_of : LineEntries → List Entry
 entries_of Nothing = []
 entries_of (Steps count) = step_entries count
 entries_of (One entry) = one_entry entry
+
+-- the entries that a line was read as, or the rule that it breaks
+abbrev pub entries_read : Reading LineEntries → Reading (List Entry)
+entries_read reading = reading_map entries_of reading
 
 -- a valid entry that is no step
 pub record IsOtherEntry (entry : Entry) : Type 0 where

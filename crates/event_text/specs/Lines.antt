@@ -104,16 +104,20 @@ step_entries count = replicate count one_step
 abbrev pub one_entry : Entry → List Entry
 one_entry entry = entry ∷ []
 
+-- a line with one entry, where lines of its kind stand in the text
+abbrev pub one_where_allowed : Bool → Reading Entry → Reading (List Entry)
+one_where_allowed allowed reading = reading_map one_entry (where_allowed allowed reading)
+
 -- a line by its first word
 abbrev pub line_with : TextKind → Names → (before : ℕ) → Option (List ℕ × List ℕ) → Reading (List Entry)
 line_with kind names before None = no_line
 line_with kind names before (Some w) =
     if bytes_eq w.0 (codes "step") then reading_map step_entries (where_allowed (is_history kind) (step_line before (words_of w.1)))
-    else if bytes_eq w.0 (codes "in") then reading_map one_entry (where_allowed (has_feeder_lines kind) (input_line (words_of w.1)))
-    else if bytes_eq w.0 (codes "arrive") then reading_map one_entry (where_allowed (has_feeder_lines kind) (arrival_line (words_of w.1)))
-    else if bytes_eq w.0 (codes "tick") then reading_map one_entry (where_allowed (has_feeder_lines kind) (tick_line (words_of w.1)))
-    else if bytes_eq w.0 (codes "op") then reading_map one_entry (where_allowed (is_history kind) (operator_line names w.1))
-    else reading_map one_entry (where_allowed (is_script kind) (script_line names (script_worker kind) w.0 w.1))
+    else if bytes_eq w.0 (codes "in") then one_where_allowed (has_feeder_lines kind) (input_line (words_of w.1))
+    else if bytes_eq w.0 (codes "arrive") then one_where_allowed (has_feeder_lines kind) (arrival_line (words_of w.1))
+    else if bytes_eq w.0 (codes "tick") then one_where_allowed (has_feeder_lines kind) (tick_line (words_of w.1))
+    else if bytes_eq w.0 (codes "op") then one_where_allowed (is_history kind) (operator_line names w.1)
+    else one_where_allowed (is_script kind) (script_line names (script_worker kind) w.0 w.1)
 
 -- empty lines and lines that begin with `//` are skipped
 abbrev pub is_skipped : (line : List ℕ) → Bool

@@ -2,6 +2,7 @@
 use Rattle.std.specs.Prelude.{ℕ, List, [], ◌∷◌, ◌++◌, length, codes, decimal}
 use Rattle.std.specs.List.{flat_map}
 use Rattle.monitor.specs.LineText.{diag_text}
+use Rattle.monitor.specs.declared.DiagRecord.{DiagRecord}
 use Rattle.var_access.specs.declared.replies.Reply.{Reply}
 use Rattle.var_access.specs.declared.replies.Reply.TheVariants.{Values, Done, NoSuch, NotStopped, Diag as Diagnostics}
 use Rattle.var_access.specs.declared.requests.Request.{Request}
@@ -25,13 +26,17 @@ abbrev pub read_vars : Request → List Var
 read_vars (ReadVars vars) = vars
 read_vars _ = []
 
+-- a line for each record of diagnostics, in the answer to entry n
+abbrev pub records_text : (n : ℕ) → List DiagRecord → List ℕ
+records_text n records = flat_map (diag_text n) records
+
 -- what the reply says; behind the number of diagnostics a line for each of them
 unfoldable pub outcome_text : (n : ℕ) → Request → Reply → List ℕ
 outcome_text n request (Values values) = codes " VALUES" ++ (values_text (read_vars request) values ++ codes "\n")
 outcome_text n request Done = codes " DONE\n"
 outcome_text n request (NoSuch index) = codes " NOSUCH " ++ (decimal index ++ codes "\n")
 outcome_text n request NotStopped = codes " NOTSTOPPED\n"
-outcome_text n request (Diagnostics list) = codes " DIAG " ++ (decimal (length list) ++ (codes "\n" ++ flat_map (diag_text n) list))
+outcome_text n request (Diagnostics list) = codes " DIAG " ++ (decimal (length list) ++ (codes "\n" ++ records_text n list))
 
 -- the lines of a reply to entry n
 unfoldable pub reply_text : (n who : ℕ) → Request → Reply → List ℕ

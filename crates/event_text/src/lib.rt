@@ -11,7 +11,6 @@ mod texts;
 mod writing;
 
 pub use faults::TextFault;
-pub use lines::MOST_STEPS;
 pub use replies::reply_lines;
 pub use texts::{read_history, read_script, read_stimuli};
 pub use writing::write_history;

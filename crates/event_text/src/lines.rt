@@ -1,12 +1,12 @@
-ghost use Rattle.std.specs.Prelude.{◌≡◌, ◌+◌, ◌≤◌, true, false, Some, IfOk};
+ghost use Rattle.std.specs.Prelude.{◌≡◌, ◌+◌, ◌≤◌, true, Some, IfOk};
 ghost use Rattle.plc_base.specs.AreaBytes.{is_peripheral_byte as is_peripheral_byte_of};
 ghost use Rattle.flat_code.specs.Names.{find};
 ghost use Rattle.var_access.specs.Entry.{is_arrivable as is_arrivable_of, IsRequest};
-ghost use Rattle.var_access.specs.Readings.{address_number as address_number_of, number_in, reading_map, words_of};
+ghost use Rattle.var_access.specs.Readings.{address_number as address_number_of, number_in, words_of};
 ghost use Rattle.var_access.specs.Requests.{request_line};
-ghost use Rattle.event_text.specs.LineEntries.{entries_of, IsScriptLine, IsOtherEntry, IsOtherLine, IsLineOf};
+ghost use Rattle.event_text.specs.LineEntries.{entries_read, IsScriptLine, IsOtherEntry, IsOtherLine, IsLineOf};
 ghost use Rattle.event_text.specs.Workers.{feeder_entry as feeder_entry_of};
-ghost use Rattle.event_text.specs.Lines.{arrival_line, input_line, is_script, is_skipped as is_skipped_line, line_read, line_with, most_steps, number_among, one_entry, operator_line, script_line, script_worker, where_allowed as where_allowed_of, step_count, step_line, tick_line};
+ghost use Rattle.event_text.specs.Lines.{arrival_line, input_line, is_script, is_skipped as is_skipped_line, line_read, line_with, most_steps, number_among, one_where_allowed, operator_line, script_line, script_worker, where_allowed as where_allowed_of, step_count, step_line, tick_line};
 
 use crate::kinds::TextKind;
 use flat_code::Names;
@@ -20,7 +20,7 @@ use var_access::{
 };
 
 /// The most steps of a history.
-pub const MOST_STEPS: u32 = 1_000_000;
+const MOST_STEPS: u32 = 1_000_000;
 
 /// The most milliseconds of a tick.
 const LONGEST_TICK: u32 = 60_000;
@@ -224,7 +224,7 @@ fn is_skipped(line: &[u8]) -> bool
 /// A line with one entry, where such lines stand in the text.
 fn with_one_entry(stands: bool, reading: Result<Entry, u16>) -> Result<LineEntries, u16>
     requires { IfOk reading IsOtherEntry }
-    ensures value { reading_map entries_of result ≡ reading_map one_entry (where_allowed_of stands reading) }
+    ensures value { entries_read result ≡ one_where_allowed stands reading }
     ensures line { IfOk result IsOtherLine }
 {
     match where_allowed(stands, reading) {
@@ -241,8 +241,8 @@ fn read_script_line(
     word: &[u8],
     rest: &[u8],
 ) -> Result<LineEntries, u16>
-    ensures value { reading_map entries_of result ≡ reading_map one_entry
-        (where_allowed_of (is_script kind) (script_line (find names.now) (script_worker kind) word.now rest.now)) }
+    ensures value { entries_read result ≡ one_where_allowed (is_script kind)
+        (script_line (find names.now) (script_worker kind) word.now rest.now) }
     ensures line { IfOk result (IsScriptLine kind) }
 {
     let request = where_allowed(kind.is_script(), request_of(names, word, rest))?;
@@ -263,7 +263,7 @@ fn read_words(
     rest: &[u8],
 ) -> Result<LineEntries, u16>
     requires { before ≤ most_steps }
-    ensures value { reading_map entries_of result
+    ensures value { entries_read result
         ≡ line_with kind (find names.now) before (Some (word.now, rest.now)) }
     ensures line { IfOk result (IsLineOf kind before) }
 {
@@ -296,7 +296,7 @@ pub(crate) fn read_line(
     line: &[u8],
 ) -> Result<LineEntries, u16>
     requires { before ≤ most_steps }
-    ensures value { reading_map entries_of result ≡ line_read kind (find names.now) before line.now }
+    ensures value { entries_read result ≡ line_read kind (find names.now) before line.now }
     ensures line { IfOk result (IsLineOf kind before) }
 {
     if is_skipped(line) {

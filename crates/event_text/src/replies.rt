@@ -1,7 +1,5 @@
-ghost use Rattle.std.specs.Prelude.{◌≡◌, ◌≤◌, ◌++◌, length, take, codes, decimal, OnErr, OnOk};
-ghost use Rattle.std.specs.List.{flat_map};
-ghost use Rattle.monitor.specs.LineText.{diag_text};
-ghost use Rattle.event_text.specs.Replies.{outcome_text, read_vars, reply_head, reply_text, values_text};
+ghost use Rattle.std.specs.Prelude.{◌≡◌, ◌++◌, length, take, OnErr, OnOk};
+ghost use Rattle.event_text.specs.Replies.{outcome_text, read_vars, records_text, reply_head, reply_text, values_text};
 
 use crate::writing::{append_number, append_value, operator_of};
 use monitor::{DiagRecord, diag_line};
@@ -38,7 +36,7 @@ fn append_values(vars: &[Var], values: &[u32], out: &mut Vec<u8>) -> Result<(), 
 
 /// Appends a line for each record of diagnostics, in the reply to entry `n`.
 fn append_records(n: u64, records: &[DiagRecord], out: &mut Vec<u8>) -> Result<(), NoMemory>
-    ensures ok { OnOk result (out.new.items ≡ out.old.items ++ flat_map (diag_text n) records.now) }
+    ensures ok { OnOk result (out.new.items ≡ out.old.items ++ records_text n records.now) }
     ensures err { OnErr result (take (length out.old.items) out.new.items ≡ out.old.items) }
 {
     for record in records {
@@ -55,7 +53,8 @@ fn append_outcome(
     reply: &Reply,
     out: &mut Vec<u8>,
 ) -> Result<(), NoMemory>
-    ensures ok { OnOk result (out.new.items ≡ out.old.items ++ outcome_text n request.now reply.now) }
+    ensures ok { OnOk result
+        (out.new.items ≡ out.old.items ++ outcome_text n request.now reply.now) }
     ensures err { OnErr result (take (length out.old.items) out.new.items ≡ out.old.items) }
 {
     match reply {
@@ -101,7 +100,8 @@ fn append_reply(
     reply: &Reply,
     out: &mut Vec<u8>,
 ) -> Result<(), NoMemory>
-    ensures ok { OnOk result (out.new.items ≡ out.old.items ++ reply_text n who request.now reply.now) }
+    ensures ok { OnOk result
+        (out.new.items ≡ out.old.items ++ reply_text n who request.now reply.now) }
     ensures err { OnErr result (take (length out.old.items) out.new.items ≡ out.old.items) }
 {
     append_head(n, who, out)?;
@@ -123,7 +123,8 @@ pub fn reply_lines(
     reply: &Reply,
     out: &mut Vec<u8>,
 ) -> Result<(), NoMemory>
-    ensures ok { OnOk result (out.new.items ≡ out.old.items ++ reply_text n who request.now reply.now) }
+    ensures ok { OnOk result
+        (out.new.items ≡ out.old.items ++ reply_text n who request.now reply.now) }
     ensures err { OnErr result (out.new.items ≡ out.old.items) }
 {
     let len = out.len();

@@ -50,7 +50,8 @@ impl HistoryReader {
     fn add(&mut self, found: &LineEntries) -> Result<(), NoMemory>
         requires line { IsLineOf History self.old.steps found.now }
         requires few { self.old.line < 2 ^ 31 }
-        ensures added { OnOk result (self.new.entries.entries ≡ self.old.entries.entries ++ entries_of found.now) }
+        ensures added { OnOk result
+            (self.new.entries.entries ≡ self.old.entries.entries ++ entries_of found.now) }
         ensures line { OnOk result (self.new.line ≡ self.old.line + 1) }
     {
         match found {
@@ -102,7 +103,8 @@ impl HistoryReader {
 /// memory.
 pub fn read_history(alloc: Global, bytes: &[u8], names: &Names) -> Result<Entries, TextFault>
     requires { length bytes.now ≤ 4194304 }
-    ensures spelled { IfOk result (λ entries. history_of names.now bytes.now ≡ Ok entries.entries) }
+    ensures spelled { IfOk result (λ entries.
+        history_of names.now bytes.now ≡ Ok entries.entries) }
     ensures valid { IfOk result (λ entries. All IsValid entries.entries) }
     ensures refused { IfErr result (IsTextFault (history_of names.now bytes.now)) }
 {
@@ -212,7 +214,8 @@ pub fn read_script(
     names: &Names,
 ) -> Result<Vec<Entry>, TextFault>
     requires { length bytes.now ≤ 1048576 }
-    ensures spelled { IfOk result (λ entries. script_of who names.now bytes.now ≡ Ok entries.items) }
+    ensures spelled { IfOk result (λ entries.
+        script_of who names.now bytes.now ≡ Ok entries.items) }
     ensures valid { IfOk result (λ entries. 1 ≤ who → All IsValid entries.items) }
     ensures few { IfOk result (λ entries. 4 * length entries.items ≤ length bytes.now) }
     ensures refused { IfErr result (IsTextFault (script_of who names.now bytes.now)) }

@@ -19,8 +19,8 @@ ghost use Rattle.event_text.specs.HistoryText.{
 
 use crate::addresses::{value_text, var_text};
 use controller::Controller;
-use monitor::Line;
-use plc_base::{BlockId, BlockKind, NoMemory, Width};
+use monitor::{Line, kind_text};
+use plc_base::{BlockId, NoMemory, Width};
 use std::alloc::Global;
 use var_access::{Entry, Request, Run, Var, What};
 
@@ -42,7 +42,7 @@ pub(crate) fn append_number(number: u64, out: &mut Vec<u8>) -> Result<(), NoMemo
 {
     let mut line = Line::new();
     line.add_number(number);
-    out.extend_from_slice(line.as_slice())
+    line.append_to(out)
 }
 
 /// Appends a number in so many hexadecimal digits.
@@ -52,14 +52,14 @@ fn append_hex(number: u32, digits: u32, out: &mut Vec<u8>) -> Result<(), NoMemor
 {
     let mut line = Line::new();
     line.add_hex(number, digits);
-    out.extend_from_slice(line.as_slice())
+    line.append_to(out)
 }
 
 /// Appends a variable by its address.
 fn append_var(var: &Var, out: &mut Vec<u8>) -> Result<(), NoMemory>
     ensures { OnOk result (out.new.items ≡ out.old.items ++ var_text var.now) }
 {
-    out.extend_from_slice(var_text(var).as_slice())
+    var_text(var).append_to(out)
 }
 
 /// Appends a value at its width.
@@ -67,7 +67,7 @@ pub(crate) fn append_value(width: Width, value: u32, out: &mut Vec<u8>) -> Resul
     ensures ok { OnOk result (out.new.items ≡ out.old.items ++ value_text width value) }
     ensures err { OnErr result (out.new.items ≡ out.old.items) }
 {
-    out.extend_from_slice(value_text(width, value).as_slice())
+    value_text(width, value).append_to(out)
 }
 
 /// Appends further variables, each behind a comma and a blank.
@@ -93,21 +93,6 @@ fn append_vars(vars: &[Var], out: &mut Vec<u8>) -> Result<(), NoMemory>
             append_var(var, out)?;
             append_more_vars(rest, out)
         }
-    }
-}
-
-/// The kind of a block, as STEP 7 abbreviates it.
-#[tactic(auto, unfolding(monitor::specs::LineText::kind_text))]
-fn kind_text(kind: BlockKind) -> &'static [u8]
-    ensures { result.now ≡ kind_text kind }
-{
-    match kind {
-        BlockKind::Ob => b"OB",
-        BlockKind::Fc => b"FC",
-        BlockKind::Fb => b"FB",
-        BlockKind::Db => b"DB",
-        BlockKind::Sfc => b"SFC",
-        BlockKind::Udt => b"UDT",
     }
 }
 
@@ -227,7 +212,8 @@ fn append_run(run: &Run, steps: u64, out: &mut Vec<u8>) -> Result<u64, NoMemory>
     ensures few { IfOk result (λ left. left ≤ steps + run.now.count) }
     ensures text { IfOk result (λ left. (rest : List Entry)
         → out.new.items ++ history_text_behind left rest
-        ≡ out.old.items ++ history_text_behind steps (replicate run.now.count run.now.entry ++ rest)) }
+        ≡ out.old.items
+        ++ history_text_behind steps (replicate run.now.count run.now.entry ++ rest)) }
 {
     if run.entry.is_step() {
         return Ok(steps + run.count);

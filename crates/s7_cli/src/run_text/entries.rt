@@ -48,7 +48,16 @@ fn add_mode(n: u64, mode: Option<Mode>, text: &mut Vec<u8>) -> Result<(), NoMemo
     }
 }
 
+/// Whether an entry showed nothing, so that it has no lines.
+#[tactic(auto, unfolding(crate::specs::run_text::RunText::shown_text))]
+fn is_silent(seen: &Observed) -> bool
+    ensures { result ≡ true → (n : ℕ) → shown_text n seen.now ≡ [] }
+{
+    seen.mon.is_none() && seen.outputs.as_slice().is_empty() && seen.mode.is_none()
+}
+
 /// Appends what entry `n` showed.
+#[inline(never)]
 #[tactic(auto, unfolding(crate::specs::run_text::RunText::shown_text))]
 fn add_shown(n: u64, seen: &Observed, text: &mut Vec<u8>) -> Result<(), NoMemory>
     ensures { OnOk result (text.new.items ≡ text.old.items ++ shown_text n seen.now) }
@@ -59,6 +68,7 @@ fn add_shown(n: u64, seen: &Observed, text: &mut Vec<u8>) -> Result<(), NoMemory
 }
 
 /// Applies a request, and appends its lines. The reply is that of the state before it.
+#[inline(never)]
 fn add_request(
     controller: &mut Controller,
     entry: &Entry,
@@ -90,6 +100,9 @@ fn add_event(controller: &mut Controller, entry: &Entry, text: &mut Vec<u8>) -> 
         (next_happens controller.old entry.now).seen) }
 {
     controller.enter(entry);
+    if is_silent(controller.observed()) {
+        return Ok(());
+    }
     add_shown(controller.history_len(), controller.observed(), text)
 }
 
