@@ -1,6 +1,6 @@
 -- The program of a source runs as the source means.
 use Rattle.std.specs.Prelude.{◌≡◌, ◌≤◌, ℕ, List, [], length, None, Result, Ok, Err}
-use Rattle.flat_code.specs.Image.{IsProgram}
+use Rattle.flat_code.specs.Image.{image, IsProgram}
 use Rattle.flat_code.specs.Loading.{Verifies}
 use Rattle.flat_code.specs.Programs.{NameEntry, Program}
 use Rattle.machine.specs.Code.{Code}
@@ -44,6 +44,12 @@ pub record KeepsSource (source symbols : List ℕ) (p : Program) : Type 0 where
   pub names : p.names ≡ names_in symbols
   pub runs : RunsAs source symbols (code_of p)
 
+-- bytes keep a source with its symbols: they are the image of a program that does
+pub record ImageKeepsSource (bytes source symbols : List ℕ) : Type 0 where
+  pub program : Program
+  pub spelled : bytes ≡ image program
+  pub keeps : KeepsSource source symbols program
+
 -- a source and a symbols file as they are read: bytes, and no more than a limit of them
 pub record AreFiles (source symbols : List ℕ) : Type 0 where
   pub source_short : length source ≤ source_limit
@@ -60,3 +66,13 @@ ProgramsRun =
     → HasSymbols symbols (Ok list) → HasTokens source (Ok tokens) → HasTree source tokens (Ok tree)
     → least (refusals_of list tree) ≡ None
     → KeepsSource source symbols (program_in list tree)
+
+-- and so does its image
+abbrev pub ImagesKeepSources : Type 0
+ImagesKeepSources =
+    (source symbols : List ℕ) (list : List Symbol) (tokens : List Token)
+    (tree : Tree)
+    → AreFiles source symbols
+    → HasSymbols symbols (Ok list) → HasTokens source (Ok tokens) → HasTree source tokens (Ok tree)
+    → least (refusals_of list tree) ≡ None
+    → ImageKeepsSource (image (program_in list tree)) source symbols

@@ -7,7 +7,7 @@ ghost use Rattle.sem_kept.specs.Statements.{ProgramsFollow};
 ghost use Rattle.sem_kept.specs.Verified.{VerifiedIsCompilable};
 ghost use Rattle.sem_kept.specs.Accepted.{AcceptedVerifies};
 ghost use Rattle.sem_kept.specs.Kept.{ProgramsAreKept};
-ghost use Rattle.sem_kept.specs.Agreement.{ProgramsRun};
+ghost use Rattle.sem_kept.specs.Agreement.{ImagesKeepSources, ProgramsRun};
 ghost use Rattle.sem_kept.specs.Meaning.{
   IsMeaningUnique,
   ExcludesRefusal,
@@ -77,6 +77,15 @@ pub fn programs_run()
     accepted_verifies();
     verified_is_compilable();
     programs_are_kept();
+}
+
+/// The image of the program of a source that breaks no rule keeps the source with its symbols: it is in the
+/// grammar of images and verifies, its names are those that the symbols file gives, and no history
+/// tells its program from the statements of the source.
+pub fn compiled_is_kept()
+    ensures { ImagesKeepSources }
+{
+    programs_run();
 }
 
 /// Law of resumption over the statements of a source: an activation that is suspended has the same

@@ -19,7 +19,7 @@ use Rattle.plc_base.specs.Gathered.{gathered}
 use Rattle.plc_base.specs.Least.{broken_if}
 use Rattle.stl_symbols.specs.Symbol.{Symbol}
 use Rattle.plc_base.proofs.LeastLemmas.{least_none}
-use Rattle.plc_base.proofs.ListLemmas.{all_append}
+use Rattle.plc_base.proofs.ListLemmas.{all_append, nil_parts}
 use Rattle.block_layout.specs.Around.{in_block}
 use Rattle.block_layout.specs.ByPlace.{by_place}
 use Rattle.block_layout.specs.Heads.{on_heads}
@@ -66,12 +66,10 @@ use Rattle.sem_kept.specs.Accepted.{IsAccepted}
 -- ---- lists of which nothing is left
 
 pub none_left : {A : Type 0} (xs ys : List A) → xs ++ ys ≡ [] → xs ≡ []
-none_left [] ys e = refl
-none_left (x ∷ xs) ys e = absurd cc
+none_left xs ys e = (nil_parts xs ys e).0
 
 pub none_right : {A : Type 0} (xs ys : List A) → xs ++ ys ≡ [] → ys ≡ []
-none_right [] ys e = e
-none_right (x ∷ xs) ys e = absurd cc
+none_right xs ys e = (nil_parts xs ys e).1
 
 pub not_broken : (breaks : Bool) (line rule : ℕ) → broken_if breaks line rule ≡ [] → breaks ≡ false
 not_broken true line rule e = absurd cc

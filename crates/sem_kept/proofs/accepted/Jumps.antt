@@ -41,6 +41,7 @@ use Rattle.sem_kept.specs.Back.{is_target}
 use Rattle.sem_kept.proofs.compiled.Reading.{aimed_append, aimed_are, aimed_bytes, aimed_extent, aimed_is, aimed_part, aimed_parts, ends_append, ends_at, is_statement, parted, parts, parts_append, parts_are, position, position_is, the_code, the_code_is}
 use Rattle.sem_kept.proofs.compiled.Runs.{Parted, bytes_of, flat as flat_parts, size_aimed, total}
 use Rattle.sem_kept.specs.Jumps.{AllLandRight, LandsRight, jump_fault_of}
+use Rattle.plc_base.proofs.TruthLemmas.{or_met_behind}
 use Rattle.sem_kept.proofs.accepted.JumpsCode.{AreQuiet, IsQuiet, codes_after, codes_behind, codes_fault, codes_opened, fault_is, few_codes, few_is, none_left, open_after, placed_all, spot_there}
 use Rattle.sem_kept.proofs.accepted.JumpsRules.{AreRightFrom, HasList, IsRightAt, IsTarget, behind_more, by_29, by_31, few_open, functions, has_list, right_body, same_lists, target_is, target_past}
 use Rattle.sem_kept.proofs.accepted.JumpsWords.{IsLastOf, TakesRight, behind_codes, bracket_right, codes_of, front_quiet, jumps_to, last_of, last_op}
@@ -82,10 +83,6 @@ leads_at_once : (most at : ℕ) (ops : List OpData) → leads most at at ops ≡
 leads_at_once most at [] = eq-eqb at at refl
 leads_at_once zero at (op ∷ ops) = eq-eqb at at refl
 leads_at_once (suc most) at (op ∷ ops) = rw (eq-eqb at at refl) refl
-
-or_true : (a b : Bool) → b ≡ true → (a || b) ≡ true
-or_true true b e = refl
-or_true false b e = e
 
 ju_code : (m : Mnemonic) → is_plain_jump m ≡ true → jump_of m ≡ Some jump.Ju
 ju_code code.Ju e = refl
@@ -320,7 +317,7 @@ ju_leads : (f : ℕ → ℕ) (most target at there : ℕ) (rest : List OpData)
     → leads (suc most) target at (ops_with f (Jumps jump.Ju there) rest) ≡ true
 ju_leads f most target at there rest led =
     let long = size_aimed f (jump_op jump.Ju there) in
-    or_true (eqb at target) (leads most target (at + size (jump_op jump.Ju (f there))) rest)
+    or_met_behind (eqb at target) (leads most target (at + size (jump_op jump.Ju (f there))) rest)
     (ap (λ (k : ℕ). leads most target k rest) (omega (arith, long)) ∙ led)
 
 record IsJuLeft (left : ℕ) (m : Mnemonic) (next : ℕ → Bool) : Type 0 where

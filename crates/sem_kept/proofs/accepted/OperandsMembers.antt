@@ -29,30 +29,12 @@ use Rattle.stl_types.specs.Context.{Context}
 use Rattle.stl_codegen.specs.Compiled.{StatedBlock, compiled}
 use Rattle.stl_codegen.specs.Generated.{code_block, code_block_of, code_blocks_of, data_block, data_block_of, data_blocks_of, each_block, instance_len, params_of}
 use Rattle.stl_codegen.specs.Order.{inserted, is_code_before, is_data_before, sorted}
+use Rattle.stl_codegen.proofs.ProgramLemmas.{all_before}
 use Rattle.sem_kept.proofs.accepted.Accepted.{IsSound, IsSoundTree, context_at, sound_code_blocks, sound_data_blocks}
 use Rattle.sem_kept.proofs.accepted.OperandsCells.{measured_ids, measured_symbols}
 use Rattle.sem_kept.proofs.accepted.OperandsViews.{layout_id}
 
 -- ---- what holds of all blocks holds of each
-
-inserted_all : {A : Type 0} (P : A → Type 0) (before : A → A → Bool) (x : A) (ys : List A)
-    → AllByRecursion P (inserted before x ys) → P x × AllByRecursion P ys
-inserted_all P before x [] h = (h.0, tt)
-inserted_all P before x (y ∷ ys) h = by (before y x) h (inserted_all P before x ys)
-  where
-    by : (t : Bool) → AllByRecursion P (if t then y ∷ inserted before x ys else x ∷ y ∷ ys)
-        → (AllByRecursion P (inserted before x ys) → P x × AllByRecursion P ys)
-        → P x × AllByRecursion P (y ∷ ys)
-    by true k more = let rest = more k.1 in (rest.0, (k.0, rest.1))
-    by false k more = (k.0, k.1)
-
-sorted_all : {A : Type 0} (P : A → Type 0) (before : A → A → Bool) (xs : List A)
-    → AllByRecursion P (sorted before xs) → AllByRecursion P xs
-unfolding sorted
-sorted_all P before [] h = tt
-sorted_all P before (x ∷ xs) h =
-    let parts = inserted_all P before x (sorted before xs) h in
-    (parts.0, sorted_all P before xs parts.1)
 
 -- what each block of the source gives, from its place on
 each_of : {A : Type 0} (symbols : List Symbol) (t : Tree) (P : A → Type 0)
@@ -86,7 +68,7 @@ code_block_there symbols t P h k b l id sound is code =
     one (subst (λ (n : ℕ). AllByRecursion P (code_block_of (context_at symbols t n) b l l.id))
     (let from : 0 + k ≡ k = omega arith in from)
     (each_of symbols t P (λ c b l. code_block_of c b l l.id) 0 t.blocks (layouts_of t symbols)
-    (sorted_all P is_code_before
+    (all_before P is_code_before
     (each_block (λ c b l. code_block_of c b l l.id) (context_at symbols t 0) t.blocks (layouts_of t symbols)) h)
     k b l sound.block_there sound.layout_there))
   where
@@ -106,7 +88,7 @@ data_block_there symbols t P h k b l id sound is kind =
     one (subst (λ (n : ℕ). AllByRecursion P (data_block_of (context_at symbols t n) l l.id))
     (let from : 0 + k ≡ k = omega arith in from)
     (each_of symbols t P (λ c b l. data_block_of c l l.id) 0 t.blocks (layouts_of t symbols)
-    (sorted_all P is_data_before
+    (all_before P is_data_before
     (each_block (λ c b l. data_block_of c l l.id) (context_at symbols t 0) t.blocks (layouts_of t symbols)) h)
     k b l sound.block_there sound.layout_there))
   where

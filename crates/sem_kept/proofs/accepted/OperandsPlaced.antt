@@ -30,10 +30,6 @@ use Rattle.sem_kept.specs.Operands.{ArePassed, AreFine, InstrFits, IsFine, IsRig
 seven_none : (b : Bool) → b ≡ false → seven_if b ≡ None
 seven_none b e = ap seven_if e
 
-and_false : (a b : Bool) → b ≡ false → (a && b) ≡ false
-and_false true b h = h
-and_false false b h = refl
-
 not_true : (b : Bool) → b ≡ true → not b ≡ false
 not_true b e = ap not e
 

@@ -33,6 +33,7 @@ use Rattle.stl_symbols.specs.Symbol.{Symbol}
 use Rattle.block_layout.specs.declared.blocks.BlockLayout.{BlockLayout}
 use Rattle.plc_base.specs.declared.blocks.BlockId.{BlockId}
 use Rattle.plc_base.proofs.ListLemmas.{all_append}
+use Rattle.sem_kept.proofs.accepted.Accepted.{all_sorted, none_left, none_right}
 use Rattle.plc_base.proofs.TruthLemmas.{and_first, and_second}
 use Rattle.stl_types.specs.Bodies.{first_context}
 use Rattle.stl_types.specs.Context.{Context}
@@ -107,23 +108,6 @@ made_each c (b ∷ bs) (l ∷ ls) =
     (each_block (λ c b l. code_block_of c b l l.id) (record c { block = suc c.block }) bs ls)
     (made_of c b l l.id) (made_each (record c { block = suc c.block }) bs ls)
 
-all_inserted : {A : Type 0} (P : A → Type 0) (before : A → A → Bool) (x : A) (ys : List A)
-    → P x → AllByRecursion P ys → AllByRecursion P (inserted before x ys)
-all_inserted P before x [] h k = (h, tt)
-all_inserted P before x (y ∷ ys) h k = by (before y x) (all_inserted P before x ys h k.1)
-  where
-    by : (first : Bool) → AllByRecursion P (inserted before x ys)
-        → AllByRecursion P (if first then y ∷ inserted before x ys else x ∷ y ∷ ys)
-    by true more = (k.0, more)
-    by false more = (h, k)
-
-all_sorted : {A : Type 0} (P : A → Type 0) (before : A → A → Bool) (xs : List A)
-    → AllByRecursion P xs → AllByRecursion P (sorted before xs)
-unfolding sorted
-all_sorted P before [] h = tt
-all_sorted P before (x ∷ xs) h =
-    all_inserted P before x (sorted before xs) h.0 (all_sorted P before xs h.1)
-
 blocks_made : (t : Tree) (symbols : List Symbol) (layouts : List BlockLayout)
     → AllByRecursion IsMadeBlock (code_blocks_of t symbols layouts)
 unfolding code_blocks_of
@@ -134,14 +118,6 @@ blocks_made t symbols layouts =
     (made_each (first_context symbols layouts t.blocks) t.blocks layouts)
 
 -- ---- faults
-
-none_left : {A : Type 0} (xs ys : List A) → xs ++ ys ≡ [] → xs ≡ []
-none_left [] ys e = refl
-none_left (x ∷ xs) ys e = absurd cc
-
-none_right : {A : Type 0} (xs ys : List A) → xs ++ ys ≡ [] → ys ≡ []
-none_right [] ys e = e
-none_right (x ∷ xs) ys e = absurd cc
 
 no_fault : (at : ℕ) (fault : Option ℕ) → at_offset at fault ≡ [] → fault ≡ None
 no_fault at None e = refl
