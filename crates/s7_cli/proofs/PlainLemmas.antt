@@ -10,10 +10,10 @@ use Rattle.clap.specs.Lexer.{long_of, short_of, usize_max}
 use Rattle.clap.specs.Kinds.{Kinds, or_else, range_kinds, values_kinds}
 use Rattle.clap.specs.Faults.{check_fault, defaults_fault, entered_fault, settle_fault, turn_fault, walk_fault}
 use Rattle.clap.specs.Simple.{Shape, built, entered}
-use Rattle.clap.specs.Walk.{Row, Rule, Text, Waiting, Walk, finished, idle, is_empty, nothing_held, option, positional, settled, settled_rows, walk_from, walked}
+use Rattle.clap.specs.Walk.{Row, Rule, Text, Waiting, Walk, finished, idle, is_empty, option, positional, settled, settled_rows, walked}
 use Rattle.clap.specs.declared.builder.value_parser.ValueParser.TheVariants as parser
 use Rattle.s7_cli.specs.Command.{Command}
-use Rattle.s7_cli.specs.Words.{the_line, asked_for, asked_by, command_of, is_plain_word, plain_command, live_command, short_command, ReadsPlainWords, ReadsStepsAnywhere, ReadsSymbolsAnywhere, ReadsWordsBehindDashes, RefusesNoValue}
+use Rattle.s7_cli.specs.Words.{the_line, asked_by, command_of, is_plain_word, plain_command, live_command, short_command, ReadsPlainWords, ReadsStepsAnywhere, ReadsSymbolsAnywhere, ReadsWordsBehindDashes, RefusesNoValue}
 
 -- ---- one word
 
@@ -276,9 +276,6 @@ no_words : (given : Option Given) → asked_by (finished the_rules (at_start fal
 no_words None = refl
 no_words (Some (symbols file)) = refl
 no_words (Some (steps number)) = refl
-
-no_words-asked : (given : Option Given) → None ≡ asked_with given []
-no_words-asked given = refl
 
 one_word : (behind : Bool) (given : Option Given) (command : Text) → asked_by (finished the_rules (at_command behind given command).held) ≡ None
 one_word behind None command = refl

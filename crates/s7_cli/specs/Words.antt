@@ -1,6 +1,6 @@
 -- The words of a call, and the command that they ask for. How a command line is read is clap's: its `fault_of` has what is wrong with
 -- the words (also a request for help), and its `matches_of` what each argument found, of which `first_of` and `all_of` give the words.
-use Rattle.std.specs.Prelude.{◌≡◌, ◌==◌, ◌&&◌, ℕ, nat_le, nat_lt, Bool, true, not, List, [], ◌∷◌, ◌++◌, length, map, Option, Some, None, codes, bytes_eq, is_some, option_and_then, option_map, unwrap_or, if◌then◌else◌}
+use Rattle.std.specs.Prelude.{◌≡◌, ◌==◌, ◌&&◌, ℕ, ◌≤◌, nat_le, nat_lt, Bool, true, not, List, [], ◌∷◌, ◌++◌, length, map, Option, Some, None, codes, bytes_eq, is_some, IfSome, option_and_then, option_map, unwrap_or, if◌then◌else◌}
 use Rattle.std.specs.List.{list_all}
 use Rattle.clap.specs.Lexer.{usize_max}
 use Rattle.clap.specs.Simple.{on_top}
@@ -84,6 +84,12 @@ asked_by found =
 unfoldable pub command_of : List (List ℕ) → Option Command
 command_of words = if is_empty (fault_of the_line words) then asked_by (matches_of the_line words) else None
 
+-- the limits of the numbers of a command, and of how many scripts it has
+abbrev pub KeepsLimits : Command → Type 0
+KeepsLimits (Gen number) = (1 ≤ number) × (number ≤ 10000)
+KeepsLimits (Live image stimuli scripts steps) = (1 ≤ length scripts) × (length scripts ≤ 4) × (1 ≤ steps) × (steps ≤ 1000000)
+KeepsLimits command = Unit {0}
+
 -- the command that was read
 abbrev pub command_value : Asked → Command
 command_value (asked.Go source symbols history) = Go source.now (option_map (λ s. s.now) symbols) history.now
@@ -130,3 +136,7 @@ ReadsStepsAnywhere = ReadsAnywhere (codes "--steps") (λ words number. plain_com
 abbrev pub RefusesNoValue : Type 0
 RefusesNoValue = (front : List (List ℕ)) → list_all is_plain_word front ≡ true
     → (command_of (front ++ codes "--symbols" ∷ []) ≡ None) × (command_of (front ++ codes "--steps" ∷ []) ≡ None)
+
+-- a command that words ask for is within its limits
+abbrev pub CommandsKeepLimits : Type 0
+CommandsKeepLimits = (words : List (List ℕ)) → IfSome (command_of words) KeepsLimits

@@ -1,7 +1,7 @@
 ghost use Rattle.std.specs.Prelude.{◌≡◌, ◌≢◌, false, map, string_bytes, option_map, IfOk, None};
 ghost use Rattle.clap.specs.Words.{FailsBy, app_of, fault_of, found_of, kind_of, matches_of, rows_of, rule_of};
 ghost use Rattle.clap.specs.declared.error.kind.ErrorKind.TheVariants.{OutOfMemory};
-ghost use Rattle.s7_cli.specs.Words.{the_line, command_rule, files_rule, symbols_rule, steps_rule, number_up_to, one_word_command, two_word_command, short_command, live_command, asked_for, asked_by, command_of, command_value, ReadsPlainWords, ReadsStepsAnywhere, ReadsSymbolsAnywhere, ReadsWordsBehindDashes, RefusesNoValue};
+ghost use Rattle.s7_cli.specs.Words.{the_line, command_rule, files_rule, symbols_rule, steps_rule, number_up_to, one_word_command, two_word_command, short_command, live_command, asked_for, asked_by, command_of, command_value, CommandsKeepLimits, ReadsPlainWords, ReadsStepsAnywhere, ReadsSymbolsAnywhere, ReadsWordsBehindDashes, RefusesNoValue};
 
 use arrayvec::ArrayVec;
 use clap::error::ErrorKind;
@@ -278,11 +278,13 @@ pub fn read_words(alloc: Global, words: &[String]) -> Result<Option<Asked<'_>>, 
 /// whatever they begin with. `--symbols FILE` or `--steps N` may stand in any place among words that
 /// don't begin with a hyphen, and adds that option to the call of the others: as two words, the
 /// second without a hyphen at its front, or as a single one, `--symbols=FILE` or `--steps=N`, with
-/// any value. Where `--symbols` or `--steps` is the last word, the words are refused.
+/// any value. Where `--symbols` or `--steps` is the last word, the words are refused. The numbers of
+/// a call, and how many scripts it has, are within their limits.
 pub fn law_of_words()
     ensures plain { ReadsPlainWords }
     ensures behind_dashes { ReadsWordsBehindDashes }
     ensures symbols { ReadsSymbolsAnywhere }
     ensures steps { ReadsStepsAnywhere }
     ensures no_value { RefusesNoValue }
+    ensures limits { CommandsKeepLimits }
 {}

@@ -1,3 +1,4 @@
+use Rattle.s7_cli.proofs.LimitLemmas.{commands_keep_limits}
 use Rattle.s7_cli.proofs.PlainLemmas.{reads_plain_words, reads_steps_anywhere, reads_symbols_anywhere, reads_words_behind_dashes, refuses_no_value}
 use Rattle.s7_cli.proofs.words.law_of_words.Goals as goal
 
@@ -15,3 +16,6 @@ returns-clause-steps c = reads_steps_anywhere
 
 pub returns-clause-no_value : goal.returns-clause-no_value
 returns-clause-no_value c = refuses_no_value
+
+pub returns-clause-limits : goal.returns-clause-limits
+returns-clause-limits c = commands_keep_limits
