@@ -1,6 +1,7 @@
 pub mod ComesLemmas
 mod CompileLemmas
 pub mod FinishLemmas
+mod LimitLemmas
 pub mod MatchLemmas
 pub mod PlainLemmas
 pub mod ReadingLemmas

@@ -1,15 +1,16 @@
 -- The words of a call, and the command that they ask for. How a command line is read is clap's: its `fault_of` has what is wrong with
 -- the words (also a request for help), and its `matches_of` what each argument found, of which `first_of` and `all_of` give the words.
-use Rattle.std.specs.Prelude.{◌≡◌, ◌==◌, ℕ, Bool, true, not, List, [], ◌∷◌, Option, Some, None, codes, bytes_eq, option_and_then, option_map, unwrap_or, if◌then◌else◌}
+use Rattle.std.specs.Prelude.{◌≡◌, ◌==◌, ◌&&◌, ℕ, ◌≤◌, nat_le, nat_lt, Bool, true, not, List, [], ◌∷◌, ◌++◌, length, map, Option, Some, None, codes, bytes_eq, is_some, IfSome, option_and_then, option_map, unwrap_or, if◌then◌else◌}
 use Rattle.std.specs.List.{list_all}
 use Rattle.clap.specs.Lexer.{usize_max}
 use Rattle.clap.specs.Simple.{on_top}
 use Rattle.clap.specs.Walk.{is_empty}
 use Rattle.clap.specs.Words.{App, Row, Rule, all_of, fault_of, first_of, matches_of, new_app, new_rule, with_rule}
 use Rattle.clap.specs.declared.builder.action.ArgAction.TheVariants.{Set, Append}
+use Rattle.plc_base.specs.Decimal.{decimal_up_to}
 use Rattle.s7_cli.specs.declared.words.Asked.{Asked}
 use Rattle.s7_cli.specs.declared.words.Asked.TheVariants as asked
-use Rattle.s7_cli.specs.Command.{Command, Go, Check}
+use Rattle.s7_cli.specs.Command.{Command, Go, Check, Compile, Run, Gen, Live}
 
 -- COMMAND: a word that has to be there
 abbrev pub command_rule : Rule
@@ -35,14 +36,42 @@ s7_alone = on_top (λ s. record s { no_binary_name = true }) (new_app (codes "s7
 abbrev pub the_line : App
 the_line = with_rule (with_rule (with_rule (with_rule s7_alone command_rule) files_rule) symbols_rule) steps_rule
 
--- the command that a word, files and options ask for; `--steps` goes with none of them
-abbrev pub asked_for :
-    (command : List ℕ) (files : List (List ℕ)) (symbols steps : Option (List ℕ)) → Option Command
-asked_for command (source ∷ history ∷ []) symbols None =
-    if bytes_eq command (codes "go") then Some (Go source symbols history) else None
-asked_for command (source ∷ []) symbols None =
-    if bytes_eq command (codes "check") then Some (Check source symbols) else None
-asked_for command files symbols steps = None
+-- the number that a word writes in decimal digits without a sign, from 1 to the most; none for another word
+abbrev pub number_up_to : (most : ℕ) (word : List ℕ) → Option ℕ
+number_up_to most word = option_and_then (λ number. if nat_lt 0 number then Some number else None) (decimal_up_to most word)
+
+-- `check SRC`, with `--symbols FILE` or without, and `gen NUMBER`
+abbrev pub one_word_command : (command word : List ℕ) (symbols : Option (List ℕ)) → Option Command
+one_word_command command word symbols =
+    if bytes_eq command (codes "check") then Some (Check word symbols)
+    else (if bytes_eq command (codes "gen") && not (is_some symbols) then option_map Gen (number_up_to 10000 word)
+    else None)
+
+-- `go SRC HIST` and `compile SRC IMG`, with `--symbols FILE` or without, and `run IMG HIST`
+abbrev pub two_word_command : (command first second : List ℕ) (symbols : Option (List ℕ)) → Option Command
+two_word_command command first second symbols =
+    if bytes_eq command (codes "go") then Some (Go first symbols second)
+    else (if bytes_eq command (codes "compile") then Some (Compile first symbols second)
+    else (if bytes_eq command (codes "run") && not (is_some symbols) then Some (Run first second)
+    else None))
+
+-- a command with one word or two behind it
+abbrev pub short_command : (command : List ℕ) (words : List (List ℕ)) (symbols : Option (List ℕ)) → Option Command
+short_command command (word ∷ []) symbols = one_word_command command word symbols
+short_command command (first ∷ second ∷ []) symbols = two_word_command command first second symbols
+short_command command words symbols = None
+
+-- `live IMG STIM OPS.. --steps N`, with one script to four
+abbrev pub live_command : (command : List ℕ) (words : List (List ℕ)) (steps : List ℕ) → Option Command
+live_command command (image ∷ stimuli ∷ script ∷ scripts) steps =
+    if bytes_eq command (codes "live") && nat_le (length scripts) 3 then option_map (Live image stimuli (script ∷ scripts)) (number_up_to 1000000 steps)
+    else None
+live_command command words steps = None
+
+-- the command that its word, the words behind it and the options ask for; `--steps N` goes with `live`, and with nothing else
+abbrev pub asked_for : (command : List ℕ) (words : List (List ℕ)) (symbols steps : Option (List ℕ)) → Option Command
+asked_for command words symbols None = short_command command words symbols
+asked_for command words symbols (Some steps) = if is_some symbols then None else live_command command words steps
 
 -- the command that what was found of the four asks for
 abbrev pub asked_by : List Row → Option Command
@@ -55,26 +84,59 @@ asked_by found =
 unfoldable pub command_of : List (List ℕ) → Option Command
 command_of words = if is_empty (fault_of the_line words) then asked_by (matches_of the_line words) else None
 
+-- the limits of the numbers of a command, and of how many scripts it has
+abbrev pub KeepsLimits : Command → Type 0
+KeepsLimits (Gen number) = (1 ≤ number) × (number ≤ 10000)
+KeepsLimits (Live image stimuli scripts steps) = (1 ≤ length scripts) × (length scripts ≤ 4) × (1 ≤ steps) × (steps ≤ 1000000)
+KeepsLimits command = Unit {0}
+
 -- the command that was read
 abbrev pub command_value : Asked → Command
 command_value (asked.Go source symbols history) = Go source.now (option_map (λ s. s.now) symbols) history.now
 command_value (asked.Check source symbols) = Check source.now (option_map (λ s. s.now) symbols)
+command_value (asked.Compile source symbols image) = Compile source.now (option_map (λ s. s.now) symbols) image.now
+command_value (asked.Run image history) = Run image.now history.now
+command_value (asked.Gen number) = Gen number
+command_value (asked.Live image stimuli scripts steps) = Live image.now stimuli.now (map (λ s. s.now) scripts.items) steps
 
 -- a word that can be no option: it doesn't begin with a hyphen (45)
 abbrev pub is_plain_word : List ℕ → Bool
 is_plain_word [] = true
 is_plain_word (first ∷ rest) = not (first == 45)
 
--- how such words are read: by their first and their count
-abbrev pub plain_command : List (List ℕ) → Option Command
-plain_command (command ∷ source ∷ history ∷ []) = if bytes_eq command (codes "go") then Some (Go source None history) else None
-plain_command (command ∷ source ∷ []) = if bytes_eq command (codes "check") then Some (Check source None) else None
-plain_command words = None
+-- the command that such words ask for with these options, the first of them as its word
+abbrev pub plain_command : (words : List (List ℕ)) (symbols steps : Option (List ℕ)) → Option Command
+plain_command [] symbols steps = None
+plain_command (command ∷ words) symbols steps = asked_for command words symbols steps
 
 -- words without a hyphen at their front are read so
 abbrev pub ReadsPlainWords : Type 0
-ReadsPlainWords = (words : List (List ℕ)) → list_all is_plain_word words ≡ true → command_of words ≡ plain_command words
+ReadsPlainWords = (words : List (List ℕ)) → list_all is_plain_word words ≡ true → command_of words ≡ plain_command words None None
 
 -- and so are words behind `--`, whatever they begin with
 abbrev pub ReadsWordsBehindDashes : Type 0
-ReadsWordsBehindDashes = (words : List (List ℕ)) → command_of (codes "--" ∷ words) ≡ plain_command words
+ReadsWordsBehindDashes = (words : List (List ℕ)) → command_of (codes "--" ∷ words) ≡ plain_command words None None
+
+-- an option with its value may stand anywhere among words without a hyphen at their front, and asks for the same: as two words, the second without one
+-- too, or as a single word with `=` between them
+abbrev pub ReadsAnywhere : (option : List ℕ) (asked : (words : List (List ℕ)) (value : List ℕ) → Option Command) → Type 0
+ReadsAnywhere option asked = (front back : List (List ℕ)) (value : List ℕ) → list_all is_plain_word (front ++ back) ≡ true
+    → (is_plain_word value ≡ true → command_of (front ++ option ∷ value ∷ back) ≡ asked (front ++ back) value)
+    × (command_of (front ++ (option ++ codes "=" ++ value) ∷ back) ≡ asked (front ++ back) value)
+
+-- `--symbols FILE` gives the command of the other words its symbols
+abbrev pub ReadsSymbolsAnywhere : Type 0
+ReadsSymbolsAnywhere = ReadsAnywhere (codes "--symbols") (λ words file. plain_command words (Some file) None)
+
+-- `--steps N` gives it its steps
+abbrev pub ReadsStepsAnywhere : Type 0
+ReadsStepsAnywhere = ReadsAnywhere (codes "--steps") (λ words number. plain_command words None (Some number))
+
+-- where such an option is the last word, it has no value, and the words are refused
+abbrev pub RefusesNoValue : Type 0
+RefusesNoValue = (front : List (List ℕ)) → list_all is_plain_word front ≡ true
+    → (command_of (front ++ codes "--symbols" ∷ []) ≡ None) × (command_of (front ++ codes "--steps" ∷ []) ≡ None)
+
+-- a command that words ask for is within its limits
+abbrev pub CommandsKeepLimits : Type 0
+CommandsKeepLimits = (words : List (List ℕ)) → IfSome (command_of words) KeepsLimits

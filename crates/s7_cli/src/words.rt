@@ -1,14 +1,25 @@
 ghost use Rattle.std.specs.Prelude.{◌≡◌, ◌≢◌, false, map, string_bytes, option_map, IfOk, None};
 ghost use Rattle.clap.specs.Words.{FailsBy, app_of, fault_of, found_of, kind_of, matches_of, rows_of, rule_of};
 ghost use Rattle.clap.specs.declared.error.kind.ErrorKind.TheVariants.{OutOfMemory};
-ghost use Rattle.s7_cli.specs.Words.{the_line, command_rule, files_rule, symbols_rule, steps_rule, asked_for, asked_by, command_of, command_value, ReadsPlainWords, ReadsWordsBehindDashes};
+ghost use Rattle.s7_cli.specs.Words.{the_line, command_rule, files_rule, symbols_rule, steps_rule, number_up_to, one_word_command, two_word_command, short_command, live_command, asked_for, asked_by, command_of, command_value, CommandsKeepLimits, ReadsPlainWords, ReadsStepsAnywhere, ReadsSymbolsAnywhere, ReadsWordsBehindDashes, RefusesNoValue};
 
+use arrayvec::ArrayVec;
 use clap::error::ErrorKind;
 use clap::{Arg, ArgAction, ArgMatches, Command, Error};
+use plc_base::decimal_up_to;
 use std::alloc::{AllocError, Global};
 
+/// The greatest number that a program is made of.
+const MOST_NUMBER: u32 = 10_000;
+
+/// The most steps of a live run.
+const MOST_STEPS: u32 = 1_000_000;
+
+/// The most operators of a live run.
+const MOST_SCRIPTS: usize = 4;
+
 /// What the words of a call ask for.
-#[derive(Clone, Copy)]
+#[derive(Drop)]
 pub enum Asked<'a> {
     /// Run a source, with its symbols, along a history.
     Go {
@@ -20,6 +31,29 @@ pub enum Asked<'a> {
     Check {
         source: &'a str,
         symbols: Option<&'a str>,
+    },
+    /// Write the image of a source, with its symbols.
+    Compile {
+        source: &'a str,
+        symbols: Option<&'a str>,
+        image: &'a str,
+    },
+    /// Run an image along a history.
+    Run {
+        image: &'a str,
+        history: &'a str,
+    },
+    /// Run the program and the history that are made of a number, 1 to 10,000.
+    Gen {
+        number: u32,
+    },
+    /// Have a stepper, a feeder and one to four operators run an image: 1 to 1,000,000 steps, the
+    /// stimuli, and a script for each operator.
+    Live {
+        image: &'a str,
+        stimuli: &'a str,
+        scripts: ArrayVec<&'a str, MOST_SCRIPTS>,
+        steps: u32,
     },
 }
 
@@ -85,25 +119,109 @@ fn find_matches<'a>(alloc: Global, words: &'a [String]) -> Result<ArgMatches<'a>
     line.try_get_matches_from(words)
 }
 
-/// The command that a word, files and options ask for.
+/// The number that a word writes in decimal digits, from 1 to `most`.
+fn number_up_to(word: &str, most: u32) -> Option<u32>
+    ensures { result ≡ number_up_to most word.now }
+{
+    let number = decimal_up_to(word.as_bytes(), most)?;
+    (number > 0).then_some(number)
+}
+
+/// The command with one word behind it.
+fn one_word_command<'a>(command: &str, word: &'a str, symbols: Option<&'a str>) -> Option<Asked<'a>>
+    ensures { option_map command_value result ≡
+        one_word_command command.now word.now (option_map (λ s. s.now) symbols.entry) }
+{
+    match command {
+        "check" => Some(Asked::Check {
+            source: word,
+            symbols,
+        }),
+        "gen" if symbols.is_none() => Some(Asked::Gen {
+            number: number_up_to(word, MOST_NUMBER)?,
+        }),
+        _ => None,
+    }
+}
+
+/// The command with two words behind it.
+fn two_word_command<'a>(
+    command: &str,
+    first: &'a str,
+    second: &'a str,
+    symbols: Option<&'a str>,
+) -> Option<Asked<'a>>
+    ensures { option_map command_value result ≡
+        two_word_command command.now first.now second.now (option_map (λ s. s.now) symbols.entry) }
+{
+    match command {
+        "go" => Some(Asked::Go {
+            source: first,
+            symbols,
+            history: second,
+        }),
+        "compile" => Some(Asked::Compile {
+            source: first,
+            symbols,
+            image: second,
+        }),
+        "run" if symbols.is_none() => Some(Asked::Run {
+            image: first,
+            history: second,
+        }),
+        _ => None,
+    }
+}
+
+/// The command with one word or two behind it.
+fn short_command<'a>(
+    command: &str,
+    words: &[&'a str],
+    symbols: Option<&'a str>,
+) -> Option<Asked<'a>>
+    ensures { option_map command_value result ≡
+        short_command command.now (map (λ w. w.now) words.now) (option_map (λ s. s.now) symbols.entry) }
+{
+    match words {
+        [word] => one_word_command(command, word, symbols),
+        [first, second] => two_word_command(command, first, second, symbols),
+        _ => None,
+    }
+}
+
+/// The command `live`, with these words behind it and so many steps.
+fn live_command<'a>(command: &str, words: &[&'a str], steps: &str) -> Option<Asked<'a>>
+    ensures { option_map command_value result ≡
+        live_command command.now (map (λ w. w.now) words.now) steps.now }
+{
+    match words {
+        [image, stimuli, scripts @ ..] if command == "live" && !scripts.is_empty() => {
+            Some(Asked::Live {
+                image,
+                stimuli,
+                scripts: ArrayVec::try_from(scripts).ok()?,
+                steps: number_up_to(steps, MOST_STEPS)?,
+            })
+        }
+        _ => None,
+    }
+}
+
+/// The command that its word, the words behind it and the options ask for.
 fn asked_for<'a>(
     command: &str,
-    files: &[&'a str],
+    words: &[&'a str],
     symbols: Option<&'a str>,
     steps: Option<&str>,
 ) -> Option<Asked<'a>>
     ensures { option_map command_value result ≡
-        asked_for command.now (map (λ file. file.now) files.now)
+        asked_for command.now (map (λ w. w.now) words.now)
         (option_map (λ s. s.now) symbols.entry) (option_map (λ s. s.now) steps.entry) }
 {
-    match (files, steps) {
-        ([source, history], None) if command == "go" => Some(Asked::Go {
-            source,
-            symbols,
-            history,
-        }),
-        ([source], None) if command == "check" => Some(Asked::Check { source, symbols }),
-        _ => None,
+    match steps {
+        None => short_command(command, words, symbols),
+        Some(steps) if symbols.is_none() => live_command(command, words, steps),
+        Some(_) => None,
     }
 }
 
@@ -131,8 +249,20 @@ fn refusal<'a>(error: &Error) -> Result<Option<Asked<'a>>, AllocError>
     }
 }
 
-/// Reads the words, without the program's name: `go SRC HIST` or `check SRC`, each with
-/// `--symbols FILE` anywhere, or without. Any others are refused. Fails where memory is wanting.
+/// Reads the words, without the program's name, as one of these calls:
+///
+/// | Words | Options |
+/// |---|---|
+/// | `go SRC HIST` | `--symbols FILE`, or none |
+/// | `check SRC` | `--symbols FILE`, or none |
+/// | `compile SRC IMG` | `--symbols FILE`, or none |
+/// | `run IMG HIST` | none |
+/// | `gen NUMBER` | none |
+/// | `live IMG STIM OPS..`, with one script to four | `--steps N` |
+///
+/// An option may stand anywhere. NUMBER is 1 to 10,000 and N is 1 to 1,000,000, in decimal digits
+/// without a sign; zeros may lead. Any other words are refused, by `None`. Fails where memory is
+/// wanting.
 pub fn read_words(alloc: Global, words: &[String]) -> Result<Option<Asked<'_>>, AllocError>
     ensures { IfOk result
         (λ asked. option_map command_value asked ≡ command_of (map string_bytes words.now)) }
@@ -143,10 +273,18 @@ pub fn read_words(alloc: Global, words: &[String]) -> Result<Option<Asked<'_>>, 
     }
 }
 
-/// Words that don't begin with a hyphen are read by their first word and their count alone:
-/// `go SRC HIST` and `check SRC` are calls, and any others are refused. Behind `--` at the front
-/// all words are read so, whatever they begin with.
+/// Words that don't begin with a hyphen are read by their first word, as the command, and by those
+/// behind it: a call without options, or none. Behind `--` at the front all words are read so,
+/// whatever they begin with. `--symbols FILE` or `--steps N` may stand in any place among words that
+/// don't begin with a hyphen, and adds that option to the call of the others: as two words, the
+/// second without a hyphen at its front, or as a single one, `--symbols=FILE` or `--steps=N`, with
+/// any value. Where `--symbols` or `--steps` is the last word, the words are refused. The numbers of
+/// a call, and how many scripts it has, are within their limits.
 pub fn law_of_words()
     ensures plain { ReadsPlainWords }
     ensures behind_dashes { ReadsWordsBehindDashes }
+    ensures symbols { ReadsSymbolsAnywhere }
+    ensures steps { ReadsStepsAnywhere }
+    ensures no_value { RefusesNoValue }
+    ensures limits { CommandsKeepLimits }
 {}

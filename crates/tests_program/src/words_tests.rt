@@ -1,5 +1,6 @@
-use crate::calls::{ONE_RUN, RUNG, answers, two_files};
-use plc_io::MemSink;
+use crate::calls::{ONE_RUN, RUNG, answers, call, two_files};
+use crate::compare::same;
+use plc_io::{MemFiles, MemSink};
 use s7_cli::law_of_words;
 use std::alloc::Global;
 use std::process::Abort;
@@ -12,6 +13,8 @@ const REFUSED: &str = "words refused\n";
 const RUN: &str = "@7 PQ 4 = 01\nEND 7 RUN\n";
 
 const OK: &str = "OK\n";
+
+const READ_FAULT: &str = "read fault\n";
 
 /// Calls with these words over the files `source`, `history`, `none`, which is empty, and
 /// `--symbols`, which is a source too.
@@ -33,10 +36,10 @@ fn is_told<R: Abort + Threads + Wait + Sync>(
     Ok(())
 }
 
-// No command, or a count of files that isn't its own.
+// No command, or a count of words behind it that isn't its own.
 #[test]
 fn commands(rt: HostRuntime) -> Result<(), Fail> {
-    let calls: [&[&str]; 10] = [
+    let calls: [&[&str]; 23] = [
         &[],
         &["help"],
         &["go"],
@@ -44,35 +47,123 @@ fn commands(rt: HostRuntime) -> Result<(), Fail> {
         &["go", "source", "history", "more"],
         &["check"],
         &["check", "source", "more"],
-        &["run", "source", "history"],
+        &["compile"],
+        &["compile", "source"],
+        &["compile", "source", "image", "more"],
+        &["run"],
+        &["run", "image"],
+        &["run", "image", "history", "more"],
+        &["gen"],
+        &["gen", "1", "2"],
+        &["live", "--steps", "5"],
+        &["live", "image", "--steps", "5"],
+        &["live", "image", "stimuli", "--steps", "5"],
+        &[
+            "live", "image", "stimuli", "1", "2", "3", "4", "5", "--steps", "5",
+        ],
         &["GO", "source", "history"],
         &["", "source", "history"],
+        &["gone", "source", "history"],
+        &["Gen", "1"],
     ];
     is_told(&rt, rt.alloc(), &calls, 1, REFUSED)?;
     law_of_words();
     Ok(())
 }
 
-// A word that begins with a hyphen is an option. There are two, each with a value and once at most;
-// `--steps` goes with neither command. Help and the version are asked for elsewhere.
+// A word that begins with a hyphen is an option. There are two, each with a value and once at most.
+// Help and the version are asked for elsewhere.
 #[test]
 fn options(rt: HostRuntime) -> Result<(), Fail> {
-    let calls: [&[&str]; 15] = [
+    let calls: [&[&str]; 17] = [
         &["-x"],
         &["go", "source", "history", "-x"],
         &["--symbols"],
         &["go", "source", "history", "--symbols"],
         &["go", "source", "history", "--steps"],
+        &["go", "source", "history", "--symbol", "none"],
+        &["--symbols", "-none", "go", "source", "history"],
         &["--steps", "--", "go", "source", "history"],
-        &["--steps", "5", "--steps", "6", "go", "source", "history"],
         &["--symbols", "none", "--symbols", "none", "check", "source"],
+        &["--symbols=none", "check", "--symbols", "none", "source"],
+        &["check", "source", "--symbols=none", "--symbols=none"],
         &["--symbols", "none", "go", "source"],
-        &["--steps", "5", "go", "source", "history"],
-        &["check", "--steps", "5", "source"],
+        &[
+            "live", "image", "stimuli", "ops", "--steps", "5", "--steps", "5",
+        ],
         &["--help"],
         &["go", "--help"],
         &["go", "source", "history", "-h"],
         &["--version", "go"],
+    ];
+    is_told(&rt, rt.alloc(), &calls, 1, REFUSED)
+}
+
+// `--symbols` goes with the commands that have a source, `--steps` with `live` alone, which needs it.
+#[test]
+fn options_of_others(rt: HostRuntime) -> Result<(), Fail> {
+    let calls: [&[&str]; 11] = [
+        &["run", "image", "history", "--symbols", "none"],
+        &["gen", "--symbols=none", "1"],
+        &["live", "image", "stimuli", "ops", "--symbols", "none"],
+        &[
+            "--symbols",
+            "none",
+            "live",
+            "image",
+            "stimuli",
+            "ops",
+            "--steps",
+            "5",
+        ],
+        &["--steps", "5", "go", "source", "history"],
+        &["check", "--steps", "5", "source"],
+        &["compile", "source", "image", "--steps=5"],
+        &["run", "--steps=5", "image", "history"],
+        &["gen", "1", "--steps", "5"],
+        &["live", "image", "stimuli", "ops"],
+        &["--", "live", "image", "stimuli", "ops", "--steps", "5"],
+    ];
+    is_told(&rt, rt.alloc(), &calls, 1, REFUSED)
+}
+
+// A number is one or more decimal digits without a sign, at least 1. The limits are 10,000 for `gen`
+// and 1,000,000 for `--steps`, also past 32 and 64 bits.
+#[test]
+fn numbers(rt: HostRuntime) -> Result<(), Fail> {
+    let calls: [&[&str]; 26] = [
+        &["gen", ""],
+        &["gen", "0"],
+        &["gen", "0000"],
+        &["gen", "10001"],
+        &["gen", "00010001"],
+        &["gen", "4294967297"],
+        &["gen", "18446744073709551617"],
+        &["gen", "+1"],
+        &["gen", "-1"],
+        &["gen", "--", "-1"],
+        &["gen", "1 "],
+        &["gen", "1a"],
+        &["gen", "0x1"],
+        &["gen", "1.0"],
+        &["gen", "1,000"],
+        &["live", "image", "stimuli", "ops", "--steps", ""],
+        &["live", "image", "stimuli", "ops", "--steps="],
+        &["live", "image", "stimuli", "ops", "--steps", "0"],
+        &["live", "image", "stimuli", "ops", "--steps=000"],
+        &["live", "image", "stimuli", "ops", "--steps", "1000001"],
+        &["live", "image", "stimuli", "ops", "--steps=4294967297"],
+        &[
+            "live",
+            "image",
+            "stimuli",
+            "ops",
+            "--steps=18446744073709551617",
+        ],
+        &["live", "image", "stimuli", "ops", "--steps", "+1"],
+        &["live", "image", "stimuli", "ops", "--steps=-1"],
+        &["live", "image", "stimuli", "ops", "--steps", " 1"],
+        &["live", "image", "stimuli", "ops", "--steps", "five"],
     ];
     is_told(&rt, rt.alloc(), &calls, 1, REFUSED)
 }
@@ -88,11 +179,49 @@ fn symbols(rt: HostRuntime) -> Result<(), Fail> {
         &["--symbols", "none", "--", "go", "source", "history"],
     ];
     is_told(&rt, rt.alloc(), &runs, 0, RUN)?;
-    let judged: [&[&str]; 2] = [
+    let judged: [&[&str]; 6] = [
         &["check", "source", "--symbols=none"],
         &["--symbols", "none", "check", "source"],
+        &["--symbols", "none", "compile", "source", "image"],
+        &["compile", "--symbols=none", "source", "image"],
+        &["compile", "source", "--symbols", "none", "image"],
+        &["compile", "source", "image", "--symbols=none"],
     ];
     is_told(&rt, rt.alloc(), &judged, 0, OK)
+}
+
+// A value behind a `=` may be anything: it names a file that isn't there.
+#[test]
+fn joined_values(rt: HostRuntime) -> Result<(), Fail> {
+    let calls: [&[&str]; 4] = [
+        &["check", "source", "--symbols="],
+        &["check", "source", "--symbols", ""],
+        &["check", "source", "--symbols=-x"],
+        &["check", "source", "--symbols=a=b"],
+    ];
+    is_told(&rt, rt.alloc(), &calls, 5, READ_FAULT)
+}
+
+// The words of `live` and `run` are taken, so the image is asked for, which isn't there.
+#[test]
+fn images(rt: HostRuntime) -> Result<(), Fail> {
+    let calls: [&[&str]; 12] = [
+        &["run", "image", "history"],
+        &["--", "run", "image", "history"],
+        &["--steps", "5", "live", "image", "stimuli", "1"],
+        &["live", "--steps", "5", "image", "stimuli", "1"],
+        &["live", "image", "--steps=5", "stimuli", "1"],
+        &["live", "image", "stimuli", "--steps", "5", "1", "2"],
+        &["live", "image", "stimuli", "1", "2", "3", "--steps=5"],
+        &[
+            "live", "image", "stimuli", "1", "2", "--steps", "5", "3", "4",
+        ],
+        &["live", "image", "stimuli", "1", "--steps", "1"],
+        &["live", "image", "stimuli", "1", "--steps", "1000000"],
+        &["live", "image", "stimuli", "1", "--steps", "00000001"],
+        &["--steps", "5", "--", "live", "image", "stimuli", "--steps"],
+    ];
+    is_told(&rt, rt.alloc(), &calls, 5, READ_FAULT)
 }
 
 // `--` ends the options and is no word of the rest: what stands behind it is the command, if none
@@ -108,10 +237,26 @@ fn accepted(rt: HostRuntime) -> Result<(), Fail> {
         &["go", "--", "--symbols", "history"],
     ];
     is_told(&rt, rt.alloc(), &runs, 0, RUN)?;
-    let judged: [&[&str]; 3] = [
+    let judged: [&[&str]; 7] = [
         &["check", "source"],
         &["check", "--", "source"],
         &["check", "--", "--symbols"],
+        &["compile", "source", "image"],
+        &["--", "compile", "source", "image"],
+        &["compile", "--", "source", "-x"],
+        &["compile", "--symbols=none", "--", "--symbols", "image"],
     ];
     is_told(&rt, rt.alloc(), &judged, 0, OK)
+}
+
+// The least and the greatest number of `gen`, and zeros in front.
+#[test]
+fn generated(rt: HostRuntime) -> Result<(), Fail> {
+    for number in ["1", "10000", "00010000"] {
+        let mut files = MemFiles::new(rt.alloc());
+        let mut out = MemSink::new(rt.alloc(), 64);
+        let code = call(&rt, rt.alloc(), &["gen", number], &mut files, &mut out)?;
+        same(&rt, number, code, 0);
+    }
+    Ok(())
 }

@@ -1,4 +1,5 @@
-use Rattle.s7_cli.proofs.PlainLemmas.{reads_plain_words, reads_words_behind_dashes}
+use Rattle.s7_cli.proofs.LimitLemmas.{commands_keep_limits}
+use Rattle.s7_cli.proofs.PlainLemmas.{reads_plain_words, reads_steps_anywhere, reads_symbols_anywhere, reads_words_behind_dashes, refuses_no_value}
 use Rattle.s7_cli.proofs.words.law_of_words.Goals as goal
 
 pub returns-clause-plain : goal.returns-clause-plain
@@ -6,3 +7,15 @@ returns-clause-plain c = reads_plain_words
 
 pub returns-clause-behind_dashes : goal.returns-clause-behind_dashes
 returns-clause-behind_dashes c = reads_words_behind_dashes
+
+pub returns-clause-symbols : goal.returns-clause-symbols
+returns-clause-symbols c = reads_symbols_anywhere
+
+pub returns-clause-steps : goal.returns-clause-steps
+returns-clause-steps c = reads_steps_anywhere
+
+pub returns-clause-no_value : goal.returns-clause-no_value
+returns-clause-no_value c = refuses_no_value
+
+pub returns-clause-limits : goal.returns-clause-limits
+returns-clause-limits c = commands_keep_limits

@@ -1,0 +1,64 @@
+-- The numbers of a command, and how many scripts it has, are within their limits.
+use Rattle.std.proofs.Common.{◌≤◌, ℕ, List, [], ◌∷◌, arith, codes, length, nat_le, nat_lt}
+use Rattle.std.proofs.lemmas.Bool.{and_parts}
+use Rattle.std.proofs.lemmas.Bool.Decides.{nat_tests}
+use Rattle.std.specs.Prelude.{◌&&◌, not, Option, Some, None, IfSome, bytes_eq, is_some, unwrap_or}
+use Rattle.clap.specs.Walk.{Row, is_empty}
+use Rattle.clap.specs.Words.{all_of, fault_of, first_of, matches_of}
+use Rattle.plc_base.specs.Decimal.{decimal_up_to, decimal_value, is_decimal}
+use Rattle.stl_parser.proofs.OptionLemmas.{both, chained, mapped, none_holds, passed}
+use Rattle.s7_cli.specs.Command.{Gen, Live}
+use Rattle.s7_cli.specs.Words.{the_line, number_up_to, one_word_command, two_word_command, short_command, live_command, asked_for, asked_by, command_of, CommandsKeepLimits, KeepsLimits}
+
+decimal-limit : (most : ℕ) (word : List ℕ) → IfSome (decimal_up_to most word) (λ n. n ≤ most)
+unfolding decimal_up_to
+decimal-limit most word =
+    passed (is_decimal word && nat_le (decimal_value word) most) (Some (decimal_value word)) (λ n. n ≤ most)
+    (λ h. let small = (and_parts (is_decimal word) _ h).1 in grind (arith, nat_tests))
+
+number-limits : (most : ℕ) (word : List ℕ) → IfSome (number_up_to most word) (λ n. (1 ≤ n) × (n ≤ most))
+number-limits most word =
+    chained (decimal_up_to most word) _ (λ n. n ≤ most) _ (decimal-limit most word)
+    (λ n small. passed (nat_lt 0 n) (Some n) _ (λ above. let least : 1 ≤ n = grind (arith, nat_tests) in (least, small)))
+
+one-limits : (command word : List ℕ) (symbols : Option (List ℕ)) → IfSome (one_word_command command word symbols) KeepsLimits
+one-limits command word symbols =
+    both (bytes_eq command (codes "check")) _ _ KeepsLimits tt
+    (passed (bytes_eq command (codes "gen") && not (is_some symbols)) _ KeepsLimits
+    (λ _. mapped (number_up_to 10000 word) Gen _ KeepsLimits (number-limits 10000 word) (λ n h. h)))
+
+two-limits : (command first second : List ℕ) (symbols : Option (List ℕ)) → IfSome (two_word_command command first second symbols) KeepsLimits
+two-limits command first second symbols =
+    both (bytes_eq command (codes "go")) _ _ KeepsLimits tt
+    (both (bytes_eq command (codes "compile")) _ _ KeepsLimits tt
+    (passed (bytes_eq command (codes "run") && not (is_some symbols)) _ KeepsLimits (λ _. tt)))
+
+short-limits : (command : List ℕ) (words : List (List ℕ)) (symbols : Option (List ℕ)) → IfSome (short_command command words symbols) KeepsLimits
+short-limits command [] symbols = tt
+short-limits command (word ∷ []) symbols = one-limits command word symbols
+short-limits command (first ∷ second ∷ []) symbols = two-limits command first second symbols
+short-limits command (first ∷ second ∷ third ∷ more) symbols = tt
+
+live-limits : (command : List ℕ) (words : List (List ℕ)) (steps : List ℕ) → IfSome (live_command command words steps) KeepsLimits
+live-limits command [] steps = tt
+live-limits command (image ∷ []) steps = tt
+live-limits command (image ∷ stimuli ∷ []) steps = tt
+live-limits command (image ∷ stimuli ∷ script ∷ scripts) steps =
+    passed (bytes_eq command (codes "live") && nat_le (length scripts) 3) _ KeepsLimits
+    (λ h. let few = (and_parts (bytes_eq command (codes "live")) _ h).1 in
+    let some : 1 ≤ length (script ∷ scripts) = grind (arith, nat_tests) in
+    let most : length (script ∷ scripts) ≤ 4 = grind (arith, nat_tests) in
+    mapped (number_up_to 1000000 steps) (Live image stimuli (script ∷ scripts)) _ KeepsLimits (number-limits 1000000 steps) (λ n within. (some, most, within.0, within.1)))
+
+asked-limits : (command : List ℕ) (words : List (List ℕ)) (symbols steps : Option (List ℕ)) → IfSome (asked_for command words symbols steps) KeepsLimits
+asked-limits command words symbols None = short-limits command words symbols
+asked-limits command words symbols (Some steps) = both (is_some symbols) None _ KeepsLimits tt (live-limits command words steps)
+
+found-limits : (found : List Row) → IfSome (asked_by found) KeepsLimits
+found-limits found =
+    chained (first_of (codes "COMMAND") found) _ (λ command. Unit {0}) KeepsLimits (none_holds (first_of (codes "COMMAND") found))
+    (λ command _. asked-limits command (unwrap_or (all_of (codes "FILES") found) []) (first_of (codes "symbols") found) (first_of (codes "steps") found))
+
+pub commands_keep_limits : CommandsKeepLimits
+unfolding command_of
+commands_keep_limits words = passed (is_empty (fault_of the_line words)) (asked_by (matches_of the_line words)) KeepsLimits (λ _. found-limits (matches_of the_line words))
