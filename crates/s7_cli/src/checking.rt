@@ -8,13 +8,10 @@ ghost use Rattle.s7_cli.specs.StatusTable.{StatusTable};
 
 use crate::failures::{Failure, Status};
 use crate::files::read_program;
-use crate::finish::{end_command, write_text};
+use crate::finish::{OK_LINE, end_command, write_text};
 use crate::judging::judge_program;
 use plc_io::{Files, Sink};
 use std::alloc::Global;
-
-/// What `check` writes for a source that is accepted.
-const OK_LINE: &[u8] = b"OK\n";
 
 /// Reads a source with its symbols, checks it, and writes `OK`.
 fn check<F: Files, K: Sink>(

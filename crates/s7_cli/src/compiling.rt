@@ -1,11 +1,12 @@
 ghost use Rattle.std.specs.Prelude.{◌≡◌, ◌≤◌, length, IfOk, IfErr};
 ghost use Rattle.stl_ast.specs.Literals.{AreBytes};
 ghost use Rattle.stl_symbols.specs.Symbols.{symbols_limit};
+ghost use Rattle.flat_code.specs.Image.{image};
 ghost use Rattle.plc_base.specs.Least.{least};
 ghost use Rattle.stl_lexer.specs.Limits.{source_limit};
 ghost use Rattle.stl_types.specs.Table.{statement_refusals};
 ghost use Rattle.block_layout.specs.Table.{layout_refusals};
-ghost use Rattle.sem_kept.specs.Agreement.{AreFiles, IsRunnable, KeepsSource};
+ghost use Rattle.sem_kept.specs.Agreement.{AreFiles, ImageKeepsSource, IsRunnable, KeepsSource};
 ghost use Rattle.sem_kept.specs.Meaning.{HasSymbols, HasTokens, HasTree, IsSound};
 ghost use Rattle.plc_base.specs.declared.refusals.SourceFault.TheVariants.{NoMemory};
 ghost use Rattle.sem_kept.specs.Stages.{InTurn};
@@ -21,7 +22,7 @@ ghost use Rattle.s7_cli.specs.Compiling.{
 use crate::faults::{CompileFault, in_source, in_symbols};
 use block_layout::{Layouts, lay_out, lay_out_sound};
 use flat_code::Program;
-use image_file::{Loaded, VerifyError, verify};
+use image_file::{Loaded, VerifyError, verify, write_image};
 use plc_base::{Refusal, SourceFault, lesser};
 use std::alloc::{AllocError, Global};
 use stl_ast::Tree;
@@ -199,10 +200,25 @@ pub fn judged(alloc: Global, source: &[u8], symbols: &[u8]) -> Result<(), Compil
     Ok(())
 }
 
+/// The program of a source with its symbols.
+fn program_of(alloc: Global, source: &[u8], symbols: &[u8]) -> Result<Program, CompileFault>
+    requires source { length source.now ≤ source_limit }
+    requires symbols { length symbols.now ≤ symbols_limit }
+    ensures ok { IfOk result (KeepsSource source.now symbols.now) }
+    ensures refused { IfErr result
+        (RefusesBy source.now symbols.now) }
+{
+    sem_kept::laws::programs_run();
+    law_of_files(source, symbols);
+    let laid = laid_out(alloc, source, symbols)?;
+    let checked = checked_of(alloc, &laid)?;
+    Ok(generate(alloc, &checked, &laid.layouts, &laid.symbols)?)
+}
+
 /// Compiles a source of at most 1,048,576 bytes with its symbols file, which has at most as many (no
 /// file: no bytes), into a loaded program that runs as it means and has the names of its symbols. The
 /// symbols are checked first, then the tokens of the source, its clauses, and its layout together
-/// with its statements.
+/// with its statements. `load` gives this program for the image that `compiled_image` gives.
 ///
 /// # Errors
 ///
@@ -212,13 +228,29 @@ pub fn compiled(alloc: Global, source: &[u8], symbols: &[u8]) -> Result<Loaded, 
     requires source { length source.now ≤ source_limit }
     requires symbols { length symbols.now ≤ symbols_limit }
     ensures ok { IfOk result (λ l. KeepsSource source.now symbols.now l.program) }
+    ensures image { IfOk result
+        (λ l. ImageKeepsSource (image l.program) source.now symbols.now) }
     ensures refused { IfErr result
         (RefusesBy source.now symbols.now) }
 {
-    sem_kept::laws::programs_run();
-    law_of_files(source, symbols);
-    let laid = laid_out(alloc, source, symbols)?;
-    let checked = checked_of(alloc, &laid)?;
-    let program = generate(alloc, &checked, &laid.layouts, &laid.symbols)?;
+    let program = program_of(alloc, source, symbols)?;
     Ok(loaded(alloc, program)?)
+}
+
+/// Compiles a source with its symbols file, by the rules of `compiled`, into the image of its
+/// program.
+///
+/// # Errors
+///
+/// Those of `compiled`: `Symbols` or `Source` with the refusal exactly where the symbols file or the
+/// source with these symbols is refused; or `NoMemory`.
+pub fn compiled_image(alloc: Global, source: &[u8], symbols: &[u8]) -> Result<Vec<u8>, CompileFault>
+    requires source { length source.now ≤ source_limit }
+    requires symbols { length symbols.now ≤ symbols_limit }
+    ensures ok { IfOk result (λ v. ImageKeepsSource v.items source.now symbols.now) }
+    ensures refused { IfErr result
+        (RefusesBy source.now symbols.now) }
+{
+    let program = program_of(alloc, source, symbols)?;
+    Ok(write_image(alloc, &program)?)
 }

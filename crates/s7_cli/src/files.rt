@@ -1,7 +1,7 @@
 ghost use Rattle.std.specs.Prelude.{◌≡◌, option_to_list};
 ghost use Rattle.std.specs.Option.{option_map};
 ghost use Rattle.s7_cli.specs.Command.{Input, limit_of, program_inputs, symbols_inputs};
-ghost use Rattle.s7_cli.specs.Inner.{AllRead, FileRead};
+ghost use Rattle.s7_cli.specs.Inner.{AllRead, FileRead, FileWritten};
 ghost use Rattle.s7_cli.specs.Reading.{disk};
 ghost use Rattle.s7_cli.specs.Texts.{contents_of, symbols_of};
 
@@ -106,4 +106,16 @@ pub fn read_program<F: Files>(
     let source = read_file(alloc, files, File::Source, source)?;
     let symbols = read_symbols_file(alloc, files, symbols)?;
     Ok(ProgramText { source, symbols })
+}
+
+/// Makes bytes the whole contents of an output file.
+pub fn write_file<F: Files>(files: &mut F, name: &str, bytes: &[u8]) -> Result<(), Failure>
+    ensures { FileWritten (disk (F.shown files.old) (F.shown files.new)) name.now bytes.now
+        result }
+{
+    match files.write_whole(name, bytes) {
+        Ok(()) => Ok(()),
+        Err(IoFault::Failed) => Err(Failure::WriteFault),
+        Err(IoFault::NoMemory) => Err(Failure::NoMemory),
+    }
 }

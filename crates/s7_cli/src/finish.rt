@@ -12,6 +12,9 @@ use crate::failures::{Failure, Status};
 use crate::texts::failure_line;
 use plc_io::{IoFault, Sink, push_all};
 
+/// What `check` writes for a source that is accepted, and `compile` behind its image.
+pub const OK_LINE: &[u8] = b"OK\n";
+
 /// How a command came out whose text was written so.
 pub fn written(outcome: Result<(), IoFault>) -> Result<(), Failure>
     ensures { (before after : SinkAt) (text : List ℕ)

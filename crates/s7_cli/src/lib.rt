@@ -2,6 +2,7 @@
 #![tactic(auto)]
 
 mod checking;
+mod compile_command;
 mod compiling;
 mod failures;
 mod faults;
@@ -11,17 +12,20 @@ mod going;
 mod help;
 mod judging;
 mod program;
+mod run_command;
 mod run_text;
 mod texts;
 mod words;
 
 pub use checking::cmd_check;
-pub use compiling::{compiled, judged};
+pub use compile_command::cmd_compile;
+pub use compiling::{compiled, compiled_image, judged};
 pub use failures::{Failure, File, Status};
 pub use faults::CompileFault;
 pub use going::cmd_go;
 pub use help::{Question, question_in, write_answer};
 pub use program::s7_main;
+pub use run_command::cmd_run;
 pub use run_text::replay_text;
 pub use texts::failure_line;
 pub use words::law_of_words;

@@ -5,9 +5,11 @@ ghost use Rattle.s7_cli.specs.Reading.{disk};
 ghost use Rattle.s7_cli.specs.StatusTable.{StatusTable};
 
 use crate::checking::cmd_check;
+use crate::compile_command::cmd_compile;
 use crate::failures::{Failure, Status};
 use crate::finish::end_command;
 use crate::going::cmd_go;
+use crate::run_command::cmd_run;
 use crate::words::{Asked, read_words};
 use plc_io::{Files, Gate, Sink};
 use std::alloc::Global;
@@ -15,17 +17,19 @@ use std::sync::Wait;
 use std::thread::Threads;
 
 /// Does what the words of a call ask for, without the program's name: `go SRC HIST` runs a source
-/// along a history, `check SRC` checks a source; `--symbols FILE` gives either of them a file of
-/// symbols. The status is that of the text that `out` took:
+/// along a history, `check SRC` checks a source, `compile SRC IMG` writes its image; `--symbols FILE`
+/// gives each of them a file of symbols. `run IMG HIST` runs an image along a history. The status is
+/// that of the text that `out` took:
 ///
 /// | Status | When |
 /// |---|---|
 /// | 0 | done |
 /// | 1 | the words are refused |
 /// | 2 | the symbols or the source are refused |
+/// | 3 | the image is refused |
 /// | 4 | the history is refused |
 /// | 5 | a file can't be read |
-/// | 6 | the sink couldn't be written |
+/// | 6 | the sink or an output file couldn't be written |
 /// | 7 | memory ran out |
 /// | 8 | a file holds a byte past its limit |
 pub fn s7_main<R: Threads + Wait + Sync, F: Files, K: Sink, G: Gate + Sync>(
@@ -54,6 +58,19 @@ pub fn s7_main<R: Threads + Wait + Sync, F: Files, K: Sink, G: Gate + Sync>(
             ),
         ) => cmd_go(alloc, source, history, symbols, files, out),
         Ok(Some(Asked::Check { source, symbols })) => cmd_check(alloc, source, symbols, files, out),
+        Ok(
+            Some(
+                Asked::Compile {
+                    source,
+                    symbols,
+                    image,
+                },
+            ),
+        ) => cmd_compile(alloc, source, symbols, image, files, out),
+        Ok(Some(Asked::Run { image, history })) => cmd_run(alloc, image, history, files, out),
+        Ok(Some(Asked::Gen { number: _ })) | Ok(Some(Asked::Live { .. })) => {
+            end_command(out, Err(Failure::WordsRefused))
+        }
         Ok(None) => end_command(out, Err(Failure::WordsRefused)),
         Err(_) => end_command(out, Err(Failure::NoMemory)),
     }

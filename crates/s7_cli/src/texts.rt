@@ -1,6 +1,7 @@
-ghost use Rattle.std.specs.Prelude.{◌≡◌, ◌≤◌, length};
+ghost use Rattle.std.specs.Prelude.{◌≡◌, ◌≤◌, ◌+◌, ◌++◌, length};
 ghost use Rattle.s7_cli.specs.Lines.{
   file_text,
+  image_refused_text,
   line_of,
   read_fault_text,
   refusal_text,
@@ -9,19 +10,27 @@ ghost use Rattle.s7_cli.specs.Lines.{
 };
 
 use crate::failures::{Failure, File};
+use image_file::LoadFault;
 use monitor::Line;
 use plc_base::Refusal;
 
-/// The word for a file.
+/// Appends the word for a file; a script's has the operator's number. It wants room for 47 bytes.
 #[tactic(auto, unfolding(crate::specs::Lines::file_text))]
-fn file_text(file: File) -> &'static [u8]
-    ensures value { result.now ≡ file_text file }
-    ensures short { length result.now ≤ 7 }
+fn add_file(line: &mut Line, file: File)
+    requires { length line.old + 47 ≤ 256 }
+    ensures value { line.new ≡ line.old ++ file_text file }
+    ensures len { length line.new ≤ length line.old + 47 }
 {
     match file {
-        File::Source => b"source",
-        File::Symbols => b"symbols",
-        File::History => b"history",
+        File::Source => line.add(b"source"),
+        File::Symbols => line.add(b"symbols"),
+        File::Image => line.add(b"image"),
+        File::History => line.add(b"history"),
+        File::Stimuli => line.add(b"stimuli"),
+        File::Script { number } => {
+            line.add(b"script ");
+            line.add_number(u64::from(number));
+        }
     }
 }
 
@@ -31,11 +40,25 @@ fn refusal_line(file: File, refusal: Refusal) -> Line
     ensures { result ≡ refusal_text file refusal }
 {
     let mut line = Line::new();
-    line.add(file_text(file));
+    add_file(&mut line, file);
     line.add(b" refused: line ");
     line.add_number(u64::from(refusal.line));
     line.add(b" rule ");
     line.add_number(u64::from(refusal.rule));
+    line.add(b"\n");
+    line
+}
+
+/// The line of a refused image: the offset of its least fault, and the fault's code.
+#[tactic(auto, unfolding(crate::specs::Lines::image_refused_text))]
+fn image_refused_line(fault: LoadFault) -> Line
+    ensures { result ≡ image_refused_text fault }
+{
+    let mut line = Line::new();
+    line.add(b"image refused: offset ");
+    line.add_number(u64::from(fault.at));
+    line.add(b" code ");
+    line.add_number(u64::from(fault.code));
     line.add(b"\n");
     line
 }
@@ -47,7 +70,7 @@ fn too_long_line(file: File) -> Line
 {
     let mut line = Line::new();
     line.add(b"too long: ");
-    line.add(file_text(file));
+    add_file(&mut line, file);
     line.add(b"\n");
     line
 }
@@ -72,6 +95,7 @@ pub fn failure_line(failure: Failure) -> Option<Line>
         Failure::ReadFault => Some(fixed_line(b"read fault\n")),
         Failure::TooLong { file } => Some(too_long_line(file)),
         Failure::Refused { file, refusal } => Some(refusal_line(file, refusal)),
+        Failure::ImageRefused { fault } => Some(image_refused_line(fault)),
         Failure::WriteFault | Failure::NoMemory => None,
     }
 }

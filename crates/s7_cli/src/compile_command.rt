@@ -1,0 +1,58 @@
+ghost use Rattle.std.specs.Prelude.{Some};
+ghost use Rattle.std.specs.Option.{option_map};
+ghost use Rattle.s7_cli.specs.Command.{Compile};
+ghost use Rattle.s7_cli.specs.Ends.{Ended, taking};
+ghost use Rattle.s7_cli.specs.Inner.{Comes};
+ghost use Rattle.s7_cli.specs.Reading.{disk};
+ghost use Rattle.s7_cli.specs.StatusTable.{StatusTable};
+
+use crate::failures::{Failure, Status};
+use crate::files::{read_program, write_file};
+use crate::finish::{OK_LINE, end_command, write_text};
+use crate::judging::judge_image;
+use plc_io::{Files, Sink};
+use std::alloc::Global;
+
+/// Reads a source with its symbols, writes its image, and then `OK`.
+fn compile<F: Files, K: Sink>(
+    alloc: Global,
+    src: &str,
+    symbols: Option<&str>,
+    img: &str,
+    files: &mut F,
+    out: &mut K,
+) -> Result<(), Failure>
+    ensures { let went = disk (F.shown files.old) (F.shown files.new) in
+        let took = taking (K.shown out.old) (K.shown out.new) in
+        Comes (Some (Compile src.now (option_map (λ s. s.now) symbols.entry) img.now)) went took
+        result }
+{
+    let text = read_program(alloc, files, src, symbols)?;
+    let image = judge_image(alloc, &text)?;
+    write_file(files, img, &image)?;
+    write_text(out, OK_LINE)
+}
+
+/// Compiles the source in the file `src`, with the symbols in the file `symbols` if there is one,
+/// makes its image the whole of the file `img`, and then writes `OK`; or writes the line of a
+/// refusal, and no file.
+pub fn cmd_compile<F: Files, K: Sink>(
+    alloc: Global,
+    src: &str,
+    symbols: Option<&str>,
+    img: &str,
+    files: &mut F,
+    out: &mut K,
+) -> Status
+    ensures ends { let went = disk (F.shown files.old) (F.shown files.new) in
+        let took = taking (K.shown out.old) (K.shown out.new) in
+        Ended (Some (Compile src.now (option_map (λ s. s.now) symbols.entry) img.now)) went took
+        result.code }
+    ensures table { let went = disk (F.shown files.old) (F.shown files.new) in
+        let took = taking (K.shown out.old) (K.shown out.new) in
+        StatusTable (Some (Compile src.now (option_map (λ s. s.now) symbols.entry) img.now)) went
+        took result.code }
+{
+    let came = compile(alloc, src, symbols, img, files, out);
+    end_command(out, came)
+}

@@ -1,0 +1,53 @@
+ghost use Rattle.std.specs.Prelude.{Some};
+ghost use Rattle.s7_cli.specs.Command.{Run};
+ghost use Rattle.s7_cli.specs.Ends.{Ended, taking};
+ghost use Rattle.s7_cli.specs.Inner.{Comes};
+ghost use Rattle.s7_cli.specs.Reading.{disk};
+ghost use Rattle.s7_cli.specs.StatusTable.{StatusTable};
+
+use crate::failures::{Failure, File, Status};
+use crate::files::read_file;
+use crate::finish::{end_command, written};
+use crate::judging::judge_run;
+use crate::run_text::replay_text;
+use plc_io::{Files, Sink};
+use std::alloc::Global;
+
+/// Reads an image and a history, checks both, and writes the run.
+fn run<F: Files, K: Sink>(
+    alloc: Global,
+    img: &str,
+    hist: &str,
+    files: &mut F,
+    out: &mut K,
+) -> Result<(), Failure>
+    ensures { let went = disk (F.shown files.old) (F.shown files.new) in
+        let took = taking (K.shown out.old) (K.shown out.new) in
+        Comes (Some (Run img.now hist.now)) went took result }
+{
+    let image = read_file(alloc, files, File::Image, img)?;
+    let history = read_file(alloc, files, File::History, hist)?;
+    let (program, entries) = judge_run(alloc, &image, &history)?;
+    written(replay_text(alloc, program, &entries, out))
+}
+
+/// Runs the image in the file `img` along the history in the file `hist`, which may name the
+/// variables whose names stand in the image, and writes the text of the run, or the line of a
+/// refusal.
+pub fn cmd_run<F: Files, K: Sink>(
+    alloc: Global,
+    img: &str,
+    hist: &str,
+    files: &mut F,
+    out: &mut K,
+) -> Status
+    ensures ends { let went = disk (F.shown files.old) (F.shown files.new) in
+        Ended (Some (Run img.now hist.now)) went (taking (K.shown out.old) (K.shown out.new))
+        result.code }
+    ensures table { let went = disk (F.shown files.old) (F.shown files.new) in
+        StatusTable (Some (Run img.now hist.now)) went (taking (K.shown out.old) (K.shown out.new))
+        result.code }
+{
+    let came = run(alloc, img, hist, files, out);
+    end_command(out, came)
+}
