@@ -6,6 +6,7 @@ pub mod Faults
 pub mod GenText
 pub mod Inner
 pub mod Lines
+pub mod Living
 pub mod Questions
 pub mod Reading
 pub mod run_text
@@ -13,3 +14,4 @@ pub mod Says
 pub mod StatusTable
 pub mod Texts
 pub mod Words
+pub mod Working

@@ -11,11 +11,13 @@ mod finish;
 mod going;
 mod help;
 mod judging;
+mod living;
 mod program;
 mod run_command;
 mod run_text;
 mod texts;
 mod words;
+mod working;
 
 pub use checking::cmd_check;
 pub use compile_command::cmd_compile;
@@ -29,3 +31,4 @@ pub use run_command::cmd_run;
 pub use run_text::replay_text;
 pub use texts::failure_line;
 pub use words::law_of_words;
+pub use working::work;
