@@ -19,12 +19,16 @@ const HELP: &str = "\
 s7: a proved controller and compiler for Siemens STL (Statement List)
 
 Calls:
-  s7 go SRC HIST   run the source SRC along the history HIST, write the run
-  s7 check SRC     check the source SRC, write OK where it is accepted
-  s7 --help        write this text (also -h)
-  s7 --version     write the version (also -V)
+  s7 go SRC HIST      run the source SRC along the history HIST, write the run
+  s7 check SRC        check the source SRC, write OK where it is accepted
+  s7 compile SRC IMG  write the image of the source SRC to the file IMG, then OK
+  s7 run IMG HIST     run the image IMG along the history HIST, write the run
+  s7 gen NUMBER       run the program and the history that are made of a number
+                      from 1 to 10,000, write a line that sums up the run
+  s7 --help           write this text (also -h)
+  s7 --version        write the version (also -V)
 
-Option of go and check, anywhere among the words:
+Option of go, check and compile, anywhere among the words:
   --symbols FILE   the symbols of the source, as STEP 7 exports them
 
 Behind -- no word is an option, so a file may begin with a hyphen.
@@ -32,7 +36,7 @@ Behind -- no word is an option, so a file may begin with a hyphen.
 Supported: organization blocks, functions, function blocks, data blocks and
 types of the whole-number subset of STL, nine system functions, interrupts,
 time and synchronous errors, timers and counters, requests of operators.
-Not supported yet: images of a program.
+Not supported: REAL, STRING, ANY, German mnemonics, the master control relay.
 
 Lines of a history (numbers are decimal, h is a hexadecimal digit):
   step               one step: one statement, or a cycle point
@@ -121,18 +125,31 @@ Rules of a history:
    4  a request without its operator
    5  an operator isn't 1 to 4
    6  more than 1,000,000 steps so far
+Faults of an image:
+   1  it doesn't begin with S7FB
+   2  the version isn't 1
+   3  a field runs past the total length, or that is wrong
+   4  a number, count, size or name isn't allowed, or out of its order
+   5  no op stands here, or the code doesn't end with BE
+   6  a jump leads to no statement, or a jump list isn't right
+   7  an operand isn't allowed
+   8  brackets don't match
+   9  the count of statements or a line isn't right
+  10  more bytes than the total length, or than the records
 
 Exit status, and the line that is written in place of a result:
   0  done
   1  the words are no call as above      words refused
   2  the symbols break a rule            symbols refused: line L rule R
      the source breaks a rule            source refused: line L rule R
+  3  the image has fault C at byte A     image refused: offset A code C
   4  the history breaks a rule           history refused: line L rule R
   5  a file can't be read                read fault
-  6  standard output failed
+  6  standard output failed, or IMG of compile can't be written
   7  memory ran out
   8  a file is too long                  too long: source (1,048,576 bytes)
                                          too long: symbols (1,048,576 bytes)
+                                         too long: image (8,388,608 bytes)
                                          too long: history (4,194,304 bytes)
 
 Example:
