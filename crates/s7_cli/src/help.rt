@@ -19,20 +19,31 @@ const HELP: &str = "\
 s7: a proved controller and compiler for Siemens STL (Statement List)
 
 Calls:
-  s7 go SRC HIST   run the source SRC along the history HIST, write the run
-  s7 check SRC     check the source SRC, write OK where it is accepted
-  s7 --help        write this text (also -h)
-  s7 --version     write the version (also -V)
+  s7 go SRC HIST      run the source SRC along the history HIST, write the run
+  s7 check SRC        check the source SRC, write OK where it is accepted
+  s7 compile SRC IMG  write the image of the source SRC to the file IMG, then OK
+  s7 run IMG HIST     run the image IMG along the history HIST, write the run
+  s7 gen NUMBER       run the program and the history that are made of a number
+                      from 1 to 10,000, write a line that sums up the run
+  s7 live IMG STIM OPS.. --steps N
+                      run the image IMG by workers beside one another: one makes
+                      N steps, one feeds the stimuli STIM, and one to four more
+                      ask what their scripts OPS say; write the history that
+                      came of it, a line ---, and the run
+  s7 --help           write this text (also -h)
+  s7 --version        write the version (also -V)
 
-Option of go and check, anywhere among the words:
-  --symbols FILE   the symbols of the source, as STEP 7 exports them
+Options, anywhere among the words:
+  --symbols FILE   the symbols of the source, as STEP 7 exports them: with go,
+                   check and compile
+  --steps N        the most steps, 1 to 1,000,000: with live, which needs it
 
 Behind -- no word is an option, so a file may begin with a hyphen.
 
 Supported: organization blocks, functions, function blocks, data blocks and
 types of the whole-number subset of STL, nine system functions, interrupts,
 time and synchronous errors, timers and counters, requests of operators.
-Not supported yet: images of a program.
+Not supported: REAL, STRING, ANY, German mnemonics, the master control relay.
 
 Lines of a history (numbers are decimal, h is a hexadecimal digit):
   step               one step: one statement, or a cycle point
@@ -51,6 +62,7 @@ Lines of a history (numbers are decimal, h is a hexadecimal digit):
                      V is an address, as M 0.1, MW 2, DB1.DBW 0, or a symbol
                      in double quotes; h has two digits a byte, or is 0 or 1
   // ..              a comment; empty lines are skipped too
+Stimuli have the lines in, arrive and tick alone, a script requests alone.
 
 Lines of a run (N is the number of the entry, from 1):
   @N MON KIND n LINE l STW hhhh A1 hhhhhhhh A2 hhhhhhhh
@@ -114,26 +126,43 @@ Rules of a symbols file:
   14  a line isn't four fields
   15  an address, type or name isn't right, or too many symbols
   16  a name stands twice
-Rules of a history:
+Rules of a history, of stimuli and of a script:
    1  a line isn't as above
    2  a number is out of its range, or a value doesn't fit its variable
    3  a name is unknown
-   4  a request without its operator
+   4  a line of another of these texts, as a request without its operator
    5  an operator isn't 1 to 4
    6  more than 1,000,000 steps so far
+Faults of an image:
+   1  it doesn't begin with S7FB
+   2  the version isn't 1
+   3  a field runs past the total length, or that is wrong
+   4  a number, count, size or name isn't allowed, or out of its order
+   5  no op stands here, or the code doesn't end with BE
+   6  a jump leads to no statement, or a jump list isn't right
+   7  an operand isn't allowed
+   8  brackets don't match
+   9  the count of statements or a line isn't right
+  10  more bytes than the total length, or than the records
 
 Exit status, and the line that is written in place of a result:
   0  done
   1  the words are no call as above      words refused
   2  the symbols break a rule            symbols refused: line L rule R
      the source breaks a rule            source refused: line L rule R
+  3  the image has fault C at byte A     image refused: offset A code C
   4  the history breaks a rule           history refused: line L rule R
+     the stimuli break a rule            stimuli refused: line L rule R
+     script k, from 1, breaks a rule     script k refused: line L rule R
   5  a file can't be read                read fault
-  6  standard output failed
+  6  standard output failed, or IMG of compile can't be written
   7  memory ran out
   8  a file is too long                  too long: source (1,048,576 bytes)
                                          too long: symbols (1,048,576 bytes)
+                                         too long: image (8,388,608 bytes)
                                          too long: history (4,194,304 bytes)
+                                         too long: stimuli (4,194,304 bytes)
+                                         too long: script k (1,048,576 bytes)
 
 Example:
   s7 go examples/interlock/source.awl examples/interlock/history.txt
