@@ -1,5 +1,5 @@
--- How clap's walk goes over words that are no options, without a hyphen at their front or behind `--`: the first is COMMAND, and all
--- others are FILES. `behind` says whether `--` stood at the front.
+-- How clap's walk goes over words that are no options, of themselves or behind `--`: the first is COMMAND, and all others are FILES. `behind` says
+-- whether `--` stood at the front. An option may stand in any place among them.
 use Rattle.std.proofs.Common.{◌≡◌, ℕ, Bool, true, false, not, ◌&&◌, ◌||◌, ◌==◌, List, [], ◌∷◌, ◌++◌, length, nat_le, refl, ap, sym, ◌∙◌, arith, codes, if◌then◌else◌, true≢false, append-nil, append_assoc, length-append}
 use Rattle.std.specs.Prelude.{Option, Some, None, bytes_eq, is_some}
 use Rattle.std.specs.List.{fold, list_all}
@@ -25,8 +25,13 @@ record IsPlain (word : Text) : Type 0 where
 
 plain : (word : Text) → is_plain_word word ≡ true → IsPlain word
 plain [] e = record { no_dashes = refl; no_long = refl; no_short = refl }
-plain (x ∷ xs) e =
-    (elim (x == 45) as (λ v. (x == 45) ≡ v → not v ≡ true → IsPlain (x ∷ xs)) [
+plain (x ∷ []) e =
+    (elim (x == 45) as (λ v. (x == 45) ≡ v → IsPlain (x ∷ [])) [
+      | true ↦ λ is. record { no_dashes = rw is refl; no_long = rw is refl; no_short = rw is refl }
+      | false ↦ λ is. record { no_dashes = rw is refl; no_long = rw is refl; no_short = rw is refl }
+    ]) refl
+plain (x ∷ y ∷ xs) e =
+    (elim (x == 45) as (λ v. (x == 45) ≡ v → not v ≡ true → IsPlain (x ∷ y ∷ xs)) [
       | true ↦ λ is h. absurd (true≢false (sym h))
       | false ↦ λ is h. record { no_dashes = rw is refl; no_long = rw is refl; no_short = rw is refl }
     ]) refl e

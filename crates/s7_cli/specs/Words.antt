@@ -99,17 +99,18 @@ command_value (asked.Run image history) = Run image.now history.now
 command_value (asked.Gen number) = Gen number
 command_value (asked.Live image stimuli scripts steps) = Live image.now stimuli.now (map (λ s. s.now) scripts.items) steps
 
--- a word that can be no option: it doesn't begin with a hyphen (45)
+-- a word that can be no option: it doesn't begin with a hyphen (45), or is nothing else
 abbrev pub is_plain_word : List ℕ → Bool
 is_plain_word [] = true
-is_plain_word (first ∷ rest) = not (first == 45)
+is_plain_word (first ∷ []) = true
+is_plain_word (first ∷ second ∷ rest) = not (first == 45)
 
 -- the command that such words ask for with these options, the first of them as its word
 abbrev pub plain_command : (words : List (List ℕ)) (symbols steps : Option (List ℕ)) → Option Command
 plain_command [] symbols steps = None
 plain_command (command ∷ words) symbols steps = asked_for command words symbols steps
 
--- words without a hyphen at their front are read so
+-- words that can be no options are read so
 abbrev pub ReadsPlainWords : Type 0
 ReadsPlainWords = (words : List (List ℕ)) → list_all is_plain_word words ≡ true → command_of words ≡ plain_command words None None
 
@@ -117,8 +118,8 @@ ReadsPlainWords = (words : List (List ℕ)) → list_all is_plain_word words ≡
 abbrev pub ReadsWordsBehindDashes : Type 0
 ReadsWordsBehindDashes = (words : List (List ℕ)) → command_of (codes "--" ∷ words) ≡ plain_command words None None
 
--- an option with its value may stand anywhere among words without a hyphen at their front, and asks for the same: as two words, the second without one
--- too, or as a single word with `=` between them
+-- an option with its value may stand anywhere among words that can be no options, and asks for the same: as two words, of which the second can be none
+-- either, or as a single word with `=` between them, where the value may be anything
 abbrev pub ReadsAnywhere : (option : List ℕ) (asked : (words : List (List ℕ)) (value : List ℕ) → Option Command) → Type 0
 ReadsAnywhere option asked = (front back : List (List ℕ)) (value : List ℕ) → list_all is_plain_word (front ++ back) ≡ true
     → (is_plain_word value ≡ true → command_of (front ++ option ∷ value ∷ back) ≡ asked (front ++ back) value)

@@ -273,12 +273,12 @@ pub fn read_words(alloc: Global, words: &[String]) -> Result<Option<Asked<'_>>, 
     }
 }
 
-/// Words that don't begin with a hyphen are read by their first word, as the command, and by those
-/// behind it: a call without options, or none. Behind `--` at the front all words are read so,
-/// whatever they begin with. `--symbols FILE` or `--steps N` may stand in any place among words that
-/// don't begin with a hyphen, and adds that option to the call of the others: as two words, the
-/// second without a hyphen at its front, or as a single one, `--symbols=FILE` or `--steps=N`, with
-/// any value. Where `--symbols` or `--steps` is the last word, the words are refused. The numbers of
+/// A word that doesn't begin with a hyphen is plain, and so is `-` alone. Plain words are read by the
+/// first of them, as the command, and by those behind it: a call without options, or none. Behind
+/// `--` at the front all words are read so, whatever they begin with. `--symbols FILE` or `--steps N`
+/// may stand in any place among plain words, and adds that option to the call of the others: as two
+/// words, with a plain value, or as a single one, `--symbols=FILE` or `--steps=N`, with any value.
+/// Where `--symbols` or `--steps` is the last word, plain words before it are refused. The numbers of
 /// a call, and how many scripts it has, are within their limits.
 pub fn law_of_words()
     ensures plain { ReadsPlainWords }
