@@ -190,10 +190,13 @@ fn symbols(rt: HostRuntime) -> Result<(), Fail> {
     is_told(&rt, rt.alloc(), &judged, 0, OK)
 }
 
-// A value behind a `=` may be anything: it names a file that isn't there.
+// A value behind a `=` may be anything, and a hyphen alone is a word like any other: each names a
+// file that isn't there.
 #[test]
-fn joined_values(rt: HostRuntime) -> Result<(), Fail> {
-    let calls: [&[&str]; 4] = [
+fn missing_names(rt: HostRuntime) -> Result<(), Fail> {
+    let calls: [&[&str]; 6] = [
+        &["check", "-"],
+        &["check", "source", "--symbols", "-"],
         &["check", "source", "--symbols="],
         &["check", "source", "--symbols", ""],
         &["check", "source", "--symbols=-x"],
