@@ -3,6 +3,7 @@ ghost use Rattle.std.specs.Prelude.{◌≡◌, ◌+◌, ◌-◌, ◌^◌, ◌<�
 ghost use Rattle.std.specs.Option.{option_copied, option_map};
 ghost use Rattle.std.specs.FinMap as finmap;
 ghost use Rattle.plc_base.specs.declared.Profile.TheVariants.{Small};
+ghost use Rattle.plc_mem.specs.Places.{IsMemory};
 ghost use Rattle.image_file.specs.Readers.{bytes_of};
 ghost use Rattle.machine.specs.Flat.{code_of};
 ghost use Rattle.var_access.specs.Entry.{IsRequest, IsValid};
@@ -221,6 +222,14 @@ impl Controller {
         ensures are { AreRuns result.now }
     {
         self.history.runs()
+    }
+
+    /// Nothing is done. The contract says that the memory after the whole history has its areas, each
+    /// of its size and made of bytes.
+    pub fn law_of_memory(&self)
+        ensures { IsMemory (replayed self.now).world.memory }
+    {
+        self.cpu.memory.law_of_areas();
     }
 
     /// The operating mode after the whole history.

@@ -5,8 +5,8 @@ use Rattle.plc_io.specs.Counts.{Rose, SameCounts, NeverFell}
 use Rattle.plc_io.specs.FileCalls.{Unchanged}
 use Rattle.plc_io.specs.Moments.{FilesAt, SinkAt}
 use Rattle.s7_cli.specs.declared.failures.Failure.{Failure}
-use Rattle.s7_cli.specs.declared.failures.Failure.TheVariants.{WordsRefused, ReadFault, TooLong, Refused, WriteFault, NoMemory}
-use Rattle.s7_cli.specs.Answer.{Answer, Outcome, done, refused, read_fault, too_long}
+use Rattle.s7_cli.specs.declared.failures.Failure.TheVariants.{WordsRefused, ReadFault, TooLong, Refused, ImageRefused, WriteFault, NoMemory}
+use Rattle.s7_cli.specs.Answer.{Answer, Outcome, done, refused, refused_image, read_fault, too_long}
 use Rattle.s7_cli.specs.Command.{Command, Input, inputs_of, outputs_of}
 use Rattle.s7_cli.specs.Ends.{Taking, taking, Answers, ChangesOutputs, WritesOutputs}
 use Rattle.s7_cli.specs.Inner.{OnlyReads, FileRead, HasRead, StopsAmong, AllRead, RefusedBy, TextWritten, Comes}
@@ -133,6 +133,7 @@ file-fails view views d i (TooLong file) (same, is_file, stops) = (same, inl sto
 file-fails view views d i NoMemory only = only
 file-fails view views d i WordsRefused read = absurd read
 file-fails view views d i (Refused file refusal) read = absurd read
+file-fails view views d i (ImageRefused fault) read = absurd read
 file-fails view views d i WriteFault read = absurd read
 
 pub file-unread : {V W : Type 0} (view : V → List ℕ) (views : W → List (List ℕ)) (d : Disk) (i : Input) (failure : Failure) (r : Result W Failure)
@@ -161,6 +162,7 @@ fails-then view views start middle now is js contents (TooLong file) first (same
 fails-then view views start middle now is js contents NoMemory first only = since start middle now first.same only
 fails-then view views start middle now is js contents WordsRefused first read = absurd read
 fails-then view views start middle now is js contents (Refused file refusal) first read = absurd read
+fails-then view views start middle now is js contents (ImageRefused fault) first read = absurd read
 fails-then view views start middle now is js contents WriteFault first read = absurd read
 
 -- files were read, and then one isn't
@@ -197,6 +199,7 @@ not-read view c start now at is rest (TooLong file) are (same, stops) = record {
 not-read view c start now at is rest NoMemory are only = wanting (Some c) (disk start now) at only
 not-read view c start now at is rest WordsRefused are read = absurd read
 not-read view c start now at is rest (Refused file refusal) are read = absurd read
+not-read view c start now at is rest (ImageRefused fault) are read = absurd read
 not-read view c start now at is rest WriteFault are read = absurd read
 
 pub comes-unread : {V : Type 0} (view : V → List (List ℕ)) (c : Command) (start now : FilesAt) (at : SinkAt) (is rest : List Input)
@@ -219,6 +222,14 @@ refuses V c start now at contents (Refused file refusal) read said = record {
   counts = read.same.reads;
   only_reads = only-reads start now read.same;
 }
+refuses V c start now at contents (ImageRefused fault) read said = record {
+  line = (refused_image fault).text;
+  has_line = refl;
+  answers = reads-all (disk start now) (inputs_of c) contents (Says c) (refused_image fault) read.hold said;
+  sink = refl;
+  counts = read.same.reads;
+  only_reads = only-reads start now read.same;
+}
 refuses V c start now at contents NoMemory read said = wanting (Some c) (disk start now) at (only-reads start now read.same)
 refuses V c start now at contents WordsRefused read said = absurd said
 refuses V c start now at contents ReadFault read said = absurd said
@@ -228,6 +239,7 @@ refuses V c start now at contents WriteFault read said = absurd said
 allowed : (V : Type 0) (said says : Answer → Type 0) (failure : Failure) → ((a : Answer) → said a → says a)
     → RefusedBy {V = V} said (Err failure) → RefusedBy {V = V} says (Err failure)
 allowed V said says (Refused file refusal) each told = each (refused file refusal) told
+allowed V said says (ImageRefused fault) each told = each (refused_image fault) told
 allowed V said says NoMemory each told = tt
 allowed V said says WordsRefused each told = told
 allowed V said says ReadFault each told = told
@@ -285,6 +297,7 @@ writes c start now s text (Err WordsRefused) same none answers took = absurd too
 writes c start now s text (Err ReadFault) same none answers took = absurd took
 writes c start now s text (Err (TooLong file)) same none answers took = absurd took
 writes c start now s text (Err (Refused file refusal)) same none answers took = absurd took
+writes c start now s text (Err (ImageRefused fault)) same none answers took = absurd took
 
 pub comes-written : (c : Command) (start now : FilesAt) (s : Taking) (contents : List (List ℕ)) (text : List ℕ) (came : Outcome)
     → outputs_of c ≡ [] → HasRead start now (inputs_of c) contents → Says c contents (done text)

@@ -3,8 +3,10 @@ mod CompileLemmas
 pub mod FinishLemmas
 mod LimitLemmas
 pub mod LivingLemmas
+pub mod LoadLemmas
 pub mod MatchLemmas
 pub mod NumberLemmas
+pub mod OutputLemmas
 pub mod PassLemmas
 pub mod PlainLemmas
 pub mod ReadingLemmas

@@ -4,10 +4,18 @@ use Rattle.std.specs.Prelude.{option_to_list, unwrap_or}
 use Rattle.plc_base.specs.declared.Profile.TheVariants.{Small}
 use Rattle.plc_base.specs.declared.Refusal.{Refusal}
 use Rattle.plc_io.specs.Contents.{Contents}
+use Rattle.flat_code.specs.Loading.{faults_of}
 use Rattle.flat_code.specs.Programs.{NameEntry, Program}
+use Rattle.image_file.specs.Refusing.{IsRefusedBy}
+use Rattle.image_file.specs.declared.faults.LoadFault.{LoadFault}
+use Rattle.image_file.specs.declared.refusing.LoadError.{LoadError}
+use Rattle.image_file.specs.declared.refusing.LoadError.TheVariants as loading
 use Rattle.var_access.specs.declared.Entry.{Entry}
 use Rattle.machine.specs.Code.{Code}
-use Rattle.sem_kept.specs.Agreement.{KeepsSource, names_in}
+use Rattle.machine.specs.Flat.{code_of}
+use Rattle.generator.specs.History.{history}
+use Rattle.generator.specs.Source.{source_text}
+use Rattle.sem_kept.specs.Agreement.{ImageKeepsSource, KeepsSource, names_in}
 use Rattle.sem_kept.specs.Meaning.{IsJudged, IsMeaningUnique, ExcludesRefusal, IsRefusalUnique, Refused, InSymbols, InSource, MeansCode}
 use Rattle.event_text.specs.TextFault.{IsTextFault}
 use Rattle.event_text.specs.Texts.{history_of}
@@ -21,14 +29,16 @@ use Rattle.s7_cli.specs.declared.failures.File.{File}
 use Rattle.s7_cli.specs.declared.failures.File.TheVariants.{Source, Symbols, History}
 use Rattle.s7_cli.specs.declared.failures.Failure.{Failure}
 use Rattle.s7_cli.specs.declared.files.ProgramText.{ProgramText}
-use Rattle.s7_cli.specs.Answer.{Answer, done, refused}
-use Rattle.s7_cli.specs.Command.{Command, Go, Check, symbols_inputs, program_inputs}
-use Rattle.s7_cli.specs.Faults.{failure_of_compiling, failure_of_history}
+use Rattle.s7_cli.specs.Answer.{Answer, done, refused, refused_image}
+use Rattle.s7_cli.specs.Command.{Command, Go, Check, Compile, Run, Gen, Live, symbols_inputs, program_inputs}
+use Rattle.s7_cli.specs.Faults.{failure_of_compiling, failure_of_history, failure_of_loading}
+use Rattle.s7_cli.specs.GenText.{summary_text}
 use Rattle.s7_cli.specs.Inner.{RefusedBy}
 use Rattle.s7_cli.specs.Lines.{ok_line}
 use Rattle.s7_cli.specs.Reading.{HoldAll}
-use Rattle.s7_cli.specs.Says.{GoSays, CheckSays, refused_program, go_answer, check_answer, Says}
+use Rattle.s7_cli.specs.Says.{GoSays, CheckSays, RunSays, GenSays, LoadsAs, refused_program, go_answer, check_answer, run_answer, ran, gen_answer, Says, Writes}
 use Rattle.s7_cli.specs.Texts.{IsWithin, contents_of, symbols_file}
+use Rattle.s7_cli.proofs.LoadLemmas.{loads-one}
 use Rattle.s7_cli.proofs.ReadingLemmas.{SaysOne}
 
 -- ---- one answer
@@ -52,61 +62,110 @@ go-one one source symbols history a b p q =
 check-one : MeansOne → (source symbols : List ℕ) (a b : Answer) → CheckSays source symbols a → CheckSays source symbols b → a ≡ b
 check-one one source symbols a b p q = p.2 ∙ ap check_answer (one source symbols p.0 q.0 p.1 q.1) ∙ sym q.2
 
+run-one : (image history : List ℕ) (a b : Answer) → RunSays image history a → RunSays image history b → a ≡ b
+run-one image history a b p q =
+    p.2 ∙ ap (λ v. run_answer v history) (loads-one image p.0 q.0 p.1 q.1) ∙ sym q.2
+
+gen-one : MeansOne → (number : ℕ) (a b : Answer) → GenSays number a → GenSays number b → a ≡ b
+gen-one one number a b p q = p.2 ∙ ap (gen_answer number) (one (source_text number) [] p.0 q.0 p.1 q.1) ∙ sym q.2
+
 -- a command says one thing of any contents
 pub says-one : MeansOne → (k : Command) → SaysOne (Says k)
 says-one one (Go _ None _) [] a b p q = absurd p
-says-one one (Go _ None _) (source ∷ []) a b p q = absurd p
+says-one one (Go _ None _) (x ∷ []) a b p q = absurd p
 says-one one (Go _ None _) (source ∷ history ∷ []) a b p q = go-one one source [] history a b p q
-says-one one (Go _ None _) (source ∷ history ∷ more ∷ rest) a b p q = absurd p
+says-one one (Go _ None _) (x ∷ y ∷ more ∷ rest) a b p q = absurd p
 says-one one (Go _ (Some _) _) [] a b p q = absurd p
-says-one one (Go _ (Some _) _) (source ∷ []) a b p q = absurd p
-says-one one (Go _ (Some _) _) (source ∷ symbols ∷ []) a b p q = absurd p
+says-one one (Go _ (Some _) _) (x ∷ []) a b p q = absurd p
+says-one one (Go _ (Some _) _) (x ∷ y ∷ []) a b p q = absurd p
 says-one one (Go _ (Some _) _) (source ∷ symbols ∷ history ∷ []) a b p q = go-one one source symbols history a b p q
-says-one one (Go _ (Some _) _) (source ∷ symbols ∷ history ∷ more ∷ rest) a b p q = absurd p
+says-one one (Go _ (Some _) _) (x ∷ y ∷ z ∷ more ∷ rest) a b p q = absurd p
 says-one one (Check _ None) [] a b p q = absurd p
 says-one one (Check _ None) (source ∷ []) a b p q = check-one one source [] a b p q
-says-one one (Check _ None) (source ∷ more ∷ rest) a b p q = absurd p
+says-one one (Check _ None) (x ∷ more ∷ rest) a b p q = absurd p
 says-one one (Check _ (Some _)) [] a b p q = absurd p
-says-one one (Check _ (Some _)) (source ∷ []) a b p q = absurd p
+says-one one (Check _ (Some _)) (x ∷ []) a b p q = absurd p
 says-one one (Check _ (Some _)) (source ∷ symbols ∷ []) a b p q = check-one one source symbols a b p q
-says-one one (Check _ (Some _)) (source ∷ symbols ∷ more ∷ rest) a b p q = absurd p
+says-one one (Check _ (Some _)) (x ∷ y ∷ more ∷ rest) a b p q = absurd p
+says-one one (Compile _ None _) [] a b p q = absurd p
+says-one one (Compile _ None _) (source ∷ []) a b p q = check-one one source [] a b p q
+says-one one (Compile _ None _) (x ∷ more ∷ rest) a b p q = absurd p
+says-one one (Compile _ (Some _) _) [] a b p q = absurd p
+says-one one (Compile _ (Some _) _) (x ∷ []) a b p q = absurd p
+says-one one (Compile _ (Some _) _) (source ∷ symbols ∷ []) a b p q = check-one one source symbols a b p q
+says-one one (Compile _ (Some _) _) (x ∷ y ∷ more ∷ rest) a b p q = absurd p
+says-one one (Run _ _) [] a b p q = absurd p
+says-one one (Run _ _) (x ∷ []) a b p q = absurd p
+says-one one (Run _ _) (image ∷ history ∷ []) a b p q = run-one image history a b p q
+says-one one (Run _ _) (x ∷ y ∷ more ∷ rest) a b p q = absurd p
+says-one one (Gen number) [] a b p q = gen-one one number a b p q
+says-one one (Gen number) (more ∷ rest) a b p q = absurd p
+says-one one (Live _ _ _ _) contents a b p q = absurd p
 
 -- ---- which answers there are
 
 -- it is done, or refuses a file
 abbrev pub IsVerdict : Answer → Type 0
-IsVerdict a = ((text : List ℕ) × (a ≡ done text)) ⊎ ((file : File) × (refusal : Refusal) × (a ≡ refused file refusal))
+IsVerdict a =
+    ((text : List ℕ) × (a ≡ done text)) ⊎ ((file : File) × (refusal : Refusal) × (a ≡ refused file refusal))
+    ⊎ ((fault : LoadFault) × (a ≡ refused_image fault))
 
 refused-verdict : (a : Answer) (why : Refused) → a ≡ refused_program why → IsVerdict a
-refused-verdict a (InSymbols refusal) gives = inr (Symbols, refusal, gives)
-refused-verdict a (InSource refusal) gives = inr (Source, refusal, gives)
+refused-verdict a (InSymbols refusal) gives = inr (inl (Symbols, refusal, gives))
+refused-verdict a (InSource refusal) gives = inr (inl (Source, refusal, gives))
 
 go-verdict : (a : Answer) (v : Result Code Refused) (h : Result (List Entry) Refusal) → a ≡ go_answer v h → IsVerdict a
 go-verdict a (Err why) h gives = refused-verdict a why gives
-go-verdict a (Ok code) (Err refusal) gives = inr (History, refusal, gives)
+go-verdict a (Ok code) (Err refusal) gives = inr (inl (History, refusal, gives))
 go-verdict a (Ok code) (Ok entries) gives = inl (run_text Small code entries, gives)
 
 check-verdict : (a : Answer) (v : Result Code Refused) → a ≡ check_answer v → IsVerdict a
 check-verdict a (Err why) gives = refused-verdict a why gives
 check-verdict a (Ok code) gives = inl (ok_line, gives)
 
+ran-verdict : (a : Answer) (p : Program) (h : Result (List Entry) Refusal) → a ≡ ran p h → IsVerdict a
+ran-verdict a p (Err refusal) gives = inr (inl (History, refusal, gives))
+ran-verdict a p (Ok entries) gives = inl (run_text Small (code_of p) entries, gives)
+
+run-verdict : (a : Answer) (v : Result Program LoadFault) (history : List ℕ) → a ≡ run_answer v history → IsVerdict a
+run-verdict a (Err fault) history gives = inr (inr (fault, gives))
+run-verdict a (Ok p) history gives = ran-verdict a p (history_of p.names history) gives
+
+gen-verdict : (a : Answer) (number : ℕ) (v : Result Code Refused) → a ≡ gen_answer number v → IsVerdict a
+gen-verdict a number (Err why) gives = refused-verdict a why gives
+gen-verdict a number (Ok code) gives = inl (summary_text number Small code (history number), gives)
+
 pub says-verdict : (k : Command) (contents : List (List ℕ)) (a : Answer) → Says k contents a → IsVerdict a
 says-verdict (Go _ None _) [] a said = absurd said
-says-verdict (Go _ None _) (source ∷ []) a said = absurd said
+says-verdict (Go _ None _) (x ∷ []) a said = absurd said
 says-verdict (Go _ None _) (source ∷ history ∷ []) a said = go-verdict a said.0 (history_of (names_in []) history) said.2
-says-verdict (Go _ None _) (source ∷ history ∷ more ∷ rest) a said = absurd said
+says-verdict (Go _ None _) (x ∷ y ∷ more ∷ rest) a said = absurd said
 says-verdict (Go _ (Some _) _) [] a said = absurd said
-says-verdict (Go _ (Some _) _) (source ∷ []) a said = absurd said
-says-verdict (Go _ (Some _) _) (source ∷ symbols ∷ []) a said = absurd said
+says-verdict (Go _ (Some _) _) (x ∷ []) a said = absurd said
+says-verdict (Go _ (Some _) _) (x ∷ y ∷ []) a said = absurd said
 says-verdict (Go _ (Some _) _) (source ∷ symbols ∷ history ∷ []) a said = go-verdict a said.0 (history_of (names_in symbols) history) said.2
-says-verdict (Go _ (Some _) _) (source ∷ symbols ∷ history ∷ more ∷ rest) a said = absurd said
+says-verdict (Go _ (Some _) _) (x ∷ y ∷ z ∷ more ∷ rest) a said = absurd said
 says-verdict (Check _ None) [] a said = absurd said
 says-verdict (Check _ None) (source ∷ []) a said = check-verdict a said.0 said.2
-says-verdict (Check _ None) (source ∷ more ∷ rest) a said = absurd said
+says-verdict (Check _ None) (x ∷ more ∷ rest) a said = absurd said
 says-verdict (Check _ (Some _)) [] a said = absurd said
-says-verdict (Check _ (Some _)) (source ∷ []) a said = absurd said
+says-verdict (Check _ (Some _)) (x ∷ []) a said = absurd said
 says-verdict (Check _ (Some _)) (source ∷ symbols ∷ []) a said = check-verdict a said.0 said.2
-says-verdict (Check _ (Some _)) (source ∷ symbols ∷ more ∷ rest) a said = absurd said
+says-verdict (Check _ (Some _)) (x ∷ y ∷ more ∷ rest) a said = absurd said
+says-verdict (Compile _ None _) [] a said = absurd said
+says-verdict (Compile _ None _) (source ∷ []) a said = check-verdict a said.0 said.2
+says-verdict (Compile _ None _) (x ∷ more ∷ rest) a said = absurd said
+says-verdict (Compile _ (Some _) _) [] a said = absurd said
+says-verdict (Compile _ (Some _) _) (x ∷ []) a said = absurd said
+says-verdict (Compile _ (Some _) _) (source ∷ symbols ∷ []) a said = check-verdict a said.0 said.2
+says-verdict (Compile _ (Some _) _) (x ∷ y ∷ more ∷ rest) a said = absurd said
+says-verdict (Run _ _) [] a said = absurd said
+says-verdict (Run _ _) (x ∷ []) a said = absurd said
+says-verdict (Run _ _) (image ∷ history ∷ []) a said = run-verdict a said.0 history said.2
+says-verdict (Run _ _) (x ∷ y ∷ more ∷ rest) a said = absurd said
+says-verdict (Gen number) [] a said = gen-verdict a number said.0 said.2
+says-verdict (Gen number) (more ∷ rest) a said = absurd said
+says-verdict (Live _ _ _ _) contents a said = absurd said
 
 -- ---- of what was read
 
@@ -138,6 +197,22 @@ check-said c src None source None a hold said = said
 check-said c src None source (Some bytes) a hold said = absurd hold
 check-said c src (Some name) source None a hold said = absurd hold
 check-said c src (Some name) source (Some bytes) a hold said = said
+
+pub compile-said : (c : Contents) (src : List ℕ) (symbols : Option (List ℕ)) (img source : List ℕ) (bytes : Option (List ℕ)) (a : Answer)
+    → HoldAll c (symbols_inputs symbols) (option_to_list bytes) → CheckSays source (unwrap_or bytes []) a
+    → Says (Compile src symbols img) (source ∷ option_to_list bytes) a
+compile-said c src None img source None a hold said = said
+compile-said c src None img source (Some bytes) a hold said = absurd hold
+compile-said c src (Some name) img source None a hold said = absurd hold
+compile-said c src (Some name) img source (Some bytes) a hold said = said
+
+pub compile-writes : (c : Contents) (src : List ℕ) (symbols : Option (List ℕ)) (img source : List ℕ) (bytes : Option (List ℕ)) (image : List ℕ)
+    → HoldAll c (symbols_inputs symbols) (option_to_list bytes) → ImageKeepsSource image source (unwrap_or bytes [])
+    → Writes (Compile src symbols img) (source ∷ option_to_list bytes) img image
+compile-writes c src None img source None image hold keeps = (refl, keeps)
+compile-writes c src None img source (Some bytes) image hold keeps = absurd hold
+compile-writes c src (Some name) img source None image hold keeps = absurd hold
+compile-writes c src (Some name) img source (Some bytes) image hold keeps = (refl, keeps)
 
 -- ---- a source that isn't compiled
 
@@ -191,3 +266,23 @@ history-refused V source source' symbols symbols' p history fault r is are fails
     subst (λ (q : Result V Failure). RefusedBy (GoSays source symbols history) q) (sym fails)
     (history-refuses V source symbols kept.runs.0 history fault kept.runs.1
     (subst (λ (names : List NameEntry). IsTextFault (history_of names history) fault) kept.names breaks))
+
+-- ---- an image that isn't loaded, and a history that isn't read behind one that is
+
+pub image-refused : (V : Type 0) (image history : List ℕ) (error : LoadError) (r : Result V Failure) → r ≡ Err (failure_of_loading error)
+    → IsRefusedBy error (faults_of image) → RefusedBy (RunSays image history) r
+image-refused V image history (loading.Fault fault) r fails least =
+    subst (λ (q : Result V Failure). RefusedBy (RunSays image history) q) (sym fails) (Err fault, least, refl)
+image-refused V image history loading.NoMemory r fails least =
+    subst (λ (q : Result V Failure). RefusedBy (RunSays image history) q) (sym fails) tt
+
+run-refuses : (V : Type 0) (image : List ℕ) (p : Program) (history : List ℕ) (fault : TextFault) → LoadsAs image (Ok p)
+    → IsTextFault (history_of p.names history) fault → RefusedBy {V = V} (RunSays image history) (Err (failure_of_history fault))
+run-refuses V image p history (text.BadLine line rule) loads is = (Ok p, loads, ap (ran p) (sym is))
+run-refuses V image p history text.NoMemory loads is = tt
+
+pub run-refused : (V : Type 0) (image : List ℕ) (p : Program) (history : List ℕ) (fault : TextFault) (r : Result V Failure)
+    → r ≡ Err (failure_of_history fault) → LoadsAs image (Ok p) → IsTextFault (history_of p.names history) fault
+    → RefusedBy (RunSays image history) r
+run-refused V image p history fault r fails loads is =
+    subst (λ (q : Result V Failure). RefusedBy (RunSays image history) q) (sym fails) (run-refuses V image p history fault loads is)

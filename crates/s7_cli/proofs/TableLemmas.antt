@@ -5,10 +5,10 @@ use Rattle.plc_io.specs.Contents.{SameFiles}
 use Rattle.plc_io.specs.Counts.{Rose}
 use Rattle.plc_io.specs.Taken.{Took}
 use Rattle.s7_cli.specs.declared.failures.File.{File}
-use Rattle.s7_cli.specs.declared.failures.File.TheVariants.{Source, Symbols, History}
+use Rattle.s7_cli.specs.declared.failures.File.TheVariants.{Source, Symbols, Image, History, Stimuli, Script}
 use Rattle.s7_cli.specs.declared.failures.Failure.{Failure}
-use Rattle.s7_cli.specs.declared.failures.Failure.TheVariants.{WordsRefused, ReadFault, TooLong, Refused, WriteFault, NoMemory}
-use Rattle.s7_cli.specs.Answer.{Answer, Outcome, refused, read_fault, too_long, words_refused, code_of}
+use Rattle.s7_cli.specs.declared.failures.Failure.TheVariants.{WordsRefused, ReadFault, TooLong, Refused, ImageRefused, WriteFault, NoMemory}
+use Rattle.s7_cli.specs.Answer.{Answer, Outcome, refused, refused_image, read_fault, too_long, words_refused, code_of}
 use Rattle.s7_cli.specs.Command.{Command, inputs_of}
 use Rattle.s7_cli.specs.Ends.{Taking, Answers, InputRose, OutputRose, CountsReads, LeavesFiles, ChangesOutputs, WritesOutputs, IsSaid, IsCut, SinkFailed, OutputFailed, IsWriteFault, IsNoMemory, Ends, Ended}
 use Rattle.s7_cli.specs.Lines.{line_of}
@@ -22,7 +22,7 @@ use Rattle.s7_cli.proofs.SaysLemmas.{MeansOne, IsVerdict, says-one, says-verdict
 -- ---- the rows that go by the answer alone
 
 record Rows (c : Option Command) (d : Disk) (s : Taking) (code : ℕ) : Type 0 where
-  statuses : (code ≤ 2) ⊎ (code ≡ 4) ⊎ (code ≡ 5) ⊎ (code ≡ 6) ⊎ (code ≡ 7) ⊎ (code ≡ 8)
+  statuses : code ≤ 8
   whole : IsCutOff code → ⊥
   words_refused_only : code ≡ 1 → c ≡ None
   words_refused : c ≡ None → code ≡ 1
@@ -40,7 +40,7 @@ is-command c k is none = let e : Some k ≡ None = sym is ∙ none in cc
 rows-words : (c : Option Command) (d : Disk) (s : Taking) (line : List ℕ) → line_of WordsRefused ≡ Some line → Took s.before s.after line
     → c ≡ None → Rows c d s 1
 rows-words c d s line has took none = record {
-  statuses = inl (omega arith);
+  statuses = omega arith;
   whole = not-cut 1 (λ e. omega arith) (λ e. omega arith);
   words_refused_only = λ e. none;
   words_refused = λ e. refl;
@@ -51,7 +51,7 @@ rows-words c d s line has took none = record {
 rows-read : (c : Option Command) (d : Disk) (s : Taking) (k : Command) (line : List ℕ) → c ≡ Some k → line_of ReadFault ≡ Some line
     → Took s.before s.after line → InputRose c d → Rows c d s 5
 rows-read c d s k line is has took rose = record {
-  statuses = inr (inr (inl refl));
+  statuses = omega arith;
   whole = not-cut 5 (λ e. omega arith) (λ e. omega arith);
   words_refused_only = λ e. absurd (omega arith);
   words_refused = λ none. absurd (is-command c k is none);
@@ -59,26 +59,43 @@ rows-read c d s k line is has took rose = record {
   read_fault = λ e. rose;
 }
 
--- a file that is too long or refused
+-- the status of a file that is too long or refused
+record IsFileStatus (code : ℕ) : Type 0 where
+  some : 2 ≤ code
+  few : code ≤ 8
+  isnt_read : code ≢ 5
+  isnt_cut : IsCutOff code → ⊥
+
+refused-status : (code : ℕ) → 2 ≤ code → code ≤ 4 → IsFileStatus code
+refused-status code some few = record {
+  some = some;
+  few = omega (arith, few);
+  isnt_read = λ e. omega (arith, few, e);
+  isnt_cut = not-cut code (λ e. omega (arith, few, e)) (λ e. omega (arith, few, e));
+}
+
+too-long-status : IsFileStatus 8
+too-long-status = record {
+  some = omega arith;
+  few = omega arith;
+  isnt_read = λ e. omega arith;
+  isnt_cut = not-cut 8 (λ e. omega arith) (λ e. omega arith);
+}
+
 rows-file : (c : Option Command) (d : Disk) (s : Taking) (k : Command) (failure : Failure) (line : List ℕ) (code : ℕ) → c ≡ Some k
-    → code ≡ code_of (Err failure) → line_of failure ≡ Some line → Took s.before s.after line
-    → ((code ≡ 2) ⊎ (code ≡ 4) ⊎ (code ≡ 8)) → Rows c d s code
+    → code ≡ code_of (Err failure) → line_of failure ≡ Some line → Took s.before s.after line → IsFileStatus code → Rows c d s code
 rows-file c d s k failure line code is status has took which = record {
-  statuses = elim which [ inl two ↦ inl (omega (arith, two)) | inr (inl four) ↦ inr (inl four) | inr (inr eight) ↦ inr (inr (inr (inr (inr eight)))) ];
-  whole = not-cut code (λ e. isnt 6 e (λ f. omega arith) (λ f. omega arith) (λ f. omega arith)) (λ e. isnt 7 e (λ f. omega arith) (λ f. omega arith) (λ f. omega arith));
-  words_refused_only = λ e. absurd (isnt 1 e (λ f. omega arith) (λ f. omega arith) (λ f. omega arith));
+  statuses = which.few;
+  whole = which.isnt_cut;
+  words_refused_only = λ e. absurd (omega (arith, which.some, e));
   words_refused = λ none. absurd (is-command c k is none);
   takes_line = λ e. (failure, line, status, has, took);
-  read_fault = λ e. absurd (isnt 5 e (λ f. omega arith) (λ f. omega arith) (λ f. omega arith));
+  read_fault = λ e. absurd (which.isnt_read e);
 }
-  where
-    isnt : (n : ℕ) → code ≡ n → (n ≡ 2 → ⊥) → (n ≡ 4 → ⊥) → (n ≡ 8 → ⊥) → ⊥
-    isnt n e no2 no4 no8 =
-        elim which [ inl two ↦ no2 (sym e ∙ two) | inr (inl four) ↦ no4 (sym e ∙ four) | inr (inr eight) ↦ no8 (sym e ∙ eight) ]
 
 rows-done : (c : Option Command) (d : Disk) (s : Taking) (k : Command) → c ≡ Some k → Rows c d s 0
 rows-done c d s k is = record {
-  statuses = inl (omega arith);
+  statuses = omega arith;
   whole = not-cut 0 (λ e. omega arith) (λ e. omega arith);
   words_refused_only = λ e. absurd (omega arith);
   words_refused = λ none. absurd (is-command c k is none);
@@ -86,20 +103,26 @@ rows-done c d s k is = record {
   read_fault = λ e. absurd (omega arith);
 }
 
-refused-status : (file : File) (refusal : Refusal)
-    → (code_of (Err (Refused file refusal)) ≡ 2) ⊎ (code_of (Err (Refused file refusal)) ≡ 4) ⊎ (code_of (Err (Refused file refusal)) ≡ 8)
-refused-status Source refusal = inl refl
-refused-status Symbols refusal = inl refl
-refused-status History refusal = inr (inl refl)
+file-status : (file : File) (refusal : Refusal) → IsFileStatus (code_of (Err (Refused file refusal)))
+file-status Source refusal = refused-status 2 (omega arith) (omega arith)
+file-status Symbols refusal = refused-status 2 (omega arith) (omega arith)
+file-status Image refusal = refused-status 3 (omega arith) (omega arith)
+file-status History refusal = refused-status 4 (omega arith) (omega arith)
+file-status Stimuli refusal = refused-status 4 (omega arith) (omega arith)
+file-status (Script number) refusal = refused-status 4 (omega arith) (omega arith)
 
 rows-verdict : (c : Option Command) (d : Disk) (s : Taking) (k : Command) (a : Answer) → c ≡ Some k → IsVerdict a
     → Took s.before s.after a.text → Rows c d s (code_of a.outcome)
 rows-verdict c d s k a is (inl (text, gives)) took =
     subst (λ (b : Answer). Rows c d s (code_of b.outcome)) (sym gives) (rows-done c d s k is)
-rows-verdict c d s k a is (inr (file, refusal, gives)) took =
+rows-verdict c d s k a is (inr (inl (file, refusal, gives))) took =
     subst (λ (b : Answer). Rows c d s (code_of b.outcome)) (sym gives)
     (rows-file c d s k (Refused file refusal) (refused file refusal).text (code_of (refused file refusal).outcome) is refl refl
-    (subst (λ (b : Answer). Took s.before s.after b.text) gives took) (refused-status file refusal))
+    (subst (λ (b : Answer). Took s.before s.after b.text) gives took) (file-status file refusal))
+rows-verdict c d s k a is (inr (inr (fault, gives))) took =
+    subst (λ (b : Answer). Rows c d s (code_of b.outcome)) (sym gives)
+    (rows-file c d s k (ImageRefused fault) (refused_image fault).text 3 is refl refl
+    (subst (λ (b : Answer). Took s.before s.after b.text) gives took) (refused-status 3 (omega arith) (omega arith)))
 
 rows-command : (k : Command) (d : Disk) (s : Taking) (a : Answer) → Reads d (inputs_of k) (Says k) a
     → Took s.before s.after a.text → Rows (Some k) d s (code_of a.outcome)
@@ -111,7 +134,7 @@ rows-command k d s a reads took =
       | inr (inl (i, gives)) ↦
           subst (λ (b : Answer). Rows (Some k) d s (code_of b.outcome)) (sym gives)
           (rows-file (Some k) d s k (TooLong i.file) (too_long i.file).text 8 refl refl refl
-          (subst (λ (b : Answer). Took s.before s.after b.text) gives took) (inr (inr refl)))
+          (subst (λ (b : Answer). Took s.before s.after b.text) gives took) too-long-status)
       | inr (inr (contents, says)) ↦ rows-verdict (Some k) d s k a refl (says-verdict k contents a says) took
     ]
 
@@ -169,7 +192,11 @@ reads-said d outcome name counts more = absurd (omega (arith, counts name))
 
 not-done : (failure : Failure) → code_of (Err failure) ≡ 0 → ⊥
 not-done (Refused Source refusal) e = omega arith
+not-done (Refused Symbols refusal) e = omega arith
+not-done (Refused Image refusal) e = omega arith
 not-done (Refused History refusal) e = omega arith
+not-done (Refused Stimuli refusal) e = omega arith
+not-done (Refused (Script number) refusal) e = omega arith
 not-done failure e = omega arith
 
 unchanged-said : (c : Option Command) (d : Disk) (outcome : Outcome) → LeavesFiles c d outcome → code_of outcome ≢ 0
@@ -213,7 +240,7 @@ table-cut : (c : Option Command) (d : Disk) (s : Taking) (code : ℕ) → IsCutO
     → ((name : List ℕ) → d.before.failed_writes name < d.after.failed_writes name → code ≡ 6)
     → (s.before.faults < s.after.faults → code ≡ 6) → StatusTable c d s code
 table-cut c d s code off cut six writes faults = record {
-  statuses = elim off [ inl e ↦ inr (inr (inr (inl e))) | inr e ↦ inr (inr (inr (inr (inl e)))) ];
+  statuses = elim off [ inl e ↦ omega (arith, e) | inr e ↦ omega (arith, e) ];
   decided = λ k is told. inr (inl off);
   complete = complete c d s code (λ k is told. inr (inl off)) six;
   words_refused_only = λ e. absurd (elim off [ inl f ↦ omega (arith, e, f) | inr f ↦ omega (arith, e, f) ]);
@@ -252,6 +279,7 @@ table-ends one c d s (Err WordsRefused) ends = table-said one c d s _ ends.1
 table-ends one c d s (Err ReadFault) ends = table-said one c d s _ ends.1
 table-ends one c d s (Err (TooLong file)) ends = table-said one c d s _ ends.1
 table-ends one c d s (Err (Refused file refusal)) ends = table-said one c d s _ ends.1
+table-ends one c d s (Err (ImageRefused fault)) ends = table-said one c d s _ ends.1
 
 -- the rows of the table; that a source has one meaning makes its rows exact
 pub table : MeansOne → (c : Option Command) (d : Disk) (s : Taking) (code : ℕ) → Ended c d s code → StatusTable c d s code

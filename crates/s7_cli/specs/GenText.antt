@@ -1,9 +1,12 @@
 -- The line of `gen NUMBER`.
 use Rattle.std.specs.Prelude.{ℕ, List, ◌++◌, codes, decimal, length, sum, take}
+use Rattle.plc_base.specs.declared.Area.TheVariants.{M}
 use Rattle.plc_base.specs.declared.Mode.{Mode}
 use Rattle.plc_base.specs.declared.Mode.TheVariants.{Run, Startup, Stop}
 use Rattle.plc_base.specs.declared.Profile.{Profile}
+use Rattle.plc_base.specs.declared.Width.TheVariants.{Byte}
 use Rattle.var_access.specs.declared.Entry.{Entry}
+use Rattle.var_access.specs.declared.Var.{Var}
 use Rattle.machine.specs.Code.{Code}
 use Rattle.controller.specs.Replay.{replay}
 use Rattle.controller.specs.Replayed.{events}
@@ -14,6 +17,10 @@ unfoldable pub mode_words : Mode → List ℕ
 mode_words Run = codes "RUN"
 mode_words Startup = codes "STARTUP"
 mode_words (Stop cause at) = codes "STOP " ++ decimal cause
+
+-- a byte of bit memory
+abbrev pub memory_byte : ℕ → Var
+memory_byte byte = record { place = record { number = 0; byte = byte; area = M; bit = 0 }; width = Byte }
 
 -- the bytes MB 0 to MB 255, added up
 abbrev pub bit_memory_sum : State → ℕ

@@ -8,6 +8,7 @@ use crate::checking::cmd_check;
 use crate::compile_command::cmd_compile;
 use crate::failures::{Failure, Status};
 use crate::finish::end_command;
+use crate::gen_command::cmd_gen;
 use crate::going::cmd_go;
 use crate::run_command::cmd_run;
 use crate::words::{Asked, read_words};
@@ -18,8 +19,9 @@ use std::thread::Threads;
 
 /// Does what the words of a call ask for, without the program's name: `go SRC HIST` runs a source
 /// along a history, `check SRC` checks a source, `compile SRC IMG` writes its image; `--symbols FILE`
-/// gives each of them a file of symbols. `run IMG HIST` runs an image along a history. The status is
-/// that of the text that `out` took:
+/// gives each of them a file of symbols. `run IMG HIST` runs an image along a history, `gen NUMBER`
+/// a program and a history that are made of a number. The status is that of the text that `out`
+/// took:
 ///
 /// | Status | When |
 /// |---|---|
@@ -68,9 +70,8 @@ pub fn s7_main<R: Threads + Wait + Sync, F: Files, K: Sink, G: Gate + Sync>(
             ),
         ) => cmd_compile(alloc, source, symbols, image, files, out),
         Ok(Some(Asked::Run { image, history })) => cmd_run(alloc, image, history, files, out),
-        Ok(Some(Asked::Gen { number: _ })) | Ok(Some(Asked::Live { .. })) => {
-            end_command(out, Err(Failure::WordsRefused))
-        }
+        Ok(Some(Asked::Gen { number })) => cmd_gen(alloc, number, out),
+        Ok(Some(Asked::Live { .. })) => end_command(out, Err(Failure::WordsRefused)),
         Ok(None) => end_command(out, Err(Failure::WordsRefused)),
         Err(_) => end_command(out, Err(Failure::NoMemory)),
     }

@@ -4,4 +4,5 @@ mod closing;
 mod entries;
 mod replaying;
 
-pub use replaying::replay_text;
+pub use entries::write_entries;
+pub use replaying::{replay_text, started};

@@ -15,7 +15,7 @@ use std::alloc::Global;
 use var_access::Entries;
 
 /// A controller at its start, with room for so many entries.
-fn started(alloc: Global, program: Loaded, entries: u64) -> Result<Controller, IoFault>
+pub fn started(alloc: Global, program: Loaded, entries: u64) -> Result<Controller, IoFault>
     ensures ok { IfOk result (λ c. c ≡ record {
       program = program.program;
       profile = Small;

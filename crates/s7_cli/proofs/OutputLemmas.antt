@@ -1,0 +1,178 @@
+-- A command that writes one output file, and then its text.
+use Rattle.std.proofs.Common.{◌≡◌, ◌≢◌, ◌⊎◌, inl, inr, refl, sym, ◌∙◌, ap, subst, ℕ, zero, suc, List, [], ◌∷◌, ◌++◌, length, take, Option, Some, Ok, Err, Contains, true, arith}
+use Rattle.std.proofs.lemmas.Grind.{common_steps}
+use Rattle.plc_io.specs.Contents.{Contents, Agrees, SameElsewhere, SameFiles}
+use Rattle.plc_io.specs.Counts.{Rose, SameCounts, NeverFell}
+use Rattle.plc_io.specs.FileCalls.{LeavesWritten, Unchanged}
+use Rattle.plc_io.specs.Moments.{FilesAt, SinkAt}
+use Rattle.s7_cli.specs.declared.failures.Failure.{Failure}
+use Rattle.s7_cli.specs.declared.failures.Failure.TheVariants.{WordsRefused, ReadFault, TooLong, Refused, ImageRefused, WriteFault, NoMemory}
+use Rattle.s7_cli.specs.Answer.{Answer, Outcome, done}
+use Rattle.s7_cli.specs.Command.{Command, Input, inputs_of, outputs_of}
+use Rattle.s7_cli.specs.Ends.{Taking, taking, Answers, ChangesOutputs, WritesOutputs, HoldsFront, HoldsWhole, RoseAmong, WritesTo}
+use Rattle.s7_cli.specs.Inner.{HasRead, FileWritten, TextWritten, Comes}
+use Rattle.s7_cli.specs.Reading.{Disk, disk, HoldAll}
+use Rattle.s7_cli.specs.Says.{Says, Writes}
+use Rattle.s7_cli.proofs.ComesLemmas.{never-fell}
+use Rattle.s7_cli.proofs.ReadingLemmas.{reads-all}
+
+-- ---- one output file
+
+only-one : (one name : List ℕ) → Contains (one ∷ []) name → name ≡ one
+only-one one name (zero, less, e) = sym e
+only-one one name (suc k, less, e) = absurd (omega (arith, less))
+
+is-one : (one name : List ℕ) → name ≡ one → Contains (one ∷ []) name
+is-one one name is = (0, omega arith, sym is)
+
+-- what a write of one file leaves, since the start
+record Since (start now : FilesAt) (name : List ℕ) : Type 0 where
+  told : now.contents.told ≡ start.contents.told
+  elsewhere : (other : List ℕ) → other ≢ name → now.contents.at other ≡ start.contents.at other
+  reads : SameCounts start.failed_reads now.failed_reads
+
+since : (start middle now : FilesAt) (name : List ℕ) → Unchanged start middle → SameElsewhere middle.contents now.contents name
+    → SameCounts middle.failed_reads now.failed_reads → Since start now name
+since start middle now name same elsewhere reads = record {
+  told = elsewhere.told ∙ same.contents.told;
+  elsewhere = λ other differs. elsewhere.at other differs ∙ same.contents.at other;
+  reads = λ other. reads other ∙ same.reads other;
+}
+
+-- no other file changed, and the output file holds a front of what the command writes, or what it held
+changes : (c : Command) (start now : FilesAt) (name : List ℕ) → outputs_of c ≡ name ∷ [] → Since start now name
+    → HoldsFront c (disk start now) name → ChangesOutputs (Some c) (disk start now)
+changes c start now name are later front = record {
+  told = later.told;
+  elsewhere = λ other apart. later.elsewhere other (λ is. apart (subst (λ (names : List (List ℕ)). Contains names other) (sym are) (is-one name other is)));
+  outputs = λ k is_k other within.
+      let same : c ≡ k = cc in
+      let here : Contains (name ∷ []) other = subst (λ (names : List (List ℕ)). Contains names other) (ap outputs_of (sym same) ∙ are) within in
+      let is : name ≡ other = sym (only-one name other here) in
+      subst (λ (j : Command). HoldsFront j (disk start now) other) same (subst (λ (n : List ℕ). HoldsFront c (disk start now) n) is front);
+}
+
+whole : (c : Command) (start now : FilesAt) (name : List ℕ) → outputs_of c ≡ name ∷ []
+    → HoldsWhole c (disk start now) name → WritesOutputs (Some c) (disk start now)
+whole c start now name are holds = λ k is_k other within.
+    let same : c ≡ k = cc in
+    let here : Contains (name ∷ []) other = subst (λ (names : List (List ℕ)). Contains names other) (ap outputs_of (sym same) ∙ are) within in
+    let is : name ≡ other = sym (only-one name other here) in
+    subst (λ (j : Command). HoldsWhole j (disk start now) other) same (subst (λ (n : List ℕ). HoldsWhole c (disk start now) n) is holds)
+
+take-whole : (bytes : List ℕ) → take (length bytes) bytes ≡ bytes
+take-whole bytes = grind (arith, common_steps)
+
+-- ---- the write failed
+
+-- after a failure the file holds what it held, or a front of what the command writes
+front-left : (c : Command) (start middle now : FilesAt) (contents : List (List ℕ)) (name bytes : List ℕ) → HasRead start middle (inputs_of c) contents
+    → Writes c contents name bytes
+    → (middle.contents.told ≡ true → (now.contents.at name ≡ middle.contents.at name) ⊎ ((n : ℕ) × (now.contents.at name ≡ Some (take n bytes))))
+    → HoldsFront c (disk start now) name
+front-left c start middle now contents name bytes read writes cut = λ told.
+    elim (cut (read.same.contents.told ∙ told)) [
+      | inl held ↦ inl (held ∙ read.same.contents.at name)
+      | inr (n, holds) ↦ inr (bytes, n, (contents, read.hold, writes), holds)
+    ]
+
+fails : (c : Command) (start middle now : FilesAt) (at : SinkAt) (contents : List (List ℕ)) (name bytes : List ℕ) (failure : Failure)
+    → outputs_of c ≡ name ∷ [] → HasRead start middle (inputs_of c) contents → Writes c contents name bytes
+    → FileWritten (disk middle now) name bytes (Err failure) → Comes (Some c) (disk start now) (taking at at) (Err failure)
+fails c start middle now at contents name bytes WriteFault are read writes left =
+    let later : Since start now name = since start middle now name read.same left.elsewhere left.reads in record {
+      cut = record {
+        cut = inl refl;
+        reads = never-fell start.failed_reads now.failed_reads later.reads;
+        files = changes c start now name are later (front-left c start middle now contents name bytes read writes left.contents);
+      };
+      failed = inr (record {
+        rose = subst (λ (names : List (List ℕ)). RoseAmong start.failed_writes now.failed_writes names) (sym are)
+            (inl (subst (λ (n : ℕ). Rose n (now.failed_writes name)) (read.same.writes name) left.writes.1));
+        writes = λ other. omega (arith, read.same.writes other, left.writes.0 other);
+        faults = refl;
+      });
+    }
+fails c start middle now at contents name bytes NoMemory are read writes left =
+    let later : Since start now name = since start middle now name read.same left.elsewhere left.reads in record {
+      cut = record {
+        cut = inl refl;
+        reads = never-fell start.failed_reads now.failed_reads later.reads;
+        files = changes c start now name are later (front-left c start middle now contents name bytes read writes left.contents);
+      };
+      faults = refl;
+      writes = λ other. left.writes other ∙ read.same.writes other;
+    }
+fails c start middle now at contents name bytes WordsRefused are read writes left = absurd left
+fails c start middle now at contents name bytes ReadFault are read writes left = absurd left
+fails c start middle now at contents name bytes (TooLong file) are read writes left = absurd left
+fails c start middle now at contents name bytes (Refused file refusal) are read writes left = absurd left
+fails c start middle now at contents name bytes (ImageRefused fault) are read writes left = absurd left
+
+pub comes-unwritten : (c : Command) (start middle now : FilesAt) (at : SinkAt) (contents : List (List ℕ)) (name bytes : List ℕ)
+    (failure : Failure) (came : Outcome) → came ≡ Err failure → outputs_of c ≡ name ∷ [] → HasRead start middle (inputs_of c) contents
+    → Writes c contents name bytes → FileWritten (disk middle now) name bytes (Err failure)
+    → Comes (Some c) (disk start now) (taking at at) came
+comes-unwritten c start middle now at contents name bytes failure came is are read writes left =
+    subst (λ (o : Outcome). Comes (Some c) (disk start now) (taking at at) o) (sym is)
+    (fails c start middle now at contents name bytes failure are read writes left)
+
+-- ---- the file was written, and then the text, or a front of it
+
+pub comes-output : (c : Command) (start middle now : FilesAt) (s : Taking) (contents : List (List ℕ)) (name bytes text : List ℕ) (came : Outcome)
+    → outputs_of c ≡ name ∷ [] → HasRead start middle (inputs_of c) contents → Writes c contents name bytes
+    → FileWritten (disk middle now) name bytes (Ok tt) → Says c contents (done text) → TextWritten text s came
+    → Comes (Some c) (disk start now) s came
+comes-output c start middle now s contents name bytes text came are read writes left said took =
+    by came took
+  where
+    later : Since start now name
+    later = since start middle now name read.same left.elsewhere left.reads
+    to : WritesTo c (disk start now) name bytes
+    to = (contents, read.hold, writes)
+    told-now : start.contents.told ≡ true → now.contents.told ≡ true
+    told-now told = later.told ∙ told
+    all : HoldsWhole c (disk start now) name
+    all = λ told. (bytes, to, left.contents (told-now told))
+    front : HoldsFront c (disk start now) name
+    front = λ told. inr (bytes, length bytes, to, left.contents (told-now told) ∙ ap Some (sym (take-whole bytes)))
+    changed : ChangesOutputs (Some c) (disk start now)
+    changed = changes c start now name are later front
+    counts : SameCounts start.failed_writes now.failed_writes
+    counts = λ other. left.writes other ∙ read.same.writes other
+    answers : Answers (Some c) (disk start now) (done text)
+    answers = reads-all (disk start now) (inputs_of c) contents (Says c) (done text) read.hold said
+    by : (came : Outcome) → TextWritten text s came → Comes (Some c) (disk start now) s came
+    by (Ok ok) took = (
+      text,
+      record {
+        answers = answers;
+        took = took.0;
+        faults = took.1;
+        reads = later.reads;
+        writes = counts;
+        files = (changed, whole c start now name are all);
+      },
+    )
+    by (Err WriteFault) took = record {
+      cut = record {
+        cut = inr (done text, answers, later.reads, took.0);
+        reads = never-fell start.failed_reads now.failed_reads later.reads;
+        files = changed;
+      };
+      failed = inl (record { faults = took.1; never_fell = took.2; writes = counts });
+    }
+    by (Err NoMemory) took = record {
+      cut = record {
+        cut = inr (done text, answers, later.reads, took.0);
+        reads = never-fell start.failed_reads now.failed_reads later.reads;
+        files = changed;
+      };
+      faults = took.1;
+      writes = counts;
+    }
+    by (Err WordsRefused) took = absurd took
+    by (Err ReadFault) took = absurd took
+    by (Err (TooLong file)) took = absurd took
+    by (Err (Refused file refusal)) took = absurd took
+    by (Err (ImageRefused fault)) took = absurd took

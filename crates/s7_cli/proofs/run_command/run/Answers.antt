@@ -1,0 +1,42 @@
+use Rattle.std.proofs.Common.{◌≡◌, ◌≤◌, ap, refl, sym, ◌∙◌, subst, List, [], ◌∷◌, length, ℕ, Vec, Global, Ok, Err}
+use Rattle.std.proofs.lemmas.Result.{err_from_is_err_and}
+use Rattle.image_file.specs.Loaded.{LoadedProgram}
+use Rattle.var_access.specs.Recorded.{Recorded}
+use Rattle.s7_cli.specs.declared.failures.File.TheVariants.{Image, History}
+use Rattle.s7_cli.specs.Answer.{Answer}
+use Rattle.s7_cli.specs.Command.{Run, Input}
+use Rattle.s7_cli.specs.Says.{RunSays, ran}
+use Rattle.s7_cli.proofs.ComesLemmas.{comes-unread, comes-refused, comes-written, file-read, file-unread, read-then, unread-then}
+use Rattle.s7_cli.proofs.run_command.run.Goals as goal
+
+-- the two input files
+abbrev image_input : List ℕ → Input
+image_input name = record { file = Image; name = name }
+
+abbrev history_input : List ℕ → Input
+history_input name = record { file = History; name = name }
+
+abbrev bytes_of : Vec ℕ Global → List ℕ
+bytes_of v = v.items
+
+abbrev alone : Vec ℕ Global → List (List ℕ)
+alone v = v.items ∷ []
+
+pub returns-in_err-image : goal.returns-in_err-image
+returns-in_err-image g c =
+    let fault = err_from_is_err_and c.from_residual.result c.from_residual.ensures.1 in
+    let first : Input = image_input c.args.img.now in
+    comes-unread alone (Run c.args.img.now c.args.hist.now) _ _ _ (first ∷ []) (history_input c.args.hist.now ∷ []) _ _ refl
+    (fault.1 ∙ ap Err fault.2)
+    (file-unread bytes_of alone _ first _ _ refl c.in_err-image.ensures)
+
+pub returns-in_err-history : goal.returns-in_err-history
+returns-in_err-history g c =
+    let fault = err_from_is_err_and c.from_residual-in_err-history.result c.from_residual-in_err-history.ensures.1 in
+    let first : Input = image_input c.args.img.now in
+    let last : Input = history_input c.args.hist.now in
+    comes-unread alone (Run c.args.img.now c.args.hist.now) _ _ _ (first ∷ last ∷ []) [] _ _ refl
+    (fault.1 ∙ ap Err fault.2)
+    (unread-then alone alone _ _ _ (first ∷ []) (last ∷ []) (c.in_ok-image.image.items ∷ []) _ _ refl
+    (file-read bytes_of _ _ first c.in_ok-image.image c.in_ok-image.ensures)
+    (file-unread bytes_of alone _ last _ _ refl c.in_err-history.ensures))
