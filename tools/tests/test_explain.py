@@ -52,9 +52,21 @@ class Explanations(ToolTest):
             self.write("hist", text)
             self.expect_parts([part, f"    rule {rule}, broken where: "], 4, f"history refused: line {line} rule {rule}", "go", "src", "hist")
 
+    def test_what_is_wrong_in_stimuli_and_scripts(self):
+        self.write("stim", "tick 7\ntick 0\nstep\n")
+        self.write("one", "diag\n")
+        self.write("two", "stop\nop 2 stop\n")
+        words = ["live", "img", "stim", "one", "two", "--steps", "5"]
+        parts = ["s7: stim, line 2: a tick is 1 to 60,000 milliseconds\n        tick 0\n    rule 2, broken where: a number", '"Rules of histories, stimuli and scripts"']
+        self.expect_parts(parts, 4, "stimuli refused: line 2 rule 2", *words)
+        self.expect_parts(["s7: stim, line 3:\n        step\n    rule 4, broken where: "], 4, "stimuli refused: line 3 rule 4", *words)
+        self.expect_parts(["s7: two, line 2:\n        op 2 stop\n    rule 4, broken where: "], 4, "script 2 refused: line 2 rule 4", *words)
+
     def test_an_image(self):
-        parts = ["s7: prog.img, byte 80 has the fault 10\n", "bytes behind the total length", 'docs/FORMATS.md, "Faults of an image"']
-        self.expect_parts(parts, 3, "image refused: offset 80 code 10", "run", "prog.img", "hist")
+        for code, part in ((1, "doesn't begin with `S7FB`"), (7, "an operand that isn't allowed"), (10, "bytes behind the total length")):
+            parts = [f"s7: prog.img, byte 80:\n    fault {code}: ", part, 'docs/FORMATS.md, "Faults of an image"']
+            self.expect_parts(parts, 3, f"image refused: offset 80 code {code}", "run", "prog.img", "hist")
+            self.expect_parts(parts, 3, f"image refused: offset 80 code {code}", "live", "--steps", "5", "prog.img", "stim", "one")
 
     def test_a_file_that_cannot_be_read(self):
         self.write("src", "")
@@ -62,18 +74,31 @@ class Explanations(ToolTest):
         self.expect_parts(["the symbols nowhere can't be read"], 5, "read fault", "go", "src", "nothing", "--symbols", "nowhere")
         self.expect_parts(["the source . can't be read: Is a directory"], 5, "read fault", "check", ".")
         self.expect_parts(["the source /dev/fd/0 can't be read: it is a pipe"], 5, "read fault", "check", "/dev/fd/0")
+        self.expect_parts(["the image nowhere can't be read"], 5, "read fault", "run", "nowhere", "src")
+        self.expect_parts(["the script 2 nowhere can't be read"], 5, "read fault", "live", "src", "src", "src", "nowhere", "--steps=1")
+        # a file that is written is none that is read
+        self.expect_parts(["the symbols nowhere can't be read"], 5, "read fault", "compile", "src", "nothing", "--symbols", "nowhere")
 
     def test_a_file_that_is_too_long(self):
         self.write("src", b" " * 1048577)
         self.expect_parts(["s7: src has 1,048,577 bytes, and its limit (source) is 1,048,576\n"], 8, "too long: source", "check", "src")
         self.write("hist", b"\n" * 4194305)
         self.expect_parts(["s7: hist has 4,194,305 bytes, and its limit (history) is 4,194,304\n"], 8, "too long: history", "go", "a", "hist")
+        self.expect_parts(["s7: src has 1,048,577 bytes, and its limit (script 3) is 1,048,576\n"], 8, "too long: script 3", "live", "i", "s", "a", "b", "src", "--steps", "1")
+        self.write("image", b"\n" * 8388609)
+        self.expect_parts(["s7: image has 8,388,609 bytes, and its limit (image) is 8,388,608\n"], 8, "too long: image", "run", "image", "hist")
 
     def test_words(self):
         self.expect_parts(["      s7 go SRC HIST "], 1, "words refused", "go", "a")
         self.assertNotIn("s7 check", self.explained(1, "words refused", "go", "a"))
         self.expect_parts(["no command is named", "s7 go SRC HIST", "s7 check SRC", "s7 --help"], 1, "words refused")
-        self.expect_parts(["there is no command fly", "s7 check SRC"], 1, "words refused", "fly", "a")
+        self.expect_parts(["there is no command fly", "s7 check SRC", "s7 live IMG STIM OPS.. --steps N"], 1, "words refused", "fly", "a")
+        self.assertEqual(
+            self.explained(1, "words refused", "gen", "0"),
+            "s7: the call is written so, with options as ./s7 --help tells them\n"
+            "      s7 gen NUMBER       run the program and the history that are made of a number\n"
+            "                          from 1 to 10,000, write a line that sums up the run\n",
+        )
 
     def test_what_needs_no_explanation(self):
         for status in (0, 6, 7):
@@ -83,8 +108,10 @@ class Explanations(ToolTest):
         numbers = [number for number in range(100) if documents.rule(number)]
         self.assertEqual(len(numbers), 43)
         self.assertEqual([number for number in numbers if documents.short_rule(number).startswith("docs/")], [])
-        self.assertEqual([number for number in range(100) if documents.rule(number, "history")], list(range(1, 7)))
+        for kind in ("history", "stimuli", "script 4"):
+            self.assertEqual([number for number in range(100) if documents.rule(number, kind)], list(range(1, 7)))
         for number in numbers:
             self.assertIn(f"rule {number}, broken where: ", self.explained(2, f"source refused: line 1 rule {number}", "check", "nowhere"))
         self.assertEqual([code for code in range(100) if documents.fault(code)], list(range(1, 11)))
-        self.assertEqual(documents.limits(), {"source": 1048576, "symbols": 1048576, "history": 4194304})
+        limits = {"source": 1048576, "symbols": 1048576, "image": 8388608, "history": 4194304, "stimuli": 4194304, "script": 1048576}
+        self.assertEqual(documents.limits(), limits)

@@ -129,9 +129,11 @@ class Unproved(ScriptTest):
             self.assertEqual(files, {"2": b"step\n"})
 
     def test_a_file_is_copied_up_to_its_limit(self):
-        self.write("source", b" " * 5000000)
+        self.write("source", b" " * 9000000)
         self.s7("check", "source")
-        self.assertEqual(len(self.handed_over()[1]["1"]), 4194305)
+        self.assertEqual(len(self.handed_over()[1]["1"]), 1048577)
+        self.s7("run", "source", "source")
+        self.assertEqual([len(copy) for _, copy in sorted(self.handed_over()[1].items())], [8388609, 4194305])
 
     def test_a_refusal_is_explained(self):
         self.rt("source refused: line 1 rule 11\n", ENDED.format(2), 2)
@@ -153,13 +155,24 @@ class Unproved(ScriptTest):
             self.assertIn(err, answer.stderr)
             self.assertIn("s7: there is no answer without the proof", answer.stderr.splitlines()[-1])
 
-    def test_commands_that_need_the_proved_program(self):
-        for command in ("compile", "live", "watch"):
-            answer = self.s7(command, "source", "image")
-            self.assertEqual((answer.returncode, answer.stdout), (70, ""))
-            self.assertIn(f"s7: {command} is answered by the proved program alone, which ./build makes", answer.stderr)
-            self.assertEqual(answer.stderr.count("\n"), 1)
-        self.assertFalse((self.bin / "words").exists())
+    def test_a_file_that_is_written_is_named_by_its_whole_path(self):
+        self.s7("compile", "source", "image", "--symbols", "symbols")
+        words = ["compile", "1", f"{self.folder}/image", "--symbols", "2"]
+        self.assertEqual(self.handed_over()[0][3:], ["--data", "1=1", "--data", "2=2", "--", *words])
+        self.s7("compile", "source", "/nowhere/image")
+        self.assertEqual(self.handed_over()[0][-3:], ["compile", "1", "/nowhere/image"])
+        self.s7("compile", "source", "nowhere/")
+        self.assertEqual(self.handed_over()[0][-1], f"{self.folder}/nowhere/")
+        self.s7("compile", "source", "source")
+        self.assertEqual(self.handed_over(), (["try", "--seconds", "600", "--data", "1=1", "--", "compile", "1", f"{self.folder}/source"], {"1": b"A I 0.0;\n"}))
+
+    def test_words_that_are_no_files(self):
+        self.s7("gen", "7")
+        self.assertEqual(self.handed_over()[0], ["try", "--seconds", "600", "--", "gen", "7"])
+        self.s7("live", "source", "history", "history", "--steps", "5")
+        self.assertEqual(self.handed_over()[0][-6:], ["live", "1", "2", "3", "--steps", "5"])
+        self.s7("fly", "source")
+        self.assertEqual(self.handed_over()[0][-2:], ["fly", "source"])
 
     def test_without_rt(self):
         (self.bin / "rt").unlink()
@@ -226,7 +239,7 @@ class Proved(ScriptTest):
         for status, text, part in (
             (1, "words refused\n", "s7 check SRC"),
             (2, "source refused: line 1 rule 10\n", "rule 10, broken where: a clause isn't in the grammar"),
-            (3, "image refused: offset 0 code 1\n", "has the fault 1"),
+            (3, "image refused: offset 0 code 1\n", "the image, byte 0:\n    fault 1: "),
             (4, "history refused: line 1 rule 5\n", "rule 5, broken where: the operator"),
             (5, "read fault\n", ""),
             (8, "too long: source\n", "its limit (source) is 1,048,576"),

@@ -8,7 +8,7 @@ class Words(unittest.TestCase):
     def expect(self, words, command, files, symbols=None):
         call = read_call(words)
         self.assertEqual(call.command, command)
-        self.assertEqual([(file.index, file.path) for file in call.files], files)
+        self.assertEqual([(word.index, word.path) for word in call.plain], files)
         self.assertEqual(call.symbols and (call.symbols.index, call.symbols.before, call.symbols.path), symbols)
 
     def test_files_behind_the_command(self):
@@ -35,7 +35,22 @@ class Words(unittest.TestCase):
         self.assertIsNone(question_of([]))
 
     def test_inputs_in_the_order_of_reading(self):
-        self.assertEqual(list(read_call(["go", "a", "b", "--symbols", "s"]).inputs().items()), [("source", "a"), ("symbols", "s"), ("history", "b")])
+        for words, inputs in (
+            ("go a b --symbols s", "source a, symbols s, history b"),
+            ("compile --symbols s a b", "source a, symbols s"),
+            ("run a b", "image a, history b"),
+            ("live a b c d --steps 7", "image a, stimuli b, script 1 c, script 2 d"),
+            ("live --steps=7 a b c d e f", "image a, stimuli b, script 1 c, script 2 d, script 3 e, script 4 f"),
+            ("gen 7", ""),
+            ("fly a b", ""),
+        ):
+            told = ", ".join(f"{kind} {path}" for kind, path in read_call(words.split()).inputs().items())
+            self.assertEqual(told, inputs, words)
+
+    def test_the_file_that_is_written(self):
+        self.assertEqual(read_call(["compile", "a", "b"]).written_word(), (2, "", "b"))
+        for words in (["compile", "a"], ["go", "a", "b"], ["run", "a", "b"], ["gen", "1"], []):
+            self.assertIsNone(read_call(words).written_word())
 
 
 if __name__ == "__main__":

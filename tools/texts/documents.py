@@ -6,7 +6,8 @@ from texts.programs import TOP
 from texts.tool import Refused
 
 HELP_FILE = TOP / "crates" / "s7_cli" / "src" / "help.rt"
-HISTORY_RULES = "Rules of a history"
+TEXT_RULES = "Rules of histories, stimuli and scripts"
+TEXTS = ("history", "stimuli", "script")
 CONSTANTS = {"help": "HELP", "version": "VERSION"}
 ESCAPES = {"\\n": "\n", '\\"': '"', "\\\\": "\\"}
 
@@ -30,9 +31,9 @@ def answer_to(question):
 
 
 def calls_in_help(command=None):
-    """The lines of the help that say how the program is called: that of a command, or all."""
-    lines = re.findall(r"^  s7 .*", answer_to("help").partition("\nExample:")[0], re.MULTILINE)
-    return [line for line in lines if command is None or line.split()[1] == command]
+    """The lines of the help that say how the program is called: those of a command, or all."""
+    calls = re.findall(r"^  s7 .*(?:\n {5,}\S.*)*", answer_to("help").partition("\nExample:")[0], re.MULTILINE)
+    return [line for call in calls if command is None or call.split()[1] == command for line in call.splitlines()]
 
 
 def short_rule(number):
@@ -43,8 +44,13 @@ def short_rule(number):
 
 def limits():
     """The most bytes of each kind of file, by the help."""
-    found = re.findall(r"too long: (\w+) \(([0-9,]+) bytes\)", answer_to("help"))
+    found = re.findall(r"too long: (\w+)(?: k)? \(([0-9,]+) bytes\)", answer_to("help"))
     return {kind: int(number.replace(",", "")) for kind, number in found}
+
+
+def limit(kind):
+    """The most bytes of a file that is read as this, also as `script 2`."""
+    return limits()[kind.partition(" ")[0]]
 
 
 def rows(name, first, second):
@@ -63,8 +69,9 @@ def rows(name, first, second):
 
 def rule(number, kind="source"):
     """The row of a rule in docs/REFUSALS.md for this kind of file, or None."""
+    of_text = kind.partition(" ")[0] in TEXTS
     found = rows("REFUSALS.md", "Rule", "Broken where")
-    return next((row for row in found if row.cells[0] == str(number) and (row.heading == HISTORY_RULES) == (kind == "history")), None)
+    return next((row for row in found if row.cells[0] == str(number) and (row.heading == TEXT_RULES) == of_text), None)
 
 
 def fault(code):

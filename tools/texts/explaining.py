@@ -11,9 +11,9 @@ from texts.tool import decoded, on_one_line
 from texts.words import read_call
 
 WIDTH = 110
-REFUSED_LINE = re.compile(r"(\w+)(?: \d+)? refused: line (\d+) rule (\d+)\n?")
+REFUSED_LINE = re.compile(r"(\w+(?: \d+)?) refused: line (\d+) rule (\d+)\n?")
 REFUSED_IMAGE = re.compile(r"image refused: offset (\d+) code (\d+)\n?")
-TOO_LONG = re.compile(r"too long: (\w+)(?: \d+)?\n?")
+TOO_LONG = re.compile(r"too long: (\w+(?: \d+)?)\n?")
 WHY_NOT = {errno.ESPIPE: "it is a pipe or a terminal; write its text into a file first", errno.ENOENT: "there is no such file"}
 
 
@@ -62,12 +62,12 @@ def of_line(call, text):
 
 
 def said_of_line(path, kind, number):
-    """The file and the line that is refused, and of a history what is wrong there, where that is seen."""
+    """The file and the line that is refused, and of a history or stimuli what is wrong there, where that is seen."""
     try:
-        data = read_by_place(path, documents.limits()[kind])
+        data = read_by_place(path, documents.limit(kind))
     except (KeyError, OSError):
         return [f"{path}, line {number}"]
-    wrong = read_history(data.decode("latin-1")).wrong if kind == "history" else None
+    wrong = read_history(data.decode("latin-1")).wrong if kind in ("history", "stimuli") else None
     why = f" {wrong.why}" if wrong and wrong.line == number else ""
     lines = data.split(b"\n")
     return [f"{path}, line {number}:{why}", *(quoted(lines[number - 1]) if number <= len(lines) else [])]
@@ -83,8 +83,8 @@ def of_image(call, text):
         return []
     offset, code = match.groups()
     path, row = call.inputs().get("image", "the image"), documents.fault(code)
-    lines = [f"{path}, byte {offset} has the fault {code}"]
-    return lines + ([f"{documents.plain(row.cells[1])}", f'docs/FORMATS.md, "{row.heading}"'] if row else [])
+    lines = [f"{path}, byte {offset}:"]
+    return lines + ([f"fault {code}: {documents.plain(row.cells[1])}", f'docs/FORMATS.md, "{row.heading}"'] if row else [])
 
 
 def of_read_fault(call, text):
@@ -98,7 +98,7 @@ def of_read_fault(call, text):
 
 def of_length(call, text):
     match = TOO_LONG.match(text)
-    path, most = (call.inputs().get(match[1]), documents.limits().get(match[1])) if match else (None, None)
-    if not path or not most:
+    path = call.inputs().get(match[1]) if match else None
+    if not path:
         return []
-    return [f"{path} has {os.stat(path).st_size:,} bytes, and its limit ({match[1]}) is {most:,}"]
+    return [f"{path} has {os.stat(path).st_size:,} bytes, and its limit ({match[1]}) is {documents.limit(match[1]):,}"]

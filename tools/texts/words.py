@@ -2,12 +2,21 @@
 from typing import NamedTuple, Optional
 
 OPTIONS = ("--symbols", "--steps")
-FILES_BY_COMMAND = {"go": ("source", "history"), "check": ("source",), "compile": ("source",), "run": ("image", "history")}
+SCRIPTS = tuple(f"script {number}" for number in range(1, 5))
+# what the words behind a command are: files that it reads, one that it writes, or no file
+WORDS_BY_COMMAND = {
+    "go": ("source", "history"),
+    "check": ("source",),
+    "compile": ("source", "written"),
+    "run": ("image", "history"),
+    "gen": (None,),
+    "live": ("image", "stimuli", *SCRIPTS),
+}
 QUESTIONS = {"--help": "help", "-h": "help", "--version": "version", "-V": "version"}
 
 
-class File(NamedTuple):
-    """A word that names a file: its number among the words, what stands before the name in it, and the name."""
+class Word(NamedTuple):
+    """A word that may name a file: its number among the words, what stands before the name in it, and the name."""
 
     index: int
     before: str
@@ -16,17 +25,26 @@ class File(NamedTuple):
 
 class Call(NamedTuple):
     command: Optional[str]
-    files: list
-    symbols: Optional[File]
+    plain: list
+    symbols: Optional[Word]
+
+    def named(self):
+        """What the words behind the command are, each with its word."""
+        return dict(zip(WORDS_BY_COMMAND.get(self.command, ()), self.plain))
+
+    def input_words(self):
+        """The words of the input files by what they are, in the order in which the program reads them."""
+        found = [(kind, word) for kind, word in self.named().items() if kind not in (None, "written")]
+        symbols = [("symbols", self.symbols)] if self.symbols else []
+        return dict(found[:1] + symbols + found[1:])
 
     def inputs(self):
-        """The input files by what they are, in the order in which the program reads them."""
-        kinds = FILES_BY_COMMAND.get(self.command, ())
-        found = dict(zip(kinds[:1], self.files))
-        if self.symbols:
-            found["symbols"] = self.symbols
-        found.update(zip(kinds[1:], self.files[1:]))
-        return {kind: file.path for kind, file in found.items()}
+        """The names of the input files."""
+        return {kind: word.path for kind, word in self.input_words().items()}
+
+    def written_word(self):
+        """The word of the file that the command writes, or None."""
+        return self.named().get("written")
 
 
 def question_of(words):
@@ -41,14 +59,14 @@ def read_call(words):
     for index, word in enumerate(words):
         name, has_value, value = word.partition("=")
         if awaited:
-            symbols = File(index, "", word) if awaited == "--symbols" else symbols
+            symbols = Word(index, "", word) if awaited == "--symbols" else symbols
             awaited = None
         elif takes_options and word == "--":
             takes_options = False
         elif takes_options and name in OPTIONS and has_value:
-            symbols = File(index, f"{name}=", value) if name == "--symbols" else symbols
+            symbols = Word(index, f"{name}=", value) if name == "--symbols" else symbols
         elif takes_options and word in OPTIONS:
             awaited = word
         elif not takes_options or not word.startswith("-") or word == "-":
-            plain.append(File(index, "", word))
+            plain.append(Word(index, "", word))
     return Call(plain[0].path if plain else None, plain[1:], symbols)
