@@ -35,8 +35,10 @@ use Rattle.s7_cli.specs.Faults.{failure_of_compiling, failure_of_history, failur
 use Rattle.s7_cli.specs.GenText.{summary_text}
 use Rattle.s7_cli.specs.Inner.{RefusedBy}
 use Rattle.s7_cli.specs.Lines.{ok_line}
+use Rattle.s7_cli.specs.LiveSays.{LiveAnswer, LiveSays, LoadedLive, RefusedScript}
+use Rattle.s7_cli.specs.Loads.{LoadsAs}
 use Rattle.s7_cli.specs.Reading.{HoldAll}
-use Rattle.s7_cli.specs.Says.{GoSays, CheckSays, RunSays, GenSays, LoadsAs, refused_program, go_answer, check_answer, run_answer, ran, gen_answer, Says, Writes}
+use Rattle.s7_cli.specs.Says.{GoSays, CheckSays, RunSays, GenSays, refused_program, go_answer, check_answer, run_answer, ran, gen_answer, Says, Writes}
 use Rattle.s7_cli.specs.Texts.{IsWithin, contents_of, symbols_file}
 use Rattle.s7_cli.proofs.LoadLemmas.{loads-one}
 use Rattle.s7_cli.proofs.ReadingLemmas.{SaysOne}
