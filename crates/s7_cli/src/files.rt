@@ -7,6 +7,7 @@ ghost use Rattle.s7_cli.specs.Reading.{disk};
 ghost use Rattle.s7_cli.specs.Texts.{contents_of, symbols_of};
 
 use crate::failures::{Failure, File};
+use crate::lists::add;
 use plc_io::{Files, IoFault, read_to_limit};
 use std::alloc::Global;
 
@@ -135,7 +136,7 @@ fn read_scripts<F: Files>(
     for (place, name) in names.iter().enumerate() {
         let number = place as u8 + 1;
         let script = read_file(alloc, files, File::Script { number }, name)?;
-        scripts.push(script)?;
+        add(&mut scripts, script)?;
     }
     Ok(scripts)
 }

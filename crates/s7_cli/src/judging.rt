@@ -1,4 +1,4 @@
-ghost use Rattle.std.specs.Prelude.{◌≡◌, ℕ, ◌≤◌, ◌++◌, [], ◌∷◌, length, map, All, IfOk, IfErr, OnOk, Ok};
+ghost use Rattle.std.specs.Prelude.{◌≡◌, ℕ, ◌≤◌, length, map, All, IfOk, IfErr, Ok};
 ghost use Rattle.var_access.specs.Entry.{IsValid};
 ghost use Rattle.sem_kept.specs.Agreement.{ImageKeepsSource, KeepsSource, names_in};
 ghost use Rattle.event_text.specs.Texts.{history_of};
@@ -14,10 +14,11 @@ ghost use Rattle.s7_cli.specs.Texts.{IsWithin, symbols_of};
 use crate::compiling::{compiled, compiled_image, judged};
 use crate::failures::{Failure, File, failure_of_text};
 use crate::files::{LiveText, ProgramText};
+use crate::lists::add;
 use event_text::{read_history, read_script, read_stimuli};
 use flat_code::Names;
 use image_file::{Loaded, load};
-use std::alloc::{AllocError, Global};
+use std::alloc::Global;
 use var_access::{Entries, Entry};
 
 /// Checks a source with its symbols.
@@ -81,14 +82,6 @@ pub struct LiveWork {
     pub program: Loaded,
     pub stimuli: Vec<Entry>,
     pub scripts: Vec<Vec<Entry>>,
-}
-
-/// Adds an element to a list. It is generic because the kit can't prove std's own call at a type that
-/// holds requests.
-fn add<T>(list: &mut Vec<T>, element: T) -> Result<(), AllocError>
-    ensures { OnOk result (list.new.items ≡ list.old.items ++ element ∷ []) }
-{
-    list.push(element)
 }
 
 /// Checks the scripts of operators, in their order.

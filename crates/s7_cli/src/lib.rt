@@ -12,6 +12,7 @@ mod gen_command;
 mod going;
 mod help;
 mod judging;
+mod lists;
 mod live_command;
 mod living;
 mod nowhere;
