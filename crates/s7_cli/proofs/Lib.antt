@@ -1,10 +1,15 @@
 pub mod ComesLemmas
 mod CompileLemmas
 pub mod FinishLemmas
+pub mod LivingLemmas
 pub mod MatchLemmas
+pub mod NumberLemmas
+pub mod PassLemmas
 pub mod PlainLemmas
 pub mod ReadingLemmas
 pub mod RunLemmas
 pub mod SaysLemmas
+pub mod StepperLemmas
 pub mod TableLemmas
+pub mod WorkingLemmas
 pub mod run

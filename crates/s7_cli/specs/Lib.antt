@@ -5,6 +5,7 @@ pub mod Ends
 pub mod Faults
 pub mod Inner
 pub mod Lines
+pub mod Living
 pub mod Questions
 pub mod Reading
 pub mod run_text
@@ -12,3 +13,4 @@ pub mod Says
 pub mod StatusTable
 pub mod Texts
 pub mod Words
+pub mod Working

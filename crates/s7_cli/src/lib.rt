@@ -10,10 +10,12 @@ mod finish;
 mod going;
 mod help;
 mod judging;
+mod living;
 mod program;
 mod run_text;
 mod texts;
 mod words;
+mod working;
 
 pub use checking::cmd_check;
 pub use compiling::{compiled, judged};
@@ -25,3 +27,4 @@ pub use program::s7_main;
 pub use run_text::replay_text;
 pub use texts::failure_line;
 pub use words::law_of_words;
+pub use working::work;

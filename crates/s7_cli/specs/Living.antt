@@ -1,0 +1,48 @@
+-- Which histories are live histories.
+use Rattle.std.specs.Prelude.{◌≡◌, ◌⊎◌, ℕ, suc, ◌+◌, ◌≤◌, List, [], ◌∷◌, length, replicate, Result, Err}
+use Rattle.std.specs.List.{All}
+use Rattle.plc_base.specs.declared.Profile.TheVariants.{Small}
+use Rattle.flat_code.specs.Programs.{Program}
+use Rattle.var_access.specs.declared.Entry.{Entry}
+use Rattle.event_text.specs.Workers.{one_step}
+use Rattle.tracked_lock.specs.Views.{Each}
+use Rattle.station.specs.declared.shared.Opening.{Opening}
+use Rattle.station.specs.declared.shared.StationFault.{StationFault}
+use Rattle.station.specs.declared.shared.StationFault.TheVariants.{Full}
+use Rattle.s7_cli.specs.Working.{IsEntryOf, EndsInStop, RunsBefore, entries_of}
+
+-- the lists are of the workers from this one on, one each
+abbrev pub AreBy : (who : ℕ) → List (List Entry) → Type 0
+AreBy who [] = Unit {0}
+AreBy who (x ∷ xs) = All (IsEntryOf who) x × AreBy (suc who) xs
+
+-- how many entries they have together
+abbrev pub total_length : List (List Entry) → ℕ
+total_length [] = 0
+total_length (x ∷ xs) = length x + total_length xs
+
+-- each list stands whole and in its order in the history, as the entries of its worker
+abbrev pub StandIn : (who : ℕ) → List (List Entry) → (history : List Entry) → Type 0
+StandIn who [] history = Unit {0}
+StandIn who (x ∷ xs) history = (entries_of who history ≡ x) × StandIn (suc who) xs history
+
+-- a station that begins with a program, of the small profile, and no entry
+abbrev pub opened_on : Program → Opening
+opened_on program = record { program = program; profile = Small; first = [] }
+
+-- a live history of stimuli, scripts and a number of steps on a program. Worker 1 made steps alone, at most so many, each but the last of
+-- which leaves another mode than STOP at its place, and fewer only where the last one leaves STOP. The entries of worker 2 are the stimuli,
+-- those of worker k + 2 script k, each list whole and in its order. There are no other workers
+pub record IsLive (program : Program) (steps : ℕ) (stimuli : List Entry) (scripts : List (List Entry)) (history : List Entry) : Type 0 where
+  pub count : ℕ
+  pub few : count ≤ steps
+  pub stepper : entries_of 1 history ≡ replicate count one_step
+  pub runs : RunsBefore 1 (opened_on program) 1 history
+  pub ends : (count ≡ steps) ⊎ EndsInStop (opened_on program) 1 history
+  pub others : StandIn 2 (stimuli ∷ scripts) history
+  pub workers : Each (λ e. (1 ≤ e.who) × (e.who ≤ 2 + length scripts)) history
+
+-- the outcome isn't that the station was full
+abbrev pub IsFullNever : Result Unit StationFault → Type 0
+IsFullNever (Err Full) = ⊥
+IsFullNever outcome = Unit {0}
