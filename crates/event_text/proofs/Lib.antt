@@ -11,3 +11,4 @@ pub mod ReadingLemmas
 pub mod LineLemmas
 pub mod SizeLemmas
 pub mod ReplyLemmas
+pub mod WorkerLemmas

@@ -8,6 +8,8 @@ use Rattle.var_access.specs.declared.entries.What.TheVariants.{Step, Input, Arri
 use Rattle.var_access.specs.declared.requests.Request.{Request}
 use Rattle.var_access.specs.declared.requests.Request.TheVariants.{ReadVars, WriteVar, MonitorOn}
 use Rattle.var_access.specs.declared.requests.Var.{Var}
+use Rattle.event_text.specs.declared.kinds.TextKind.{TextKind}
+use Rattle.event_text.specs.declared.kinds.TextKind.TheVariants.{Script}
 
 -- steps by worker 1, inputs, arrivals and ticks by worker 2, requests by workers 3 to 6
 abbrev pub IsWorkerOf : What → (who : ℕ) → Type 0
@@ -38,3 +40,17 @@ pub record IsRegular (e : Entry) : Type 0 where
   pub worker : IsWorkerOf e.what e.who
   pub range : IsInRange e.what
   pub fields : WhatFits e.what
+
+-- a regular entry of this worker
+abbrev pub IsRegularOf : (who : ℕ) → Entry → Type 0
+IsRegularOf who e = (e.who ≡ who) × IsRegular e
+
+-- the worker of the entries of stimuli or a script
+abbrev pub maker_of : TextKind → ℕ
+maker_of (Script who) = who
+maker_of _ = 2
+
+-- a script is that of an operator
+abbrev pub HasMaker : TextKind → Type 0
+HasMaker (Script who) = (3 ≤ who) × (who ≤ 6)
+HasMaker _ = Unit {0}

@@ -3,6 +3,7 @@
 
 mod addresses;
 mod faults;
+mod fields;
 mod kinds;
 pub mod laws;
 mod lines;

@@ -3,11 +3,13 @@ ghost use Rattle.flat_code.specs.Names.{find};
 ghost use Rattle.var_access.specs.Entry.{IsValid};
 ghost use Rattle.event_text.specs.LineEntries.{entries_of, HasWorker, IsLineOf};
 ghost use Rattle.event_text.specs.Lines.{is_history, line_read, most_steps};
+ghost use Rattle.event_text.specs.Regular.{HasMaker, IsRegularOf, maker_of};
 ghost use Rattle.event_text.specs.TextFault.{IsBehind, IsLineFault, IsTextFault};
 ghost use Rattle.event_text.specs.Texts.{history_of, script_of, steps_in, stimuli_of, text_read};
 ghost use Rattle.event_text.specs.declared.kinds.TextKind.TheVariants.{History};
 
 use crate::faults::TextFault;
+use crate::fields::law_of_fields;
 use crate::kinds::TextKind;
 use crate::lines::{LineEntries, read_line};
 use flat_code::Names;
@@ -169,6 +171,8 @@ fn read_entries(
     ensures spelled { IfOk result (λ entries.
         text_read kind (find names.now) bytes.now ≡ Ok entries.items) }
     ensures valid { IfOk result (λ entries. HasWorker kind → All IsValid entries.items) }
+    ensures regular { IfOk result (λ entries. HasMaker kind
+        → All (IsRegularOf (maker_of kind)) entries.items) }
     ensures few { IfOk result (λ entries. 4 * length entries.items ≤ length bytes.now) }
     ensures refused { IfErr result (IsTextFault (text_read kind (find names.now) bytes.now)) }
 {
@@ -181,6 +185,8 @@ fn read_entries(
         number += 1;
         rest = behind;
     }
+    // the numbers of each entry fit their fields
+    law_of_fields(entries.as_slice());
     Ok(entries)
 }
 
@@ -194,6 +200,7 @@ pub fn read_stimuli(alloc: Global, bytes: &[u8]) -> Result<Vec<Entry>, TextFault
     requires { length bytes.now ≤ 4194304 }
     ensures spelled { IfOk result (λ entries. stimuli_of bytes.now ≡ Ok entries.items) }
     ensures valid { IfOk result (λ entries. All IsValid entries.items) }
+    ensures regular { IfOk result (λ entries. All (IsRegularOf 2) entries.items) }
     ensures few { IfOk result (λ entries. 4 * length entries.items ≤ length bytes.now) }
     ensures refused { IfErr result (IsTextFault (stimuli_of bytes.now)) }
 {
@@ -217,6 +224,8 @@ pub fn read_script(
     ensures spelled { IfOk result (λ entries.
         script_of who names.now bytes.now ≡ Ok entries.items) }
     ensures valid { IfOk result (λ entries. 1 ≤ who → All IsValid entries.items) }
+    ensures regular { IfOk result (λ entries. (3 ≤ who) × (who ≤ 6)
+        → All (IsRegularOf who) entries.items) }
     ensures few { IfOk result (λ entries. 4 * length entries.items ≤ length bytes.now) }
     ensures refused { IfErr result (IsTextFault (script_of who names.now bytes.now)) }
 {

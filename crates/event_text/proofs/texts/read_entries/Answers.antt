@@ -1,9 +1,13 @@
-use Rattle.std.proofs.Common.{arith, rules, refl, sym, ◌∙◌}
+use Rattle.std.proofs.Common.{arith, rules, refl, subst, sym, ◌∙◌}
+use Rattle.std.specs.List.{All}
 use Rattle.std.proofs.lemmas.List.Elements.{All-nil}
 use Rattle.std.proofs.lemmas.Result.{err_from_is_err_and}
 use Rattle.var_access.specs.Entry.{IsValid}
+use Rattle.var_access.specs.declared.entries.Entry.{Entry}
+use Rattle.event_text.specs.Regular.{WhatFits}
 use Rattle.event_text.proofs.ReadingLemmas.{GoesOn-start, GoesOn-line, GoesOn-bad, GoesOn-end}
 use Rattle.event_text.proofs.SizeLemmas.{text_size}
+use Rattle.event_text.proofs.WorkerLemmas.{text_regular, worker_of_maker}
 use Rattle.event_text.proofs.texts.read_entries.Goals as goal
 
 pub loop-rest-init : goal.loop-rest-init
@@ -33,3 +37,8 @@ returns-clause-spelled c = GoesOn-end _ _ _ _ _ _ c.loop-rest.invariant.read (se
 
 pub returns-clause-few : goal.returns-clause-few
 returns-clause-few c = text_size c.args.kind _ _ _ c.requires.kind (GoesOn-end _ _ _ _ _ _ c.loop-rest.invariant.read (search rules))
+
+pub returns-clause-regular : goal.returns-clause-regular
+returns-clause-regular c maker =
+    text_regular c.args.kind _ _ _ c.requires.kind maker (GoesOn-end _ _ _ _ _ _ c.loop-rest.invariant.read (search rules)) (c.loop-rest.invariant.valid (worker_of_maker c.args.kind maker))
+    (subst (All (λ (e : Entry). WhatFits e.what)) c.as_slice.ensures.value c.law_of_fields.ensures)
