@@ -7,6 +7,7 @@ pub mod NumberLemmas
 pub mod PassLemmas
 pub mod PlainLemmas
 pub mod ReadingLemmas
+pub mod RegularLemmas
 pub mod RunLemmas
 pub mod SaysLemmas
 pub mod StepperLemmas
