@@ -10,6 +10,7 @@ pub mod OutputLemmas
 pub mod PassLemmas
 pub mod PlainLemmas
 pub mod ReadingLemmas
+pub mod RegularLemmas
 pub mod RunLemmas
 pub mod SaysLemmas
 pub mod StepperLemmas
