@@ -1,10 +1,7 @@
 -- A live history, from what the workers made and what the station gave back.
 use Rattle.std.proofs.Common.{◌≡◌, ℕ, suc, ◌+◌, ◌<◌, ◌≤◌, Bool, true, List, [], ◌∷◌, ◌++◌, length, replicate, Result, Ok, Err, sym, refl, ap, ◌∙◌, subst, inl, inr, ⊎_elim, arith, length-append}
 use Rattle.std.proofs.lemmas.List.{length-replicate}
-<<<<<<< HEAD
-=======
 use Rattle.std.proofs.lemmas.List.Elements.{All-from_recursion}
->>>>>>> bbc24c11520c2c7465f2ed364065f3b6e2e02a6d
 use Rattle.plc_base.specs.declared.Profile.TheVariants.{Small}
 use Rattle.flat_code.specs.Programs.{Program}
 use Rattle.var_access.specs.declared.Entry.{Entry}
@@ -20,11 +17,7 @@ use Rattle.station.specs.declared.shared.StationFault.TheVariants.{NoMemory, Ful
 use Rattle.station.specs.declared.shared.TheConstants.{FULL}
 use Rattle.s7_cli.specs.Living.{IsFullNever, IsLive, opened_on, total_length}
 use Rattle.s7_cli.specs.Working.{EndsInStop, HasWorked, KnowsFault, RunsBefore, WorkedBy, entries_of, step_by}
-<<<<<<< HEAD
-use Rattle.s7_cli.proofs.NumberLemmas.{Numbered, begun_few, begun_many, begun_numbered, each_weaker, few_made, is_numbered, missing_none, stand_in, times_numbered}
-=======
 use Rattle.s7_cli.proofs.NumberLemmas.{Numbered, all_of_each, begun_few, begun_many, begun_numbered, few_made, is_numbered, missing_none, stand_in, times_numbered}
->>>>>>> bbc24c11520c2c7465f2ed364065f3b6e2e02a6d
 use Rattle.s7_cli.proofs.StepperLemmas.{ends_on, none_came, runs_on}
 
 -- a station with two passes more than there are scripts, and what the workers made with these
@@ -91,12 +84,7 @@ module _ (s : Locked Opening) (steps : ℕ) (stimuli : List Entry) (scripts : Li
           runs = subst (λ (x : Opening). RunsBefore 1 x 1 story) opening (subst (RunsBefore 1 o 1) back.begins.1 (runs_on 1 o 1 r.seen later none h.runs));
           ends = ⊎_elim (λ t. inl t) (λ t. inr (subst (λ (x : Opening). EndsInStop x 1 story) opening (subst (EndsInStop o 1) back.begins.1 (ends_on o 1 r.seen later none t)))) (h.ends ok);
           others = stand_in s 1 lists story (subst (IsMadeOf (λ (e : Entry). e.who) story) (h.all ok) story_made.1);
-<<<<<<< HEAD
-          workers = each_weaker (λ (e : Entry). 0 < times e.who all_made) (λ (e : Entry). (1 ≤ e.who) × (e.who ≤ 2 + length scripts)) story
-              (λ e t. let k = is_numbered 0 e.who all_made numbered t in (omega (arith, k.0), omega (arith, k.1, many))) of_all;
-=======
           workers = All-from_recursion (λ (e : Entry). (1 ≤ e.who) × (e.who ≤ 2 + length scripts)) story
               (all_of_each (λ (e : Entry). 0 < times e.who all_made) (λ (e : Entry). (1 ≤ e.who) × (e.who ≤ 2 + length scripts)) story
               (λ e t. let k = is_numbered 0 e.who all_made numbered t in (omega (arith, k.0), omega (arith, k.1, many))) of_all);
->>>>>>> bbc24c11520c2c7465f2ed364065f3b6e2e02a6d
         }

@@ -1,9 +1,6 @@
 -- The numbers of fresh passes, and how many entries were made under them.
 use Rattle.std.proofs.Common.{◌≡◌, ◌⊎◌, ℕ, zero, suc, ◌+◌, ◌<◌, ◌≤◌, nat_eq, eq-eqb, cond, Bool, true, false, List, [], ◌∷◌, length, sym, refl, ap, ◌∙◌, subst, inl, inr, ⊎_elim, arith, length-append}
-<<<<<<< HEAD
-=======
 use Rattle.std.specs.List.{AllByRecursion}
->>>>>>> bbc24c11520c2c7465f2ed364065f3b6e2e02a6d
 use Rattle.std.proofs.lemmas.Bool.Decides.{nat_tests}
 use mathlib.Core.List.{IsPrefix}
 use Rattle.var_access.specs.declared.Entry.{Entry}
@@ -11,11 +8,7 @@ use Rattle.tracked_lock.specs.Passes.{Locked, missing, fresh_pass, fresh_passes}
 use Rattle.tracked_lock.specs.Views.{IsMadeOf, Each, times}
 use Rattle.tracked_lock.specs.declared.views.Made.{Made}
 use Rattle.station.specs.declared.shared.Opening.{Opening}
-<<<<<<< HEAD
-use Rattle.s7_cli.specs.Living.{AreBy, StandIn, total_length}
-=======
 use Rattle.s7_cli.specs.Living.{AreRegularBy, StandIn, total_length}
->>>>>>> bbc24c11520c2c7465f2ed364065f3b6e2e02a6d
 use Rattle.s7_cli.specs.Working.{AreReady, CanWork, HaveBegun, IsFresh, entries_of, made_whole}
 
 abbrev flag : Bool → ℕ
@@ -24,19 +17,11 @@ flag b = cond b 1 0
 fresh_one : (s : Locked Opening) (k : ℕ) → IsFresh s (fresh_pass s k)
 fresh_one s k = record { lock = refl; out = refl; made = refl; agrees = (refl, tt) }
 
-<<<<<<< HEAD
-are_ready : (s : Locked Opening) (k : ℕ) (xs : List (List Entry)) → AreBy (suc k) xs → AreReady s (fresh_passes s k (length xs)) xs
-are_ready s k [] h = tt
-are_ready s k (x ∷ xs) h = (fresh_one s (suc k), h.0, are_ready s (suc k) xs h.1)
-
-pub can_work : (s : Locked Opening) (n : ℕ) (stimuli : List Entry) (scripts : List (List Entry)) → n ≡ length scripts + 2 → AreBy 2 (stimuli ∷ scripts)
-=======
 are_ready : (s : Locked Opening) (k : ℕ) (xs : List (List Entry)) → AreRegularBy (suc k) xs → AreReady s (fresh_passes s k (length xs)) xs
 are_ready s k [] h = tt
 are_ready s k (x ∷ xs) h = (fresh_one s (suc k), λ i d within. let e = h.0 i d within in (e.0, e.1.range), are_ready s (suc k) xs h.1)
 
 pub can_work : (s : Locked Opening) (n : ℕ) (stimuli : List Entry) (scripts : List (List Entry)) → n ≡ length scripts + 2 → AreRegularBy 2 (stimuli ∷ scripts)
->>>>>>> bbc24c11520c2c7465f2ed364065f3b6e2e02a6d
     → CanWork s (fresh_passes s 0 n) stimuli scripts
 can_work s n stimuli scripts is h =
     let as_many : n ≡ suc (suc (length scripts)) = omega (arith, is) in
@@ -140,12 +125,6 @@ pub stand_in : (s : Locked Opening) (k : ℕ) (xs : List (List Entry)) (es : Lis
 stand_in s k [] es h = tt
 stand_in s k (x ∷ xs) es h = (h.0, stand_in s (suc k) xs es h.1)
 
-<<<<<<< HEAD
-pub each_weaker : {A : Type 0} (P Q : A → Type 0) (es : List A) → ((e : A) → P e → Q e) → Each P es → Each Q es
-each_weaker P Q [] f h = tt
-each_weaker P Q (e ∷ es) f h = (f e h.0, each_weaker P Q es f h.1)
-=======
 pub all_of_each : {A : Type 0} (P Q : A → Type 0) (es : List A) → ((e : A) → P e → Q e) → Each P es → AllByRecursion Q es
 all_of_each P Q [] f h = tt
 all_of_each P Q (e ∷ es) f h = (f e h.0, all_of_each P Q es f h.1)
->>>>>>> bbc24c11520c2c7465f2ed364065f3b6e2e02a6d

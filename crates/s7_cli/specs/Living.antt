@@ -4,19 +4,6 @@ use Rattle.std.specs.List.{All}
 use Rattle.plc_base.specs.declared.Profile.TheVariants.{Small}
 use Rattle.flat_code.specs.Programs.{Program}
 use Rattle.var_access.specs.declared.Entry.{Entry}
-<<<<<<< HEAD
-use Rattle.event_text.specs.Workers.{one_step}
-use Rattle.tracked_lock.specs.Views.{Each}
-use Rattle.station.specs.declared.shared.Opening.{Opening}
-use Rattle.station.specs.declared.shared.StationFault.{StationFault}
-use Rattle.station.specs.declared.shared.StationFault.TheVariants.{Full}
-use Rattle.s7_cli.specs.Working.{IsEntryOf, EndsInStop, RunsBefore, entries_of}
-
--- the lists are of the workers from this one on, one each
-abbrev pub AreBy : (who : ℕ) → List (List Entry) → Type 0
-AreBy who [] = Unit {0}
-AreBy who (x ∷ xs) = All (IsEntryOf who) x × AreBy (suc who) xs
-=======
 use Rattle.event_text.specs.Regular.{IsRegularOf}
 use Rattle.event_text.specs.Workers.{one_step}
 use Rattle.station.specs.declared.shared.Opening.{Opening}
@@ -28,7 +15,6 @@ use Rattle.s7_cli.specs.Working.{EndsInStop, RunsBefore, entries_of}
 abbrev pub AreRegularBy : (who : ℕ) → List (List Entry) → Type 0
 AreRegularBy who [] = Unit {0}
 AreRegularBy who (x ∷ xs) = All (IsRegularOf who) x × AreRegularBy (suc who) xs
->>>>>>> bbc24c11520c2c7465f2ed364065f3b6e2e02a6d
 
 -- how many entries they have together
 abbrev pub total_length : List (List Entry) → ℕ
@@ -54,11 +40,7 @@ pub record IsLive (program : Program) (steps : ℕ) (stimuli : List Entry) (scri
   pub runs : RunsBefore 1 (opened_on program) 1 history
   pub ends : (count ≡ steps) ⊎ EndsInStop (opened_on program) 1 history
   pub others : StandIn 2 (stimuli ∷ scripts) history
-<<<<<<< HEAD
-  pub workers : Each (λ e. (1 ≤ e.who) × (e.who ≤ 2 + length scripts)) history
-=======
   pub workers : All (λ e. (1 ≤ e.who) × (e.who ≤ 2 + length scripts)) history
->>>>>>> bbc24c11520c2c7465f2ed364065f3b6e2e02a6d
 
 -- the outcome isn't that the station was full
 abbrev pub IsFullNever : Result Unit StationFault → Type 0

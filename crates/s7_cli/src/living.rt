@@ -1,24 +1,14 @@
 //! A live run: from a program and what the workers are to make to a controller with its history.
-<<<<<<< HEAD
-ghost use Rattle.std.specs.Prelude.{◌≡◌, ◌+◌, ◌<◌, ◌≤◌, ◌∷◌, true, false, is_ok, length, map, IfOk};
-ghost use Rattle.plc_base.specs.declared.Profile.TheVariants.{Small};
-ghost use Rattle.controller.specs.Recorded.{Recorded};
-=======
 ghost use Rattle.std.specs.Prelude.{◌≡◌, ◌+◌, ◌<◌, ◌≤◌, ◌∷◌, true, false, is_ok, length, map, All, IfOk};
 ghost use Rattle.plc_base.specs.declared.Profile.TheVariants.{Small};
 ghost use Rattle.controller.specs.Recorded.{Recorded};
 ghost use Rattle.event_text.specs.Regular.{IsRegular};
 ghost use Rattle.event_text.specs.Texts.{steps_in};
->>>>>>> bbc24c11520c2c7465f2ed364065f3b6e2e02a6d
 ghost use Rattle.tracked_lock.specs.Passes.{missing};
 ghost use Rattle.station.specs.Closing.{IsGivenBack};
 ghost use Rattle.station.specs.Openings.{the_opening};
 ghost use Rattle.station.specs.declared.shared.TheConstants.{FULL};
-<<<<<<< HEAD
-ghost use Rattle.s7_cli.specs.Living.{AreBy, IsFullNever, IsLive, total_length};
-=======
 ghost use Rattle.s7_cli.specs.Living.{AreRegularBy, IsFullNever, IsLive, total_length};
->>>>>>> bbc24c11520c2c7465f2ed364065f3b6e2e02a6d
 
 use crate::working::work;
 use controller::Controller;
@@ -73,20 +63,13 @@ pub(crate) fn live_run<R: Threads + Wait + Sync, G: Gate + Sync>(
     requires some { (0 < length scripts.now) × (length scripts.now ≤ 4) }
     requires few { steps + length stimuli.now
         + total_length (map (λ v. v.items) scripts.now) < FULL }
-<<<<<<< HEAD
-    requires entries { AreBy 2 (stimuli.now ∷ map (λ v. v.items) scripts.now) }
-=======
     requires entries { AreRegularBy 2 (stimuli.now ∷ map (λ v. v.items) scripts.now) }
->>>>>>> bbc24c11520c2c7465f2ed364065f3b6e2e02a6d
     ensures program { IfOk result (λ c. c.program ≡ program.program) }
     ensures profile { IfOk result (λ c. c.profile ≡ Small) }
     ensures live { IfOk result (λ c. IsLive program.program steps stimuli.now
         (map (λ v. v.items) scripts.now) c.history) }
-<<<<<<< HEAD
-=======
     ensures regular { IfOk result (λ c. All IsRegular c.history) }
     ensures steps { IfOk result (λ c. steps_in c.history ≤ steps) }
->>>>>>> bbc24c11520c2c7465f2ed364065f3b6e2e02a6d
 {
     let controller = Controller::new(alloc, program)?;
     let (station, passes) = Station::start(alloc, controller, scripts.len() as u8 + 2)?;

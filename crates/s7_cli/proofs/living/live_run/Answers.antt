@@ -4,10 +4,7 @@ use Rattle.s7_cli.specs.Working.{CanWork}
 use Rattle.s7_cli.proofs.LivingLemmas.{lived, never_full, none_missing}
 use Rattle.s7_cli.proofs.NumberLemmas.{can_work}
 use Rattle.s7_cli.proofs.PassLemmas.{length_items}
-<<<<<<< HEAD
-=======
 use Rattle.s7_cli.proofs.RegularLemmas.{live_has_steps, live_is_regular}
->>>>>>> bbc24c11520c2c7465f2ed364065f3b6e2e02a6d
 use Rattle.s7_cli.proofs.living.live_run.Goals as goal
 
 pub work-pass-requires-clause-ready : goal.work-pass-requires-clause-ready
@@ -38,8 +35,6 @@ returns-clause-live g c =
     let station = c.in_ok-station.ensures in
     IfOk-weaker c.ended.result _ _ (λ d e. lived c.in_ok-station.station c.args.steps c.args.stimuli.now scripts r.0 (is_ok r.1) _ _ station.passes (omega (arith, length_items (λ v. v.items) c.args.scripts.now)) c.work-pass.ensures.made
     c.in_ok-controller.controller d station.station.0 c.args.program.program c.in_ok-controller.ensures e.0 c.work-pass.ensures.agrees e.1) c.ended.ensures
-<<<<<<< HEAD
-=======
 
 pub returns-clause-regular : goal.returns-clause-regular
 returns-clause-regular g c =
@@ -52,4 +47,3 @@ returns-clause-steps g c =
     IfOk-weaker c.ended.result _ _
     (λ d live. live_has_steps c.args.program.program c.args.steps c.args.stimuli.now (map (λ v. v.items) c.args.scripts.now) d.history live c.requires.entries)
     (returns-clause-live g c)
->>>>>>> bbc24c11520c2c7465f2ed364065f3b6e2e02a6d
