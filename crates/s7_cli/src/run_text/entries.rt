@@ -1,4 +1,4 @@
-ghost use Rattle.std.specs.Prelude.{◌≡◌, ◌≤◌, [], ◌∷◌, ◌++◌, length, replicate, true, All, OnOk};
+ghost use Rattle.std.specs.Prelude.{◌≡◌, ◌≤◌, [], ◌∷◌, ◌++◌, length, replicate, true, ℕ, All, OnOk};
 ghost use Rattle.std.specs.List.{flat_map};
 ghost use Rattle.plc_io.specs.Taken.{Wrote};
 ghost use Rattle.monitor.specs.LineText.{output_text};
