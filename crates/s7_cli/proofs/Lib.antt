@@ -1,6 +1,7 @@
 pub mod ComesLemmas
 mod CompileLemmas
 pub mod FinishLemmas
+pub mod KeptLemmas
 mod LimitLemmas
 pub mod LivingLemmas
 pub mod LoadLemmas
@@ -14,6 +15,7 @@ pub mod RegularLemmas
 pub mod RunLemmas
 pub mod SaysLemmas
 pub mod StepperLemmas
+pub mod SummaryLemmas
 pub mod TableLemmas
 pub mod WorkingLemmas
 pub mod run

@@ -128,20 +128,28 @@ comes-output c start middle now s contents name bytes text came are read writes 
   where
     later : Since start now name
     later = since start middle now name read.same left.elsewhere left.reads
+
     to : WritesTo c (disk start now) name bytes
     to = (contents, read.hold, writes)
+
     told-now : start.contents.told ≡ true → now.contents.told ≡ true
     told-now told = later.told ∙ told
+
     all : HoldsWhole c (disk start now) name
     all = λ told. (bytes, to, left.contents (told-now told))
+
     front : HoldsFront c (disk start now) name
     front = λ told. inr (bytes, length bytes, to, left.contents (told-now told) ∙ ap Some (sym (take-whole bytes)))
+
     changed : ChangesOutputs (Some c) (disk start now)
     changed = changes c start now name are later front
+
     counts : SameCounts start.failed_writes now.failed_writes
     counts = λ other. left.writes other ∙ read.same.writes other
+
     answers : Answers (Some c) (disk start now) (done text)
     answers = reads-all (disk start now) (inputs_of c) contents (Says c) (done text) read.hold said
+
     by : (came : Outcome) → TextWritten text s came → Comes (Some c) (disk start now) s came
     by (Ok ok) took = (
       text,

@@ -5,6 +5,7 @@ pub mod Ends
 pub mod Faults
 pub mod GenText
 pub mod Inner
+pub mod KeptImages
 pub mod Lines
 pub mod LiveSays
 pub mod LiveTexts

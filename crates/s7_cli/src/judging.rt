@@ -71,6 +71,7 @@ pub fn judge_run(alloc: Global, image: &[u8], history: &[u8]) -> Result<(Loaded,
     ensures valid { IfOk result (λ v. All IsValid v.1.entries) }
     ensures refused { RefusedBy (RunSays image.now history.now) result }
 {
+    image_file::laws::gives_exactly_images();
     let program = load(alloc, image)?;
     let entries = read_history(alloc, history, program.names())?;
     Ok((program, entries))

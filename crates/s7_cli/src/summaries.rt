@@ -55,7 +55,9 @@ fn sum_of_eight(controller: &Controller, first: u16) -> u64
     ensures small { result < 2 ^ 36 }
 {
     controller.law_of_memory();
-    match controller.answer(&Request::ReadVars { vars: eight_bytes(first) }) {
+    match controller.answer(&Request::ReadVars {
+        vars: eight_bytes(first),
+    }) {
         Reply::Values { values } => sum(values.as_slice()),
         _ => unreachable!(),
     }

@@ -126,7 +126,15 @@ fn failed_read_and_push(rt: HostRuntime) -> Result<(), Fail> {
         files.fail_reads(only(*count));
         let mut out = MemSink::new(rt.alloc(), 64);
         out.fail_pushes(only(1));
-        answers(&rt, rt.alloc(), *words, words, files, out, (6, b"".as_slice()))?;
+        answers(
+            &rt,
+            rt.alloc(),
+            *words,
+            words,
+            files,
+            out,
+            (6, b"".as_slice()),
+        )?;
     }
     Ok(())
 }

@@ -21,7 +21,15 @@ fn summaries(rt: HostRuntime) -> Result<(), Fail> {
         let files = MemFiles::new(rt.alloc());
         let out = MemSink::new(rt.alloc(), 64);
         let words = ["gen", *number];
-        answers(&rt, rt.alloc(), *number, &words, files, out, (*status, text))?;
+        answers(
+            &rt,
+            rt.alloc(),
+            *number,
+            &words,
+            files,
+            out,
+            (*status, text),
+        )?;
     }
     Ok(())
 }

@@ -177,7 +177,15 @@ fn bytes_and_names(rt: HostRuntime) -> Result<(), Fail> {
     for (source, status, text) in &BYTES {
         let files = two_files(rt.alloc(), source, b"")?;
         let out = MemSink::new(rt.alloc(), 64);
-        answers(&rt, rt.alloc(), source.len(), &CHECK, files, out, (*status, text))?;
+        answers(
+            &rt,
+            rt.alloc(),
+            source.len(),
+            &CHECK,
+            files,
+            out,
+            (*status, text),
+        )?;
     }
     Ok(())
 }

@@ -23,7 +23,12 @@ fn runs_by_image<R: Abort + Threads + Wait + Sync>(
 ) -> Result<(), Fail> {
     let mut out = MemSink::new(alloc, 1000);
     let code = call(rt, alloc, &COMPILE, &mut files, &mut out)?;
-    same(rt, what, (code, out.taken.as_slice()), (0, b"OK\n".as_slice()));
+    same(
+        rt,
+        what,
+        (code, out.taken.as_slice()),
+        (0, b"OK\n".as_slice()),
+    );
     let out = MemSink::new(alloc, 1000);
     answers(rt, alloc, what, &RUN, files, out, (0, text))
 }

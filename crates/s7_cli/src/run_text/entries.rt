@@ -1,4 +1,4 @@
-ghost use Rattle.std.specs.Prelude.{◌≡◌, ◌≤◌, [], ◌∷◌, ◌++◌, length, replicate, true, ℕ, All, OnOk};
+ghost use Rattle.std.specs.Prelude.{◌≡◌, ◌≤◌, [], ◌∷◌, ◌++◌, length, replicate, true, All, OnOk};
 ghost use Rattle.std.specs.List.{flat_map};
 ghost use Rattle.plc_io.specs.Taken.{Wrote};
 ghost use Rattle.monitor.specs.LineText.{output_text};
@@ -6,6 +6,7 @@ ghost use Rattle.var_access.specs.Entry.{IsValid};
 ghost use Rattle.var_access.specs.Runs.{IsRun, AreRuns, written_out};
 ghost use Rattle.var_access.specs.declared.What.TheVariants.{Ask, Step};
 ghost use Rattle.controller.specs.Replayed.{next_happens};
+ghost use Rattle.controller.specs.Shown.{nothing_shown};
 ghost use Rattle.s7_cli.specs.run_text.Behind.{lines_behind, with_entries};
 ghost use Rattle.s7_cli.specs.run_text.RunText.{changed_mode_text, entry_text, monitored_text, shown_text};
 
@@ -49,22 +50,32 @@ fn add_mode(n: u64, mode: Option<Mode>, text: &mut Vec<u8>) -> Result<(), NoMemo
 }
 
 /// Whether an entry showed nothing, so that it has no lines.
-#[tactic(auto, unfolding(crate::specs::run_text::RunText::shown_text))]
 fn is_silent(seen: &Observed) -> bool
-    ensures { result ≡ true → (n : ℕ) → shown_text n seen.now ≡ [] }
+    ensures { result ≡ true → seen.now ≡ nothing_shown }
 {
     seen.mon.is_none() && seen.outputs.as_slice().is_empty() && seen.mode.is_none()
 }
 
-/// Appends what entry `n` showed.
+/// Appends the lines of what entry `n` showed.
 #[inline(never)]
 #[tactic(auto, unfolding(crate::specs::run_text::RunText::shown_text))]
-fn add_shown(n: u64, seen: &Observed, text: &mut Vec<u8>) -> Result<(), NoMemory>
+fn add_seen(n: u64, seen: &Observed, text: &mut Vec<u8>) -> Result<(), NoMemory>
     ensures { OnOk result (text.new.items ≡ text.old.items ++ shown_text n seen.now) }
 {
     add_record(n, seen.mon, text)?;
     add_outputs(n, seen.outputs.as_slice(), text)?;
     add_mode(n, seen.mode, text)
+}
+
+/// Appends what entry `n` showed, which mostly is nothing.
+#[tactic(auto, unfolding(crate::specs::run_text::RunText::shown_text))]
+fn add_shown(n: u64, seen: &Observed, text: &mut Vec<u8>) -> Result<(), NoMemory>
+    ensures { OnOk result (text.new.items ≡ text.old.items ++ shown_text n seen.now) }
+{
+    if is_silent(seen) {
+        return Ok(());
+    }
+    add_seen(n, seen, text)
 }
 
 /// Applies a request, and appends its lines. The reply is that of the state before it.
@@ -100,9 +111,6 @@ fn add_event(controller: &mut Controller, entry: &Entry, text: &mut Vec<u8>) -> 
         (next_happens controller.old entry.now).seen) }
 {
     controller.enter(entry);
-    if is_silent(controller.observed()) {
-        return Ok(());
-    }
     add_shown(controller.history_len(), controller.observed(), text)
 }
 
