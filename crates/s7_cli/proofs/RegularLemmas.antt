@@ -1,5 +1,5 @@
 -- A live history of regular stimuli and scripts is regular, and has no more steps than were wanted.
-use Rattle.std.proofs.Common.{◌≡◌, ◌⊎◌, ℕ, zero, suc, ◌+◌, ◌<◌, ◌≤◌, eqb, eq-eqb, nat_eq, cond, Bool, true, false, true≢false, List, [], ◌∷◌, length, replicate, sym, refl, ap, ◌∙◌, subst, inl, inr, ⊎_elim, arith}
+use Rattle.std.proofs.Common.{◌≡◌, ◌⊎◌, ℕ, zero, suc, ◌+◌, ◌<◌, ◌≤◌, eqb, eq-eqb, nat_eq, cond, Bool, true, false, true≢false, List, [], ◌∷◌, ◌++◌, length, replicate, sym, refl, ap, ◌∙◌, subst, inl, inr, ⊎_elim, arith}
 use Rattle.std.specs.List.{All, AllByRecursion}
 use Rattle.std.proofs.lemmas.Bool.Decides.{nat_tests}
 use Rattle.std.proofs.lemmas.List.{length-replicate}
@@ -10,10 +10,10 @@ use Rattle.var_access.specs.Runs.{is_step}
 use Rattle.var_access.specs.declared.entries.Entry.{Entry}
 use Rattle.var_access.specs.declared.entries.What.{What}
 use Rattle.var_access.specs.declared.entries.What.TheVariants.{Step, Input, Arrive, Tick, Ask}
-use Rattle.event_text.specs.Regular.{IsRegular}
+use Rattle.event_text.specs.Regular.{IsRegular, IsRegularOf}
 use Rattle.event_text.specs.Texts.{steps_in}
 use Rattle.event_text.specs.Workers.{one_step}
-use Rattle.s7_cli.specs.Living.{AreRegularBy, IsLive, StandIn}
+use Rattle.s7_cli.specs.Living.{AreRegularBy, IsLive, StandIn, total_length}
 use Rattle.s7_cli.specs.Working.{entries_of}
 
 both_hold : {A : Type 0} (P Q R : A → Type 0) (es : List A) → ((e : A) → P e → Q e → R e) → AllByRecursion P es → AllByRecursion Q es → AllByRecursion R es
@@ -102,3 +102,14 @@ pub live_has_steps : (program : Program) (steps : ℕ) (stimuli : List Entry) (s
 live_has_steps program steps stimuli scripts history live regular =
     let all : AllByRecursion IsRegular history = recursion_from_All IsRegular history (live_is_regular program steps stimuli scripts history live regular) in
     omega (arith, steps_few history all, ap length live.stepper, length-replicate live.count one_step, live.few)
+
+-- one list more, that of the worker behind those of the others
+pub regular_more : (who : ℕ) (lists : List (List Entry)) (list : List Entry) → AreRegularBy who lists → All (IsRegularOf (who + length lists)) list → AreRegularBy who (lists ++ list ∷ [])
+regular_more who [] list are is = let n : who + 0 ≡ who = omega arith in (subst (λ k. All (IsRegularOf k) list) n is, tt)
+regular_more who (first ∷ lists) list are is =
+    let n : who + suc (length lists) ≡ suc who + length lists = omega arith in
+    (are.0, regular_more (suc who) lists list are.1 (subst (λ k. All (IsRegularOf k) list) n is))
+
+pub total_more : (lists : List (List Entry)) (list : List Entry) → total_length (lists ++ list ∷ []) ≡ total_length lists + length list
+total_more [] list = omega arith
+total_more (first ∷ lists) list = omega (arith, total_more lists list)
