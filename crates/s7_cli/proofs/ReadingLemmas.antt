@@ -61,7 +61,7 @@ allows-alike c Alike same (i ∷ is) says alike a b (inl (inr p)) (inl (inl q)) 
 allows-alike c Alike same (i ∷ is) says alike a b (inl (inr p)) (inl (inr q)) = same a b (p.3 ∙ sym q.3)
 allows-alike c Alike same (i ∷ is) says alike a b (inl (inr p)) (inr q) =
     absurd (not_both i p.0 q.0 (one_file c i.name p.0 q.0 p.1 q.1.there) p.2 q.1.within)
-allows-alike c Alike same (i ∷ is) says alike a b (inr p) (inl (inl q)) = absurd (no_file c i.name q.0 p.0 p.1.there)
+allows-alike c Alike same (i ∷ is) says alike a b (inr p) (inl (inl q)) = absurd (no_file c i.name p.0 q.0 p.1.there)
 allows-alike c Alike same (i ∷ is) says alike a b (inr p) (inl (inr q)) =
     absurd (not_both i q.0 p.0 (one_file c i.name q.0 p.0 q.1 p.1.there) q.2 p.1.within)
 allows-alike c Alike same (i ∷ is) says alike a b (inr p) (inr q) =
