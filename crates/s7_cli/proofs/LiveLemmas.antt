@@ -12,7 +12,7 @@ use Rattle.event_text.specs.Regular.{IsRegularOf}
 use Rattle.event_text.specs.TextFault.{IsTextFault}
 use Rattle.event_text.specs.Texts.{history_of, script_of, stimuli_of}
 use Rattle.event_text.specs.declared.TextFault.{TextFault}
-use Rattle.event_text.specs.declared.TextFault.TheVariants as text
+use Rattle.event_text.specs.declared.TextFault.TheVariants as broken
 use Rattle.s7_cli.specs.declared.failures.Failure.{Failure}
 use Rattle.s7_cli.specs.declared.failures.Failure.TheVariants.{NoMemory}
 use Rattle.s7_cli.specs.declared.failures.File.TheVariants.{Stimuli, Script}
@@ -176,12 +176,12 @@ judged-last names all number rest lists so_far none =
 tells-script : (names : List NameEntry) (number : ℕ) (bytes : List ℕ) (more : List (List ℕ)) (lists : List (List Entry)) (fault : TextFault)
     → IsTextFault (script_of (number + 2) names bytes) fault
     → TellsScript (behind lists (scripts_from names number (bytes ∷ more))) (failure_of_text (Script number) fault)
-tells-script names number bytes more lists (text.BadLine line rule) is = inr (
+tells-script names number bytes more lists (broken.BadLine line rule) is = inr (
   record { number = number; refusal = record { line = line; rule = rule } },
   ap (λ (s : Result (List Entry) Refusal). behind lists (script_first number s (scripts_from names (number + 1) more))) is,
   refl,
 )
-tells-script names number bytes more lists text.NoMemory is = inl refl
+tells-script names number bytes more lists broken.NoMemory is = inl refl
 
 pub judged-cut : (names : List NameEntry) (all : List (List ℕ)) (number : ℕ) (rest : List (List ℕ)) (bytes : List ℕ) (more : List (List ℕ))
     (lists : List (List Entry)) (fault : TextFault) (failure : Failure) → AreJudged names all number rest lists → rest ≡ bytes ∷ more
@@ -208,9 +208,9 @@ said-so steps text p stimuli scripts a loads are_stimuli are_scripts answers = (
 -- the stimuli are refused, whatever the scripts are
 stimuli-refuse : (V : Type 0) (steps : ℕ) (text : LiveText) (p : Program) (fault : TextFault) → LoadsAs text.image.items (Ok p)
     → IsTextFault (stimuli_of text.stimuli.items) fault → RefusedBy {V = V} (TextSays steps text) (Err (failure_of_text Stimuli fault))
-stimuli-refuse V steps text p (text.BadLine line rule) loads is =
+stimuli-refuse V steps text p (broken.BadLine line rule) loads is =
     said-so steps text p (Err (record { line = line; rule = rule })) (scripts_from p.names 1 (scripts_of text)) _ loads is refl refl
-stimuli-refuse V steps text p text.NoMemory loads is = tt
+stimuli-refuse V steps text p broken.NoMemory loads is = tt
 
 pub stimuli-refused : (V : Type 0) (text : LiveText) (p : Program) (fault : TextFault) (r : Result V Failure) → r ≡ Err (failure_of_text Stimuli fault)
     → LoadsAs text.image.items (Ok p) → IsTextFault (stimuli_of text.stimuli.items) fault → (steps : ℕ) → RefusedBy (TextSays steps text) r
