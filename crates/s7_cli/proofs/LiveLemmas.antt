@@ -1,11 +1,14 @@
 -- How the files of a live run are read and checked.
-use Rattle.std.proofs.Common.{◌≡◌, ◌<◌, ◌≤◌, ◌⊎◌, inl, inr, refl, sym, ◌∙◌, ap, subst, ℕ, suc, ◌+◌, ◌*◌, List, [], ◌∷◌, ◌++◌, length, map, Result, Ok, Err, append_assoc, append-nil, arith}
+use Rattle.std.proofs.Common.{◌≡◌, ◌<◌, ◌≤◌, ◌⊎◌, inl, inr, refl, sym, ◌∙◌, ap, subst, ℕ, suc, ◌+◌, ◌*◌, List, [], ◌∷◌, ◌++◌, length, map, drop, get_or, Bor, Result, Ok, Err, append_assoc, append-nil, arith}
 use Rattle.std.specs.List.{All, AllByRecursion}
 use Rattle.plc_base.specs.declared.Refusal.{Refusal}
 use Rattle.plc_io.specs.Contents.{Contents}
 use Rattle.plc_io.specs.Moments.{FilesAt}
+use Rattle.flat_code.specs.Loading.{faults_of}
 use Rattle.flat_code.specs.Programs.{NameEntry, Program}
-use Rattle.image_file.specs.declared.faults.LoadFault.{LoadFault}
+use Rattle.image_file.specs.Refusing.{IsRefusedBy}
+use Rattle.image_file.specs.declared.refusing.LoadError.{LoadError}
+use Rattle.image_file.specs.declared.refusing.LoadError.TheVariants as loading
 use Rattle.var_access.specs.declared.Entry.{Entry}
 use Rattle.event_text.specs.HistoryText.{history_text}
 use Rattle.event_text.specs.Regular.{IsRegularOf}
@@ -19,13 +22,14 @@ use Rattle.s7_cli.specs.declared.failures.File.TheVariants.{Stimuli, Script}
 use Rattle.s7_cli.specs.declared.files.LiveText.{LiveText}
 use Rattle.s7_cli.specs.Answer.{Answer, done}
 use Rattle.s7_cli.specs.Command.{Input, live_inputs, script_inputs}
-use Rattle.s7_cli.specs.Faults.{failure_of_text}
+use Rattle.s7_cli.specs.Faults.{failure_of_loading, failure_of_text}
 use Rattle.s7_cli.specs.Inner.{AllRead, FileRead, HasRead, RefusedBy}
 use Rattle.s7_cli.specs.LiveSays.{LiveAnswer, LoadedLive, RefusedScript, live_text, script_first, scripts_from}
 use Rattle.s7_cli.specs.LiveTexts.{AreScriptsWithin, Finds, IsLiveText, TellsScript, TextSays, live_contents, scripts_of}
 use Rattle.s7_cli.specs.Living.{AreRegularBy, IsLive, total_length}
 use Rattle.s7_cli.specs.Loads.{LoadsAs}
 use Rattle.s7_cli.specs.Reading.{HoldAll, disk}
+use Rattle.plc_base.proofs.ListLemmas.{drop_next}
 use Rattle.s7_cli.proofs.ComesLemmas.{file-fails, file-read, only-reads, read-then, unchanged, unread-then}
 
 -- ---- input files that are read in a loop
@@ -68,6 +72,32 @@ pub reads-last : (start now : FilesAt) (all rest : List Input) (contents : List 
 reads-last start now all rest contents so_far none =
     subst (λ (inputs : List Input). HasRead start now inputs contents)
     (sym (so_far.splits ∙ ap (λ (inputs : List Input). so_far.before ++ inputs) none ∙ append-nil so_far.before)) so_far.read
+
+-- the scripts from a place on, as input files
+abbrev pub inputs_from : List (Bor (List ℕ)) → (place : ℕ) → List Input
+inputs_from names place = script_inputs (place + 1) (map (λ s. s.now) (drop place names))
+
+inputs-next : (names : List (Bor (List ℕ))) (place : ℕ) (name : Bor (List ℕ)) → place < length names → name ≡ get_or names place name
+    → inputs_from names place ≡ record { file = Script (place + 1); name = name.now } ∷ inputs_from names (place + 1)
+inputs-next names place name within is =
+    ap (λ (ns : List (Bor (List ℕ))). script_inputs (place + 1) (map (λ s. s.now) ns)) (drop_next names place name within is)
+
+pub script-next : {V : Type 0} (view : V → List ℕ) (start middle now : FilesAt) (all : List Input) (names : List (Bor (List ℕ))) (place : ℕ)
+    (name : Bor (List ℕ)) (contents after : List (List ℕ)) (v : V) → FileRead view (disk middle now) (record { file = Script (place + 1); name = name.now }) (Ok v)
+    → IsReading start middle all (inputs_from names place) contents → after ≡ contents ++ view v ∷ [] → place < length names
+    → name ≡ get_or names place name → IsReading start now all (inputs_from names (place + 1)) after
+script-next view start middle now all names place name contents after v read so_far are within is =
+    reads-next view start middle now all (inputs_from names place) (inputs_from names (place + 1)) _ contents after v so_far
+    (inputs-next names place name within is) are read
+
+pub script-cut : {V W : Type 0} (view : V → List ℕ) (views : W → List (List ℕ)) (start middle now : FilesAt) (all : List Input)
+    (names : List (Bor (List ℕ))) (place : ℕ) (name : Bor (List ℕ)) (contents : List (List ℕ)) (failure : Failure) (r : Result W Failure)
+    → FileRead view (disk middle now) (record { file = Script (place + 1); name = name.now }) (Err failure)
+    → IsReading start middle all (inputs_from names place) contents → r ≡ Err failure → place < length names
+    → name ≡ get_or names place name → AllRead views (disk start now) all r
+script-cut view views start middle now all names place name contents failure r read so_far ends within is =
+    reads-cut view views start middle now all (inputs_from names place) (inputs_from names (place + 1)) _ contents failure r so_far
+    (inputs-next names place name within is) ends read
 
 pub map-behind : {A B : Type 0} (f : A → B) (xs : List A) (x : A) → map f (xs ++ x ∷ []) ≡ map f xs ++ f x ∷ []
 map-behind f [] x = refl
@@ -204,6 +234,13 @@ said-so steps text p stimuli scripts a loads are_stimuli are_scripts answers = (
   subst (λ (s : Result (List Entry) Refusal). LiveAnswer p steps s (scripts_from p.names 1 (scripts_of text)) a) (sym are_stimuli)
   (subst (λ (s : Result (List (List Entry)) RefusedScript). LiveAnswer p steps stimuli s a) (sym are_scripts) answers),
 )
+
+pub live-image-refused : (V : Type 0) (text : LiveText) (error : LoadError) (r : Result V Failure) → r ≡ Err (failure_of_loading error)
+    → IsRefusedBy error (faults_of text.image.items) → (steps : ℕ) → RefusedBy (TextSays steps text) r
+live-image-refused V text (loading.Fault fault) r fails least = λ steps.
+    subst (λ (q : Result V Failure). RefusedBy (TextSays steps text) q) (sym fails) (Err fault, least, refl)
+live-image-refused V text loading.NoMemory r fails least = λ steps.
+    subst (λ (q : Result V Failure). RefusedBy (TextSays steps text) q) (sym fails) tt
 
 -- the stimuli are refused, whatever the scripts are
 stimuli-refuse : (V : Type 0) (steps : ℕ) (text : LiveText) (p : Program) (fault : TextFault) → LoadsAs text.image.items (Ok p)

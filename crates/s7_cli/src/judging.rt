@@ -1,5 +1,7 @@
 ghost use Rattle.std.specs.Prelude.{◌≡◌, ℕ, ◌≤◌, length, map, All, IfOk, IfErr, Ok};
 ghost use Rattle.var_access.specs.Entry.{IsValid};
+ghost use Rattle.flat_code.specs.Loading.{faults_of};
+ghost use Rattle.image_file.specs.Refusing.{IsRefusedBy};
 ghost use Rattle.sem_kept.specs.Agreement.{ImageKeepsSource, KeepsSource, names_in};
 ghost use Rattle.event_text.specs.Texts.{history_of};
 ghost use Rattle.s7_cli.specs.Compiling.{HasProgram};
@@ -17,7 +19,7 @@ use crate::files::{LiveText, ProgramText};
 use crate::lists::add;
 use event_text::{read_history, read_script, read_stimuli};
 use flat_code::Names;
-use image_file::{Loaded, load};
+use image_file::{LoadError, Loaded, load};
 use std::alloc::Global;
 use var_access::{Entries, Entry};
 
@@ -62,6 +64,15 @@ pub fn judge(
     Ok((program, entries))
 }
 
+/// The program of an image.
+fn loaded(alloc: Global, image: &[u8]) -> Result<Loaded, LoadError>
+    ensures loads { IfOk result (λ l. LoadsAs image.now (Ok l.program)) }
+    ensures refused { IfErr result (λ e. IsRefusedBy e (faults_of image.now)) }
+{
+    image_file::laws::gives_exactly_images();
+    load(alloc, image)
+}
+
 /// Checks an image, and then a history, which may name the variables whose names stand in it.
 pub fn judge_run(alloc: Global, image: &[u8], history: &[u8]) -> Result<(Loaded, Entries), Failure>
     requires { length history.now ≤ 4194304 }
@@ -71,8 +82,7 @@ pub fn judge_run(alloc: Global, image: &[u8], history: &[u8]) -> Result<(Loaded,
     ensures valid { IfOk result (λ v. All IsValid v.1.entries) }
     ensures refused { RefusedBy (RunSays image.now history.now) result }
 {
-    image_file::laws::gives_exactly_images();
-    let program = load(alloc, image)?;
+    let program = loaded(alloc, image)?;
     let entries = read_history(alloc, history, program.names())?;
     Ok((program, entries))
 }
@@ -120,7 +130,7 @@ pub fn judge_live(alloc: Global, text: &LiveText) -> Result<LiveWork, Failure>
         (map (λ x. x.items) w.scripts.items)) }
     ensures refused { (steps : ℕ) → RefusedBy (TextSays steps text.now) result }
 {
-    let program = load(alloc, &text.image)?;
+    let program = loaded(alloc, &text.image)?;
     let stimuli = match read_stimuli(alloc, &text.stimuli) {
         Ok(entries) => entries,
         Err(fault) => return Err(failure_of_text(File::Stimuli, fault)),
