@@ -43,7 +43,7 @@ returns-in_err-history g c =
 
 pub judge_run-requires : goal.judge_run-requires
 judge_run-requires g c =
-    subst (λ (bytes : List ℕ). length bytes ≤ 4194304) (sym c.deref-1.ensures.value) c.in_ok-history.ensures.1.within
+    subst (λ (bytes : List ℕ). length bytes ≤ 4194304) (sym c.deref-2.ensures.value) c.in_ok-history.ensures.1.within
 
 pub returns-in_err-program : goal.returns-in_err-program
 returns-in_err-program g c =
@@ -51,11 +51,11 @@ returns-in_err-program g c =
     let image : List ℕ = c.in_ok-image.image.items in
     let history : List ℕ = c.in_ok-history.history.items in
     comes-refused (LoadedProgram × Recorded) (Run c.args.img.now c.args.hist.now) _ _ _ (image ∷ history ∷ [])
-    (RunSays c.deref.result.now c.deref-1.result.now) _ _ (fault.1 ∙ ap Err fault.2)
+    (RunSays c.deref.result.now c.deref-2.result.now) _ _ (fault.1 ∙ ap Err fault.2)
     (read-then _ _ _ (image_input c.args.img.now ∷ []) (history_input c.args.hist.now ∷ []) (image ∷ []) (history ∷ [])
     (file-read bytes_of _ _ (image_input c.args.img.now) c.in_ok-image.image c.in_ok-image.ensures)
     (file-read bytes_of _ _ (history_input c.args.hist.now) c.in_ok-history.history c.in_ok-history.ensures))
     (λ (a : Answer) said.
     subst (λ (b : List ℕ). RunSays b history a) c.deref.ensures.value
-    (subst (λ (h : List ℕ). RunSays c.deref.result.now h a) c.deref-1.ensures.value said))
+    (subst (λ (h : List ℕ). RunSays c.deref.result.now h a) c.deref-2.ensures.value said))
     c.in_err-program.ensures.refused
