@@ -17,8 +17,13 @@ use Rattle.plc_mem.specs.Writing.{is_within}
 use Rattle.plc_base.specs.declared.Mode.{Mode}
 use Rattle.machine.specs.Code.{Code}
 use Rattle.machine.specs.Statement.{World}
+use Rattle.var_access.specs.declared.Reply.{Reply}
+use Rattle.var_access.specs.declared.Reply.TheVariants.{Values}
+use Rattle.var_access.specs.declared.Request.TheVariants.{ReadVars}
+use Rattle.var_access.specs.declared.Var.{Var}
 use Rattle.var_access.specs.declared.What.{What}
-use Rattle.controller.specs.Asking.{value_before, value_of, values_from}
+use Rattle.controller.specs.Asking.{answered, read_answered, value_before, value_of, values_from}
+use Rattle.controller.specs.State.{State}
 use Rattle.controller.specs.Replay.{replay}
 use Rattle.sem_kept.specs.Kept.{IsKept}
 use Rattle.s7_cli.specs.GenText.{memory_byte, summary_of}
@@ -60,6 +65,20 @@ pub eight-read : (m : Areas) → IsMemory m → (first : ℕ) → first ≤ 248
 eight-read m is first low =
     bytes-read m is.bit_memory.bytes_are 8 first 1
     (omega (arith, low, is.bit_memory.count_is, enough is.bit_memory.profile))
+
+-- what a reply has read; nothing, where it isn't that of a read
+abbrev pub values_in : Reply → List ℕ
+values_in (Values values) = values
+values_in _ = []
+
+-- a read of eight bytes of bit memory is answered by them
+pub eight-answered : (code : Code) (s : State) → IsMemory s.world.memory → (first : ℕ) → first ≤ 248 → (vars : List Var)
+    → vars ≡ map memory_byte (range_with_len first 8)
+    → answered code (ReadVars vars) s ≡ Values (take 8 (drop first s.world.memory.bit_memory))
+unfolding answered
+eight-answered code s is first low vars are =
+    ap (λ (read : List Var). read_answered (values_from s.world.memory 1 read)) are
+    ∙ ap read_answered (eight-read s.world.memory is first low)
 
 -- ---- sums
 
