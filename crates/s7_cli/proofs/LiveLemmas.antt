@@ -17,7 +17,7 @@ use Rattle.event_text.specs.Texts.{history_of, script_of, stimuli_of}
 use Rattle.event_text.specs.declared.TextFault.{TextFault}
 use Rattle.event_text.specs.declared.TextFault.TheVariants as broken
 use Rattle.s7_cli.specs.declared.failures.Failure.{Failure}
-use Rattle.s7_cli.specs.declared.failures.Failure.TheVariants.{NoMemory}
+use Rattle.s7_cli.specs.declared.failures.Failure.TheVariants.{WordsRefused, ReadFault, TooLong, Refused, ImageRefused, WriteFault, NoMemory}
 use Rattle.s7_cli.specs.declared.failures.File.TheVariants.{Stimuli, Script}
 use Rattle.s7_cli.specs.declared.files.LiveText.{LiveText}
 use Rattle.s7_cli.specs.Answer.{Answer, done}
@@ -268,6 +268,21 @@ pub scripts-refused : (V : Type 0) (text : LiveText) (p : Program) (stimuli : Li
     → (steps : ℕ) → RefusedBy (TextSays steps text) r
 scripts-refused V text p stimuli failure r fails loads are tells = λ steps.
     subst (λ (q : Result V Failure). RefusedBy (TextSays steps text) q) (sym fails) (scripts-refuse V steps text p stimuli failure loads are tells)
+
+on : (V W : Type 0) (says : Answer → Type 0) (failure : Failure) → RefusedBy {V = V} says (Err failure) → RefusedBy {V = W} says (Err failure)
+on V W says (Refused file refusal) told = told
+on V W says (ImageRefused fault) told = told
+on V W says NoMemory told = tt
+on V W says WordsRefused told = absurd told
+on V W says ReadFault told = absurd told
+on V W says (TooLong file) told = absurd told
+on V W says WriteFault told = absurd told
+
+-- a refusal is handed on
+pub refused-on : (V W : Type 0) (says : Answer → Type 0) (failure : Failure) (r : Result W Failure) → r ≡ Err failure
+    → RefusedBy {V = V} says (Err failure) → RefusedBy says r
+refused-on V W says failure r fails told =
+    subst (λ (q : Result W Failure). RefusedBy says q) (sym fails) (on V W says failure told)
 
 -- the workers made this history
 pub live-said : (steps : ℕ) (text : LiveText) (p q : Program) (stimuli : List Entry) (scripts : List (List Entry)) (history : List Entry)

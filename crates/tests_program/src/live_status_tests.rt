@@ -40,7 +40,7 @@ type Row = (
 // The image is judged first, then the stimuli, then the scripts in their order.
 static ROWS: [Row; 8] = [
     (EMPTY, b"", b"", b"", 0, STEP_TEXT),
-    (b"", b"step\n", b"x\n", b"x\n", 3, b"image refused: offset 0 code 1\n"),
+    (b"SSSSSSSSSSSSSSSSSSSS", b"step\n", b"x\n", b"x\n", 3, b"image refused: offset 0 code 1\n"),
     // a step is none of the feeder's entries
     (EMPTY, b"in 0 01\nstep 1\n", b"x\n", b"x\n", 4, b"stimuli refused: line 2 rule 4\n"),
     (EMPTY, b"tick 0\n", b"x\n", b"x\n", 4, b"stimuli refused: line 1 rule 2\n"),

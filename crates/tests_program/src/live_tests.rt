@@ -2,7 +2,7 @@
 //! operators read.
 use crate::calls::list_of;
 use crate::compare::same;
-use plc_io::{Gate, MemFiles, MemSink, OpenGate};
+use plc_io::{Bytes, Gate, MemFiles, MemSink, OpenGate};
 use s7_cli::s7_main;
 use std::alloc::Global;
 use std::fmt::Write;
@@ -108,7 +108,7 @@ fn written_by<R: Abort + Threads + Wait + Sync, G: Gate + Sync>(
     words: &[&str],
     files: &mut MemFiles,
     gate: &G,
-) -> Result<Vec<u8>, Fail> {
+) -> Result<Bytes, Fail> {
     let list = list_of(alloc, words)?;
     let mut out = MemSink::new(alloc, 1000);
     let status = s7_main(rt, alloc, &list, files, &mut out, gate);
@@ -132,7 +132,7 @@ fn runs_again<R: Abort + Threads + Wait + Sync>(
 ) -> Result<(), Fail> {
     files.put("history", history.as_bytes())?;
     let again = written_by(rt, alloc, &["run", "image", "history"], files, &OpenGate)?;
-    same(rt, history, from_utf8(&again), Ok(text));
+    same(rt, history, from_utf8(again.as_slice()), Ok(text));
     Ok(())
 }
 
@@ -172,7 +172,7 @@ fn meets<R: Abort + Threads + Wait + Sync>(
     let gate = MeetingGate::new(waiting);
     let text = written_by(rt, alloc, &LIVE, &mut files, &gate)?;
     same(rt, waiting, gate.missed.load(Ordering::SeqCst), false);
-    let (history, run) = parts_of(&text);
+    let (history, run) = parts_of(text.as_slice());
     for head in ["in 0 01", "op 1 read MB1", "op 2 read MB2"] {
         same(rt, head, count_of(history, head), 4);
     }
@@ -269,7 +269,7 @@ fn last_write_is_read(rt: HostRuntime) -> Result<(), Fail> {
     let said = written_by(&rt, rt.alloc(), &compile, &mut files, &OpenGate)?;
     same(&rt, "compile", said.as_slice(), b"OK\n".as_slice());
     let text = written_by(&rt, rt.alloc(), &LIVE, &mut files, &OpenGate)?;
-    let (history, run) = parts_of(&text);
+    let (history, run) = parts_of(text.as_slice());
     same(&rt, "requests", count_of(history, "op 1"), 400);
     same(&rt, "requests", count_of(history, "op 2"), 400);
     let told = told_of(rt.alloc(), history)?;
