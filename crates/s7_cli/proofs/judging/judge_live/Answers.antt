@@ -5,6 +5,7 @@ use Rattle.flat_code.specs.Programs.{NameEntry}
 use Rattle.image_file.specs.Refusing.{IsRefusedBy}
 use Rattle.event_text.specs.TextFault.{IsTextFault}
 use Rattle.event_text.specs.Texts.{stimuli_of}
+use Rattle.s7_cli.specs.declared.judging.LiveWork.{LiveWork}
 use Rattle.s7_cli.specs.LiveSays.{scripts_from}
 use Rattle.s7_cli.specs.LiveTexts.{TellsScript, scripts_of}
 use Rattle.s7_cli.specs.Loads.{LoadsAs}
@@ -24,7 +25,7 @@ returns-in_err-program-clause-refused c =
 pub returns-in-Err-clause-refused : goal.returns-in-Err-clause-refused
 returns-in-Err-clause-refused c =
     let p = c.in_ok-program.program.program in
-    stimuli-refused _ c.args.text.now p c.in-Err.fault _ (ap Err c.failure_of_text.ensures)
+    stimuli-refused LiveWork c.args.text.now p c.in-Err.fault (Err c.failure_of_text.result) (ap Err c.failure_of_text.ensures)
     (subst (λ (bytes : List ℕ). LoadsAs bytes (Ok p)) c.deref.ensures.value c.in_ok-program.ensures.loads)
     (subst (λ (bytes : List ℕ). IsTextFault (stimuli_of bytes) c.in-Err.fault) c.deref-2.ensures.value c.in-Err.ensures.refused)
 
