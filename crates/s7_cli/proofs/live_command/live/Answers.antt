@@ -19,7 +19,7 @@ returns-in_err-text g c =
     (fault.1 ∙ ap Err fault.2) c.in_err-text.ensures
 
 pub lived-requires-clause-text : goal.lived-requires-clause-text
-lived-requires-clause-text g c =
+lived-requires-clause-text g c κs within =
     let ops : List (List ℕ) = map (λ w. w.now) c.args.ops.now in
     let text = c.in_ok-text.text in
     let many = length_items (λ w. w.now) c.args.ops.now in
