@@ -278,7 +278,7 @@ writes c start now s text (Ok ok) same none answers took = (
 )
 writes c start now s text (Err WriteFault) same none answers took = record {
   cut = record {
-    cut = inr (done text, answers, same.reads, took.0);
+    cut = inr (done text, answers, same.reads, (same-files (Some c) (disk start now) same.contents, no-outputs c (disk start now) none), took.0);
     reads = never-fell start.failed_reads now.failed_reads same.reads;
     files = same-files (Some c) (disk start now) same.contents;
   };
@@ -286,7 +286,7 @@ writes c start now s text (Err WriteFault) same none answers took = record {
 }
 writes c start now s text (Err NoMemory) same none answers took = record {
   cut = record {
-    cut = inr (done text, answers, same.reads, took.0);
+    cut = inr (done text, answers, same.reads, (same-files (Some c) (disk start now) same.contents, no-outputs c (disk start now) none), took.0);
     reads = never-fell start.failed_reads now.failed_reads same.reads;
     files = same-files (Some c) (disk start now) same.contents;
   };

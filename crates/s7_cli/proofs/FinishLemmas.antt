@@ -40,7 +40,7 @@ as-told c d a b z failure ended fails is written =
 front : (c : Option Command) (d : Disk) (a b z : SinkAt) (failure : Failure) (fails : Fails c d (taking a b) failure) (n : ℕ)
     → Took a z (take n fails.line) → IsCut c d (taking a z)
 front c d a b z failure fails n took = record {
-  cut = inr (record { outcome = Err failure; text = fails.line }, fails.answers, fails.counts, (n, took));
+  cut = inr (record { outcome = Err failure; text = fails.line }, fails.answers, fails.counts, fails.only_reads.files, (n, took));
   reads = fails.only_reads.reads;
   files = same-files c d fails.only_reads.files;
 }

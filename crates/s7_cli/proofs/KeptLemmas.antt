@@ -4,7 +4,7 @@ use Rattle.plc_base.specs.declared.Profile.{Profile}
 use Rattle.plc_base.specs.declared.Profile.TheVariants.{Small}
 use Rattle.plc_base.specs.declared.Refusal.{Refusal}
 use Rattle.var_access.specs.declared.Entry.{Entry}
-use Rattle.flat_code.specs.Loading.{Gives}
+use Rattle.flat_code.specs.Loading.{Gives, IsLoadable}
 use Rattle.flat_code.specs.Programs.{NameEntry, Program}
 use Rattle.image_file.specs.Laws.{GivesExactlyImages, ImagesAreOfOne}
 use Rattle.image_file.specs.declared.faults.LoadFault.{LoadFault}
@@ -75,7 +75,7 @@ answer-alike continues means_one one gives image source symbols bytes kept histo
 
     loads : LoadsAs image (Ok p)
     loads =
-        let is = record { spelled = kept.spelled; program = kept.keeps.runnable.is; verifies = kept.keeps.runnable.verifies } in
+        let is : IsLoadable image p = record { spelled = kept.spelled; program = kept.keeps.runnable.is; verifies = kept.keeps.runnable.verifies } in
         ((gives image p bytes).1 is, is)
 
     same : run_answer (Ok p) history ≡ go_answer (Ok c) (history_of (names_in symbols) history)

@@ -1,5 +1,5 @@
 -- Bytes load in one way: as one program, or with one least fault.
-use Rattle.std.proofs.Common.{◌≡◌, ◌⊎◌, inl, inr, sym, ◌∙◌, ap, subst, ℕ, ◌×◌, List, [], Option, Some, Ok, Err, Result, arith}
+use Rattle.std.proofs.Common.{◌≡◌, ◌⊎◌, inl, inr, sym, ◌∙◌, ap, subst, ℕ, List, [], Option, Some, Ok, Err, Result, arith}
 use Rattle.std.specs.Option.{option_map}
 use Rattle.flat_code.specs.Image.{read_image}
 use Rattle.flat_code.specs.Layout.{Cursor}

@@ -164,7 +164,7 @@ comes-output c start middle now s contents name bytes text came are read writes 
     )
     by (Err WriteFault) took = record {
       cut = record {
-        cut = inr (done text, answers, later.reads, took.0);
+        cut = inr (done text, answers, later.reads, (changed, whole c start now name are all), took.0);
         reads = never-fell start.failed_reads now.failed_reads later.reads;
         files = changed;
       };
@@ -172,7 +172,7 @@ comes-output c start middle now s contents name bytes text came are read writes 
     }
     by (Err NoMemory) took = record {
       cut = record {
-        cut = inr (done text, answers, later.reads, took.0);
+        cut = inr (done text, answers, later.reads, (changed, whole c start now name are all), took.0);
         reads = never-fell start.failed_reads now.failed_reads later.reads;
         files = changed;
       };

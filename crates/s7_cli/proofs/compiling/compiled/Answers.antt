@@ -12,7 +12,7 @@ returns-clause-ok c = subst (KeepsSource c.args.source.now c.args.symbols.now) (
 
 pub returns-clause-image : goal.returns-clause-image
 returns-clause-image c =
-    let loaded : Program = c.in_ok-loaded.loaded.program in record {
+    let loaded : Program = c.in_ok-loaded.field-0.program in record {
       program = loaded;
       spelled = refl;
       keeps = subst (KeepsSource c.args.source.now c.args.symbols.now) (sym c.in_ok-loaded.ensures) c.in_ok-program.ensures.ok;
