@@ -125,21 +125,21 @@ read-then start middle now is js contents more first second = record {
       (hold-before start.contents middle.contents js more first.same.contents second.hold);
 }
 
--- one isn't read
-file-fails : {V W : Type 0} (view : V → List ℕ) (views : W → List (List ℕ)) (d : Disk) (i : Input) (failure : Failure)
-    → FileRead view d i (Err failure) → AllRead views d (i ∷ []) (Err failure)
-file-fails view views d i ReadFault (only, stops) = (only, inl stops)
-file-fails view views d i (TooLong file) (same, is_file, stops) = (same, inl stops)
-file-fails view views d i NoMemory only = only
-file-fails view views d i WordsRefused read = absurd read
-file-fails view views d i (Refused file refusal) read = absurd read
-file-fails view views d i (ImageRefused fault) read = absurd read
-file-fails view views d i WriteFault read = absurd read
+-- one isn't read, be there further ones behind it
+pub file-fails : {V W : Type 0} (view : V → List ℕ) (views : W → List (List ℕ)) (d : Disk) (i : Input) (more : List Input) (failure : Failure)
+    → FileRead view d i (Err failure) → AllRead views d (i ∷ more) (Err failure)
+file-fails view views d i more ReadFault (only, stops) = (only, inl stops)
+file-fails view views d i more (TooLong file) (same, is_file, stops) = (same, inl stops)
+file-fails view views d i more NoMemory only = only
+file-fails view views d i more WordsRefused read = absurd read
+file-fails view views d i more (Refused file refusal) read = absurd read
+file-fails view views d i more (ImageRefused fault) read = absurd read
+file-fails view views d i more WriteFault read = absurd read
 
 pub file-unread : {V W : Type 0} (view : V → List ℕ) (views : W → List (List ℕ)) (d : Disk) (i : Input) (failure : Failure) (r : Result W Failure)
     → r ≡ Err failure → FileRead view d i (Err failure) → AllRead views d (i ∷ []) r
 file-unread {V} {W} view views d i failure r is read =
-    subst (λ (q : Result W Failure). AllRead views d (i ∷ []) q) (sym is) (file-fails view views d i failure read)
+    subst (λ (q : Result W Failure). AllRead views d (i ∷ []) q) (sym is) (file-fails view views d i [] failure read)
 
 fails-then : {V W : Type 0} (view : V → List (List ℕ)) (views : W → List (List ℕ)) (start middle now : FilesAt) (is js : List Input)
     (contents : List (List ℕ)) (failure : Failure) → HasRead start middle is contents → AllRead view (disk middle now) js (Err failure)

@@ -17,7 +17,8 @@ use Rattle.event_text.specs.Texts.{history_of}
 use Rattle.s7_cli.specs.run_text.RunText.{run_text}
 use Rattle.s7_cli.specs.Answer.{Answer, done}
 use Rattle.s7_cli.specs.KeptImages.{KeptImagesAnswerAlike, KeptImagesRunAlike}
-use Rattle.s7_cli.specs.Says.{GoSays, LoadsAs, RunSays, go_answer, ran, run_answer}
+use Rattle.s7_cli.specs.Loads.{LoadsAs}
+use Rattle.s7_cli.specs.Says.{GoSays, RunSays, go_answer, ran, run_answer}
 use Rattle.s7_cli.proofs.LoadLemmas.{loads-one}
 use Rattle.s7_cli.proofs.RunLemmas.{texts-kept}
 use Rattle.s7_cli.proofs.SaysLemmas.{MeansOne}

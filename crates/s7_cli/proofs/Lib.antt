@@ -3,6 +3,7 @@ mod CompileLemmas
 pub mod FinishLemmas
 pub mod KeptLemmas
 mod LimitLemmas
+pub mod LiveLemmas
 pub mod LivingLemmas
 pub mod LoadLemmas
 pub mod MatchLemmas

@@ -7,7 +7,7 @@ use Rattle.flat_code.specs.Loading.{Gives, faults_of}
 use Rattle.flat_code.specs.Programs.{Program}
 use Rattle.image_file.specs.Least.{IsAmong, IsLeast, IsUpTo}
 use Rattle.image_file.specs.declared.faults.LoadFault.{LoadFault}
-use Rattle.s7_cli.specs.Says.{LoadsAs}
+use Rattle.s7_cli.specs.Loads.{LoadsAs}
 
 same-fault : (f g : LoadFault) → f.at ≡ g.at → f.code ≡ g.code → f ≡ g
 same-fault f g at code = λ i. record { at = at i; code = code i }

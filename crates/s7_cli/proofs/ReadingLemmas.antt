@@ -37,9 +37,9 @@ reads-told d (i ∷ is) says a told (inr (bytes, holds, more)) =
     held : IsHeld d.before.contents i bytes
     held = record { there = holds.agrees told; within = holds.within }
 
--- of any contents one thing is said at most
-abbrev pub SaysOne : Saying → Type 0
-SaysOne says = (contents : List (List ℕ)) (a b : Answer) → says contents a → says contents b → a ≡ b
+-- two answers to any contents are alike
+abbrev pub AnswersAlike : (Alike : Answer → Answer → Type 0) → Saying → Type 0
+AnswersAlike Alike says = (contents : List (List ℕ)) (a b : Answer) → says contents a → says contents b → Alike a b
 
 one_file : (c : Contents) (name xs ys : List ℕ) → c.at name ≡ Some xs → c.at name ≡ Some ys → xs ≡ ys
 one_file c name xs ys p q = let e : Some xs ≡ Some ys = sym p ∙ q in cc
@@ -50,21 +50,24 @@ no_file c name xs p q = let e : None ≡ Some xs = sym p ∙ q in cc
 not_both : (i : Input) (xs ys : List ℕ) → xs ≡ ys → limit_of i.file < length xs → length ys ≤ limit_of i.file → ⊥
 not_both i xs ys same long within = omega (arith, ap length same)
 
--- told files allow one answer
-pub allows-one : (c : Contents) (is : List Input) (says : Saying) → SaysOne says → (a b : Answer) → Allows c is says a → Allows c is says b → a ≡ b
-allows-one c [] says one a b p q = one [] a b p q
-allows-one c (i ∷ is) says one a b (inl (inl p)) (inl (inl q)) = p.1 ∙ sym q.1
-allows-one c (i ∷ is) says one a b (inl (inl p)) (inl (inr q)) = absurd (no_file c i.name q.0 p.0 q.1)
-allows-one c (i ∷ is) says one a b (inl (inl p)) (inr q) = absurd (no_file c i.name q.0 p.0 q.1.there)
-allows-one c (i ∷ is) says one a b (inl (inr p)) (inl (inl q)) = absurd (no_file c i.name p.0 q.0 p.1)
-allows-one c (i ∷ is) says one a b (inl (inr p)) (inl (inr q)) = p.3 ∙ sym q.3
-allows-one c (i ∷ is) says one a b (inl (inr p)) (inr q) = absurd (not_both i p.0 q.0 (one_file c i.name p.0 q.0 p.1 q.1.there) p.2 q.1.within)
-allows-one c (i ∷ is) says one a b (inr p) (inl (inl q)) = absurd (no_file c i.name p.0 q.0 p.1.there)
-allows-one c (i ∷ is) says one a b (inr p) (inl (inr q)) = absurd (not_both i q.0 p.0 (one_file c i.name q.0 p.0 q.1 p.1.there) q.2 p.1.within)
-allows-one c (i ∷ is) says one a b (inr p) (inr q) =
-    let same : q.0 ≡ p.0 = one_file c i.name q.0 p.0 q.1.there p.1.there in
-    allows-one c is (λ files. says (p.0 ∷ files)) (λ contents. one (p.0 ∷ contents)) a b p.2
-    (subst (λ (bytes : List ℕ). Allows c is (λ files. says (bytes ∷ files)) b) same q.2)
+-- so are two that told files allow
+pub allows-alike : (c : Contents) (Alike : Answer → Answer → Type 0) → ((a b : Answer) → a ≡ b → Alike a b) → (is : List Input) (says : Saying)
+    → AnswersAlike Alike says → (a b : Answer) → Allows c is says a → Allows c is says b → Alike a b
+allows-alike c Alike same [] says alike a b p q = alike [] a b p q
+allows-alike c Alike same (i ∷ is) says alike a b (inl (inl p)) (inl (inl q)) = same a b (p.1 ∙ sym q.1)
+allows-alike c Alike same (i ∷ is) says alike a b (inl (inl p)) (inl (inr q)) = absurd (no_file c i.name q.0 p.0 q.1)
+allows-alike c Alike same (i ∷ is) says alike a b (inl (inl p)) (inr q) = absurd (no_file c i.name q.0 p.0 q.1.there)
+allows-alike c Alike same (i ∷ is) says alike a b (inl (inr p)) (inl (inl q)) = absurd (no_file c i.name p.0 q.0 p.1)
+allows-alike c Alike same (i ∷ is) says alike a b (inl (inr p)) (inl (inr q)) = same a b (p.3 ∙ sym q.3)
+allows-alike c Alike same (i ∷ is) says alike a b (inl (inr p)) (inr q) =
+    absurd (not_both i p.0 q.0 (one_file c i.name p.0 q.0 p.1 q.1.there) p.2 q.1.within)
+allows-alike c Alike same (i ∷ is) says alike a b (inr p) (inl (inl q)) = absurd (no_file c i.name p.0 q.0 p.1.there)
+allows-alike c Alike same (i ∷ is) says alike a b (inr p) (inl (inr q)) =
+    absurd (not_both i q.0 p.0 (one_file c i.name q.0 p.0 q.1 p.1.there) q.2 p.1.within)
+allows-alike c Alike same (i ∷ is) says alike a b (inr p) (inr q) =
+    let is_same : q.0 ≡ p.0 = one_file c i.name q.0 p.0 q.1.there p.1.there in
+    allows-alike c Alike same is (λ files. says (p.0 ∷ files)) (λ contents. alike (p.0 ∷ contents)) a b p.2
+    (subst (λ (bytes : List ℕ). Allows c is (λ files. says (bytes ∷ files)) b) is_same q.2)
 
 -- a read on the way is one of an input file
 pub fails-rose : (d : Disk) (is : List Input) → FailsOnTheWay d is

@@ -18,7 +18,7 @@ use Rattle.generator.specs.Source.{source_text}
 use Rattle.sem_kept.specs.Agreement.{ImageKeepsSource, KeepsSource, names_in}
 use Rattle.sem_kept.specs.Meaning.{IsJudged, IsMeaningUnique, ExcludesRefusal, IsRefusalUnique, Refused, InSymbols, InSource, MeansCode}
 use Rattle.event_text.specs.TextFault.{IsTextFault}
-use Rattle.event_text.specs.Texts.{history_of}
+use Rattle.event_text.specs.Texts.{history_of, stimuli_of}
 use Rattle.event_text.specs.declared.TextFault.{TextFault}
 use Rattle.event_text.specs.declared.TextFault.TheVariants as text
 use Rattle.s7_cli.specs.run_text.RunText.{run_text}
@@ -26,7 +26,7 @@ use Rattle.s7_cli.specs.Compiling.{RefusesBy}
 use Rattle.s7_cli.specs.declared.faults.CompileFault.{CompileFault}
 use Rattle.s7_cli.specs.declared.faults.CompileFault.TheVariants as compiling
 use Rattle.s7_cli.specs.declared.failures.File.{File}
-use Rattle.s7_cli.specs.declared.failures.File.TheVariants.{Source, Symbols, History}
+use Rattle.s7_cli.specs.declared.failures.File.TheVariants.{Source, Symbols, History, Stimuli, Script}
 use Rattle.s7_cli.specs.declared.failures.Failure.{Failure}
 use Rattle.s7_cli.specs.declared.files.ProgramText.{ProgramText}
 use Rattle.s7_cli.specs.Answer.{Answer, done, refused, refused_image}
@@ -35,11 +35,14 @@ use Rattle.s7_cli.specs.Faults.{failure_of_compiling, failure_of_history, failur
 use Rattle.s7_cli.specs.GenText.{summary_text}
 use Rattle.s7_cli.specs.Inner.{RefusedBy}
 use Rattle.s7_cli.specs.Lines.{ok_line}
+use Rattle.s7_cli.specs.LiveSays.{LiveAnswer, LiveSays, LoadedLive, RefusedScript, live_text, scripts_from}
+use Rattle.s7_cli.specs.Loads.{LoadsAs}
 use Rattle.s7_cli.specs.Reading.{HoldAll}
-use Rattle.s7_cli.specs.Says.{GoSays, CheckSays, RunSays, GenSays, LoadsAs, refused_program, go_answer, check_answer, run_answer, ran, gen_answer, Says, Writes}
+use Rattle.s7_cli.specs.Says.{GoSays, CheckSays, RunSays, GenSays, refused_program, go_answer, check_answer, run_answer, ran, gen_answer, Says, Writes}
+use Rattle.s7_cli.specs.StatusTable.{HasOneText}
 use Rattle.s7_cli.specs.Texts.{IsWithin, contents_of, symbols_file}
 use Rattle.s7_cli.proofs.LoadLemmas.{loads-one}
-use Rattle.s7_cli.proofs.ReadingLemmas.{SaysOne}
+use Rattle.s7_cli.proofs.ReadingLemmas.{AnswersAlike}
 
 -- ---- one answer
 
@@ -69,38 +72,77 @@ run-one image history a b p q =
 gen-one : MeansOne → (number : ℕ) (a b : Answer) → GenSays number a → GenSays number b → a ≡ b
 gen-one one number a b p q = p.2 ∙ ap (gen_answer number) (one (source_text number) [] p.0 q.0 p.1 q.1) ∙ sym q.2
 
--- a command says one thing of any contents
-pub says-one : MeansOne → (k : Command) → SaysOne (Says k)
-says-one one (Go _ None _) [] a b p q = absurd p
-says-one one (Go _ None _) (x ∷ []) a b p q = absurd p
-says-one one (Go _ None _) (source ∷ history ∷ []) a b p q = go-one one source [] history a b p q
-says-one one (Go _ None _) (x ∷ y ∷ more ∷ rest) a b p q = absurd p
-says-one one (Go _ (Some _) _) [] a b p q = absurd p
-says-one one (Go _ (Some _) _) (x ∷ []) a b p q = absurd p
-says-one one (Go _ (Some _) _) (x ∷ y ∷ []) a b p q = absurd p
-says-one one (Go _ (Some _) _) (source ∷ symbols ∷ history ∷ []) a b p q = go-one one source symbols history a b p q
-says-one one (Go _ (Some _) _) (x ∷ y ∷ z ∷ more ∷ rest) a b p q = absurd p
-says-one one (Check _ None) [] a b p q = absurd p
-says-one one (Check _ None) (source ∷ []) a b p q = check-one one source [] a b p q
-says-one one (Check _ None) (x ∷ more ∷ rest) a b p q = absurd p
-says-one one (Check _ (Some _)) [] a b p q = absurd p
-says-one one (Check _ (Some _)) (x ∷ []) a b p q = absurd p
-says-one one (Check _ (Some _)) (source ∷ symbols ∷ []) a b p q = check-one one source symbols a b p q
-says-one one (Check _ (Some _)) (x ∷ y ∷ more ∷ rest) a b p q = absurd p
-says-one one (Compile _ None _) [] a b p q = absurd p
-says-one one (Compile _ None _) (source ∷ []) a b p q = check-one one source [] a b p q
-says-one one (Compile _ None _) (x ∷ more ∷ rest) a b p q = absurd p
-says-one one (Compile _ (Some _) _) [] a b p q = absurd p
-says-one one (Compile _ (Some _) _) (x ∷ []) a b p q = absurd p
-says-one one (Compile _ (Some _) _) (source ∷ symbols ∷ []) a b p q = check-one one source symbols a b p q
-says-one one (Compile _ (Some _) _) (x ∷ y ∷ more ∷ rest) a b p q = absurd p
-says-one one (Run _ _) [] a b p q = absurd p
-says-one one (Run _ _) (x ∷ []) a b p q = absurd p
-says-one one (Run _ _) (image ∷ history ∷ []) a b p q = run-one image history a b p q
-says-one one (Run _ _) (x ∷ y ∷ more ∷ rest) a b p q = absurd p
-says-one one (Gen number) [] a b p q = gen-one one number a b p q
-says-one one (Gen number) (more ∷ rest) a b p q = absurd p
-says-one one (Live _ _ _ _) contents a b p q = absurd p
+-- a command with one text says one thing of any contents
+says-one : MeansOne → (k : Command) → HasOneText k → (contents : List (List ℕ)) (a b : Answer) → Says k contents a → Says k contents b → a ≡ b
+says-one one (Go _ None _) text [] a b p q = absurd p
+says-one one (Go _ None _) text (x ∷ []) a b p q = absurd p
+says-one one (Go _ None _) text (source ∷ history ∷ []) a b p q = go-one one source [] history a b p q
+says-one one (Go _ None _) text (x ∷ y ∷ more ∷ rest) a b p q = absurd p
+says-one one (Go _ (Some _) _) text [] a b p q = absurd p
+says-one one (Go _ (Some _) _) text (x ∷ []) a b p q = absurd p
+says-one one (Go _ (Some _) _) text (x ∷ y ∷ []) a b p q = absurd p
+says-one one (Go _ (Some _) _) text (source ∷ symbols ∷ history ∷ []) a b p q = go-one one source symbols history a b p q
+says-one one (Go _ (Some _) _) text (x ∷ y ∷ z ∷ more ∷ rest) a b p q = absurd p
+says-one one (Check _ None) text [] a b p q = absurd p
+says-one one (Check _ None) text (source ∷ []) a b p q = check-one one source [] a b p q
+says-one one (Check _ None) text (x ∷ more ∷ rest) a b p q = absurd p
+says-one one (Check _ (Some _)) text [] a b p q = absurd p
+says-one one (Check _ (Some _)) text (x ∷ []) a b p q = absurd p
+says-one one (Check _ (Some _)) text (source ∷ symbols ∷ []) a b p q = check-one one source symbols a b p q
+says-one one (Check _ (Some _)) text (x ∷ y ∷ more ∷ rest) a b p q = absurd p
+says-one one (Compile _ None _) text [] a b p q = absurd p
+says-one one (Compile _ None _) text (source ∷ []) a b p q = check-one one source [] a b p q
+says-one one (Compile _ None _) text (x ∷ more ∷ rest) a b p q = absurd p
+says-one one (Compile _ (Some _) _) text [] a b p q = absurd p
+says-one one (Compile _ (Some _) _) text (x ∷ []) a b p q = absurd p
+says-one one (Compile _ (Some _) _) text (source ∷ symbols ∷ []) a b p q = check-one one source symbols a b p q
+says-one one (Compile _ (Some _) _) text (x ∷ y ∷ more ∷ rest) a b p q = absurd p
+says-one one (Run _ _) text [] a b p q = absurd p
+says-one one (Run _ _) text (x ∷ []) a b p q = absurd p
+says-one one (Run _ _) text (image ∷ history ∷ []) a b p q = run-one image history a b p q
+says-one one (Run _ _) text (x ∷ y ∷ more ∷ rest) a b p q = absurd p
+says-one one (Gen number) text [] a b p q = gen-one one number a b p q
+says-one one (Gen number) text (more ∷ rest) a b p q = absurd p
+says-one one (Live _ _ _ _) text contents a b p q = absurd text
+
+-- `live` has one outcome
+stimulated-one : (p : Program) (steps : ℕ) (s : Result (List Entry) Refusal) (r : Result (List (List Entry)) RefusedScript) (a b : Answer)
+    → LiveAnswer p steps s r a → LiveAnswer p steps s r b → a.outcome ≡ b.outcome
+stimulated-one p steps (Err refusal) r a b m n = ap (λ (x : Answer). x.outcome) (m ∙ sym n)
+stimulated-one p steps (Ok stimuli) (Err script) a b m n = ap (λ (x : Answer). x.outcome) (m ∙ sym n)
+stimulated-one p steps (Ok stimuli) (Ok scripts) a b m n = ap (λ (x : Answer). x.outcome) m.says ∙ sym (ap (λ (x : Answer). x.outcome) n.says)
+
+loaded-one : (v : Result Program LoadFault) (steps : ℕ) (stimuli : List ℕ) (scripts : List (List ℕ)) (a b : Answer)
+    → LoadedLive v steps stimuli scripts a → LoadedLive v steps stimuli scripts b → a.outcome ≡ b.outcome
+loaded-one (Err fault) steps stimuli scripts a b m n = ap (λ (x : Answer). x.outcome) (m ∙ sym n)
+loaded-one (Ok p) steps stimuli scripts a b m n =
+    stimulated-one p steps (stimuli_of stimuli) (scripts_from p.names 1 scripts) a b m n
+
+live-one : (steps : ℕ) (image stimuli : List ℕ) (scripts : List (List ℕ)) (a b : Answer) → LiveSays steps image stimuli scripts a
+    → LiveSays steps image stimuli scripts b → a.outcome ≡ b.outcome
+live-one steps image stimuli scripts a b p q =
+    loaded-one p.0 steps stimuli scripts a b p.2
+    (subst (λ (v : Result Program LoadFault). LoadedLive v steps stimuli scripts b) (loads-one image q.0 p.0 q.1 p.1) q.2)
+
+says-outcome : MeansOne → (k : Command) (contents : List (List ℕ)) (a b : Answer) → Says k contents a → Says k contents b → a.outcome ≡ b.outcome
+says-outcome one (Go s y h) contents a b p q = ap (λ (x : Answer). x.outcome) (says-one one (Go s y h) tt contents a b p q)
+says-outcome one (Check s y) contents a b p q = ap (λ (x : Answer). x.outcome) (says-one one (Check s y) tt contents a b p q)
+says-outcome one (Compile s y i) contents a b p q = ap (λ (x : Answer). x.outcome) (says-one one (Compile s y i) tt contents a b p q)
+says-outcome one (Run i h) contents a b p q = ap (λ (x : Answer). x.outcome) (says-one one (Run i h) tt contents a b p q)
+says-outcome one (Gen n) contents a b p q = ap (λ (x : Answer). x.outcome) (says-one one (Gen n) tt contents a b p q)
+says-outcome one (Live i s o n) [] a b p q = absurd p
+says-outcome one (Live i s o n) (x ∷ []) a b p q = absurd p
+says-outcome one (Live i s o n) (image ∷ stimuli ∷ scripts) a b p q = live-one n image stimuli scripts a b p q
+
+-- two answers of a command that told files allow
+abbrev pub Alike : Command → Answer → Answer → Type 0
+Alike k a b = (a.outcome ≡ b.outcome) × (HasOneText k → a ≡ b)
+
+pub same-alike : (k : Command) (a b : Answer) → a ≡ b → Alike k a b
+same-alike k a b same = (ap (λ (x : Answer). x.outcome) same, λ text. same)
+
+pub says-alike : MeansOne → (k : Command) → AnswersAlike (Alike k) (Says k)
+says-alike one k contents a b p q = (says-outcome one k contents a b p q, λ text. says-one one k text contents a b p q)
 
 -- ---- which answers there are
 
@@ -135,6 +177,18 @@ gen-verdict : (a : Answer) (number : ℕ) (v : Result Code Refused) → a ≡ ge
 gen-verdict a number (Err why) gives = refused-verdict a why gives
 gen-verdict a number (Ok code) gives = inl (summary_text number Small code (history number), gives)
 
+stimulated-verdict : (p : Program) (steps : ℕ) (s : Result (List Entry) Refusal) (r : Result (List (List Entry)) RefusedScript) (a : Answer)
+    → LiveAnswer p steps s r a → IsVerdict a
+stimulated-verdict p steps (Err refusal) r a said = inr (inl (Stimuli, refusal, said))
+stimulated-verdict p steps (Ok stimuli) (Err script) a said = inr (inl (Script script.number, script.refusal, said))
+stimulated-verdict p steps (Ok stimuli) (Ok scripts) a said = inl (live_text p said.history, said.says)
+
+live-verdict : (v : Result Program LoadFault) (steps : ℕ) (stimuli : List ℕ) (scripts : List (List ℕ)) (a : Answer)
+    → LoadedLive v steps stimuli scripts a → IsVerdict a
+live-verdict (Err fault) steps stimuli scripts a said = inr (inr (fault, said))
+live-verdict (Ok p) steps stimuli scripts a said =
+    stimulated-verdict p steps (stimuli_of stimuli) (scripts_from p.names 1 scripts) a said
+
 pub says-verdict : (k : Command) (contents : List (List ℕ)) (a : Answer) → Says k contents a → IsVerdict a
 says-verdict (Go _ None _) [] a said = absurd said
 says-verdict (Go _ None _) (x ∷ []) a said = absurd said
@@ -165,7 +219,9 @@ says-verdict (Run _ _) (image ∷ history ∷ []) a said = run-verdict a said.0 
 says-verdict (Run _ _) (x ∷ y ∷ more ∷ rest) a said = absurd said
 says-verdict (Gen number) [] a said = gen-verdict a number said.0 said.2
 says-verdict (Gen number) (more ∷ rest) a said = absurd said
-says-verdict (Live _ _ _ _) contents a said = absurd said
+says-verdict (Live _ _ _ _) [] a said = absurd said
+says-verdict (Live _ _ _ _) (x ∷ []) a said = absurd said
+says-verdict (Live _ _ _ steps) (image ∷ stimuli ∷ scripts) a said = live-verdict said.0 steps stimuli scripts a said.2
 
 -- ---- of what was read
 

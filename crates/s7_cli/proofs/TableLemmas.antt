@@ -16,8 +16,8 @@ use Rattle.s7_cli.specs.Reading.{Disk, Reads, FailsOnTheWay}
 use Rattle.s7_cli.specs.Says.{Says}
 use Rattle.s7_cli.specs.StatusTable.{IsDecided, IsCutOff, StatusTable}
 use Rattle.s7_cli.proofs.ComesLemmas.{same-files}
-use Rattle.s7_cli.proofs.ReadingLemmas.{reads-told, reads-kinds, allows-one, fails-rose}
-use Rattle.s7_cli.proofs.SaysLemmas.{MeansOne, IsVerdict, says-one, says-verdict}
+use Rattle.s7_cli.proofs.ReadingLemmas.{reads-told, reads-kinds, allows-alike, fails-rose}
+use Rattle.s7_cli.proofs.SaysLemmas.{Alike, MeansOne, IsVerdict, same-alike, says-alike, says-verdict}
 
 -- ---- the rows that go by the answer alone
 
@@ -158,7 +158,7 @@ decided-command one k d s a told reads took =
       | inr allowed ↦ inr (inr (record {
         answer = a;
         allowed = allowed;
-        only = λ other also. allows-one d.before.contents (inputs_of k) (Says k) (says-one one k) other a also allowed;
+        only = λ other also. allows-alike d.before.contents (Alike k) (same-alike k) (inputs_of k) (Says k) (says-alike one k) other a also allowed;
         status = refl;
         took = took;
       }))

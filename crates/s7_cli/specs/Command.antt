@@ -35,6 +35,12 @@ script_inputs number [] = []
 script_inputs number (script ∷ more) =
     record { file = Script number; name = script } ∷ script_inputs (number + 1) more
 
+-- an image, stimuli and scripts
+abbrev pub live_inputs : (image stimuli : List ℕ) (scripts : List (List ℕ)) → List Input
+live_inputs image stimuli scripts =
+    record { file = Image; name = image } ∷ record { file = Stimuli; name = stimuli }
+    ∷ script_inputs 1 scripts
+
 -- in the order in which they are read
 abbrev pub inputs_of : Command → List Input
 inputs_of (Go source symbols history) =
@@ -44,9 +50,7 @@ inputs_of (Compile source symbols image) = program_inputs source symbols
 inputs_of (Run image history) =
     record { file = Image; name = image } ∷ record { file = History; name = history } ∷ []
 inputs_of (Gen number) = []
-inputs_of (Live image stimuli scripts steps) =
-    record { file = Image; name = image } ∷ record { file = Stimuli; name = stimuli }
-    ∷ script_inputs 1 scripts
+inputs_of (Live image stimuli scripts steps) = live_inputs image stimuli scripts
 
 -- the files that a command writes
 abbrev pub outputs_of : Command → List (List ℕ)

@@ -5,6 +5,7 @@ use Rattle.image_file.specs.declared.refusing.LoadError.{LoadError}
 use Rattle.image_file.specs.declared.refusing.LoadError.TheVariants as loading
 use Rattle.s7_cli.specs.declared.faults.CompileFault.{CompileFault}
 use Rattle.s7_cli.specs.declared.faults.CompileFault.TheVariants as compiling
+use Rattle.s7_cli.specs.declared.failures.File.{File}
 use Rattle.s7_cli.specs.declared.failures.File.TheVariants.{Source, Symbols, History}
 use Rattle.s7_cli.specs.declared.failures.Failure.{Failure}
 use Rattle.s7_cli.specs.declared.failures.Failure.TheVariants.{Refused, ImageRefused, NoMemory}
@@ -15,11 +16,15 @@ failure_of_compiling (compiling.Symbols refusal) = Refused Symbols refusal
 failure_of_compiling (compiling.Source refusal) = Refused Source refusal
 failure_of_compiling compiling.NoMemory = NoMemory
 
--- the history is refused, or there is no memory
+-- a history, stimuli or a script is refused, or there is no memory
+abbrev pub failure_of_text : File → TextFault → Failure
+failure_of_text file (text.BadLine line rule) =
+    Refused file (record { line = line; rule = rule })
+failure_of_text file text.NoMemory = NoMemory
+
+-- a history is
 abbrev pub failure_of_history : TextFault → Failure
-failure_of_history (text.BadLine line rule) =
-    Refused History (record { line = line; rule = rule })
-failure_of_history text.NoMemory = NoMemory
+failure_of_history fault = failure_of_text History fault
 
 -- the image is refused, or there is no memory
 abbrev pub failure_of_loading : LoadError → Failure

@@ -9,7 +9,8 @@ use Rattle.sem_kept.specs.Agreement.{ImageKeepsSource}
 use Rattle.sem_kept.specs.Meaning.{MeansCode}
 use Rattle.s7_cli.specs.run_text.RunText.{run_text}
 use Rattle.s7_cli.specs.Answer.{Answer}
-use Rattle.s7_cli.specs.Says.{GoSays, LoadsAs, RunSays}
+use Rattle.s7_cli.specs.Loads.{LoadsAs}
+use Rattle.s7_cli.specs.Says.{GoSays, RunSays}
 
 -- the program of the image runs as the source means, along each list of entries
 abbrev pub KeptImagesRunAlike : Type 0

@@ -7,7 +7,10 @@ pub mod GenText
 pub mod Inner
 pub mod KeptImages
 pub mod Lines
+pub mod LiveSays
+pub mod LiveTexts
 pub mod Living
+pub mod Loads
 pub mod Questions
 pub mod Reading
 pub mod run_text

@@ -3,9 +3,7 @@ use Rattle.std.specs.Prelude.{◌≡◌, ℕ, List, [], ◌∷◌, Some, None, R
 use Rattle.plc_base.specs.declared.Refusal.{Refusal}
 use Rattle.plc_base.specs.declared.Profile.TheVariants.{Small}
 use Rattle.var_access.specs.declared.Entry.{Entry}
-use Rattle.flat_code.specs.Loading.{Gives, IsLoadable, faults_of}
 use Rattle.flat_code.specs.Programs.{Program}
-use Rattle.image_file.specs.Least.{IsLeast}
 use Rattle.image_file.specs.declared.faults.LoadFault.{LoadFault}
 use Rattle.machine.specs.Code.{Code}
 use Rattle.machine.specs.Flat.{code_of}
@@ -20,6 +18,8 @@ use Rattle.s7_cli.specs.Answer.{Answer, done, refused, refused_image}
 use Rattle.s7_cli.specs.Command.{Command, Go, Check, Compile, Run, Gen, Live}
 use Rattle.s7_cli.specs.GenText.{summary_text}
 use Rattle.s7_cli.specs.Lines.{ok_line}
+use Rattle.s7_cli.specs.LiveSays.{LiveSays}
+use Rattle.s7_cli.specs.Loads.{LoadsAs}
 
 -- a source is refused by what its symbols break, or by what it breaks itself
 abbrev pub refused_program : Refused → Answer
@@ -43,12 +43,6 @@ abbrev pub GoSays : (source symbols history : List ℕ) → Answer → Type 0
 GoSays source symbols history answer =
     (judged : Result Code Refused) × IsJudged source symbols judged
     × (answer ≡ go_answer judged (history_of (names_in symbols) history))
-
--- bytes load as a program: they are read without a fault, are its image, and it verifies. Or they are refused by their least fault,
--- by offset, then code
-abbrev pub LoadsAs : List ℕ → Result Program LoadFault → Type 0
-LoadsAs bytes (Ok program) = Gives bytes program × IsLoadable bytes program
-LoadsAs bytes (Err fault) = IsLeast fault (faults_of bytes)
 
 -- `run`: the image is loaded first, and then the history is checked; else the text of the run is told
 abbrev pub ran : Program → Result (List Entry) Refusal → Answer
@@ -94,6 +88,8 @@ Says (Compile _ None _) (source ∷ []) answer = CheckSays source [] answer
 Says (Compile _ (Some _) _) (source ∷ symbols ∷ []) answer = CheckSays source symbols answer
 Says (Run _ _) (image ∷ history ∷ []) answer = RunSays image history answer
 Says (Gen number) [] answer = GenSays number answer
+Says (Live _ _ _ steps) (image ∷ stimuli ∷ scripts) answer =
+    LiveSays steps image stimuli scripts answer
 Says _ contents answer = ⊥
 
 -- what the command writes to an output file, over the same contents

@@ -5,7 +5,7 @@ use Rattle.plc_io.specs.Counts.{Rose}
 use Rattle.plc_io.specs.Taken.{Took}
 use Rattle.s7_cli.specs.declared.failures.Failure.{Failure}
 use Rattle.s7_cli.specs.Answer.{Answer, code_of}
-use Rattle.s7_cli.specs.Command.{Command, inputs_of}
+use Rattle.s7_cli.specs.Command.{Command, Live, inputs_of}
 use Rattle.s7_cli.specs.Ends.{Taking, InputRose, OutputRose, CutShort, ChangesOutputs, WritesOutputs}
 use Rattle.s7_cli.specs.Lines.{line_of}
 use Rattle.s7_cli.specs.Reading.{Disk, Allows, FailsOnTheWay}
@@ -15,11 +15,18 @@ use Rattle.s7_cli.specs.Says.{Says}
 abbrev pub IsAllowed : Command → Disk → Answer → Type 0
 IsAllowed k d answer = Allows d.before.contents (inputs_of k) (Says k) answer
 
--- told files allow one answer, and the call gave it: 0, 2, 3, 4 and 8 come exactly where the files say so
+-- told files allow one text of such a command. The workers of `live` take turns in many ways, and each way has a text of its own
+abbrev pub HasOneText : Command → Type 0
+HasOneText (Live _ _ _ _) = ⊥
+HasOneText command = Unit {0}
+
+-- told files allow one outcome, and one answer where there is one text, and the call gave it: 0, 2, 3, 4 and 8 come exactly where the
+-- files say so
 pub record IsDecided (k : Command) (d : Disk) (s : Taking) (code : ℕ) : Type 0 where
   pub answer : Answer
   pub allowed : IsAllowed k d answer
-  pub only : (other : Answer) → IsAllowed k d other → other ≡ answer
+  pub only : (other : Answer) → IsAllowed k d other
+      → (other.outcome ≡ answer.outcome) × (HasOneText k → other ≡ answer)
   pub status : code ≡ code_of answer.outcome
   pub took : Took s.before s.after answer.text
 
@@ -31,7 +38,7 @@ IsCutOff code = (code ≡ 6) ⊎ (code ≡ 7)
 pub record StatusTable (c : Option Command) (d : Disk) (s : Taking) (code : ℕ) : Type 0 where
   -- no other status than these
   pub statuses : code ≤ 8
-  -- over files that tell what they hold: the one answer that they allow, unless a read of a file on the way fails (5), a write fails
+  -- over files that tell what they hold: the outcome and, but for `live`, the one answer that they allow, unless a read of a file on the way fails (5), a write fails
   -- (6), or memory is wanting (7); an input file that is absent allows 5 alone
   pub decided : (k : Command) → c ≡ Some k → d.before.contents.told ≡ true
       → ((code ≡ 5) × FailsOnTheWay d (inputs_of k)) ⊎ IsCutOff code ⊎ IsDecided k d s code

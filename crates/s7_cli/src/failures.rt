@@ -1,6 +1,6 @@
 ghost use Rattle.std.specs.Prelude.{◌≡◌};
 ghost use Rattle.s7_cli.specs.Answer.{code_of, refused_code};
-ghost use Rattle.s7_cli.specs.Faults.{failure_of_compiling, failure_of_history, failure_of_loading};
+ghost use Rattle.s7_cli.specs.Faults.{failure_of_compiling, failure_of_history, failure_of_loading, failure_of_text};
 
 use crate::faults::CompileFault;
 use event_text::TextFault;
@@ -78,17 +78,24 @@ impl From<LoadError> for Failure {
     }
 }
 
+/// How a command comes out where this file, a history, stimuli or a script, isn't read so.
+pub(crate) fn failure_of_text(file: File, fault: TextFault) -> Failure
+    ensures { result ≡ failure_of_text file fault }
+{
+    match fault {
+        TextFault::BadLine { line, rule } => Failure::Refused {
+            file,
+            refusal: Refusal { line, rule },
+        },
+        TextFault::NoMemory => Failure::NoMemory,
+    }
+}
+
 impl From<TextFault> for Failure {
     ghost from_gives = { λ fault failure. failure ≡ failure_of_history fault };
 
     fn from(fault: TextFault) -> Failure {
-        match fault {
-            TextFault::BadLine { line, rule } => Failure::Refused {
-                file: File::History,
-                refusal: Refusal { line, rule },
-            },
-            TextFault::NoMemory => Failure::NoMemory,
-        }
+        failure_of_text(File::History, fault)
     }
 }
 

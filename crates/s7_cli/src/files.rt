@@ -1,11 +1,13 @@
-ghost use Rattle.std.specs.Prelude.{◌≡◌, option_to_list};
+ghost use Rattle.std.specs.Prelude.{◌≡◌, ◌≤◌, length, map, option_to_list};
 ghost use Rattle.std.specs.Option.{option_map};
-ghost use Rattle.s7_cli.specs.Command.{Input, limit_of, program_inputs, symbols_inputs};
+ghost use Rattle.s7_cli.specs.Command.{Input, limit_of, live_inputs, program_inputs, script_inputs, symbols_inputs};
 ghost use Rattle.s7_cli.specs.Inner.{AllRead, FileRead, FileWritten};
+ghost use Rattle.s7_cli.specs.LiveTexts.{live_contents};
 ghost use Rattle.s7_cli.specs.Reading.{disk};
 ghost use Rattle.s7_cli.specs.Texts.{contents_of, symbols_of};
 
 use crate::failures::{Failure, File};
+use crate::lists::add;
 use plc_io::{Files, IoFault, read_to_limit};
 use std::alloc::Global;
 
@@ -43,6 +45,17 @@ impl ProgramText {
             None => &[],
         }
     }
+}
+
+/// What the files of a live run hold.
+#[derive(Drop)]
+pub struct LiveText {
+    /// The image.
+    pub image: Vec<u8>,
+    /// What the feeder makes.
+    pub stimuli: Vec<u8>,
+    /// What the operators ask, in their order.
+    pub scripts: Vec<Vec<u8>>,
 }
 
 /// The most bytes that a file may hold.
@@ -106,6 +119,48 @@ pub fn read_program<F: Files>(
     let source = read_file(alloc, files, File::Source, source)?;
     let symbols = read_symbols_file(alloc, files, symbols)?;
     Ok(ProgramText { source, symbols })
+}
+
+/// Reads the scripts of operators whole, one after the other.
+fn read_scripts<F: Files>(
+    alloc: Global,
+    files: &mut F,
+    names: &[&str],
+) -> Result<Vec<Vec<u8>>, Failure>
+    requires { length names.now ≤ 4 }
+    ensures { AllRead (λ v. map (λ w. w.items) v.items)
+        (disk (F.shown files.old) (F.shown files.new))
+        (script_inputs 1 (map (λ s. s.now) names.now)) result }
+{
+    let mut scripts = Vec::new(alloc);
+    for (place, name) in names.iter().enumerate() {
+        let number = place as u8 + 1;
+        let script = read_file(alloc, files, File::Script { number }, name)?;
+        add(&mut scripts, script)?;
+    }
+    Ok(scripts)
+}
+
+/// Reads an image whole, then stimuli, and then the scripts in their order.
+pub fn read_live<F: Files>(
+    alloc: Global,
+    files: &mut F,
+    image: &str,
+    stimuli: &str,
+    scripts: &[&str],
+) -> Result<LiveText, Failure>
+    requires { length scripts.now ≤ 4 }
+    ensures { AllRead live_contents (disk (F.shown files.old) (F.shown files.new))
+        (live_inputs image.now stimuli.now (map (λ s. s.now) scripts.now)) result }
+{
+    let image = read_file(alloc, files, File::Image, image)?;
+    let stimuli = read_file(alloc, files, File::Stimuli, stimuli)?;
+    let scripts = read_scripts(alloc, files, scripts)?;
+    Ok(LiveText {
+        image,
+        stimuli,
+        scripts,
+    })
 }
 
 /// Makes bytes the whole contents of an output file.

@@ -1,19 +1,27 @@
-ghost use Rattle.std.specs.Prelude.{◌≡◌, ◌≤◌, length, All, IfOk, Ok};
+ghost use Rattle.std.specs.Prelude.{◌≡◌, ℕ, ◌≤◌, length, map, All, IfOk, IfErr, Ok};
 ghost use Rattle.var_access.specs.Entry.{IsValid};
+ghost use Rattle.flat_code.specs.Loading.{faults_of};
+ghost use Rattle.image_file.specs.Refusing.{IsRefusedBy};
 ghost use Rattle.sem_kept.specs.Agreement.{ImageKeepsSource, KeepsSource, names_in};
 ghost use Rattle.event_text.specs.Texts.{history_of};
 ghost use Rattle.s7_cli.specs.Compiling.{HasProgram};
 ghost use Rattle.s7_cli.specs.Inner.{RefusedBy};
-ghost use Rattle.s7_cli.specs.Says.{CheckSays, GoSays, LoadsAs, RunSays};
+ghost use Rattle.s7_cli.specs.LiveSays.{scripts_from};
+ghost use Rattle.s7_cli.specs.LiveTexts.{AreScriptsWithin, Finds, IsLiveText, TellsScript, TextSays};
+ghost use Rattle.s7_cli.specs.Living.{AreRegularBy, total_length};
+ghost use Rattle.s7_cli.specs.Loads.{LoadsAs};
+ghost use Rattle.s7_cli.specs.Says.{CheckSays, GoSays, RunSays};
 ghost use Rattle.s7_cli.specs.Texts.{IsWithin, symbols_of};
 
 use crate::compiling::{compiled, compiled_image, judged};
-use crate::failures::Failure;
-use crate::files::ProgramText;
-use event_text::read_history;
-use image_file::{Loaded, load};
+use crate::failures::{Failure, File, failure_of_text};
+use crate::files::{LiveText, ProgramText};
+use crate::lists::add;
+use event_text::{read_history, read_script, read_stimuli};
+use flat_code::Names;
+use image_file::{LoadError, Loaded, load};
 use std::alloc::Global;
-use var_access::Entries;
+use var_access::{Entries, Entry};
 
 /// Checks a source with its symbols.
 pub fn judge_program(alloc: Global, text: &ProgramText) -> Result<(), Failure>
@@ -56,6 +64,15 @@ pub fn judge(
     Ok((program, entries))
 }
 
+/// The program of an image.
+fn loaded(alloc: Global, image: &[u8]) -> Result<Loaded, LoadError>
+    ensures loads { IfOk result (λ l. LoadsAs image.now (Ok l.program)) }
+    ensures refused { IfErr result (λ e. IsRefusedBy e (faults_of image.now)) }
+{
+    image_file::laws::gives_exactly_images();
+    load(alloc, image)
+}
+
 /// Checks an image, and then a history, which may name the variables whose names stand in it.
 pub fn judge_run(alloc: Global, image: &[u8], history: &[u8]) -> Result<(Loaded, Entries), Failure>
     requires { length history.now ≤ 4194304 }
@@ -65,8 +82,63 @@ pub fn judge_run(alloc: Global, image: &[u8], history: &[u8]) -> Result<(Loaded,
     ensures valid { IfOk result (λ v. All IsValid v.1.entries) }
     ensures refused { RefusedBy (RunSays image.now history.now) result }
 {
-    image_file::laws::gives_exactly_images();
-    let program = load(alloc, image)?;
+    let program = loaded(alloc, image)?;
     let entries = read_history(alloc, history, program.names())?;
     Ok((program, entries))
+}
+
+/// A program, and the lists of the workers of a live run.
+#[derive(Drop)]
+pub struct LiveWork {
+    pub program: Loaded,
+    pub stimuli: Vec<Entry>,
+    pub scripts: Vec<Vec<Entry>>,
+}
+
+/// Checks the scripts of operators, in their order.
+fn judge_scripts(
+    alloc: Global,
+    texts: &[Vec<u8>],
+    names: &Names,
+) -> Result<Vec<Vec<Entry>>, Failure>
+    requires few { length texts.now ≤ 4 }
+    requires within { AreScriptsWithin (map (λ t. t.items) texts.now) }
+    ensures spells { IfOk result (λ v. scripts_from names.now 1 (map (λ t. t.items) texts.now)
+        ≡ Ok (map (λ x. x.items) v.items)) }
+    ensures regular { IfOk result (λ v. AreRegularBy 3 (map (λ x. x.items) v.items)) }
+    ensures few { IfOk result (λ v. total_length (map (λ x. x.items) v.items) ≤ 1048576) }
+    ensures many { IfOk result (λ v. length v.items ≡ length texts.now) }
+    ensures refused { IfErr result
+        (TellsScript (scripts_from names.now 1 (map (λ t. t.items) texts.now))) }
+{
+    let mut scripts = Vec::new(alloc);
+    for (place, text) in texts.iter().enumerate() {
+        let number = place as u8 + 1;
+        match read_script(alloc, text, number + 2, names) {
+            Ok(entries) => add(&mut scripts, entries)?,
+            Err(fault) => return Err(failure_of_text(File::Script { number }, fault)),
+        }
+    }
+    Ok(scripts)
+}
+
+/// Checks an image, then stimuli, and then the scripts in their order, which may name the variables
+/// whose names stand in the image.
+pub fn judge_live(alloc: Global, text: &LiveText) -> Result<LiveWork, Failure>
+    requires { IsLiveText text.now }
+    ensures finds { IfOk result (λ w. Finds text.now w.program.program w.stimuli.items
+        (map (λ x. x.items) w.scripts.items)) }
+    ensures refused { (steps : ℕ) → RefusedBy (TextSays steps text.now) result }
+{
+    let program = loaded(alloc, &text.image)?;
+    let stimuli = match read_stimuli(alloc, &text.stimuli) {
+        Ok(entries) => entries,
+        Err(fault) => return Err(failure_of_text(File::Stimuli, fault)),
+    };
+    let scripts = judge_scripts(alloc, &text.scripts, program.names())?;
+    Ok(LiveWork {
+        program,
+        stimuli,
+        scripts,
+    })
 }

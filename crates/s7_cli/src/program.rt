@@ -10,6 +10,7 @@ use crate::failures::{Failure, Status};
 use crate::finish::end_command;
 use crate::gen_command::cmd_gen;
 use crate::going::cmd_go;
+use crate::live_command::cmd_live;
 use crate::run_command::cmd_run;
 use crate::words::{Asked, read_words};
 use plc_io::{Files, Gate, Sink};
@@ -20,8 +21,9 @@ use std::thread::Threads;
 /// Does what the words of a call ask for, without the program's name: `go SRC HIST` runs a source
 /// along a history, `check SRC` checks a source, `compile SRC IMG` writes its image; `--symbols FILE`
 /// gives each of them a file of symbols. `run IMG HIST` runs an image along a history, `gen NUMBER`
-/// a program and a history that are made of a number. The status is that of the text that `out`
-/// took:
+/// a program and a history that are made of a number. `live IMG STIM OPS.. --steps N` has a stepper, a
+/// feeder and one to four operators run an image beside each other, each of whom passes `gate` before
+/// each entry. The status is that of the text that `out` took:
 ///
 /// | Status | When |
 /// |---|---|
@@ -29,7 +31,7 @@ use std::thread::Threads;
 /// | 1 | the words are refused |
 /// | 2 | the symbols or the source are refused |
 /// | 3 | the image is refused |
-/// | 4 | the history is refused |
+/// | 4 | the history, the stimuli or a script is refused |
 /// | 5 | a file can't be read |
 /// | 6 | the sink or an output file couldn't be written |
 /// | 7 | memory ran out |
@@ -71,7 +73,26 @@ pub fn s7_main<R: Threads + Wait + Sync, F: Files, K: Sink, G: Gate + Sync>(
         ) => cmd_compile(alloc, source, symbols, image, files, out),
         Ok(Some(Asked::Run { image, history })) => cmd_run(alloc, image, history, files, out),
         Ok(Some(Asked::Gen { number })) => cmd_gen(alloc, number, out),
-        Ok(Some(Asked::Live { .. })) => end_command(out, Err(Failure::WordsRefused)),
+        Ok(
+            Some(
+                Asked::Live {
+                    image,
+                    stimuli,
+                    scripts,
+                    steps,
+                },
+            ),
+        ) => cmd_live(
+            rt,
+            alloc,
+            image,
+            stimuli,
+            scripts.as_slice(),
+            steps,
+            files,
+            out,
+            gate,
+        ),
         Ok(None) => end_command(out, Err(Failure::WordsRefused)),
         Err(_) => end_command(out, Err(Failure::NoMemory)),
     }

@@ -25,6 +25,10 @@ mod image_tests;
 #[cfg(test)]
 mod limit_tests;
 #[cfg(test)]
+mod live_status_tests;
+#[cfg(test)]
+mod live_tests;
+#[cfg(test)]
 mod long_history_tests;
 #[cfg(test)]
 mod outside_tests;

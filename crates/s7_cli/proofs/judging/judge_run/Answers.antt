@@ -1,4 +1,4 @@
-use Rattle.std.proofs.Common.{◌∙◌, ap, subst, Err, List, arith}
+use Rattle.std.proofs.Common.{◌∙◌, ap, subst, Err, List}
 use Rattle.std.proofs.lemmas.Result.{err_from_is_err_and}
 use Rattle.flat_code.specs.Programs.{NameEntry}
 use Rattle.image_file.specs.Loaded.{LoadedProgram}
@@ -19,16 +19,6 @@ returns-in_err-entries-clause-refused c =
     let fault = err_from_is_err_and c.from_residual-in_err-entries.result c.from_residual-in_err-entries.ensures.1 in
     let p = c.in_ok-program.program.program in
     run-refused (LoadedProgram × Recorded) c.args.image.now p c.args.history.now _ _
-    (fault.1 ∙ ap Err fault.2) (
-      c.in_ok-program.ensures.gives,
-      (c.gives_exactly_images.ensures c.args.image.now p (λ i. omega (arith, c.type_inv.image i))).0 c.in_ok-program.ensures.gives,
-    )
+    (fault.1 ∙ ap Err fault.2) c.in_ok-program.ensures.loads
     (subst (λ (names : List NameEntry). IsTextFault (history_of names c.args.history.now) c.in_err-entries.field-0.0)
     c.names.ensures c.in_err-entries.ensures.refused)
-
-pub returns-clause-loads : goal.returns-clause-loads
-returns-clause-loads c =
-    let p = c.in_ok-program.program.program in (
-      c.in_ok-program.ensures.gives,
-      (c.gives_exactly_images.ensures c.args.image.now p (λ i. omega (arith, c.type_inv.image i))).0 c.in_ok-program.ensures.gives,
-    )

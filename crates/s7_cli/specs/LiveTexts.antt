@@ -1,0 +1,53 @@
+-- What was read of the files of a live run, and what was found in it.
+use Rattle.std.specs.Prelude.{◌≡◌, ◌⊎◌, ℕ, ◌+◌, ◌≤◌, List, ◌∷◌, length, map, Result, Ok, Err}
+use Rattle.std.specs.List.{AllByRecursion}
+use Rattle.flat_code.specs.Programs.{Program}
+use Rattle.var_access.specs.declared.Entry.{Entry}
+use Rattle.event_text.specs.Texts.{stimuli_of}
+use Rattle.s7_cli.specs.declared.failures.Failure.{Failure}
+use Rattle.s7_cli.specs.declared.failures.Failure.TheVariants.{Refused, NoMemory}
+use Rattle.s7_cli.specs.declared.failures.File.TheVariants.{Script}
+use Rattle.s7_cli.specs.declared.files.LiveText.{LiveText}
+use Rattle.s7_cli.specs.Answer.{Answer}
+use Rattle.s7_cli.specs.LiveSays.{LiveSays, RefusedScript, scripts_from}
+use Rattle.s7_cli.specs.Living.{AreRegularBy, total_length}
+use Rattle.s7_cli.specs.Loads.{LoadsAs}
+
+-- the bytes of the scripts, in their order
+abbrev pub scripts_of : LiveText → List (List ℕ)
+scripts_of text = map (λ v. v.items) text.scripts.items
+
+-- the contents of the files, in the order of reading
+abbrev pub live_contents : LiveText → List (List ℕ)
+live_contents text = text.image.items ∷ text.stimuli.items ∷ scripts_of text
+
+-- no script is longer than it may be
+abbrev pub AreScriptsWithin : List (List ℕ) → Type 0
+AreScriptsWithin scripts = AllByRecursion (λ bytes. length bytes ≤ 1048576) scripts
+
+-- stimuli and scripts aren't longer than they may be, and there are one to four scripts
+pub record IsLiveText (text : LiveText) : Type 0 where
+  pub stimuli : length text.stimuli.items ≤ 4194304
+  pub scripts : AreScriptsWithin (scripts_of text)
+  pub some : 1 ≤ length text.scripts.items
+  pub few : length text.scripts.items ≤ 4
+
+-- what `live` answers for these files
+abbrev pub TextSays : (steps : ℕ) → LiveText → Answer → Type 0
+TextSays steps text answer = LiveSays steps text.image.items text.stimuli.items (scripts_of text) answer
+
+-- the first script that is refused is told, or memory was wanting
+abbrev pub TellsScript : Result (List (List Entry)) RefusedScript → Failure → Type 0
+TellsScript scripts failure =
+    (failure ≡ NoMemory)
+    ⊎ ((script : RefusedScript) × (scripts ≡ Err script)
+    × (failure ≡ Refused (Script script.number) script.refusal))
+
+-- the program and the lists of the workers; an entry has four bytes of its text at least
+pub record Finds (text : LiveText) (program : Program) (stimuli : List Entry) (scripts : List (List Entry)) : Type 0 where
+  pub loads : LoadsAs text.image.items (Ok program)
+  pub are_stimuli : stimuli_of text.stimuli.items ≡ Ok stimuli
+  pub are_scripts : scripts_from program.names 1 (scripts_of text) ≡ Ok scripts
+  pub regular : AreRegularBy 2 (stimuli ∷ scripts)
+  pub few : length stimuli + total_length scripts ≤ 2097152
+  pub many : length scripts ≡ length text.scripts.items

@@ -1,0 +1,136 @@
+//! A live run: several workers run an image, and the history that they made is written, and its run.
+ghost use Rattle.std.specs.Prelude.{◌≡◌, ◌^◌, ◌<◌, ◌≤◌, length, map, All, IfOk, Some};
+ghost use Rattle.plc_io.specs.Taken.{Wrote};
+ghost use Rattle.var_access.specs.Entry.{IsValid};
+ghost use Rattle.var_access.specs.Runs.{AreRuns, written_out};
+ghost use Rattle.s7_cli.specs.Answer.{done};
+ghost use Rattle.s7_cli.specs.Command.{Live};
+ghost use Rattle.s7_cli.specs.Ends.{Ended, taking};
+ghost use Rattle.s7_cli.specs.Inner.{Comes, RefusedBy};
+ghost use Rattle.s7_cli.specs.LiveSays.{live_text};
+ghost use Rattle.s7_cli.specs.LiveTexts.{IsLiveText, TextSays};
+ghost use Rattle.s7_cli.specs.Reading.{disk};
+ghost use Rattle.s7_cli.specs.StatusTable.{StatusTable};
+
+use crate::failures::{Failure, Status};
+use crate::files::{LiveText, read_live};
+use crate::finish::{end_command, written};
+use crate::judging::{LiveWork, judge_live};
+use crate::living::live_run;
+use crate::run_text::replay_text;
+use controller::Controller;
+use event_text::write_history;
+use plc_base::NoMemory;
+use plc_io::{Files, Gate, IoFault, Sink, push_all};
+use std::alloc::Global;
+use std::sync::Wait;
+use std::thread::Threads;
+use var_access::{Entries, Run};
+
+/// Checks what the files of a live run hold, and lets its workers make a history.
+fn lived<R: Threads + Wait + Sync, G: Gate + Sync>(
+    rt: &R,
+    alloc: Global,
+    text: &LiveText,
+    steps: u32,
+    gate: &G,
+) -> Result<Controller, Failure>
+    requires text { IsLiveText text.now }
+    requires steps { steps ≤ 1000000 }
+    ensures says { IfOk result
+        (λ c. TextSays steps text.now (done (live_text c.program c.history))) }
+    ensures valid { IfOk result (λ c. All IsValid c.history) }
+    ensures refused { RefusedBy (TextSays steps text.now) result }
+{
+    event_text::laws::written_is_read();
+    let LiveWork {
+        program,
+        stimuli,
+        scripts,
+    } = judge_live(alloc, text)?;
+    Ok(live_run(rt, alloc, program, steps, &stimuli, &scripts, gate)?)
+}
+
+/// The entries of runs.
+fn entries_of(alloc: Global, runs: &[Run]) -> Result<Entries, NoMemory>
+    requires are { AreRuns runs.now }
+    requires bounded { length (written_out runs.now) < 2 ^ 64 }
+    ensures { IfOk result (λ v. v.entries ≡ written_out runs.now) }
+{
+    let mut entries = Entries::new(alloc);
+    for run in runs {
+        entries.append(&run.entry, run.count)?;
+    }
+    Ok(entries)
+}
+
+/// Writes the history of a controller, a line `---`, and the text of the history's run.
+fn write_live<K: Sink>(
+    alloc: Global,
+    controller: Controller,
+    out: &mut K,
+) -> Result<(), IoFault>
+    requires { All IsValid controller.history }
+    ensures { Wrote (K.shown out.old) (K.shown out.new)
+        (live_text controller.program controller.history) result }
+{
+    // a history has fewer than 2^64 entries
+    let _len = controller.history_len();
+    let history = write_history(alloc, &controller)?;
+    push_all(out, &history)?;
+    push_all(out, b"---\n")?;
+    let entries = entries_of(alloc, controller.runs())?;
+    replay_text(alloc, controller.into_program(), &entries, out)
+}
+
+/// Reads an image, stimuli and scripts, checks all, lets the workers work, and writes what they made.
+fn live<R: Threads + Wait + Sync, F: Files, K: Sink, G: Gate + Sync>(
+    rt: &R,
+    alloc: Global,
+    img: &str,
+    stim: &str,
+    ops: &[&str],
+    steps: u32,
+    files: &mut F,
+    out: &mut K,
+    gate: &G,
+) -> Result<(), Failure>
+    requires ops { (1 ≤ length ops.now) × (length ops.now ≤ 4) }
+    requires steps { steps ≤ 1000000 }
+    ensures { let went = disk (F.shown files.old) (F.shown files.new) in
+        let took = taking (K.shown out.old) (K.shown out.new) in
+        Comes (Some (Live img.now stim.now (map (λ w. w.now) ops.now) steps)) went took result }
+{
+    let text = read_live(alloc, files, img, stim, ops)?;
+    let controller = lived(rt, alloc, &text, steps, gate)?;
+    written(write_live(alloc, controller, out))
+}
+
+/// Lets several workers run the image in the file `img` beside each other: a stepper makes `steps`
+/// steps, or fewer where one of them leaves STOP; a feeder makes the entries of the file `stim`; and an
+/// operator for each file of `ops` asks what that holds, where the names of the image are known. Each
+/// passes `gate` before each of its entries. Then the history that they made is written, a line `---`,
+/// and the text of the history's run; or the line of a refusal.
+pub fn cmd_live<R: Threads + Wait + Sync, F: Files, K: Sink, G: Gate + Sync>(
+    rt: &R,
+    alloc: Global,
+    img: &str,
+    stim: &str,
+    ops: &[&str],
+    steps: u32,
+    files: &mut F,
+    out: &mut K,
+    gate: &G,
+) -> Status
+    requires ops { (1 ≤ length ops.now) × (length ops.now ≤ 4) }
+    requires steps { (1 ≤ steps) × (steps ≤ 1000000) }
+    ensures ends { let went = disk (F.shown files.old) (F.shown files.new) in
+        Ended (Some (Live img.now stim.now (map (λ w. w.now) ops.now) steps)) went
+        (taking (K.shown out.old) (K.shown out.new)) result.code }
+    ensures table { let went = disk (F.shown files.old) (F.shown files.new) in
+        StatusTable (Some (Live img.now stim.now (map (λ w. w.now) ops.now) steps)) went
+        (taking (K.shown out.old) (K.shown out.new)) result.code }
+{
+    let came = live(rt, alloc, img, stim, ops, steps, files, out, gate);
+    end_command(out, came)
+}
