@@ -232,7 +232,7 @@ said-so steps text p stimuli scripts a loads are_stimuli are_scripts answers = (
   Ok p,
   loads,
   subst (λ (s : Result (List Entry) Refusal). LiveAnswer p steps s (scripts_from p.names 1 (scripts_of text)) a) (sym are_stimuli)
-  (subst (λ (s : Result (List (List Entry)) RefusedScript). LiveAnswer p steps stimuli s a) (sym are_scripts) answers),
+      (subst (λ (s : Result (List (List Entry)) RefusedScript). LiveAnswer p steps stimuli s a) (sym are_scripts) answers),
 )
 
 pub live-image-refused : (V : Type 0) (text : LiveText) (error : LoadError) (r : Result V Failure) → r ≡ Err (failure_of_loading error)

@@ -6,7 +6,9 @@ use plc_io::{MemFiles, MemSink};
 use std::alloc::Global;
 use std::test::Fail;
 
-const LIVE: [&str; 7] = ["live", "image", "stimuli", "first", "second", "--steps", "1"];
+const LIVE: [&str; 7] = [
+    "live", "image", "stimuli", "first", "second", "--steps", "1",
+];
 
 /// One step of a stepper, and nothing else.
 const STEP_TEXT: &[u8] = b"step 1\n---\nEND 1 RUN\n";
@@ -40,15 +42,64 @@ type Row = (
 // The image is judged first, then the stimuli, then the scripts in their order.
 static ROWS: [Row; 8] = [
     (EMPTY, b"", b"", b"", 0, STEP_TEXT),
-    (b"SSSSSSSSSSSSSSSSSSSS", b"step\n", b"x\n", b"x\n", 3, b"image refused: offset 0 code 1\n"),
+    (
+        b"SSSSSSSSSSSSSSSSSSSS",
+        b"step\n",
+        b"x\n",
+        b"x\n",
+        3,
+        b"image refused: offset 0 code 1\n",
+    ),
     // a step is none of the feeder's entries
-    (EMPTY, b"in 0 01\nstep 1\n", b"x\n", b"x\n", 4, b"stimuli refused: line 2 rule 4\n"),
-    (EMPTY, b"tick 0\n", b"x\n", b"x\n", 4, b"stimuli refused: line 1 rule 2\n"),
-    (EMPTY, b"", b"diag\n\nx\n", b"x\n", 4, b"script 1 refused: line 3 rule 1\n"),
-    (EMPTY, b"", b"diag\n", b"diag\nx\n", 4, b"script 2 refused: line 2 rule 1\n"),
+    (
+        EMPTY,
+        b"in 0 01\nstep 1\n",
+        b"x\n",
+        b"x\n",
+        4,
+        b"stimuli refused: line 2 rule 4\n",
+    ),
+    (
+        EMPTY,
+        b"tick 0\n",
+        b"x\n",
+        b"x\n",
+        4,
+        b"stimuli refused: line 1 rule 2\n",
+    ),
+    (
+        EMPTY,
+        b"",
+        b"diag\n\nx\n",
+        b"x\n",
+        4,
+        b"script 1 refused: line 3 rule 1\n",
+    ),
+    (
+        EMPTY,
+        b"",
+        b"diag\n",
+        b"diag\nx\n",
+        4,
+        b"script 2 refused: line 2 rule 1\n",
+    ),
     // the image has no names
-    (EMPTY, b"", b"", b"read \"Motor\"\n", 4, b"script 2 refused: line 1 rule 3\n"),
-    (EMPTY, b"", b"in 0 01\n", b"", 4, b"script 1 refused: line 1 rule 4\n"),
+    (
+        EMPTY,
+        b"",
+        b"",
+        b"read \"Motor\"\n",
+        4,
+        b"script 2 refused: line 1 rule 3\n",
+    ),
+    (
+        EMPTY,
+        b"",
+        b"in 0 01\n",
+        b"",
+        4,
+        b"script 1 refused: line 1 rule 4\n",
+    ),
 ];
 
 #[test]
@@ -89,7 +140,15 @@ fn longest_files(rt: HostRuntime) -> Result<(), Fail> {
     put_long(&mut files, rt.alloc(), "first", b'\n', 1_048_576)?;
     put_long(&mut files, rt.alloc(), "second", b'\n', 1_048_576)?;
     let out = MemSink::new(rt.alloc(), 64);
-    answers(&rt, rt.alloc(), "longest", &LIVE, files, out, (0, STEP_TEXT))
+    answers(
+        &rt,
+        rt.alloc(),
+        "longest",
+        &LIVE,
+        files,
+        out,
+        (0, STEP_TEXT),
+    )
 }
 
 /// The files of a run of one step, none of them empty.
@@ -136,7 +195,15 @@ fn failed_read_and_push(rt: HostRuntime) -> Result<(), Fail> {
     files.fail_reads(only(8));
     let mut out = MemSink::new(rt.alloc(), 64);
     out.fail_pushes(only(1));
-    answers(&rt, rt.alloc(), "both", &LIVE, files, out, (6, b"".as_slice()))
+    answers(
+        &rt,
+        rt.alloc(),
+        "both",
+        &LIVE,
+        files,
+        out,
+        (6, b"".as_slice()),
+    )
 }
 
 // A sink that takes one byte a push takes the whole text.
@@ -155,6 +222,11 @@ fn image_of_nothing(rt: HostRuntime) -> Result<(), Fail> {
     let mut out = MemSink::new(rt.alloc(), 64);
     let compile = ["compile", "source", "image"];
     let code = call(&rt, rt.alloc(), &compile, &mut files, &mut out)?;
-    same(&rt, "image", (code, files.files.get("image")), (0, Some(EMPTY)));
+    same(
+        &rt,
+        "image",
+        (code, files.files.get("image")),
+        (0, Some(EMPTY)),
+    );
     Ok(())
 }

@@ -17,7 +17,9 @@ use std::thread::Threads;
 /// The image of the empty source: a header of no blocks and no names.
 pub(crate) const EMPTY: &[u8] = b"S7FB\0\x01\0\0\0\0\0\x14\0\0\0\0\0\0\0\0";
 
-const LIVE: [&str; 7] = ["live", "image", "stimuli", "first", "second", "--steps", "4"];
+const LIVE: [&str; 7] = [
+    "live", "image", "stimuli", "first", "second", "--steps", "4",
+];
 
 /// How often a worker looks whether the others have come, at most.
 const MOST_TURNS: u64 = 1_000_000_000;
@@ -138,7 +140,10 @@ fn runs_again<R: Abort + Threads + Wait + Sync>(
 
 /// The lines of a history that begin so.
 fn count_of(history: &str, head: &str) -> usize {
-    history.lines().filter(|line| line.starts_with(head)).count()
+    history
+        .lines()
+        .filter(|line| line.starts_with(head))
+        .count()
 }
 
 /// What stands in a history before the second line that begins so.

@@ -1,11 +1,17 @@
 use Rattle.std.proofs.Common.{◌≡◌, ◌≤◌, ap, refl, sym, ◌∙◌, subst, List, [], ◌∷◌, length, ℕ, Vec, Global, Ok, Err}
 use Rattle.std.proofs.lemmas.Result.{err_from_is_err_and}
+use Rattle.plc_base.specs.declared.Profile.TheVariants.{Small}
+use Rattle.flat_code.specs.Programs.{Program}
 use Rattle.image_file.specs.Loaded.{LoadedProgram}
+use Rattle.machine.specs.Flat.{code_of}
 use Rattle.var_access.specs.Recorded.{Recorded}
+use Rattle.var_access.specs.declared.Entry.{Entry}
+use Rattle.event_text.specs.Texts.{history_of}
+use Rattle.s7_cli.specs.run_text.RunText.{run_text}
 use Rattle.s7_cli.specs.declared.failures.File.TheVariants.{Image, History}
 use Rattle.s7_cli.specs.Answer.{Answer}
 use Rattle.s7_cli.specs.Command.{Run, Input}
-use Rattle.s7_cli.specs.Says.{RunSays, ran}
+use Rattle.s7_cli.specs.Says.{LoadsAs, RunSays, ran}
 use Rattle.s7_cli.proofs.ComesLemmas.{comes-unread, comes-refused, comes-written, file-read, file-unread, read-then, unread-then}
 use Rattle.s7_cli.proofs.run_command.run.Goals as goal
 
@@ -59,3 +65,20 @@ returns-in_err-program g c =
     subst (λ (b : List ℕ). RunSays b history a) c.deref.ensures.value
     (subst (λ (h : List ℕ). RunSays c.deref.result.now h a) c.deref-2.ensures.value said))
     c.in_err-program.ensures.refused
+
+pub returns : goal.returns
+returns g c =
+    let image : List ℕ = c.in_ok-image.image.items in
+    let history : List ℕ = c.in_ok-history.history.items in
+    let p : Program = c.in_ok-program.program.program in
+    let entries : List Entry = c.in_ok-program.entries.entries in
+    let loads : LoadsAs image (Ok p) =
+    subst (λ (b : List ℕ). LoadsAs b (Ok p)) c.deref.ensures.value c.in_ok-program.ensures.loads in
+    let spells : history_of p.names history ≡ Ok entries =
+    ap (history_of p.names) (sym c.deref-2.ensures.value) ∙ c.in_ok-program.ensures.spells in
+    comes-written (Run c.args.img.now c.args.hist.now) _ _ _ (image ∷ history ∷ []) (run_text Small (code_of p) entries) _ refl
+    (read-then _ _ _ (image_input c.args.img.now ∷ []) (history_input c.args.hist.now ∷ []) (image ∷ []) (history ∷ [])
+    (file-read bytes_of _ _ (image_input c.args.img.now) c.in_ok-image.image c.in_ok-image.ensures)
+    (file-read bytes_of _ _ (history_input c.args.hist.now) c.in_ok-history.history c.in_ok-history.ensures))
+    (Ok p, loads, ap (ran p) (sym spells))
+    (c.written.ensures _ _ _ c.replay_text.ensures)
