@@ -1,6 +1,7 @@
-//! The gate is for the workers of a live run: `go` and `check` don't pass it.
+//! The gate is for the workers of a live run: no other command passes it.
 use crate::calls::{CHECK, GO, ONE_RUN, RUNG, list_of, two_files};
 use crate::compare::same;
+use crate::image_tests::{COMPILE, RUN};
 use plc_io::{Gate, MemSink};
 use s7_cli::s7_main;
 use std::sync::atomic::{AtomicBool, Ordering};
@@ -23,10 +24,11 @@ fn no_command_passes_the_gate(rt: HostRuntime) -> Result<(), Fail> {
     let gate = WatchedGate {
         passed: AtomicBool::new(false),
     };
-    let commands: [&[&str]; 2] = [&GO, &CHECK];
+    // `run` has the image that `compile` writes
+    let commands: [&[&str]; 5] = [&GO, &CHECK, &COMPILE, &RUN, &["gen", "1"]];
+    let mut files = two_files(rt.alloc(), RUNG, ONE_RUN)?;
     for words in commands {
         let list = list_of(rt.alloc(), words)?;
-        let mut files = two_files(rt.alloc(), RUNG, ONE_RUN)?;
         let mut out = MemSink::new(rt.alloc(), 1000);
         let status = s7_main(&rt, rt.alloc(), &list, &mut files, &mut out, &gate);
         let passed = gate.passed.load(Ordering::SeqCst);
