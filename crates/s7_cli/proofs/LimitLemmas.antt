@@ -1,5 +1,5 @@
 -- The numbers of a command, and how many scripts it has, are within their limits.
-use Rattle.std.proofs.Common.{◌≤◌, ℕ, List, [], ◌∷◌, arith, codes, length, nat_le, nat_lt}
+use Rattle.std.proofs.Common.{◌≡◌, ◌≤◌, sym, subst, ℕ, List, [], ◌∷◌, arith, codes, length, nat_le, nat_lt}
 use Rattle.std.proofs.lemmas.Bool.{and_parts}
 use Rattle.std.proofs.lemmas.Bool.Decides.{nat_tests}
 use Rattle.std.specs.Prelude.{◌&&◌, not, Option, Some, None, IfSome, bytes_eq, is_some, unwrap_or}
@@ -7,7 +7,7 @@ use Rattle.clap.specs.Walk.{Row, is_empty}
 use Rattle.clap.specs.Words.{all_of, fault_of, first_of, matches_of}
 use Rattle.plc_base.specs.Decimal.{decimal_up_to, decimal_value, is_decimal}
 use Rattle.stl_parser.proofs.OptionLemmas.{both, chained, mapped, none_holds, passed}
-use Rattle.s7_cli.specs.Command.{Gen, Live}
+use Rattle.s7_cli.specs.Command.{Command, Gen, Live}
 use Rattle.s7_cli.specs.Words.{the_line, number_up_to, one_word_command, two_word_command, short_command, live_command, asked_for, asked_by, command_of, CommandsKeepLimits, KeepsLimits}
 
 decimal-limit : (most : ℕ) (word : List ℕ) → IfSome (decimal_up_to most word) (λ n. n ≤ most)
@@ -62,3 +62,7 @@ found-limits found =
 pub commands_keep_limits : CommandsKeepLimits
 unfolding command_of
 commands_keep_limits words = passed (is_empty (fault_of the_line words)) (asked_by (matches_of the_line words)) KeepsLimits (λ _. found-limits (matches_of the_line words))
+
+-- so is one that was read
+pub read-limits : (words : List (List ℕ)) (k : Command) → Some k ≡ command_of words → KeepsLimits k
+read-limits words k is = subst (λ (o : Option Command). IfSome o KeepsLimits) (sym is) (commands_keep_limits words)
