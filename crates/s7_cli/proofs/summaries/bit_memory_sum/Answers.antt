@@ -8,8 +8,7 @@ pub loop-part-preserved : goal.loop-part-preserved
 loop-part-preserved c =
     let bytes : List ℕ = (replayed c.args.controller.now).world.memory.bit_memory in
     let part : ℕ = c.loop-part.part in
-    let behind : 8 * part + 8 ≡ 8 * (part + 1) = omega arith in
-    (
+    let behind : 8 * part + 8 ≡ 8 * (part + 1) = omega arith in (
       omega (arith, c.loop-part.invariant.0, c.sum_of_eight-sum.ensures.value, sum-on bytes (8 * part) 8, ap (λ (n : ℕ). sum_of (take n bytes)) behind),
       omega (arith, c.loop-part-test.true),
       omega (arith, c.loop-part.invariant.2, c.sum_of_eight-sum.ensures.small),

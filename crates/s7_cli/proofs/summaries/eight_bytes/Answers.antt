@@ -25,15 +25,14 @@ loop-byte-preserved c =
     let first : ℕ = c.args.first in
     let count : ℕ = c.loop-byte.byte - first in
     let here : first + count ≡ c.loop-byte.byte = omega (arith, c.loop-byte.invariant.0) in
-    let more : count + 1 ≡ c.loop-byte.byte + 1 - first = omega (arith, c.loop-byte.invariant.0) in
-    (
+    let more : count + 1 ≡ c.loop-byte.byte + 1 - first = omega (arith, c.loop-byte.invariant.0) in (
       omega (arith, c.loop-byte.invariant.0),
       omega (arith, c.loop-byte-test.true),
       c.push.ensures
-      ∙ ap (λ (vars : List Var). vars ++ c.memory_byte.result ∷ []) c.loop-byte.invariant.2
-      ∙ ap (λ (var : Var). bytes_from first count ++ var ∷ []) c.memory_byte.ensures
-      ∙ sym (map-range_with_len_more memory_byte first count c.loop-byte.byte here)
-      ∙ ap (bytes_from first) more,
+          ∙ ap (λ (vars : List Var). vars ++ c.memory_byte.result ∷ []) c.loop-byte.invariant.2
+          ∙ ap (λ (var : Var). bytes_from first count ++ var ∷ []) c.memory_byte.ensures
+          ∙ sym (map-range_with_len_more memory_byte first count c.loop-byte.byte here)
+          ∙ ap (bytes_from first) more,
     )
 
 pub returns : goal.returns

@@ -18,8 +18,7 @@ loop-number-preserved c =
     let place : ℕ = c.loop-number.number-index in
     let small = c.type_inv.numbers place in
     let one : sum_of (take 1 (drop place numbers)) ≡ 0 + slice_index_or numbers place 0 =
-    ap (λ (xs : List ℕ). sum_of (take 1 xs)) (drop-cons numbers place 0 c.loop-number-test.true) in
-    (
+    ap (λ (xs : List ℕ). sum_of (take 1 xs)) (drop-cons numbers place 0 c.loop-number-test.true) in (
       omega (arith, c.loop-number.invariant.0, sum-on numbers place 1, one, c.from-sum.ensures),
       omega (arith, c.loop-number.invariant.1, c.from-sum.ensures, small),
     )
