@@ -1,13 +1,15 @@
-use Rattle.std.proofs.Common.{◌≡◌, refl, sym, ◌∙◌, ap, subst, Option, None, Err}
+use Rattle.std.proofs.Common.{◌≡◌, refl, sym, ◌∙◌, ap, subst, map, Option, Some, None, Err}
+use Rattle.std.specs.Prelude.{string_bytes}
 use Rattle.std.specs.Option.{option_map}
 use Rattle.plc_io.specs.Moments.{FilesAt, SinkAt}
 use Rattle.s7_cli.specs.declared.failures.Failure.TheVariants.{WordsRefused, NoMemory}
 use Rattle.s7_cli.specs.Answer.{words_refused}
-use Rattle.s7_cli.specs.Command.{Command}
-use Rattle.s7_cli.specs.Ends.{taking}
+use Rattle.s7_cli.specs.Command.{Command, Gen}
+use Rattle.s7_cli.specs.Ends.{Ended, taking}
 use Rattle.s7_cli.specs.Inner.{Comes}
 use Rattle.s7_cli.specs.Reading.{disk}
-use Rattle.s7_cli.specs.Words.{command_value}
+use Rattle.s7_cli.specs.StatusTable.{StatusTable}
+use Rattle.s7_cli.specs.Words.{command_of, command_value}
 use Rattle.s7_cli.proofs.ComesLemmas.{only-reads, unchanged, wanting}
 use Rattle.s7_cli.proofs.program.s7_main.Goals as goal
 
@@ -29,11 +31,29 @@ words-unread command files out = wanting command (disk files files) out (only-re
 
 pub returns-in-Ok-None-clause-ends : goal.returns-in-Ok-None-clause-ends
 returns-in-Ok-None-clause-ends g c =
-    c.end_command.ensures.ends _ _ _ (words-refused _ _ _ (sym (ap (option_map command_value) c.in-Ok-None.field-0-is) ∙ c.in-Ok-None.ensures))
+    c.end_command-in-Ok-None.ensures.ends _ _ _ (words-refused _ _ _ (sym (ap (option_map command_value) c.in-Ok-None.field-0-is) ∙ c.in-Ok-None.ensures))
 
 pub returns-in-Ok-None-clause-table : goal.returns-in-Ok-None-clause-table
 returns-in-Ok-None-clause-table g c =
-    c.end_command.ensures.table _ _ _ (words-refused _ _ _ (sym (ap (option_map command_value) c.in-Ok-None.field-0-is) ∙ c.in-Ok-None.ensures))
+    c.end_command-in-Ok-None.ensures.table _ _ _ (words-refused _ _ _ (sym (ap (option_map command_value) c.in-Ok-None.field-0-is) ∙ c.in-Ok-None.ensures))
 
 pub returns-in-Err-clause-table : goal.returns-in-Err-clause-table
 returns-in-Err-clause-table g c = c.end_command-in-Err.ensures.table _ _ _ (words-unread _ _ _)
+
+pub returns-in-Ok-Some-Gen-clause-ends : goal.returns-in-Ok-Some-Gen-clause-ends
+returns-in-Ok-Some-Gen-clause-ends g c =
+    let is : Some (Gen c.in-Ok-Some-Gen.number) ≡ command_of (map string_bytes c.args.words.now) =
+    sym (ap (option_map command_value) (c.in-Ok-Some-Gen.field-0-is ∙ ap Some c.in-Ok-Some-Gen.field-0-0-is)) ∙ c.in-Ok-Some-Gen.ensures in
+    let files : FilesAt = g.F.Files.shown c.args.files.now in
+    subst
+    (λ (k : Option Command). Ended k (disk files files) (taking (g.K.Sink.shown c.args.out.now) (g.K.Sink.shown c.cmd_gen.new.out)) c.cmd_gen.result.code)
+    is (c.cmd_gen.ensures.ends files)
+
+pub returns-in-Ok-Some-Gen-clause-table : goal.returns-in-Ok-Some-Gen-clause-table
+returns-in-Ok-Some-Gen-clause-table g c =
+    let is : Some (Gen c.in-Ok-Some-Gen.number) ≡ command_of (map string_bytes c.args.words.now) =
+    sym (ap (option_map command_value) (c.in-Ok-Some-Gen.field-0-is ∙ ap Some c.in-Ok-Some-Gen.field-0-0-is)) ∙ c.in-Ok-Some-Gen.ensures in
+    let files : FilesAt = g.F.Files.shown c.args.files.now in
+    subst
+    (λ (k : Option Command). StatusTable k (disk files files) (taking (g.K.Sink.shown c.args.out.now) (g.K.Sink.shown c.cmd_gen.new.out)) c.cmd_gen.result.code)
+    is (c.cmd_gen.ensures.table files)

@@ -11,7 +11,8 @@ use Rattle.s7_cli.specs.run_text.RunText.{run_text}
 use Rattle.s7_cli.specs.declared.failures.File.TheVariants.{Image, History}
 use Rattle.s7_cli.specs.Answer.{Answer}
 use Rattle.s7_cli.specs.Command.{Run, Input}
-use Rattle.s7_cli.specs.Says.{LoadsAs, RunSays, ran}
+use Rattle.s7_cli.specs.Loads.{LoadsAs}
+use Rattle.s7_cli.specs.Says.{RunSays, ran}
 use Rattle.s7_cli.proofs.ComesLemmas.{comes-unread, comes-refused, comes-written, file-read, file-unread, read-then, unread-then}
 use Rattle.s7_cli.proofs.run_command.run.Goals as goal
 
