@@ -1,24 +1,24 @@
 -- An image that keeps a source runs and answers as the source.
-use Rattle.std.proofs.Common.{◌≡◌, ◌<◌, refl, sym, ◌∙◌, ap, subst, ℕ, List, get_or, Ok, Err, Result}
+use Rattle.std.proofs.Common.{◌≡◌, refl, sym, ◌∙◌, ap, subst, ℕ, List, Ok, Err, Result}
 use Rattle.plc_base.specs.declared.Profile.{Profile}
 use Rattle.plc_base.specs.declared.Profile.TheVariants.{Small}
 use Rattle.plc_base.specs.declared.Refusal.{Refusal}
 use Rattle.var_access.specs.declared.Entry.{Entry}
-use Rattle.flat_code.specs.Loading.{Gives, IsLoadable}
+use Rattle.flat_code.specs.Loading.{IsLoadable}
 use Rattle.flat_code.specs.Programs.{NameEntry, Program}
 use Rattle.image_file.specs.Laws.{GivesExactlyImages, ImagesAreOfOne}
 use Rattle.image_file.specs.declared.faults.LoadFault.{LoadFault}
 use Rattle.machine.specs.Code.{Code}
 use Rattle.machine.specs.Flat.{code_of}
 use Rattle.controller.specs.Replay.{ContinuesReplay}
-use Rattle.sem_kept.specs.Agreement.{ImageKeepsSource, KeepsSource, names_in}
+use Rattle.sem_kept.specs.Agreement.{KeepsSource, names_in}
 use Rattle.sem_kept.specs.Meaning.{IsMeaningUnique, Refused, MeansCode}
 use Rattle.event_text.specs.Texts.{history_of}
 use Rattle.s7_cli.specs.run_text.RunText.{run_text}
-use Rattle.s7_cli.specs.Answer.{Answer, done}
+use Rattle.s7_cli.specs.Answer.{done}
 use Rattle.s7_cli.specs.KeptImages.{KeptImagesAnswerAlike, KeptImagesRunAlike}
 use Rattle.s7_cli.specs.Loads.{LoadsAs}
-use Rattle.s7_cli.specs.Says.{GoSays, RunSays, go_answer, ran, run_answer}
+use Rattle.s7_cli.specs.Says.{go_answer, ran, run_answer}
 use Rattle.s7_cli.proofs.LoadLemmas.{loads-one}
 use Rattle.s7_cli.proofs.RunLemmas.{texts-kept}
 use Rattle.s7_cli.proofs.SaysLemmas.{MeansOne}

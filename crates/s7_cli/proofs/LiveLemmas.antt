@@ -1,6 +1,6 @@
 -- How the files of a live run are read and checked.
-use Rattle.std.proofs.Common.{◌≡◌, ◌<◌, ◌≤◌, ◌⊎◌, inl, inr, refl, sym, ◌∙◌, ap, subst, ℕ, suc, ◌+◌, ◌*◌, List, [], ◌∷◌, ◌++◌, length, map, drop, get_or, Bor, Result, Ok, Err, append_assoc, append-nil, arith}
-use Rattle.std.specs.List.{All, AllByRecursion}
+use Rattle.std.proofs.Common.{◌≡◌, ◌<◌, ◌≤◌, inl, inr, refl, sym, ◌∙◌, ap, subst, ℕ, suc, ◌+◌, ◌*◌, List, [], ◌∷◌, ◌++◌, length, map, drop, get_or, Bor, Result, Ok, Err, append_assoc, append-nil, arith}
+use Rattle.std.specs.List.{All}
 use Rattle.plc_base.specs.declared.Refusal.{Refusal}
 use Rattle.plc_io.specs.Contents.{Contents}
 use Rattle.plc_io.specs.Moments.{FilesAt}
@@ -24,7 +24,7 @@ use Rattle.s7_cli.specs.Answer.{Answer, done}
 use Rattle.s7_cli.specs.Command.{Input, live_inputs, script_inputs}
 use Rattle.s7_cli.specs.Faults.{failure_of_loading, failure_of_text}
 use Rattle.s7_cli.specs.Inner.{AllRead, FileRead, HasRead, RefusedBy}
-use Rattle.s7_cli.specs.LiveSays.{LiveAnswer, LoadedLive, RefusedScript, live_text, script_first, scripts_from}
+use Rattle.s7_cli.specs.LiveSays.{LiveAnswer, RefusedScript, live_text, script_first, scripts_from}
 use Rattle.s7_cli.specs.LiveTexts.{AreScriptsWithin, Finds, IsLiveText, TellsScript, TextSays, live_contents, scripts_of}
 use Rattle.s7_cli.specs.Living.{AreRegularBy, IsLive, total_length}
 use Rattle.s7_cli.specs.Loads.{LoadsAs}

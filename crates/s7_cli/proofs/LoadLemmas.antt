@@ -1,7 +1,6 @@
 -- Bytes load in one way: as one program, or with one least fault.
-use Rattle.std.proofs.Common.{◌≡◌, ◌⊎◌, inl, inr, sym, ◌∙◌, ap, subst, ℕ, List, [], Option, Some, Ok, Err, Result, arith}
+use Rattle.std.proofs.Common.{◌≡◌, inl, inr, sym, ◌∙◌, ap, subst, ℕ, List, Some, Ok, Err, Result, arith}
 use Rattle.std.specs.Option.{option_map}
-use Rattle.flat_code.specs.Image.{read_image}
 use Rattle.flat_code.specs.Layout.{Cursor}
 use Rattle.flat_code.specs.Loading.{Gives, faults_of}
 use Rattle.flat_code.specs.Programs.{Program}

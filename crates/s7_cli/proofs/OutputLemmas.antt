@@ -1,17 +1,17 @@
 -- A command that writes one output file, and then its text.
-use Rattle.std.proofs.Common.{◌≡◌, ◌≢◌, ◌⊎◌, inl, inr, refl, sym, ◌∙◌, ap, subst, ℕ, zero, suc, List, [], ◌∷◌, ◌++◌, length, take, Option, Some, Ok, Err, Contains, true, arith}
+use Rattle.std.proofs.Common.{◌≡◌, ◌≢◌, ◌⊎◌, inl, inr, refl, sym, ◌∙◌, ap, subst, ℕ, zero, suc, List, [], ◌∷◌, length, take, Some, Ok, Err, Contains, true, arith}
 use Rattle.std.proofs.lemmas.Grind.{common_steps}
-use Rattle.plc_io.specs.Contents.{Contents, Agrees, SameElsewhere, SameFiles}
-use Rattle.plc_io.specs.Counts.{Rose, SameCounts, NeverFell}
-use Rattle.plc_io.specs.FileCalls.{LeavesWritten, Unchanged}
+use Rattle.plc_io.specs.Contents.{SameElsewhere}
+use Rattle.plc_io.specs.Counts.{Rose, SameCounts}
+use Rattle.plc_io.specs.FileCalls.{Unchanged}
 use Rattle.plc_io.specs.Moments.{FilesAt, SinkAt}
 use Rattle.s7_cli.specs.declared.failures.Failure.{Failure}
 use Rattle.s7_cli.specs.declared.failures.Failure.TheVariants.{WordsRefused, ReadFault, TooLong, Refused, ImageRefused, WriteFault, NoMemory}
-use Rattle.s7_cli.specs.Answer.{Answer, Outcome, done}
-use Rattle.s7_cli.specs.Command.{Command, Input, inputs_of, outputs_of}
+use Rattle.s7_cli.specs.Answer.{Outcome, done}
+use Rattle.s7_cli.specs.Command.{Command, inputs_of, outputs_of}
 use Rattle.s7_cli.specs.Ends.{Taking, taking, Answers, ChangesOutputs, WritesOutputs, HoldsFront, HoldsWhole, RoseAmong, WritesTo}
 use Rattle.s7_cli.specs.Inner.{HasRead, FileWritten, TextWritten, Comes}
-use Rattle.s7_cli.specs.Reading.{Disk, disk, HoldAll}
+use Rattle.s7_cli.specs.Reading.{disk}
 use Rattle.s7_cli.specs.Says.{Says, Writes}
 use Rattle.s7_cli.proofs.ComesLemmas.{never-fell}
 use Rattle.s7_cli.proofs.ReadingLemmas.{reads-all}

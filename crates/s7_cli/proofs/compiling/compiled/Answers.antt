@@ -1,5 +1,4 @@
-use Rattle.std.proofs.Common.{◌≡◌, refl, sym, subst}
-use Rattle.flat_code.specs.Image.{image}
+use Rattle.std.proofs.Common.{refl, sym, subst}
 use Rattle.flat_code.specs.Programs.{Program}
 use Rattle.sem_kept.specs.Agreement.{KeepsSource}
 use Rattle.s7_cli.proofs.compiling.compiled.Goals as goal

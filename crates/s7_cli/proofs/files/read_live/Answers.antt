@@ -1,10 +1,10 @@
 use Rattle.std.proofs.Common.{◌∙◌, ap, refl, [], ◌∷◌, ℕ, List, Vec, Global, Err, map}
 use Rattle.std.proofs.lemmas.Result.{err_from_is_err_and}
 use Rattle.s7_cli.specs.declared.failures.File.TheVariants.{Image, Stimuli}
-use Rattle.s7_cli.specs.Command.{Input, live_inputs, script_inputs}
+use Rattle.s7_cli.specs.Command.{Input, script_inputs}
 use Rattle.s7_cli.specs.LiveTexts.{live_contents}
 use Rattle.s7_cli.proofs.ComesLemmas.{file-read, read-then, unread-then}
-use Rattle.s7_cli.proofs.LiveLemmas.{reads-cut, reads-first, reads-next}
+use Rattle.s7_cli.proofs.LiveLemmas.{reads-cut, reads-first}
 use Rattle.s7_cli.proofs.files.read_live.Goals as goal
 
 abbrev bytes_of : Vec ℕ Global → List ℕ

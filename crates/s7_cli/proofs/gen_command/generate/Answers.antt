@@ -1,4 +1,4 @@
-use Rattle.std.proofs.Common.{◌≡◌, refl, sym, ◌∙◌, ap, subst, List, [], ℕ, length, Ok, Err}
+use Rattle.std.proofs.Common.{◌≡◌, refl, ◌∙◌, ap, subst, List, [], ℕ, length, Ok, Err}
 use Rattle.std.proofs.lemmas.Result.{err_from_is_err_and}
 use Rattle.plc_base.specs.declared.Profile.TheVariants.{Small}
 use Rattle.generator.specs.History.{history}
@@ -6,7 +6,6 @@ use Rattle.image_file.specs.Loaded.{LoadedProgram}
 use Rattle.machine.specs.Flat.{code_of}
 use Rattle.var_access.specs.declared.Entry.{Entry}
 use Rattle.controller.specs.Recorded.{Recorded}
-use Rattle.controller.specs.Replay.{replay}
 use Rattle.controller.specs.Replayed.{events, replayed}
 use Rattle.s7_cli.specs.Answer.{Answer}
 use Rattle.s7_cli.specs.Command.{Gen}

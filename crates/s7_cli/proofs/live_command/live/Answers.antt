@@ -2,7 +2,7 @@ use Rattle.std.proofs.Common.{◌∙◌, ap, refl, sym, [], ℕ, List, Err, appe
 use Rattle.std.proofs.lemmas.Result.{err_from_is_err_and}
 use Rattle.controller.specs.Recorded.{Recorded}
 use Rattle.s7_cli.specs.Answer.{Answer}
-use Rattle.s7_cli.specs.Command.{Command, Input, Live, live_inputs}
+use Rattle.s7_cli.specs.Command.{Input, Live, live_inputs}
 use Rattle.s7_cli.specs.LiveSays.{live_text}
 use Rattle.s7_cli.specs.LiveTexts.{TextSays, live_contents, scripts_of}
 use Rattle.s7_cli.proofs.ComesLemmas.{comes-refused, comes-unread, comes-written}

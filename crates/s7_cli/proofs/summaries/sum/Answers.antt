@@ -1,4 +1,4 @@
-use Rattle.std.proofs.Common.{◌≡◌, ◌+◌, ℕ, List, ap, refl, sym, ◌∙◌, arith, drop, take, drop-cons, slice_index_or}
+use Rattle.std.proofs.Common.{◌≡◌, ◌+◌, ℕ, List, ap, refl, ◌∙◌, arith, drop, take, drop-cons, slice_index_or}
 use Rattle.std.proofs.Common.{sum as sum_of}
 use Rattle.std.proofs.lemmas.List.{take_all}
 use Rattle.s7_cli.proofs.SummaryLemmas.{sum-on}

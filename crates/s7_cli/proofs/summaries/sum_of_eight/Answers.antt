@@ -1,4 +1,4 @@
-use Rattle.std.proofs.Common.{◌≡◌, List, ℕ, ap, sym, ◌∙◌}
+use Rattle.std.proofs.Common.{List, ℕ, ap, sym, ◌∙◌}
 use Rattle.std.proofs.Common.{sum as sum_of}
 use Rattle.s7_cli.proofs.SummaryLemmas.{eight-answered, values_in}
 use Rattle.s7_cli.proofs.summaries.sum_of_eight.Goals as goal
