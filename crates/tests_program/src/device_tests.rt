@@ -60,6 +60,20 @@ fn no_further_reads(rt: HostRuntime) -> Result<(), Fail> {
     Ok(())
 }
 
+// How often each command writes a file: `compile` its image, and the others none.
+static WRITES: [(&[&str], u64); 4] = [(&GO, 0), (&CHECK, 0), (&COMPILE, 1), (&RUN_CYCLE, 0)];
+
+#[test]
+fn writes_of_commands(rt: HostRuntime) -> Result<(), Fail> {
+    for (words, count) in &WRITES {
+        let mut files = all_files(rt.alloc())?;
+        let mut out = MemSink::new(rt.alloc(), 64);
+        let code = call(&rt, rt.alloc(), words, &mut files, &mut out)?;
+        same(&rt, *words, (code, files.writes.made), (0, *count));
+    }
+    Ok(())
+}
+
 // The one write of `compile` fails: the image is what it was, and nothing is said.
 #[test]
 fn failed_write(rt: HostRuntime) -> Result<(), Fail> {

@@ -40,8 +40,17 @@ type Row = (
 );
 
 // The image is judged first, then the stimuli, then the scripts in their order.
-static ROWS: [Row; 8] = [
+static ROWS: [Row; 9] = [
     (EMPTY, b"", b"", b"", 0, STEP_TEXT),
+    // a file without a magic
+    (
+        b"",
+        b"step\n",
+        b"x\n",
+        b"x\n",
+        3,
+        b"image refused: offset 0 code 3\n",
+    ),
     (
         b"SSSSSSSSSSSSSSSSSSSS",
         b"step\n",
