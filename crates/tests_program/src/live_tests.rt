@@ -146,22 +146,23 @@ fn count_of(history: &str, head: &str) -> usize {
         .count()
 }
 
-/// What stands in a history before the second line that begins so.
-fn before_second<'a>(history: &'a str, head: &str) -> &'a str {
-    let mut rest = history;
-    let mut seen = 0u8;
-    let mut place = 0usize;
-    while let Some((line, behind)) = rest.split_once('\n') {
+/// How many lines that begin as `other` stand in a history before the second line that begins as
+/// `head`.
+fn count_before_second(history: &str, head: &str, other: &str) -> usize {
+    let mut is_second = false;
+    let mut count = 0usize;
+    for line in history.lines() {
         if line.starts_with(head) {
-            if seen == 1 {
-                break;
+            if is_second {
+                return count;
             }
-            seen = 1;
+            is_second = true;
         }
-        place = place.wrapping_add(line.len()).wrapping_add(1);
-        rest = behind;
+        if line.starts_with(other) {
+            count = count.wrapping_add(1);
+        }
     }
-    history.get(..place).unwrap_or("")
+    count
 }
 
 /// A live run of the empty program, whose workers meet so: the history that is printed.
@@ -199,8 +200,8 @@ fn all_meet(rt: HostRuntime) -> Result<(), Fail> {
 fn first_waits_for_second(rt: HostRuntime) -> Result<(), Fail> {
     let waiting = Waiting::ForOther { who: 3, other: 4 };
     let history = meets(&rt, rt.alloc(), waiting)?;
-    let before = before_second(history.as_str(), "op 1");
-    same(&rt, before, count_of(before, "op 2") >= 3, true);
+    let before = count_before_second(history.as_str(), "op 1", "op 2");
+    same(&rt, before, before >= 3, true);
     Ok(())
 }
 
@@ -209,8 +210,8 @@ fn first_waits_for_second(rt: HostRuntime) -> Result<(), Fail> {
 fn second_waits_for_first(rt: HostRuntime) -> Result<(), Fail> {
     let waiting = Waiting::ForOther { who: 4, other: 3 };
     let history = meets(&rt, rt.alloc(), waiting)?;
-    let before = before_second(history.as_str(), "op 2");
-    same(&rt, before, count_of(before, "op 1") >= 3, true);
+    let before = count_before_second(history.as_str(), "op 2", "op 1");
+    same(&rt, before, before >= 3, true);
     Ok(())
 }
 
@@ -232,7 +233,7 @@ fn writing_script(alloc: Global, first: u16) -> Result<String, Fail> {
 /// before it wrote.
 fn told_of(alloc: Global, history: &str) -> Result<String, Fail> {
     let mut text = String::new(alloc);
-    let mut value = "0000";
+    let mut value = 0u16;
     let mut number = 0u64;
     for line in history.lines() {
         let (kind, rest) = line.split_once(' ').unwrap_or((line, ""));
@@ -247,13 +248,13 @@ fn told_of(alloc: Global, history: &str) -> Result<String, Fail> {
         let (operator, request) = rest.split_once(' ').unwrap_or((rest, ""));
         match request.strip_prefix("write DB1.DBW0 ") {
             Some(written) => {
-                value = written;
+                value = u16::from_str_radix(written, 16).unwrap_or(0);
                 write!(text, "@{number} OP {operator} DONE\n")?;
             }
-            None => write!(text, "@{number} OP {operator} VALUES {value}\n")?,
+            None => write!(text, "@{number} OP {operator} VALUES {value:04X}\n")?,
         }
     }
-    write!(text, "END {number} RUN\nDB 1 0 {value}\n")?;
+    write!(text, "END {number} RUN\nDB 1 0 {value:04X}\n")?;
     Ok(text)
 }
 
