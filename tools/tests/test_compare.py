@@ -139,7 +139,7 @@ class Comparisons(ToolTest):
         self.expect(1, lines, "compare", "old", "new", "steps")
 
     def test_a_stop(self):
-        self.write("new", DELAY.replace("= Q 4.0;", "= Q 4.0;\nA T 1;\nJCN end;\nL P#1.0;\nT MD 0;\nL MW [MD 0];\nL MW 400;\nend: NOP 0;"))
+        self.write("new", DELAY.replace("= Q 4.0;", "= Q 4.0;\nA T 1;\nJCN end;\nL P#1.0;\nT MD 0;\nL MW [MD 0];\nL MW 4000;\nend: NOP 0;"))
         answer = self.call("compare", "old", "new", "steps")
         self.assertEqual(answer.returncode, 1)
         self.assertIn("0.200 s to the end  the mode: old RUN, new STOP 3\n", answer.stdout)

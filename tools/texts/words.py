@@ -11,6 +11,7 @@ WORDS_BY_COMMAND = {
     "run": ("image", "history"),
     "gen": (None,),
     "live": ("image", "stimuli", *SCRIPTS),
+    "upgrade": ("image", "written"),
 }
 QUESTIONS = {"--help": "help", "-h": "help", "--version": "version", "-V": "version"}
 

@@ -137,9 +137,9 @@ returned_same (Some h) a w =
 
 performed_same : (code : Code) (i : Instr) (next : ℕ) (a : Activation) (w : World)
     → SameStep a (performed code i next a w)
-performed_same code (Does use_db word operand) next a w =
-    went_same (does_with use_db word operand (parts_of a.running w.memory w.timers w.counters)) next a
-performed_same code (Jumps word target) next a w = (refl, refl)
+performed_same code (Does use_db operation operand) next a w =
+    went_same (does_with use_db operation operand (parts_of a.running w.memory w.timers w.counters)) next a
+performed_same code (Jumps operation target) next a w = (refl, refl)
 performed_same code (JumpsByList targets otherwise) next a w = (refl, refl)
 performed_same code (Calls how block instance passings) next a w =
     if_same (is_called how a.running.regs.status.rlo) a

@@ -1,5 +1,5 @@
 -- The data blocks of a program that verifies: their numbers rise, and each is read by its number.
-use Rattle.std.proofs.Common.{◌≡◌, ℕ, zero, suc, ◌<◌, ◌≤◌, true, false, ltb, leb, ◌&&◌, List, [], ◌∷◌, ◌++◌, map, refl, sym, ap, subst, ◌∙◌, arith}
+use Rattle.std.proofs.Common.{◌≡◌, ℕ, zero, suc, ◌<◌, ◌≤◌, true, false, ltb, ◌&&◌, List, [], ◌∷◌, ◌++◌, map, refl, sym, ap, subst, ◌∙◌, arith}
 use Rattle.std.specs.Prelude.{nat_eq, Vec}
 use Rattle.std.specs.declared.alloc.Global.{Global}
 use Rattle.std.specs.List.{AllByRecursion, IsDistinct}
@@ -11,13 +11,13 @@ use Rattle.plc_base.specs.declared.BlockId.{BlockId}
 use Rattle.plc_base.specs.declared.blocks.BlockKind.{BlockKind}
 use Rattle.plc_base.specs.declared.blocks.BlockKind.TheVariants as kinds
 use Rattle.flat_code.specs.Faults.{fault_of, lies_within, unless}
-use Rattle.flat_code.specs.Image.{kind_field, zero_u16, record_of_block, raw_of_block, code_block, code_blocks, after_block, data_number, instance_field, data_len, contents, raw_data, raw_of_data, data_block, after_data, data_blocks, records_of, body}
+use Rattle.flat_code.specs.Image.{zero_u16, record_of_block, parts_of_block, code_block, code_blocks, after_block, data_number, instance_field, data_len, contents, data_rows, data_row, fields_of_data, data_block, after_data, data_blocks, records_of, body}
 use Rattle.flat_code.specs.Layout.{chain, good_many, is_fine}
 use Rattle.flat_code.specs.Loading.{Verifies}
 use Rattle.flat_code.specs.Programs.{CodeBlock, DataBlock, Program}
-use Rattle.flat_code.proofs.PartLemmas.{chain_parts, head_parts, unless_fine}
+use Rattle.flat_code.proofs.PartLemmas.{chain_parts, unless_fine}
 use Rattle.image_file.specs.Readers.{data_id, ids_of}
-use Rattle.image_file.proofs.ImageLemmas.{record_parts_of, records_parts}
+use Rattle.image_file.proofs.ImageLemmas.{good_block_of, good_records, head_kind}
 use Rattle.plc_mem.specs.Blocks as owned
 use Rattle.machine.specs.Flat.{numbered_bytes}
 use Rattle.controller.specs.Starting.{is_data_block, numbers_in, read_block, numbers_of}
@@ -36,9 +36,9 @@ number_rises before n good =
     ltb-true before n (and_parts (lies_within 1 2047 n) (ltb before n) (unless_fine right 4 fine.1)).1
 
 data_rises : (before : ℕ × ℕ) (d : DataBlock) → (data_block before).good d ≡ true → before.0 < d.number
-unfolding data_block raw_data
+unfolding data_block data_rows
 data_rises before d good =
-    let a = chain_parts (data_number before.0) (λ number. chain instance_field (λ instance. chain (data_len before.1) (λ n. chain zero_u16 (λ zero. contents n)))) (raw_of_data d) good in
+    let a = chain_parts (data_number before.0) (λ number. chain instance_field (λ instance. chain (data_len before.1) (λ n. chain zero_u16 (λ zero. contents n)))) (data_row (fields_of_data d)) good in
     number_rises before.0 d.number a.0
 
 datas_rise : (s : ℕ × ℕ) (n : ℕ) (ds : List DataBlock) → good_many data_block after_data s n ds ≡ true → Rise s.0 ds
@@ -54,7 +54,7 @@ datas_are n ds good = datas_rise (0, 0) n ds good
 
 pub numbers_rise : (p : Program) → Verifies p → Rise 0 p.data_blocks
 unfolding body
-numbers_rise p h = datas_are _ p.data_blocks (records_parts true (records_of p) h.right).datas_good
+numbers_rise p h = datas_are _ p.data_blocks (good_records true (records_of p) h.right).datas_good
 
 -- ---- code blocks are no data blocks
 
@@ -66,18 +66,9 @@ kind_right kinds.Db h = absurd cc
 kind_right kinds.Sfc h = refl
 kind_right kinds.Udt h = refl
 
-head_kind : (before : ℕ) (n : ℕ) → (kind_field before).good n ≡ true → lies_within 1 3 n ≡ true
-unfolding kind_field fault_of
-head_kind before n good =
-    let right = lies_within 1 3 n && leb before n in
-    let fine = and_parts (ltb n 256) (is_fine (unless right 4)) good in
-    (and_parts (lies_within 1 3 n) (leb before n) (unless_fine right 4 fine.1)).0
-
 block_kind : (s : ℕ × ℕ) (b : CodeBlock) → (code_block true s).good (record_of_block b) ≡ true → is_data_block b.id ≡ false
 block_kind s b good =
-    let h = (raw_of_block (record_of_block b)).0 in
-    let parts = record_parts_of true s (record_of_block b) good in
-    kind_right b.id.kind (head_kind s.0 (kind_number b.id.kind) (head_parts s h parts.head_good).kind_good)
+    kind_right b.id.kind (head_kind s (parts_of_block (record_of_block b)).head (good_block_of true s (record_of_block b) good).head_good)
 
 abbrev AreCode : List CodeBlock → Type 0
 AreCode [] = Unit {0}
@@ -97,7 +88,7 @@ codes_are n bs good = blocks_kind (0, 0) n bs good
 
 are_code : (p : Program) → Verifies p → AreCode p.code_blocks
 unfolding body
-are_code p h = codes_are _ p.code_blocks (records_parts true (records_of p) h.right).codes_good
+are_code p h = codes_are _ p.code_blocks (good_records true (records_of p) h.right).codes_good
 
 -- ---- the numbers among all blocks
 

@@ -11,7 +11,7 @@ pub mod Monitoring
 pub mod Moved
 pub mod Quiet
 pub mod Ready
-pub mod Recorded
+pub mod Recording
 pub mod Replay
 pub mod Replayed
 pub mod Requests

@@ -7,26 +7,26 @@ use Rattle.var_access.specs.declared.What.{What}
 use Rattle.controller.specs.Replay.{Happened, happens, last_seen, replay}
 use Rattle.controller.specs.State.{State}
 use Rattle.controller.specs.declared.observing.Observed.{Observed}
-use Rattle.controller.specs.Recorded.{Recorded}
+use Rattle.controller.specs.Recording.{Recording}
 
 -- what the entries of a history do, whoever makes them
 abbrev pub events : List Entry → List What
 events history = map (λ (e : Entry). e.what) history
 
 -- the state of the CPU after all entries
-abbrev pub replayed : Recorded → State
+abbrev pub replayed : Recording → State
 replayed r = replay r.profile (code_of r.program) (events r.history)
 
 -- what a further entry does then
-abbrev pub next_happens : Recorded → Entry → Happened
+abbrev pub next_happens : Recording → Entry → Happened
 next_happens r e = happens (code_of r.program) (replayed r) e.what
 
 -- what the last entry showed; nothing before the first one
-abbrev pub seen : Recorded → Observed
+abbrev pub seen : Recording → Observed
 seen r = last_seen r.profile (code_of r.program) (events r.history)
 
 -- the loaded data blocks by rising number, with their bytes after all entries
-abbrev pub data_blocks : Recorded → List (ℕ × List ℕ)
+abbrev pub data_blocks : Recording → List (ℕ × List ℕ)
 data_blocks r = finmap.entries (replayed r).world.memory.data_blocks
 
 -- a number with its bytes

@@ -90,7 +90,7 @@ fn add_obs(obs: &mut ArrayVec<u16, ACTIVATIONS>, activations: &[Activation])
     }
 }
 
-// One more place, behind all.
+// One more place, behind all. Its profile is that of the organization block that begins there.
 #[inline(never)]
 fn add_place(all: &mut Vec<Activation>)
     requires few { length all.old.items < 48 }
@@ -253,8 +253,8 @@ impl Activations {
         running.running.regs = regs;
     }
 
-    /// The organization block of a synchronous error of the running activation begins above it; false where
-    /// it isn't loaded.
+    /// The organization block of a synchronous error of the running activation begins above it; false
+    /// where it isn't loaded.
     pub(crate) fn begin_error(&mut self, program: &Loaded, code: u8, at: Option<Spot>) -> bool
         requires { length self.old < 48 }
         ensures begins { ErrorBegins (code_of program.now.program) code at

@@ -28,7 +28,7 @@ pub(crate) fn ob_block(ob: u16) -> BlockId
 pub(crate) fn is_loaded(program: &Loaded, block: BlockId) -> bool
     ensures { result ≡ is_some ((code_of program.now.program).head block) }
 {
-    program.code(block).is_some()
+    program.block(block).is_some()
 }
 
 // A local byte of the outermost frame, if there is such a byte.
@@ -59,7 +59,7 @@ pub(crate) fn local_len_of(program: &Loaded, ob: u16) -> Option<u16>
         ((code_of program.now.program).head (block_of_ob ob)) }
     ensures few { IfSome result (λ n. n ≤ 1024) }
 {
-    let code = program.code(ob_block(ob))?;
+    let code = program.block(ob_block(ob))?;
     Some(code.local_len().min(LOCAL_BYTES))
 }
 

@@ -2,7 +2,6 @@
 ghost use Rattle.std.specs.Prelude.{◌≡◌, ◌+◌, ◌-◌, ◌^◌, ◌<◌, ◌≤◌, ◌↔◌, [], ◌∷◌, ◌++◌, length, max, slice_get, is_some, replicate, false, IfOk, OnOk, OnErr, IsNone};
 ghost use Rattle.std.specs.Option.{option_copied, option_map};
 ghost use Rattle.std.specs.FinMap as finmap;
-ghost use Rattle.plc_base.specs.declared.Profile.TheVariants.{Small};
 ghost use Rattle.plc_mem.specs.Places.{IsMemory};
 ghost use Rattle.image_file.specs.Readers.{bytes_of};
 ghost use Rattle.machine.specs.Flat.{code_of};
@@ -18,17 +17,16 @@ use crate::cpus::Cpu;
 use crate::observing::{Observed, Observer};
 use crate::starting::data_numbers;
 use image_file::Loaded;
-use plc_base::{Mode, NoMemory, Profile};
+use plc_base::{Mode, NoMemory};
 use std::alloc::Global;
 use std::marker::Model;
 use var_access::{Entries, Entry, Reply, Request, Run, What};
 
-/// A controller: a program, its profile, and the history of all entries so far, from which its state
-/// follows. A contract sees these three, and `spare`, for how many further entries there is room.
+/// A controller: a loaded program, its profile, and the history of all entries so far, from which its
+/// state follows. A contract sees these three, and `spare`, for how many further entries there is room.
 #[derive(Drop)]
 pub struct Controller {
     program: Loaded,
-    profile: Profile,
     cpu: Cpu,
     history: Entries,
     observer: Observer,
@@ -37,15 +35,15 @@ pub struct Controller {
 }
 
 impl Model for Controller {
-    ghost use Rattle.controller.specs.Recorded.{Recorded};
+    ghost use Rattle.controller.specs.Recording.{Recording};
 
-    ghost Value = { Recorded };
+    ghost Value = { Recording };
 
     ghost use Rattle.controller.specs.Kept.{IsReplay};
 
     ghost view = { λ a. record {
       program = a.program.program;
-      profile = a.profile;
+      profile = a.program.profile;
       history = a.history.entries;
       spare = a.history.spare;
     } };
@@ -60,8 +58,8 @@ fn number_at(numbers: &[u16], place: usize) -> Option<u16>
 }
 
 impl Controller {
-    /// A controller at its first start, with the sizes of the small profile, an empty history and room
-    /// for no entry.
+    /// A controller at its first start, with the sizes of the program's profile, an empty history and
+    /// room for no entry.
     ///
     /// # Errors
     ///
@@ -69,19 +67,18 @@ impl Controller {
     pub fn new(alloc: Global, program: Loaded) -> Result<Controller, NoMemory>
         ensures { IfOk result (λ c. c ≡ record {
           program = program.program;
-          profile = Small;
+          profile = program.profile;
           history = [];
           spare = 0;
         }) }
     {
         program.law_of_verifying();
         crate::laws::what_runs_goes_on();
-        let cpu = Cpu::start(alloc, &program, Profile::Small)?;
+        let cpu = Cpu::start(alloc, &program, program.profile())?;
         let numbers = data_numbers(alloc, &program)?;
         let observer = Observer::new(&cpu);
         Ok(Controller {
             program,
-            profile: Profile::Small,
             cpu,
             history: Entries::new(alloc),
             observer,
@@ -185,9 +182,9 @@ impl Controller {
         made
     }
 
-    /// The program, for another controller.
+    /// The program with its profile, for another controller.
     pub fn into_program(self) -> Loaded
-        ensures { result.program ≡ self.program }
+        ensures { result ≡ record { program = self.program; profile = self.profile } }
     {
         self.program
     }

@@ -127,8 +127,8 @@ impl Cpu {
         }
     }
 
-    /// The first start of a program at a profile: data blocks as loaded, all other memory 0, and with OB 100
-    /// STARTUP, else RUN. The room for all activations is taken here, and no other call takes
+    /// The first start of a program at a profile: data blocks as loaded, all other memory 0, and with
+    /// OB 100 STARTUP, else RUN. The room for all activations is taken here, and no other call takes
     /// memory.
     ///
     /// # Errors

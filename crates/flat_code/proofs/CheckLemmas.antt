@@ -11,7 +11,7 @@ use Rattle.plc_base.proofs.ListLemmas.{drop_next}
 use Rattle.flat_code.specs.Checking.{all_good, good_params, good_lines, good_blocks, good_datas, good_names, good_counts, good_records, makes_program, block_size, data_size, name_size, image_size}
 use Rattle.flat_code.specs.Codes.{are_ops, code_bytes, code_of, size}
 use Rattle.flat_code.specs.Faults.{fault_of, name_fault}
-use Rattle.flat_code.specs.Image.{zero_u8, zero_u16, plain_u16, plain_u32, width_field, bytes_fit, section_field, parameter_byte, parameter_bit, raw_parameter, parameter, kind_field, parameter_count, block_number, local_bytes, instance_bytes, Head, head, instance_in, same_state, parameters, line_field, line_after, lines_of, code_and_lines, raw_block, raw_of_block, plain_block, code_block, after_block, record_of_block, record_of_param, data_number, instance_field, data_len, contents, raw_data, data_block, after_data, name_len, name_bytes, name_area, name_bit, raw_name, name_record, after_name, name_of_entry, data_count, Counts, counts, code_blocks, data_blocks, names, raw_records, raw_of_records, records_of, records, body, front_size, IsProgram}
+use Rattle.flat_code.specs.Image.{zero_u8, zero_u16, plain_u16, plain_u32, width_field, bytes_fit, section_field, parameter_byte, parameter_bit, parameter_rows, parameter, kind_field, parameter_count, block_number, local_bytes, instance_bytes, Head, head, head_rows, same_state, parameters, line_field, line_after, lines_of, code_and_lines, block_rows, head_of_block, plain_block, code_block, after_block, record_of_block, record_of_param, data_number, instance_field, data_len, contents, data_rows, data_block, after_data, name_len, name_bytes, name_area, name_bit, name_rows, name_record, after_name, name_of_entry, data_count, Counts, counts, count_rows, code_blocks, data_blocks, names, body_rows, parts_of_records, records_of, records, body, front_size, IsProgram}
 use Rattle.flat_code.specs.Layout.{Layout, is_fine, good_many, spell_many}
 use Rattle.flat_code.specs.Ops.{OpData, IsOp, op_bytes}
 use Rattle.flat_code.specs.Programs.{CodeBlock, DataBlock, NameEntry, Program}
@@ -55,11 +55,11 @@ pub text_good : (before bs : List ℕ) → bytes_fit bs ≡ true → (name_bytes
 unfolding name_bytes
 text_good before bs h = ap (λ (t : Bool). t && is_fine (name_fault before bs)) (and_from _ _ (eq-eqb (length bs) (length bs) refl) h)
 
-lines_good : (start : ℕ) (before : ℕ × ℕ) (b : CodeBlock) → good_lines b.lines ≡ true → (lines_of false start (raw_of_block (record_of_block b)).0 b.code).good b.lines ≡ true
+lines_good : (start : ℕ) (before : ℕ × ℕ) (b : CodeBlock) → good_lines b.lines ≡ true → (lines_of false start (head_of_block (record_of_block b)) b.code).good b.lines ≡ true
 unfolding lines_of
 lines_good start before b h = counted (line_field false) line_after 0 b.lines ∙ h
 
-params_good : (b : CodeBlock) → (parameters (raw_of_block (record_of_block b)).0).good (map record_of_param b.params) ≡ good_params (kind_number b.id.kind) b.instance_len b.params
+params_good : (b : CodeBlock) → (parameters (head_of_block (record_of_block b))).good (map record_of_param b.params) ≡ good_params (kind_number b.id.kind) b.instance_len b.params
 unfolding parameters
 params_good b = counted (λ s. parameter (kind_number b.id.kind) b.instance_len) same_state 0 (map record_of_param b.params)
 
@@ -72,11 +72,11 @@ with_true : (a b c : Bool) → b ≡ true → c ≡ true → (a && (b && c)) ≡
 with_true true b c p q = and_from b c p q
 with_true false b c p q = refl
 
-pub block_by_parts : (before : ℕ × ℕ) (b : CodeBlock) → ((head before).good (raw_of_block (record_of_block b)).0 ≡ true → are_ops b.code ≡ true) → good_lines b.lines ≡ true
-    → ((head before).good (raw_of_block (record_of_block b)).0 && good_params (kind_number b.id.kind) b.instance_len b.params) ≡ (code_block false before).good (record_of_block b)
-unfolding code_block plain_block raw_block code_and_lines
+pub block_by_parts : (before : ℕ × ℕ) (b : CodeBlock) → ((head before).good (head_of_block (record_of_block b)) ≡ true → are_ops b.code ≡ true) → good_lines b.lines ≡ true
+    → ((head before).good (head_of_block (record_of_block b)) && good_params (kind_number b.id.kind) b.instance_len b.params) ≡ (code_block false before).good (record_of_block b)
+unfolding code_block plain_block block_rows code_and_lines
 block_by_parts before b ops lines =
-    let h = (raw_of_block (record_of_block b)).0 in
+    let h = head_of_block (record_of_block b) in
     sym (both ((head before).good h) _ _ (λ t.
     with_true ((parameters h).good (map record_of_param b.params)) ((code_of false (length (code_bytes b.code))).good b.code) ((lines_of false 0 h b.code).good b.lines) (code_good b.code (ops t)) (lines_good 0 before b lines)
     ∙ params_good b))
@@ -86,8 +86,8 @@ pub met : (a b : Bool) → a ≡ true → (a && b) ≡ b
 met true b h = refl
 met false b h = absurd cc
 
-counts_good : (a b c : ℕ) → counts.good (a, (b, (c, 0))) ≡ good_counts a b c
-unfolding counts plain_u16 data_count zero_u16 fault_of
+counts_good : (a b c : ℕ) → counts.good (record { code_blocks = a; data_blocks = b; names = c; reserved = 0 }) ≡ good_counts a b c
+unfolding counts count_rows plain_u16 data_count zero_u16 fault_of
 counts_good a b c = grind (arith, nat_tests)
 
 blocks_good : (bs : List CodeBlock) → (code_blocks false (length (map record_of_block bs))).good (map record_of_block bs) ≡ good_blocks (0, 0) bs
@@ -106,11 +106,11 @@ four : (a b c d x y z w : Bool) → a ≡ x → b ≡ y → c ≡ z → d ≡ w 
 four a b c d x y z w p q r s = cc
 
 records_good : (p : Program) → (body false).good p ≡ good_records p
-unfolding body records raw_records
+unfolding body records body_rows
 records_good p =
-    let r = raw_of_records (records_of p) in
-    four (counts.good r.0) ((code_blocks false r.0.0).good r.1.0) ((data_blocks r.0.1.0).good r.1.1.0) ((names r.0.1.1.0).good r.1.1.1) _ _ _ _
-    (counts_good r.0.0 r.0.1.0 r.0.1.1.0 ∙ rw (length-map p.code_blocks record_of_block, length-map p.names name_of_entry) refl)
+    let r = parts_of_records (records_of p) in
+    four (counts.good r.counts) ((code_blocks false r.counts.code_blocks).good r.code_blocks) ((data_blocks r.counts.data_blocks).good r.data_blocks) ((names r.counts.names).good r.names) _ _ _ _
+    (counts_good r.counts.code_blocks r.counts.data_blocks r.counts.names ∙ rw (length-map p.code_blocks record_of_block, length-map p.names name_of_entry) refl)
     (blocks_good p.code_blocks) (datas_good p.data_blocks) (names_good p.names)
 
 -- ---- the bytes
@@ -135,12 +135,12 @@ times k [] = omega arith
 times {A = A} k (x ∷ xs) = let h = times k xs in sum_by-cons (λ (y : A). k) x xs ∙ grind (arith, h)
 
 param_sized : (kind instance : ℕ) (p : ParameterRecord) → length ((parameter kind instance).spell p) ≡ 6
-unfolding parameter raw_parameter section_field width_field parameter_byte parameter_bit zero_u8
+unfolding parameter parameter_rows section_field width_field parameter_byte parameter_bit zero_u8
 param_sized kind instance p = refl
 
 params_sized : (h : Head) (ps : List ParameterRecord) → length ((parameters h).spell ps) ≡ 6 * length ps
 unfolding parameters
-params_sized h ps = many_sized (λ s. parameter h.0 (instance_in h)) same_state (λ p. 6) (λ s p. param_sized h.0 (instance_in h) p) 0 ps ∙ times 6 ps
+params_sized h ps = many_sized (λ s. parameter h.kind h.instance_bytes) same_state (λ p. 6) (λ s p. param_sized h.kind h.instance_bytes p) 0 ps ∙ times 6 ps
 
 line_sized : (before line : ℕ) → length ((line_field false before).spell line) ≡ 4
 unfolding line_field
@@ -151,7 +151,7 @@ unfolding lines_of
 lines_sized start h ops lines = many_sized (line_field false) line_after (λ n. 4) line_sized 0 lines ∙ times 4 lines
 
 head_sized : (before : ℕ × ℕ) (h : Head) → length ((head before).spell h) ≡ 16
-unfolding head kind_field parameter_count block_number local_bytes instance_bytes plain_u16 zero_u16 plain_u32
+unfolding head head_rows kind_field parameter_count block_number local_bytes instance_bytes plain_u16 zero_u16 plain_u32
 head_sized before h = refl
 
 code_spelled : (n : ℕ) (ops : List OpData) → (code_of false n).spell ops ≡ code_bytes ops
@@ -165,9 +165,9 @@ record_size : BlockRecord → ℕ
 record_size b = 16 + 6 * length b.params + length (code_bytes b.code) + 4 * length b.lines
 
 block_sized : (before : ℕ × ℕ) (b : BlockRecord) → length ((code_block false before).spell b) ≡ record_size b
-unfolding code_block plain_block raw_block code_and_lines record_size
+unfolding code_block plain_block block_rows code_and_lines record_size
 block_sized before b =
-    let h = (raw_of_block b).0 in
+    let h = head_of_block b in
     joined ((head before).spell h) ((parameters h).spell b.params) ((code_of false (length (code_bytes b.code))).spell b.code) ((lines_of false 0 h b.code).spell b.lines) _ _ _ _
     (head_sized before h) (params_sized h b.params) (ap length (code_spelled (length (code_bytes b.code)) b.code)) (lines_sized 0 h b.code b.lines)
 
@@ -180,7 +180,7 @@ unfolding code_blocks
 blocks_sized n bs = many_sized (code_block false) after_block record_size block_sized (0, 0) (map record_of_block bs) ∙ mapped_size record_of_block record_size block_size same_size bs
 
 data_sized : (before : ℕ × ℕ) (d : DataBlock) → length ((data_block before).spell d) ≡ data_size d
-unfolding data_block raw_data data_number instance_field data_len zero_u16 contents
+unfolding data_block data_rows data_number instance_field data_len zero_u16 contents
 data_sized before d = omega arith
 
 datas_sized : (n : ℕ) (ds : List DataBlock) → length ((data_blocks n).spell ds) ≡ sum_by data_size ds
@@ -191,7 +191,7 @@ name_behind : NameRecord → ℕ
 name_behind n = 6 + length n.name
 
 name_sized : (before : List ℕ) (n : NameRecord) → length ((name_record before).spell n) ≡ name_behind n
-unfolding name_record raw_name name_len name_bytes name_area width_field plain_u16 name_bit name_behind
+unfolding name_record name_rows name_len name_bytes name_area width_field plain_u16 name_bit name_behind
 name_sized before n = omega (arith, length-append n.name (n.area ∷ n.width ∷ to_be_bytes w16 n.byte ++ n.bit ∷ []))
 
 names_sized : (n : ℕ) (es : List NameEntry) → length ((names n).spell (map name_of_entry es)) ≡ sum_by name_size es
@@ -199,15 +199,15 @@ unfolding names name_behind
 names_sized n es = many_sized name_record after_name name_behind name_sized [] (map name_of_entry es) ∙ mapped_size name_of_entry name_behind name_size (λ e. refl) es
 
 counts_sized : (c : Counts) → length (counts.spell c) ≡ 8
-unfolding counts plain_u16 data_count zero_u16
+unfolding counts count_rows plain_u16 data_count zero_u16
 counts_sized c = refl
 
 image_sized : (p : Program) → front_size + length ((body false).spell p) ≡ image_size p
-unfolding body records raw_records
+unfolding body records body_rows
 image_sized p =
-    let r = raw_of_records (records_of p) in
-    let all = joined (counts.spell r.0) ((code_blocks false r.0.0).spell r.1.0) ((data_blocks r.0.1.0).spell r.1.1.0) ((names r.0.1.1.0).spell r.1.1.1) _ _ _ _
-    (counts_sized r.0) (blocks_sized r.0.0 p.code_blocks) (datas_sized r.0.1.0 p.data_blocks) (names_sized r.0.1.1.0 p.names) in
+    let r = parts_of_records (records_of p) in
+    let all = joined (counts.spell r.counts) ((code_blocks false r.counts.code_blocks).spell r.code_blocks) ((data_blocks r.counts.data_blocks).spell r.data_blocks) ((names r.counts.names).spell r.names) _ _ _ _
+    (counts_sized r.counts) (blocks_sized r.counts.code_blocks p.code_blocks) (datas_sized r.counts.data_blocks p.data_blocks) (names_sized r.counts.names p.names) in
     omega (arith, all)
 
 -- ---- a program

@@ -1,144 +1,149 @@
--- The tables have each word, jump and condition at its number.
+-- The tables have each operation, jump and condition at its number.
 use Rattle.std.proofs.Common.{◌≡◌, true, false, refl}
 use Rattle.plc_base.specs.declared.flags.Flag.{Flag}
 use Rattle.plc_base.specs.declared.flags.Flag.TheVariants as flags
 use Rattle.flat_code.specs.Kinds.{jump_of, kind_of, flag_of, condition_of}
-use Rattle.flat_code.specs.declared.kinds.JumpWord.{JumpWord}
-use Rattle.flat_code.specs.declared.kinds.JumpWord.TheVariants as jumps
-use Rattle.flat_code.specs.Words.{word_of}
+use Rattle.flat_code.specs.declared.kinds.JumpOperation.{JumpOperation}
+use Rattle.flat_code.specs.declared.kinds.JumpOperation.TheVariants as jumps
+use Rattle.flat_code.specs.Operations.{operation_of}
 use Rattle.flat_code.specs.OpCodes.{code_of}
-use Rattle.flat_code.specs.declared.words.Word.{Word}
-use Rattle.flat_code.specs.declared.words.Word.TheVariants as word
+use Rattle.flat_code.specs.declared.operations.Operation.{Operation}
+use Rattle.flat_code.specs.declared.operations.Operation.TheVariants as operation
 use Rattle.plc_base.specs.declared.instructions.Check.TheVariants as check
-use Rattle.flat_code.specs.declared.words.Number.TheVariants as number
-use Rattle.flat_code.specs.declared.words.Adding.TheVariants as adding
+use Rattle.flat_code.specs.declared.operations.Number.TheVariants as number
+use Rattle.flat_code.specs.declared.operations.Adding.TheVariants as adding
 use Rattle.plc_base.specs.declared.instructions.Compare.TheVariants as compare
-use Rattle.flat_code.specs.declared.words.Logic.TheVariants as logic
-use Rattle.flat_code.specs.declared.words.Shift.TheVariants as shifts
-use Rattle.flat_code.specs.declared.words.PointerWord.TheVariants as pointers
+use Rattle.flat_code.specs.declared.operations.Logic.TheVariants as logic
+use Rattle.flat_code.specs.declared.operations.Shift.TheVariants as shifts
+use Rattle.flat_code.specs.declared.operations.PointerOperation.TheVariants as pointers
 use Rattle.plc_base.specs.declared.instructions.TimerKind.TheVariants as starts
-use Rattle.flat_code.specs.declared.words.CallWord.TheVariants as calls
-use Rattle.flat_code.specs.declared.words.EndWord.TheVariants as ends
+use Rattle.flat_code.specs.declared.operations.RelayOperation.TheVariants as relay
+use Rattle.flat_code.specs.declared.operations.CallOperation.TheVariants as calls
+use Rattle.flat_code.specs.declared.operations.EndOperation.TheVariants as ends
 
-pub word_again : (w : Word) → word_of (code_of w) ≡ w
-unfolding word_of
-word_again word.NoWord = refl
-word_again word.Nop = refl
-word_again word.UseDb = refl
-word_again word.Bld = refl
-word_again word.Pass = refl
-word_again (word.Check check.A) = refl
-word_again (word.Check check.An) = refl
-word_again (word.Check check.O) = refl
-word_again (word.Check check.On) = refl
-word_again (word.Check check.X) = refl
-word_again (word.Check check.Xn) = refl
-word_again word.OrBare = refl
-word_again (word.Add adding.Dword) = refl
-word_again (word.Add adding.Inc) = refl
-word_again (word.Add adding.Dec) = refl
-word_again (word.Add adding.Word) = refl
-word_again (word.Nest check.A) = refl
-word_again (word.Nest check.An) = refl
-word_again (word.Nest check.O) = refl
-word_again (word.Nest check.On) = refl
-word_again (word.Nest check.X) = refl
-word_again (word.Nest check.Xn) = refl
-word_again word.Unnest = refl
-word_again word.Load = refl
-word_again word.Transfer = refl
-word_again word.Assign = refl
-word_again word.Set = refl
-word_again word.Reset = refl
-word_again (word.Edge true) = refl
-word_again (word.Edge false) = refl
-word_again word.SetRlo = refl
-word_again word.ClearRlo = refl
-word_again word.NegateRlo = refl
-word_again word.SaveRlo = refl
-word_again word.LoadBcd = refl
-word_again word.LoadStatus = refl
-word_again word.TransferStatus = refl
-word_again word.LoadOpenBlock = refl
-word_again (word.Pointer pointers.Lar1) = refl
-word_again (word.Pointer pointers.Lar2) = refl
-word_again (word.Pointer pointers.Tar1) = refl
-word_again (word.Pointer pointers.Tar2) = refl
-word_again (word.Pointer pointers.Lar1Ar2) = refl
-word_again (word.Pointer pointers.Tar1Ar2) = refl
-word_again (word.Pointer pointers.Car) = refl
-word_again (word.Pointer pointers.AddAr1) = refl
-word_again (word.Pointer pointers.AddAr2) = refl
-word_again (word.Number number.Tak) = refl
-word_again (word.Number number.Push) = refl
-word_again (word.Number number.Pop) = refl
-word_again (word.Number number.Caw) = refl
-word_again (word.Number number.Cad) = refl
-word_again (word.Number number.AddI) = refl
-word_again (word.Number number.SubI) = refl
-word_again (word.Number number.MulI) = refl
-word_again (word.Number number.DivI) = refl
-word_again (word.Number number.AddD) = refl
-word_again (word.Number number.SubD) = refl
-word_again (word.Number number.MulD) = refl
-word_again (word.Number number.DivD) = refl
-word_again (word.Number number.Mod) = refl
-word_again (word.Number number.Bti) = refl
-word_again (word.Number number.Itb) = refl
-word_again (word.Number number.Btd) = refl
-word_again (word.Number number.Dtb) = refl
-word_again (word.Number number.Itd) = refl
-word_again (word.Number number.Invi) = refl
-word_again (word.Number number.Invd) = refl
-word_again (word.Number number.Negi) = refl
-word_again (word.Number number.Negd) = refl
-word_again (word.Number number.Rlda) = refl
-word_again (word.Number number.Rrda) = refl
-word_again (word.CompareInt compare.Eq) = refl
-word_again (word.CompareInt compare.Ne) = refl
-word_again (word.CompareInt compare.Gt) = refl
-word_again (word.CompareInt compare.Lt) = refl
-word_again (word.CompareInt compare.Ge) = refl
-word_again (word.CompareInt compare.Le) = refl
-word_again (word.CompareDint compare.Eq) = refl
-word_again (word.CompareDint compare.Ne) = refl
-word_again (word.CompareDint compare.Gt) = refl
-word_again (word.CompareDint compare.Lt) = refl
-word_again (word.CompareDint compare.Ge) = refl
-word_again (word.CompareDint compare.Le) = refl
-word_again (word.Logic logic.Aw) = refl
-word_again (word.Logic logic.Ow) = refl
-word_again (word.Logic logic.Xow) = refl
-word_again (word.Logic logic.Ad) = refl
-word_again (word.Logic logic.Od) = refl
-word_again (word.Logic logic.Xod) = refl
-word_again (word.Shift shifts.Ssi) = refl
-word_again (word.Shift shifts.Ssd) = refl
-word_again (word.Shift shifts.Slw) = refl
-word_again (word.Shift shifts.Srw) = refl
-word_again (word.Shift shifts.Sld) = refl
-word_again (word.Shift shifts.Srd) = refl
-word_again (word.Shift shifts.Rld) = refl
-word_again (word.Shift shifts.Rrd) = refl
-word_again word.Jump = refl
-word_again (word.Start starts.Sp) = refl
-word_again (word.Start starts.Se) = refl
-word_again (word.Start starts.Sd) = refl
-word_again (word.Start starts.Ss) = refl
-word_again (word.Start starts.Sf) = refl
-word_again word.Free = refl
-word_again word.CountUp = refl
-word_again word.CountDown = refl
-word_again (word.Call calls.Call) = refl
-word_again (word.Call calls.Uc) = refl
-word_again (word.Call calls.Cc) = refl
-word_again (word.End ends.Be) = refl
-word_again (word.End ends.Bec) = refl
-word_again (word.End ends.Beu) = refl
-word_again word.OpenBlock = refl
-word_again word.Exchange = refl
+pub operation_again : (w : Operation) → operation_of (code_of w) ≡ w
+unfolding operation_of
+operation_again operation.NoOperation = refl
+operation_again operation.Nop = refl
+operation_again operation.UseDb = refl
+operation_again operation.Bld = refl
+operation_again operation.Pass = refl
+operation_again (operation.Relay relay.Activate) = refl
+operation_again (operation.Relay relay.Deactivate) = refl
+operation_again (operation.Relay relay.Open) = refl
+operation_again (operation.Relay relay.Close) = refl
+operation_again (operation.Check check.A) = refl
+operation_again (operation.Check check.An) = refl
+operation_again (operation.Check check.O) = refl
+operation_again (operation.Check check.On) = refl
+operation_again (operation.Check check.X) = refl
+operation_again (operation.Check check.Xn) = refl
+operation_again operation.OrBare = refl
+operation_again (operation.Add adding.Dword) = refl
+operation_again (operation.Add adding.Inc) = refl
+operation_again (operation.Add adding.Dec) = refl
+operation_again (operation.Add adding.Word) = refl
+operation_again (operation.Nest check.A) = refl
+operation_again (operation.Nest check.An) = refl
+operation_again (operation.Nest check.O) = refl
+operation_again (operation.Nest check.On) = refl
+operation_again (operation.Nest check.X) = refl
+operation_again (operation.Nest check.Xn) = refl
+operation_again operation.Unnest = refl
+operation_again operation.Load = refl
+operation_again operation.Transfer = refl
+operation_again operation.Assign = refl
+operation_again operation.Set = refl
+operation_again operation.Reset = refl
+operation_again (operation.Edge true) = refl
+operation_again (operation.Edge false) = refl
+operation_again operation.SetRlo = refl
+operation_again operation.ClearRlo = refl
+operation_again operation.NegateRlo = refl
+operation_again operation.SaveRlo = refl
+operation_again operation.LoadBcd = refl
+operation_again operation.LoadStatus = refl
+operation_again operation.TransferStatus = refl
+operation_again operation.LoadOpenBlock = refl
+operation_again (operation.Pointer pointers.Lar1) = refl
+operation_again (operation.Pointer pointers.Lar2) = refl
+operation_again (operation.Pointer pointers.Tar1) = refl
+operation_again (operation.Pointer pointers.Tar2) = refl
+operation_again (operation.Pointer pointers.Lar1Ar2) = refl
+operation_again (operation.Pointer pointers.Tar1Ar2) = refl
+operation_again (operation.Pointer pointers.Car) = refl
+operation_again (operation.Pointer pointers.AddAr1) = refl
+operation_again (operation.Pointer pointers.AddAr2) = refl
+operation_again (operation.Number number.Tak) = refl
+operation_again (operation.Number number.Push) = refl
+operation_again (operation.Number number.Pop) = refl
+operation_again (operation.Number number.Caw) = refl
+operation_again (operation.Number number.Cad) = refl
+operation_again (operation.Number number.AddI) = refl
+operation_again (operation.Number number.SubI) = refl
+operation_again (operation.Number number.MulI) = refl
+operation_again (operation.Number number.DivI) = refl
+operation_again (operation.Number number.AddD) = refl
+operation_again (operation.Number number.SubD) = refl
+operation_again (operation.Number number.MulD) = refl
+operation_again (operation.Number number.DivD) = refl
+operation_again (operation.Number number.Mod) = refl
+operation_again (operation.Number number.Bti) = refl
+operation_again (operation.Number number.Itb) = refl
+operation_again (operation.Number number.Btd) = refl
+operation_again (operation.Number number.Dtb) = refl
+operation_again (operation.Number number.Itd) = refl
+operation_again (operation.Number number.Invi) = refl
+operation_again (operation.Number number.Invd) = refl
+operation_again (operation.Number number.Negi) = refl
+operation_again (operation.Number number.Negd) = refl
+operation_again (operation.Number number.Rlda) = refl
+operation_again (operation.Number number.Rrda) = refl
+operation_again (operation.CompareInt compare.Eq) = refl
+operation_again (operation.CompareInt compare.Ne) = refl
+operation_again (operation.CompareInt compare.Gt) = refl
+operation_again (operation.CompareInt compare.Lt) = refl
+operation_again (operation.CompareInt compare.Ge) = refl
+operation_again (operation.CompareInt compare.Le) = refl
+operation_again (operation.CompareDint compare.Eq) = refl
+operation_again (operation.CompareDint compare.Ne) = refl
+operation_again (operation.CompareDint compare.Gt) = refl
+operation_again (operation.CompareDint compare.Lt) = refl
+operation_again (operation.CompareDint compare.Ge) = refl
+operation_again (operation.CompareDint compare.Le) = refl
+operation_again (operation.Logic logic.Aw) = refl
+operation_again (operation.Logic logic.Ow) = refl
+operation_again (operation.Logic logic.Xow) = refl
+operation_again (operation.Logic logic.Ad) = refl
+operation_again (operation.Logic logic.Od) = refl
+operation_again (operation.Logic logic.Xod) = refl
+operation_again (operation.Shift shifts.Ssi) = refl
+operation_again (operation.Shift shifts.Ssd) = refl
+operation_again (operation.Shift shifts.Slw) = refl
+operation_again (operation.Shift shifts.Srw) = refl
+operation_again (operation.Shift shifts.Sld) = refl
+operation_again (operation.Shift shifts.Srd) = refl
+operation_again (operation.Shift shifts.Rld) = refl
+operation_again (operation.Shift shifts.Rrd) = refl
+operation_again operation.Jump = refl
+operation_again (operation.Start starts.Sp) = refl
+operation_again (operation.Start starts.Se) = refl
+operation_again (operation.Start starts.Sd) = refl
+operation_again (operation.Start starts.Ss) = refl
+operation_again (operation.Start starts.Sf) = refl
+operation_again operation.Free = refl
+operation_again operation.CountUp = refl
+operation_again operation.CountDown = refl
+operation_again (operation.Call calls.Call) = refl
+operation_again (operation.Call calls.Uc) = refl
+operation_again (operation.Call calls.Cc) = refl
+operation_again (operation.End ends.Be) = refl
+operation_again (operation.End ends.Bec) = refl
+operation_again (operation.End ends.Beu) = refl
+operation_again operation.OpenBlock = refl
+operation_again operation.Exchange = refl
 
-pub jump_again : (jump : JumpWord) → jump_of (kind_of jump) ≡ jump
+pub jump_again : (jump : JumpOperation) → jump_of (kind_of jump) ≡ jump
 unfolding jump_of
 jump_again jumps.Ju = refl
 jump_again jumps.Jl = refl

@@ -2,9 +2,11 @@
 use Rattle.std.proofs.Common.{◌≡◌, ℕ, zero, suc, ◌<◌, ◌≤◌, Bool, true, false, eqb, ltb, leb, not, ◌&&◌, ◌||◌, List, [], ◌∷◌, map, refl}
 use Rattle.std.proofs.lemmas.Bool.{and_parts, ltb-true, leb-true}
 use Rattle.std.specs.List.{AllByRecursion}
+use Rattle.plc_base.specs.Kinds.{kind_number}
+use Rattle.plc_base.specs.declared.blocks.BlockKind.TheVariants as blocks
 use Rattle.flat_code.specs.Codes.{code_of}
 use Rattle.flat_code.specs.Faults.{fault_of, unless}
-use Rattle.flat_code.specs.Image.{Head, RawBlock, after_block, block_number, code_and_lines, code_block, code_blocks, code_len_in, head, instance_bytes, instance_in, kind_field, lines_of, local_bytes, parameter_count, parameters, params_in, plain_u16, plain_u32, raw_block, record_of_block, statements_in, zero_u16}
+use Rattle.flat_code.specs.Image.{BlockParts, Head, after_block, block_number, block_rows, code_and_lines, code_block, code_blocks, head, head_rows, instance_bytes, kind_field, lines_of, local_bytes, parameter_count, parameters, plain_u16, plain_u32, record_of_block, row_of_block_parts, row_of_head, zero_u16}
 use Rattle.flat_code.specs.Layout.{Layout, chain, good_many, is_fine}
 use Rattle.flat_code.specs.declared.image_fields.ParameterRecord.{ParameterRecord}
 use Rattle.flat_code.specs.Ops.{OpData}
@@ -59,35 +61,37 @@ abbrev pub from_params : ℕ × ℕ → ℕ → Layout (ℕ × (ℕ × (ℕ × (
 from_params before kind = chain (parameter_count kind) (λ params. from_number before kind)
 
 -- the fields of a head without fault
-pub record HeadParts (before : ℕ × ℕ) (h : Head) : Type 0 where
-  pub kind_good : (kind_field before.0).good h.0 ≡ true
-  pub params_good : (parameter_count h.0).good (params_in h) ≡ true
-  pub number_good : (block_number before.0 before.1 h.0).good h.1.1.0 ≡ true
-  pub locals_good : (local_bytes h.0).good h.1.1.1.0 ≡ true
-  pub instance_good : (instance_bytes h.0).good (instance_in h) ≡ true
-  pub statements_good : plain_u16.good (statements_in h) ≡ true
-  pub zero_good : zero_u16.good h.1.1.1.1.1.1.0 ≡ true
-  pub size_good : plain_u32.good (code_len_in h) ≡ true
+pub record GoodHead (before : ℕ × ℕ) (h : Head) : Type 0 where
+  pub kind_good : (kind_field before.0).good h.kind ≡ true
+  pub params_good : (parameter_count h.kind).good h.parameter_count ≡ true
+  pub number_good : (block_number before.0 before.1 h.kind).good h.number ≡ true
+  pub locals_good : (local_bytes h.kind).good h.local_bytes ≡ true
+  pub instance_good : (instance_bytes h.kind).good h.instance_bytes ≡ true
+  pub statements_good : plain_u16.good h.statement_count ≡ true
+  pub zero_good : zero_u16.good h.reserved ≡ true
+  pub size_good : plain_u32.good h.code_length ≡ true
 
-pub head_parts : (before : ℕ × ℕ) (h : Head) → (head before).good h ≡ true → HeadParts before h
-unfolding head
-head_parts before h good =
-    let a = chain_parts (kind_field before.0) (from_params before) h good in
-    let b = chain_parts (parameter_count h.0) (λ params. from_number before h.0) h.1 a.1 in
-    let c = chain_parts (block_number before.0 before.1 h.0) (λ number. from_locals h.0) h.1.1 b.1 in
-    let d = chain_parts (local_bytes h.0) (λ locals. from_instance h.0) h.1.1.1 c.1 in
-    let e = chain_parts (instance_bytes h.0) (λ instance. from_statements) h.1.1.1.1 d.1 in
-    let f = chain_parts plain_u16 (λ statements. from_zero) h.1.1.1.1.1 e.1 in
-    let g = chain_parts zero_u16 (λ zero. from_size) h.1.1.1.1.1.1 f.1 in
+pub good_head : (before : ℕ × ℕ) (h : Head) → (head before).good h ≡ true → GoodHead before h
+unfolding head head_rows
+good_head before h good =
+    let row = row_of_head h in
+    let a = chain_parts (kind_field before.0) (from_params before) row good in
+    let b = chain_parts (parameter_count h.kind) (λ params. from_number before h.kind) row.1 a.1 in
+    let c = chain_parts (block_number before.0 before.1 h.kind) (λ number. from_locals h.kind) row.1.1 b.1 in
+    let d = chain_parts (local_bytes h.kind) (λ locals. from_instance h.kind) row.1.1.1 c.1 in
+    let e = chain_parts (instance_bytes h.kind) (λ instance. from_statements) row.1.1.1.1 d.1 in
+    let f = chain_parts plain_u16 (λ statements. from_zero) row.1.1.1.1.1 e.1 in
+    let g = chain_parts zero_u16 (λ zero. from_size) row.1.1.1.1.1.1 f.1 in
     record { kind_good = a.0; params_good = b.0; number_good = c.0; locals_good = d.0; instance_good = e.0; statements_good = f.0; zero_good = g.0; size_good = g.1 }
 
 -- a block has at most 60 parameters
-pub head_params : (before : ℕ × ℕ) (h : Head) → (head before).good h ≡ true → params_in h ≤ 60
+pub head_params : (before : ℕ × ℕ) (h : Head) → (head before).good h ≡ true → h.parameter_count ≤ 60
 unfolding parameter_count fault_of
 head_params before h good =
-    let test = leb h.1.0 60 && (not (eqb h.0 1) || eqb h.1.0 0) in
-    let c = and_parts (ltb h.1.0 256) (is_fine (unless test 4)) (head_parts before h good).params_good in
-    leb-true h.1.0 60 (and_parts (leb h.1.0 60) (not (eqb h.0 1) || eqb h.1.0 0) (unless_fine test 4 c.1)).0
+    let few = leb h.parameter_count 60 in
+    let none = not (eqb h.kind (kind_number blocks.Ob)) || eqb h.parameter_count 0 in
+    let c = and_parts (ltb h.parameter_count 256) (is_fine (unless (few && none) 4)) (good_head before h good).params_good in
+    leb-true h.parameter_count 60 (and_parts few none (unless_fine (few && none) 4 c.1)).0
 
 -- ---- a code block
 
@@ -95,18 +99,19 @@ abbrev pub behind_head : Bool → ℕ → Head → Layout (List ParameterRecord 
 behind_head judged start h = chain (parameters h) (λ params. code_and_lines judged start h)
 
 -- the parts of a block without fault
-pub record BlockParts (judged : Bool) (before : ℕ × ℕ) (start : ℕ) (x : RawBlock) : Type 0 where
-  pub head_good : (head before).good x.0 ≡ true
-  pub params_good : (parameters x.0).good x.1.0 ≡ true
-  pub code_good : (code_of judged (code_len_in x.0)).good x.1.1.0 ≡ true
-  pub lines_good : (lines_of judged start x.0 x.1.1.0).good x.1.1.1 ≡ true
+pub record GoodBlock (judged : Bool) (before : ℕ × ℕ) (start : ℕ) (x : BlockParts) : Type 0 where
+  pub head_good : (head before).good x.head ≡ true
+  pub params_good : (parameters x.head).good x.params ≡ true
+  pub code_good : (code_of judged x.head.code_length).good x.code ≡ true
+  pub lines_good : (lines_of judged start x.head x.code).good x.lines ≡ true
 
-pub block_parts : (judged : Bool) (before : ℕ × ℕ) (start : ℕ) (x : RawBlock) → (raw_block judged before start).good x ≡ true → BlockParts judged before start x
-unfolding raw_block code_and_lines
-block_parts judged before start x good =
-    let a = chain_parts (head before) (behind_head judged start) x good in
-    let b = chain_parts (parameters x.0) (λ params. code_and_lines judged start x.0) x.1 a.1 in
-    let c = chain_parts (code_of judged (code_len_in x.0)) (lines_of judged start x.0) x.1.1 b.1 in
+pub good_block : (judged : Bool) (before : ℕ × ℕ) (start : ℕ) (x : BlockParts) → (block_rows judged before start).good (row_of_block_parts x) ≡ true → GoodBlock judged before start x
+unfolding block_rows code_and_lines
+good_block judged before start x good =
+    let row = row_of_block_parts x in
+    let a = chain_parts (head before) (behind_head judged start) row good in
+    let b = chain_parts (parameters x.head) (λ params. code_and_lines judged start x.head) row.1 a.1 in
+    let c = chain_parts (code_of judged x.head.code_length) (lines_of judged start x.head) row.1.1 b.1 in
     record { head_good = a.0; params_good = b.0; code_good = c.0; lines_good = c.1 }
 
 -- what holds of each code block without fault holds of all of a program

@@ -6,14 +6,14 @@ use Rattle.flat_code.specs.Programs.{Program, NameEntry}
 use Rattle.flat_code.specs.Layout.{is_fine, good_many}
 use Rattle.flat_code.specs.Faults.{is_before, is_upper, unless, name_fault}
 use Rattle.flat_code.specs.Names.{names_rise}
-use Rattle.flat_code.specs.Image.{name_bytes, raw_name, name_record, after_name, names, counts, code_blocks, data_blocks, raw_records, records, body, raw_of_records, records_of, name_of_entry, IsProgram}
+use Rattle.flat_code.specs.Image.{name_bytes, name_rows, name_record, after_name, names, counts, code_blocks, data_blocks, body_rows, records, body, parts_of_records, records_of, name_of_entry, IsProgram}
 
 is_met : (test : Bool) (code : ℕ) → is_fine (unless test code) ≡ true → test ≡ true
 is_met true code h = refl
 is_met false code h = absurd cc
 
 name_is_fine : (before : List ℕ) (entry : NameEntry) → (name_record before).good (name_of_entry entry) ≡ true → is_fine (name_fault before entry.name) ≡ true
-unfolding name_record raw_name name_bytes
+unfolding name_record name_rows name_bytes
 name_is_fine before entry h = and_second _ _ (and_first _ _ (and_second _ _ h))
 
 name_is_next : (before : List ℕ) (entry : NameEntry) → (name_record before).good (name_of_entry entry) ≡ true → (is_before before entry.name && is_upper entry.name) ≡ true
@@ -27,10 +27,10 @@ good_names before (entry ∷ entries) h =
     and_from _ _ (name_is_next before entry p.0) (good_names entry.name entries p.1)
 
 pub names_of_program : (p : Program) → IsProgram p → names_rise [] p.names ≡ true
-unfolding body records raw_records names
+unfolding body records body_rows names
 names_of_program p h =
-    let r = raw_of_records (records_of p) in
-    let codes = (code_blocks false r.0.0).good r.1.0 in
-    let datas = (data_blocks r.0.1.0).good r.1.1.0 in
-    let named = (names r.0.1.1.0).good r.1.1.1 in
-    good_names [] p.names (and_second datas named (and_second codes (datas && named) (and_second (counts.good r.0) (codes && (datas && named)) h.good)))
+    let r = parts_of_records (records_of p) in
+    let codes = (code_blocks false r.counts.code_blocks).good r.code_blocks in
+    let datas = (data_blocks r.counts.data_blocks).good r.data_blocks in
+    let named = (names r.counts.names).good r.names in
+    good_names [] p.names (and_second datas named (and_second codes (datas && named) (and_second (counts.good r.counts) (codes && (datas && named)) h.good)))

@@ -1,4 +1,4 @@
--- The faults that are checked over whole blocks, op by op: 6 jump targets, 7 operands, 8 brackets.
+-- The faults that are checked over whole blocks, op by op: 6 jump targets, 7 operands, 8 brackets and zones.
 use Rattle.std.specs.Prelude.{ℕ, zero, suc, ◌+◌, nat_le, nat_lt, ◌==◌, Bool, true, false, ◌&&◌, ◌||◌, not, if◌then◌else◌, List, [], ◌∷◌, ◌++◌, length, slice_get, Option, Some, None}
 use Rattle.std.specs.Option.{option_map}
 use Rattle.plc_base.specs.declared.places.Area.{Area}
@@ -15,7 +15,16 @@ use Rattle.flat_code.specs.Ops.{OpData}
 use Rattle.flat_code.specs.Records.{BlockRecord}
 use Rattle.flat_code.specs.Codes.{size, first_of}
 use Rattle.flat_code.specs.declared.image_fields.OpenBracket.{OpenBracket}
-use Rattle.flat_code.specs.Placed.{Placed, places, begins, is_empty, last_op, opens, open_behind, few, Spot, spots, spot_at}
+use Rattle.flat_code.specs.Placed.{Placed, places, begins, is_empty, last_op, opens, open_behind, zones_left, few, most_brackets, most_zones, Spot, spots, spot_at}
+use Rattle.flat_code.specs.OpCodes.{code_of}
+use Rattle.flat_code.specs.Kinds.{kind_of}
+use Rattle.flat_code.specs.Records.{section_in, section_out}
+use Rattle.flat_code.specs.declared.kinds.JumpOperation.TheVariants as jump
+use Rattle.flat_code.specs.declared.operations.CallOperation.TheVariants as calls
+use Rattle.flat_code.specs.declared.operations.Operation.TheVariants as operation
+use Rattle.flat_code.specs.declared.operations.RelayOperation.TheVariants as relay
+use Rattle.plc_base.specs.Kinds.{kind_number}
+use Rattle.plc_base.specs.declared.blocks.BlockKind.TheVariants as kinds
 use Rattle.flat_code.specs.Table.{takes_of, has_width}
 
 -- what a CALL sees of a block: kind and number, the bytes of an instance, the parameters
@@ -41,28 +50,28 @@ pub record Around : Type 0 where
 -- ---- what is called
 
 -- the parameters of the system functions: IN and OUT by width, RET_VAL last
-abbrev pub input : ℕ → ParameterRecord
-input width = record { section = 1; width = width; byte = 0; bit = 0 }
+abbrev pub input : Width → ParameterRecord
+input width = record { section = section_in; width = width_number width; byte = 0; bit = 0 }
 
 -- an OUT parameter of a system function, as RET_VAL is; it has no place, so byte and bit are 0
-abbrev pub output : ℕ → ParameterRecord
-output width = record { section = 2; width = width; byte = 0; bit = 0 }
+abbrev pub output : Width → ParameterRecord
+output width = record { section = section_out; width = width_number width; byte = 0; bit = 0 }
 
 -- an SFC's parameters by index; None for a number but the nine 32, 33, 39 to 43, 46, 64
 abbrev pub system_params : ℕ → Option (List ParameterRecord)
 system_params n =
     -- SRT_DINT: OB_NR, DTIME, SIGN, RET_VAL
-    if n == 32 then Some (input 3 ∷ input 4 ∷ input 3 ∷ output 3 ∷ [])
+    if n == 32 then Some (input width.Word ∷ input width.Dword ∷ input width.Word ∷ output width.Word ∷ [])
     -- CAN_DINT: OB_NR, RET_VAL
-    else if n == 33 then Some (input 3 ∷ output 3 ∷ [])
+    else if n == 33 then Some (input width.Word ∷ output width.Word ∷ [])
     -- DIS_IRT, EN_IRT: MODE, OB_NR, RET_VAL
-    else if n == 39 || n == 40 then Some (input 2 ∷ input 3 ∷ output 3 ∷ [])
+    else if n == 39 || n == 40 then Some (input width.Byte ∷ input width.Word ∷ output width.Word ∷ [])
     -- DIS_AIRT, EN_AIRT: RET_VAL
-    else if n == 41 || n == 42 then Some (output 3 ∷ [])
+    else if n == 41 || n == 42 then Some (output width.Word ∷ [])
     -- RE_TRIGR, STP
     else if n == 43 || n == 46 then Some []
     -- TIME_TCK: RET_VAL
-    else if n == 64 then Some (output 4 ∷ [])
+    else if n == 64 then Some (output width.Dword ∷ [])
     else None
 
 -- what is called: its kind, the bytes of an instance, the parameters
@@ -74,13 +83,13 @@ abbrev pub block_with : ℕ → ℕ → List Signature → Option Callee
 block_with kind number [] = None
 block_with kind number (b ∷ bs) = if b.kind == kind && b.number == number then Some (b.kind, b.instance_len, b.params) else block_with kind number bs
 
--- as a callee an SFC has kind 5 and no instance bytes
+-- as a callee an SFC has no instance bytes
 abbrev pub system_function : List ParameterRecord → Callee
-system_function params = (5, 0, params)
+system_function params = (kind_number kinds.Sfc, 0, params)
 
--- the block that is called: a system function (kind 5), or one of the program
+-- the block that is called: a system function, or one of the program
 unfoldable pub callee : List Signature → ℕ → ℕ → Option Callee
-callee blocks kind number = if kind == 5 then option_map system_function (system_params number) else block_with kind number blocks
+callee blocks kind number = if kind == kind_number kinds.Sfc then option_map system_function (system_params number) else block_with kind number blocks
 
 -- the length of the first data block of a number
 abbrev pub data_len : ℕ → List (ℕ × ℕ) → Option ℕ
@@ -107,13 +116,13 @@ is_bad_place around a w byte bit = is_odd_bit w bit || is_past_locals around a w
 abbrev pub lacks_width : OpData → Width → Bool
 lacks_width op w = not (has_width (takes_of op.code) w)
 
--- the instructions that write their operand: T, =, S, R, FP, FN
+-- the instructions that write their operand, whose codes stand together: T, =, S, R, FP, FN
 abbrev pub writes : ℕ → Bool
-writes code = nat_le 0x21 code && nat_le code 0x26
+writes code = nat_le (code_of operation.Transfer) code && nat_le code (code_of (operation.Edge false))
 
 -- the parameter of the block that an operand of form 05 means: only a function has such
 abbrev pub own_parameter : Around → ℕ → Option ParameterRecord
-own_parameter around index = if around.kind == 2 then slice_get around.params index else None
+own_parameter around index = if around.kind == kind_number kinds.Fc then slice_get around.params index else None
 
 -- an operand of form 05 whose parameter isn't there, or has another width
 abbrev pub lacks_own : Option ParameterRecord → Width → Bool
@@ -123,7 +132,7 @@ lacks_own (Some p) w = not (p.width == width_number w)
 -- an IN parameter, if there is one; a function doesn't write it, nor pass it for OUT or IN_OUT
 abbrev pub is_input : Option ParameterRecord → Bool
 is_input None = false
-is_input (Some p) = p.section == 1
+is_input (Some p) = p.section == section_in
 
 -- ---- USEDB and PASS
 
@@ -153,7 +162,7 @@ is_above index (Some other) = nat_lt other index
 
 -- a PASS without a CALL, or whose index doesn't rise
 abbrev pub is_stray_pass : Placed → ℕ → Bool
-is_stray_pass p index = not ((last_op p).code == 0x78) || not (is_above index (pass_before None p.before))
+is_stray_pass p index = not ((last_op p).code == code_of (operation.Call calls.Call)) || not (is_above index (pass_before None p.before))
 
 -- what is passed, by itself: as operands are
 abbrev pub is_bad_actual : Around → Passed → Bool
@@ -165,18 +174,18 @@ is_bad_actual around (passed.InBlock number a w byte bit) = true
 
 -- whether a literal fits a width
 abbrev pub literal_fits : ℕ → ℕ → Bool
-literal_fits width value =
-    if width == 1 then nat_le value 1
-    else if width == 2 then nat_le value 0xFF
-    else if width == 3 then nat_le value 0xFFFF
-    else width == 4
+literal_fits number value =
+    if number == width_number width.Bit then nat_le value 1
+    else if number == width_number width.Byte then nat_le value 0xFF
+    else if number == width_number width.Word then nat_le value 0xFFFF
+    else number == width_number width.Dword
 
 -- what is passed doesn't fit its parameter: another width, a literal for OUT or IN_OUT or too wide, an
 -- input of a function for OUT or IN_OUT
 abbrev pub misfits_parameter : Around → ParameterRecord → Passed → Bool
-misfits_parameter around q (passed.Literal value) = not (q.section == 1) || not (literal_fits q.width value)
+misfits_parameter around q (passed.Literal value) = not (q.section == section_in) || not (literal_fits q.width value)
 misfits_parameter around q (passed.Direct a w byte bit) = not (q.width == width_number w)
-misfits_parameter around q (passed.Parameter index w) = not (q.width == width_number w) || not (q.section == 1) && is_input (own_parameter around index)
+misfits_parameter around q (passed.Parameter index w) = not (q.width == width_number w) || not (q.section == section_in) && is_input (own_parameter around index)
 misfits_parameter around q (passed.InBlock number a w byte bit) = not (q.width == width_number w)
 
 -- a parameter that the called block lacks (None), or that what is passed doesn't fit
@@ -219,13 +228,13 @@ is_short needed (Some len) = nat_lt len needed
 -- no instance (0) is right where the block has no parameters; one is given to function blocks alone
 abbrev pub is_bad_instance : List (ℕ × ℕ) → Callee → ℕ → Bool
 is_bad_instance data_lens s instance =
-    if s.0 == 3 then (if instance == 0 then not (is_empty s.2) else is_short s.1 (data_len instance data_lens))
+    if s.0 == kind_number kinds.Fb then (if instance == 0 then not (is_empty s.2) else is_short s.1 (data_len instance data_lens))
     else not (instance == 0)
 
 -- absent; a function or system function whose parameters aren't all passed; the instance
 abbrev pub is_bad_call : List (ℕ × ℕ) → Option Callee → ℕ → List OpData → Bool
 is_bad_call data_lens None instance before = true
-is_bad_call data_lens (Some s) instance before = not (s.0 == 3) && not (are_passed 0 s.2 before) || is_bad_instance data_lens s instance
+is_bad_call data_lens (Some s) instance before = not (s.0 == kind_number kinds.Fb) && not (are_passed 0 s.2 before) || is_bad_instance data_lens s instance
 
 -- ---- jumps
 
@@ -247,25 +256,29 @@ leads most target from [] = from == target
 leads zero target from (op ∷ ops) = from == target
 leads (suc most) target from (op ∷ ops) = from == target || is_ju op.operand && leads most target (from + size op) ops
 
--- JL (kind 1): its target stands behind it, and between are at most 255 JU alone
+-- JL: its target stands behind it, and between are at most 255 JU alone
 abbrev pub is_bad_list : Placed → ℕ → ℕ → Bool
-is_bad_list p kind target = kind == 1 && not (leads 255 target (p.at + size p.op) p.rest)
+is_bad_list p kind target = kind == kind_of jump.Jl && not (leads 255 target (p.at + size p.op) p.rest)
 
--- 8: other brackets stand open at the target. (Where more than seven stand open at the jump, an earlier
--- op has fault 8, and no comparison is needed.)
-abbrev pub differing : Option (List ℕ) → Option (List ℕ) → Option ℕ
-differing None other = None
-differing (Some codes) None = Some 8
-differing (Some codes) (Some others) = if same_codes codes others then None else Some 8
+-- other brackets stand open at the target. (Where more than seven stand open at the jump, an earlier op
+-- has fault 8, and no comparison is needed.)
+abbrev pub are_other : Option (List ℕ) → Option (List ℕ) → Bool
+are_other None others = false
+are_other (Some codes) None = true
+are_other (Some codes) (Some others) = not (same_codes codes others)
+
+-- 8: other brackets, or another number of zones, stand open at the target than at the jump
+abbrev pub differing : Option (List ℕ) → ℕ → Spot → Option ℕ
+differing codes zones there = if are_other codes there.codes || not (zones == there.zones) then Some 8 else None
 
 -- 6: no statement begins at the target, or a JL's list
-abbrev pub target_fault : Option (List ℕ) → Option (Option (List ℕ)) → Option ℕ
-target_fault here None = Some 6
-target_fault here (Some there) = differing here there
+abbrev pub target_fault : Option (List ℕ) → ℕ → Option Spot → Option ℕ
+target_fault codes zones None = Some 6
+target_fault codes zones (Some there) = differing codes zones there
 
 -- the fault of a jump: 6 for the list of a JL, else 6 or 8 by what begins at the target
 abbrev pub jump_fault : List Spot → Placed → ℕ → ℕ → Option ℕ
-jump_fault statements p kind target = if is_bad_list p kind target then Some 6 else target_fault (few p.brackets) (spot_at statements target)
+jump_fault statements p kind target = if is_bad_list p kind target then Some 6 else target_fault (few p.brackets) (length p.zones) (spot_at statements target)
 
 -- ---- ops
 
@@ -287,7 +300,7 @@ operand_fault around statements p _ = None
 -- what needs the other blocks
 abbrev pub call_fault_among : Around → List (ℕ × ℕ) → Placed → Operand → Option ℕ
 call_fault_among around data_lens p (operand.Called kind number instance) = seven_if (is_bad_call data_lens (callee around.blocks kind number) instance p.before)
-call_fault_among around data_lens p (operand.Pass index actual) = seven_if ((last_op p).code == 0x78 && misfits_call around (last_op p).operand index actual)
+call_fault_among around data_lens p (operand.Pass index actual) = seven_if ((last_op p).code == code_of (operation.Call calls.Call) && misfits_call around (last_op p).operand index actual)
 call_fault_among around data_lens p _ = None
 
 -- what is called and passed is checked only where all code and data blocks were read
@@ -297,7 +310,7 @@ call_fault around (Some data_lens) p = call_fault_among around data_lens p p.op.
 
 -- 7: USEDB and PASS prepare, and have no end mark; every other op has it
 abbrev pub prepares : ℕ → Bool
-prepares code = code == 2 || code == 4
+prepares code = code == code_of operation.UseDb || code == code_of operation.Pass
 
 -- the fault of an end mark on USEDB or PASS, and of another op that has none
 abbrev pub mark_fault : OpData → Option ℕ
@@ -306,8 +319,15 @@ mark_fault op = seven_if (if prepares op.code then op.last else not op.last)
 -- 8: `)` without open bracket, an eighth bracket
 abbrev pub bracket_fault : ℕ → List OpenBracket → Option ℕ
 bracket_fault code brackets =
-    if opens code then (if nat_le 7 (length brackets) then Some 8 else None)
-    else if code == 0x1E then (if is_empty brackets then Some 8 else None)
+    if opens code then (if nat_le most_brackets (length brackets) then Some 8 else None)
+    else if code == code_of operation.Unnest then (if is_empty brackets then Some 8 else None)
+    else None
+
+-- 8: `)MCR` without open zone, a ninth zone
+abbrev pub zone_fault : ℕ → List ℕ → Option ℕ
+zone_fault code zones =
+    if code == code_of (operation.Relay relay.Open) then (if nat_le most_zones (length zones) then Some 8 else None)
+    else if code == code_of (operation.Relay relay.Close) then (if is_empty zones then Some 8 else None)
     else None
 
 -- at an offset
@@ -316,13 +336,14 @@ at_offset at None = []
 at_offset at (Some code) = (at, code) ∷ []
 
 -- the faults of one op, each at the op's own offset (`start` is where the code begins): of its
--- operand, of what is called or passed, of its end mark, of its bracket
+-- operand, of what is called or passed, of its end mark, of its bracket, of its zone
 unfoldable pub op_faults : Around → List Spot → ℕ → Placed → List (ℕ × ℕ)
 op_faults around statements start p =
     at_offset (start + p.at) (operand_fault around statements p p.op.operand)
     ++ at_offset (start + p.at) (call_fault around around.data_lens p)
     ++ at_offset (start + p.at) (mark_fault p.op)
     ++ at_offset (start + p.at) (bracket_fault p.op.code p.brackets)
+    ++ at_offset (start + p.at) (zone_fault p.op.code p.zones)
 
 -- the faults of ops one behind the other; all are listed, whichever is told in the end
 abbrev pub faults_over : Around → List Spot → ℕ → List Placed → List (ℕ × ℕ)
@@ -334,6 +355,14 @@ abbrev pub open_faults : ℕ → List OpenBracket → List (ℕ × ℕ)
 open_faults start [] = []
 open_faults start (b ∷ bs) = (start + b.at, 8) ∷ open_faults start bs
 
+-- 8: a zone that is open at the last statement, at its own `MCR(`
+abbrev pub open_zone_faults : ℕ → List ℕ → List (ℕ × ℕ)
+open_zone_faults start [] = []
+open_zone_faults start (at ∷ zones) = (start + at, 8) ∷ open_zone_faults start zones
+
 -- the faults of a block whose code begins at an offset
 unfoldable pub block_faults : Around → ℕ → List OpData → List (ℕ × ℕ)
-block_faults around start ops = faults_over around (spots ops) start (places ops) ++ open_faults start (open_behind 0 [] ops)
+block_faults around start ops =
+    faults_over around (spots ops) start (places ops)
+    ++ open_faults start (open_behind 0 [] ops)
+    ++ open_zone_faults start (zones_left 0 [] ops)

@@ -1,6 +1,9 @@
 -- The code of a block: its ops to the end, the last of them BE with the end mark.
 use Rattle.std.specs.Prelude.{ℕ, zero, suc, ◌+◌, nat_lt, ◌==◌, Bool, true, false, ◌&&◌, if◌then◌else◌, List, [], ◌∷◌, ◌++◌, length, take, drop, Option, Some, None}
 use Rattle.flat_code.specs.Ops.{OpData, is_op, op_bytes, op_at}
+use Rattle.flat_code.specs.OpCodes.{code_of as code_of_operation}
+use Rattle.flat_code.specs.declared.operations.Operation.TheVariants as operation
+use Rattle.flat_code.specs.declared.operations.EndOperation.TheVariants as ends_by
 use Rattle.flat_code.specs.Layout.{Cursor, Read, Layout, ended, given}
 
 -- the ops that bytes begin with, one behind the other, and what is left; each op takes a byte at least
@@ -34,7 +37,7 @@ code_bytes (op ∷ ops) = op_bytes op ++ code_bytes ops
 -- whether the last op is BE with the end mark
 abbrev pub ends : List OpData → Bool
 ends [] = false
-ends (op ∷ []) = op.code == 0x7B && op.last
+ends (op ∷ []) = op.code == code_of_operation (operation.End ends_by.Be) && op.last
 ends (op ∷ others) = ends others
 
 -- the offset of the last op, behind ops that end at an offset
@@ -43,10 +46,14 @@ last_place at [] = at
 last_place at (op ∷ []) = at
 last_place at (op ∷ others) = last_place (at + size op) others
 
+-- a statement has at most 64 ops
+abbrev pub most_ops : ℕ
+most_ops = 64
+
 -- the offset of the first op that is the 65th of its statement, behind so many ops of the statement
 abbrev pub overlong : ℕ → ℕ → List OpData → Option ℕ
 overlong count at [] = None
-overlong count at (op ∷ ops) = if count == 64 then Some at else overlong (if op.last then 0 else suc count) (at + size op) ops
+overlong count at (op ∷ ops) = if count == most_ops then Some at else overlong (if op.last then 0 else suc count) (at + size op) ops
 
 -- the left one, if there is one, else the right one
 abbrev pub first_of : Option ℕ → Option ℕ → Option ℕ

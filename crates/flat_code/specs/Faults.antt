@@ -1,9 +1,15 @@
 -- The faults of an image's fields, each by its code: 1 magic, 2 version, 4 a value beyond its limit or
 -- out of order, 9 statement count and lines.
 use Rattle.std.specs.Prelude.{ℕ, nat_le, nat_lt, ◌+◌, ◌==◌, Bool, true, false, ◌&&◌, ◌||◌, not, if◌then◌else◌, List, [], ◌∷◌, Option, Some, None}
-use Rattle.plc_base.specs.Widths.{byte_count}
+use Rattle.plc_base.specs.Kinds.{kind_number}
+use Rattle.plc_base.specs.Widths.{byte_count, width_number}
+use Rattle.plc_base.specs.declared.blocks.BlockKind.TheVariants as kinds
+use Rattle.plc_base.specs.declared.places.Width.TheVariants as widths
+use Rattle.plc_base.specs.declared.profiles.Profile.TheVariants as profile
 use Rattle.plc_base.specs.declared.places.Area.TheVariants as area
 use Rattle.flat_code.specs.Forms.{area_code, width_of_number}
+use Rattle.flat_code.specs.Records.{section_in, section_in_out}
+use Rattle.flat_code.specs.Stamps.{profile_number}
 use Rattle.flat_code.specs.declared.image_fields.Field.{Field}
 use Rattle.flat_code.specs.declared.image_fields.Field.TheVariants as field
 
@@ -19,40 +25,42 @@ lies_within low high n = nat_le low n && nat_le n high
 abbrev pub is_ob_number : ℕ → Bool
 is_ob_number n = n == 1 || lies_within 10 17 n || lies_within 20 23 n || lies_within 30 38 n || lies_within 40 47 n || n == 80 || n == 85 || n == 100 || n == 121 || n == 122
 
--- the numbers of the code blocks of a kind (1 OB, 2 FC, 3 FB)
+-- the numbers of the code blocks of a kind
 abbrev pub has_number : ℕ → ℕ → Bool
-has_number kind n = if kind == 1 then is_ob_number n else nat_le n 2047
+has_number kind n = if kind == kind_number kinds.Ob then is_ob_number n else nat_le n 2047
 
 -- a parameter of a function block lies within the instance, one of another block has no place
 abbrev pub holds_parameter : ℕ → ℕ → ℕ → ℕ → Bool
 holds_parameter kind instance width byte =
-    if kind == 3 then nat_le (byte + byte_count (width_of_number width)) instance else byte == 0
+    if kind == kind_number kinds.Fb then nat_le (byte + byte_count (width_of_number width)) instance else byte == 0
 
 -- the code of a field's fault, None where it has none; for the bytes of a name see `name_fault`
 unfoldable pub fault_of : Field → Option ℕ
 -- 1: the magic is `S7FB`
 fault_of (field.Magic number) = unless (number == 0x53374642) 1
--- 2: the version is 1
-fault_of (field.Version number) = unless (number == 1) 2
+-- 2: the version is 1 or 2
+fault_of (field.Version number) = unless (number == 1 || number == 2) 2
+-- 4: the profile of version 2 is that of Small or Large; in version 1 the field is 0
+fault_of (field.Profile version number) = unless (if version == 2 then lies_within (profile_number profile.Small) (profile_number profile.Large) number else number == 0) 4
 -- 4: a reserved field is 0
 fault_of (field.Reserved number) = unless (number == 0) 4
 -- sizes, counts, kinds and numbers are within their limits, and records rise
 fault_of (field.DataBlockCount count) = unless (nat_le count 256) 4
-fault_of (field.Kind before kind) = unless (lies_within 1 3 kind && nat_le before kind) 4
-fault_of (field.ParameterCount kind count) = unless (nat_le count 60 && (not (kind == 1) || count == 0)) 4
+fault_of (field.Kind before kind) = unless (lies_within (kind_number kinds.Ob) (kind_number kinds.Fb) kind && nat_le before kind) 4
+fault_of (field.ParameterCount kind count) = unless (nat_le count 60 && (not (kind == kind_number kinds.Ob) || count == 0)) 4
 fault_of (field.Number kind_before before kind number) = unless (has_number kind number && (not (kind == kind_before) || nat_lt before number)) 4
-fault_of (field.LocalBytes kind bytes) = unless (nat_le bytes 1024 && (not (kind == 1) || nat_le 20 bytes)) 4
-fault_of (field.InstanceBytes kind bytes) = unless (if kind == 3 then nat_le bytes 16384 else bytes == 0) 4
-fault_of (field.Section section) = unless (lies_within 1 3 section) 4
-fault_of (field.Width width) = unless (lies_within 1 4 width) 4
+fault_of (field.LocalBytes kind bytes) = unless (nat_le bytes 1024 && (not (kind == kind_number kinds.Ob) || nat_le 20 bytes)) 4
+fault_of (field.InstanceBytes kind bytes) = unless (if kind == kind_number kinds.Fb then nat_le bytes 16384 else bytes == 0) 4
+fault_of (field.Section section) = unless (lies_within section_in section_in_out section) 4
+fault_of (field.Width width) = unless (lies_within (width_number widths.Bit) (width_number widths.Dword) width) 4
 fault_of (field.ParameterByte kind instance width byte) = unless (holds_parameter kind instance width byte) 4
-fault_of (field.ParameterBit kind bit) = unless (nat_le bit 7 && (kind == 3 || bit == 0)) 4
+fault_of (field.ParameterBit kind bit) = unless (nat_le bit 7 && (kind == kind_number kinds.Fb || bit == 0)) 4
 fault_of (field.DataNumber before number) = unless (lies_within 1 2047 number && nat_lt before number) 4
 fault_of (field.InstanceOf number) = unless (nat_le number 2048) 4
 fault_of (field.DataBytes before bytes) = unless (nat_le bytes 16384 && nat_le (before + bytes) 2097152) 4
 fault_of (field.NameLength bytes) = unless (lies_within 1 24 bytes) 4
 fault_of (field.NameArea number) = unless (lies_within (area_code area.I) (area_code area.M) number) 4
-fault_of (field.NameBit width bit) = unless (nat_le bit 7 && (width == 1 || bit == 0)) 4
+fault_of (field.NameBit width bit) = unless (nat_le bit 7 && (width == width_number widths.Bit || bit == 0)) 4
 -- 9: as many statements as end marks; a line isn't 0, and none falls
 fault_of (field.StatementCount end_marks count) = unless (end_marks == count) 9
 fault_of (field.Line before line) = unless (not (line == 0) && nat_le before line) 9

@@ -1,4 +1,4 @@
--- THE IMAGE of a program, version 1, and what reading bytes as one notes and finds.
+-- THE IMAGE of a program, of version 1 or 2, and what reading bytes as one notes and finds.
 use Rattle.std.specs.Prelude.{◌≡◌, ℕ, zero, suc, ◌+◌, ◌-◌, ◌*◌, ◌≤◌, nat_lt, ◌==◌, Bool, true, false, ◌&&◌, ◌||◌, if◌then◌else◌, List, [], ◌∷◌, ◌++◌, length, map, take, drop, Option, Some, None}
 use Rattle.plc_base.specs.Kinds.{kind_number}
 use Rattle.plc_base.specs.Widths.{width_number}
@@ -15,6 +15,8 @@ use Rattle.flat_code.specs.Ops.{OpData}
 use Rattle.flat_code.specs.Programs.{CodeBlock, DataBlock, NameEntry, Program}
 use Rattle.flat_code.specs.Records.{BlockRecord, NameRecord, Records}
 use Rattle.flat_code.specs.Faults.{fault_of, name_fault}
+use Rattle.flat_code.specs.Stamps.{version_number, profile_field_of, stamp_of}
+use Rattle.flat_code.specs.declared.stamps.Stamp.{Stamp}
 use Rattle.flat_code.specs.Layout.{Note, Faulty, Whole, AllBlocks, Cursor, Read, Layout, ended, bind, field, chain, checked, located, many, seen_as, remembered}
 use Rattle.flat_code.specs.Codes.{code_bytes, code_of, only}
 
@@ -34,7 +36,7 @@ plain_u32 = field u32 plain
 unfoldable pub zero_u8 : Layout ℕ
 zero_u8 = field u8 (λ n. fault_of (field_of.Reserved n))
 
--- a reserved u16 of the header, a code block's head or a data block: 0, else fault 4
+-- a reserved u16 of the counts, a code block's head or a data block: 0, else fault 4
 unfoldable pub zero_u16 : Layout ℕ
 zero_u16 = field u16 (λ n. fault_of (field_of.Reserved n))
 
@@ -63,29 +65,45 @@ parameter_byte kind instance w = field u16 (λ n. fault_of (field_of.ParameterBy
 unfoldable pub parameter_bit : ℕ → Layout ℕ
 parameter_bit kind = field u8 (λ n. fault_of (field_of.ParameterBit kind n))
 
--- the fields of a parameter: section, width, byte, bit, zero
-abbrev pub RawParameter : Type 0
-RawParameter = ℕ × (ℕ × (ℕ × (ℕ × ℕ)))
+-- the fields of a parameter
+pub record ParameterFields : Type 0 where
+  pub section : ℕ
+  pub width : ℕ
+  pub byte : ℕ
+  pub bit : ℕ
+  pub reserved : ℕ
 
--- the layout of these fields, in a block of this kind with so many instance bytes
-unfoldable pub raw_parameter : ℕ → ℕ → Layout RawParameter
-raw_parameter kind instance =
-    chain section_field (λ s.
-    chain width_field (λ w.
-    chain (parameter_byte kind instance w) (λ byte.
+-- as they stand one behind the other
+abbrev pub ParameterRow : Type 0
+ParameterRow = ℕ × (ℕ × (ℕ × (ℕ × ℕ)))
+
+-- the fields of such a row
+abbrev pub parameter_fields : ParameterRow → ParameterFields
+parameter_fields r = record { section = r.0; width = r.1.0; byte = r.1.1.0; bit = r.1.1.1.0; reserved = r.1.1.1.1 }
+
+-- the row of these fields
+abbrev pub parameter_row : ParameterFields → ParameterRow
+parameter_row f = (f.section, (f.width, (f.byte, (f.bit, f.reserved))))
+
+-- the layout of a row, in a block of this kind with so many instance bytes
+unfoldable pub parameter_rows : ℕ → ℕ → Layout ParameterRow
+parameter_rows kind instance =
+    chain section_field (λ section.
+    chain width_field (λ width.
+    chain (parameter_byte kind instance width) (λ byte.
     chain (parameter_bit kind) (λ bit. zero_u8))))
 
 -- the record of a parameter's fields, without the reserved one
-abbrev pub parameter_of_raw : RawParameter → ParameterRecord
-parameter_of_raw r = record { section = r.0; width = r.1.0; byte = r.1.1.0; bit = r.1.1.1.0 }
+abbrev pub parameter_of_fields : ParameterFields → ParameterRecord
+parameter_of_fields f = record { section = f.section; width = f.width; byte = f.byte; bit = f.bit }
 
 -- the fields of a parameter's record; the reserved one is 0
-abbrev pub raw_of_parameter : ParameterRecord → RawParameter
-raw_of_parameter p = (p.section, (p.width, (p.byte, (p.bit, 0))))
+abbrev pub fields_of_parameter : ParameterRecord → ParameterFields
+fields_of_parameter p = record { section = p.section; width = p.width; byte = p.byte; bit = p.bit; reserved = 0 }
 
 -- the six bytes of a parameter as its record
 unfoldable pub parameter : ℕ → ℕ → Layout ParameterRecord
-parameter kind instance = seen_as parameter_of_raw raw_of_parameter (raw_parameter kind instance)
+parameter kind instance = seen_as (λ r. parameter_of_fields (parameter_fields r)) (λ p. parameter_row (fields_of_parameter p)) (parameter_rows kind instance)
 
 -- HEAD OF A CODE BLOCK: kind u8, parameter count u8, number u16, local bytes u16, instance bytes u16,
 -- statement count u16, zero u16, code length u32. `before` has kind and number of the block before, 0 and 0 for none
@@ -108,13 +126,41 @@ local_bytes kind = field u16 (λ n. fault_of (field_of.LocalBytes kind n))
 unfoldable pub instance_bytes : ℕ → Layout ℕ
 instance_bytes kind = field u16 (λ n. fault_of (field_of.InstanceBytes kind n))
 
--- kind, parameter count, number, local bytes, instance bytes, statement count, zero, code length
-abbrev pub Head : Type 0
-Head = ℕ × (ℕ × (ℕ × (ℕ × (ℕ × (ℕ × (ℕ × ℕ))))))
+-- the head of a code block
+pub record Head : Type 0 where
+  pub kind : ℕ
+  pub parameter_count : ℕ
+  pub number : ℕ
+  pub local_bytes : ℕ
+  pub instance_bytes : ℕ
+  pub statement_count : ℕ
+  pub reserved : ℕ
+  pub code_length : ℕ
 
--- the sixteen bytes with which a code block begins, behind one of kind and number `before`
-unfoldable pub head : ℕ × ℕ → Layout Head
-head before =
+-- its fields as they stand one behind the other
+abbrev pub HeadRow : Type 0
+HeadRow = ℕ × (ℕ × (ℕ × (ℕ × (ℕ × (ℕ × (ℕ × ℕ))))))
+
+-- the head of such a row
+abbrev pub head_of_row : HeadRow → Head
+head_of_row r = record {
+  kind = r.0;
+  parameter_count = r.1.0;
+  number = r.1.1.0;
+  local_bytes = r.1.1.1.0;
+  instance_bytes = r.1.1.1.1.0;
+  statement_count = r.1.1.1.1.1.0;
+  reserved = r.1.1.1.1.1.1.0;
+  code_length = r.1.1.1.1.1.1.1;
+}
+
+-- the row of a head
+abbrev pub row_of_head : Head → HeadRow
+row_of_head h = (h.kind, (h.parameter_count, (h.number, (h.local_bytes, (h.instance_bytes, (h.statement_count, (h.reserved, h.code_length)))))))
+
+-- the sixteen bytes with which a code block begins, behind one of kind and number `before`, as a row
+unfoldable pub head_rows : ℕ × ℕ → Layout HeadRow
+head_rows before =
     chain (kind_field before.0) (λ kind.
     chain (parameter_count kind) (λ params.
     chain (block_number before.0 before.1 kind) (λ number.
@@ -123,21 +169,9 @@ head before =
     chain plain_u16 (λ statements.
     chain zero_u16 (λ zero. plain_u32)))))))
 
--- the parameter count: how many follow the head
-abbrev pub params_in : Head → ℕ
-params_in h = h.1.0
-
--- the instance bytes, within which the parameters of an FB lie
-abbrev pub instance_in : Head → ℕ
-instance_in h = h.1.1.1.1.0
-
--- the statement count: how many lines follow the code
-abbrev pub statements_in : Head → ℕ
-statements_in h = h.1.1.1.1.1.0
-
--- the code length: how many bytes behind the parameters are code
-abbrev pub code_len_in : Head → ℕ
-code_len_in h = h.1.1.1.1.1.1.1
+-- the same bytes as a head
+unfoldable pub head : ℕ × ℕ → Layout Head
+head before = seen_as head_of_row row_of_head (head_rows before)
 
 -- PARAMETERS
 -- what stands before a parameter says nothing about the next
@@ -146,7 +180,7 @@ same_state s p = s
 
 -- as many parameters as the head counts, by its kind and instance bytes
 unfoldable pub parameters : Head → Layout (List ParameterRecord)
-parameters h = many (λ s. parameter h.0 (instance_in h)) same_state 0 (params_in h)
+parameters h = many (λ s. parameter h.kind h.instance_bytes) same_state 0 h.parameter_count
 
 -- LINES, u32 each; the statement count at `start` + 8 is checked now, as the code is known
 -- how many ops have the end mark: the number of statements, where the code ends with one
@@ -165,32 +199,60 @@ line_field judged before = field u32 (λ n. only judged (fault_of (field_of.Line
 -- as many lines as the head counts; with true, fault 9 if other than the number of end marks
 unfoldable pub lines_of : Bool → ℕ → Head → List OpData → Layout (List ℕ)
 lines_of judged start h ops =
-    checked (start + 8) (only judged (fault_of (field_of.StatementCount (end_marks ops) (statements_in h))))
-    (many (line_field judged) line_after 0 (statements_in h))
+    checked (start + 8) (only judged (fault_of (field_of.StatementCount (end_marks ops) h.statement_count)))
+    (many (line_field judged) line_after 0 h.statement_count)
 
 -- CODE BLOCK: head, parameters, code, lines
 unfoldable pub code_and_lines : Bool → ℕ → Head → Layout (List OpData × List ℕ)
-code_and_lines judged start h = chain (code_of judged (code_len_in h)) (lines_of judged start h)
+code_and_lines judged start h = chain (code_of judged h.code_length) (lines_of judged start h)
 
--- the parts of a code block: head, parameters, ops, lines
-abbrev pub RawBlock : Type 0
-RawBlock = Head × (List ParameterRecord × (List OpData × List ℕ))
+-- the parts of a code block
+pub record BlockParts : Type 0 where
+  pub head : Head
+  pub params : List ParameterRecord
+  pub code : List OpData
+  pub lines : List ℕ
 
--- the layout of these parts from offset `start` on, behind one of kind and number `before`
-unfoldable pub raw_block : Bool → ℕ × ℕ → ℕ → Layout RawBlock
-raw_block judged before start = chain (head before) (λ h. chain (parameters h) (λ params. code_and_lines judged start h))
+-- as they stand one behind the other
+abbrev pub BlockRow : Type 0
+BlockRow = Head × (List ParameterRecord × (List OpData × List ℕ))
+
+-- the parts of such a row
+abbrev pub parts_of_block_row : BlockRow → BlockParts
+parts_of_block_row r = record { head = r.0; params = r.1.0; code = r.1.1.0; lines = r.1.1.1 }
+
+-- the row of these parts
+abbrev pub row_of_block_parts : BlockParts → BlockRow
+row_of_block_parts p = (p.head, (p.params, (p.code, p.lines)))
+
+-- the layout of a row from offset `start` on, behind a block of kind and number `before`
+unfoldable pub block_rows : Bool → ℕ × ℕ → ℕ → Layout BlockRow
+block_rows judged before start = chain (head before) (λ h. chain (parameters h) (λ params. code_and_lines judged start h))
 
 -- the record without counts, code length and reserved field: the lists are as long as they say
-abbrev pub block_of_raw : RawBlock → BlockRecord
-block_of_raw r = record { kind = r.0.0; number = r.0.1.1.0; local_len = r.0.1.1.1.0; instance_len = r.0.1.1.1.1.0; params = r.1.0; code = r.1.1.0; lines = r.1.1.1 }
+abbrev pub block_of_parts : BlockParts → BlockRecord
+block_of_parts p = record { kind = p.head.kind; number = p.head.number; local_len = p.head.local_bytes; instance_len = p.head.instance_bytes; params = p.params; code = p.code; lines = p.lines }
 
--- the parts of a record: counts and code length are those of its lists, the reserved field is 0
-abbrev pub raw_of_block : BlockRecord → RawBlock
-raw_of_block b = ((b.kind, (length b.params, (b.number, (b.local_len, (b.instance_len, (length b.lines, (0, length (code_bytes b.code)))))))), (b.params, (b.code, b.lines)))
+-- the head of a record: counts and code length are those of its lists, the reserved field is 0
+abbrev pub head_of_block : BlockRecord → Head
+head_of_block b = record {
+  kind = b.kind;
+  parameter_count = length b.params;
+  number = b.number;
+  local_bytes = b.local_len;
+  instance_bytes = b.instance_len;
+  statement_count = length b.lines;
+  reserved = 0;
+  code_length = length (code_bytes b.code);
+}
+
+-- the parts of a record
+abbrev pub parts_of_block : BlockRecord → BlockParts
+parts_of_block b = record { head = head_of_block b; params = b.params; code = b.code; lines = b.lines }
 
 -- the bytes of a code block as its record
 unfoldable pub plain_block : Bool → ℕ × ℕ → ℕ → Layout BlockRecord
-plain_block judged before start = seen_as block_of_raw raw_of_block (raw_block judged before start)
+plain_block judged before start = seen_as (λ r. block_of_parts (parts_of_block_row r)) (λ b. row_of_block_parts (parts_of_block b)) (block_rows judged before start)
 
 -- a block that was read whole is noted, with the offset at which its code begins
 abbrev pub whole_at : ℕ → BlockRecord → Note
@@ -225,13 +287,29 @@ data_len before = field u16 (λ n. fault_of (field_of.DataBytes before n))
 unfoldable pub contents : ℕ → Layout (List ℕ)
 contents n = field (bytes n) (λ bs. None)
 
--- the fields of a data block: number, instance, length, zero, bytes
-abbrev pub RawData : Type 0
-RawData = ℕ × (ℕ × (ℕ × (ℕ × List ℕ)))
+-- the fields of a data block
+pub record DataFields : Type 0 where
+  pub number : ℕ
+  pub instance : ℕ
+  pub length : ℕ
+  pub reserved : ℕ
+  pub bytes : List ℕ
 
--- the layout of these fields, behind a block of number `before.0` and bytes `before.1` in all
-unfoldable pub raw_data : ℕ × ℕ → Layout RawData
-raw_data before =
+-- as they stand one behind the other
+abbrev pub DataRow : Type 0
+DataRow = ℕ × (ℕ × (ℕ × (ℕ × List ℕ)))
+
+-- the fields of such a row
+abbrev pub data_fields : DataRow → DataFields
+data_fields r = record { number = r.0; instance = r.1.0; length = r.1.1.0; reserved = r.1.1.1.0; bytes = r.1.1.1.1 }
+
+-- the row of these fields
+abbrev pub data_row : DataFields → DataRow
+data_row f = (f.number, (f.instance, (f.length, (f.reserved, f.bytes))))
+
+-- the layout of a row, behind a block of number `before.0` and bytes `before.1` in all
+unfoldable pub data_rows : ℕ × ℕ → Layout DataRow
+data_rows before =
     chain (data_number before.0) (λ number.
     chain instance_field (λ instance.
     chain (data_len before.1) (λ n.
@@ -248,16 +326,16 @@ number_of_instance None = 0
 number_of_instance (Some n) = suc n
 
 -- a data block without length and reserved field: it has as many bytes as the length says
-abbrev pub data_of_raw : RawData → DataBlock
-data_of_raw r = record { number = r.0; instance_of = instance_of_number r.1.0; bytes = r.1.1.1.1 }
+abbrev pub data_of_fields : DataFields → DataBlock
+data_of_fields f = record { number = f.number; instance_of = instance_of_number f.instance; bytes = f.bytes }
 
 -- the fields of a data block: the length is that of its bytes, the reserved field is 0
-abbrev pub raw_of_data : DataBlock → RawData
-raw_of_data d = (d.number, (number_of_instance d.instance_of, (length d.bytes, (0, d.bytes))))
+abbrev pub fields_of_data : DataBlock → DataFields
+fields_of_data d = record { number = d.number; instance = number_of_instance d.instance_of; length = length d.bytes; reserved = 0; bytes = d.bytes }
 
 -- the bytes of a data block as its record
 unfoldable pub data_block : ℕ × ℕ → Layout DataBlock
-data_block before = seen_as data_of_raw raw_of_data (raw_data before)
+data_block before = seen_as (λ r. data_of_fields (data_fields r)) (λ d. data_row (fields_of_data d)) (data_rows before)
 
 -- what stands before the next block: this one, by number, and the bytes of all so far
 abbrev pub after_data : ℕ × ℕ → DataBlock → ℕ × ℕ
@@ -279,13 +357,30 @@ name_area = field u8 (λ n. fault_of (field_of.NameArea n))
 unfoldable pub name_bit : ℕ → Layout ℕ
 name_bit w = field u8 (λ n. fault_of (field_of.NameBit w n))
 
--- the fields of a name: length, bytes, area, width, byte, bit
-abbrev pub RawName : Type 0
-RawName = ℕ × (List ℕ × (ℕ × (ℕ × (ℕ × ℕ))))
+-- the fields of a name
+pub record NameFields : Type 0 where
+  pub length : ℕ
+  pub name : List ℕ
+  pub area : ℕ
+  pub width : ℕ
+  pub byte : ℕ
+  pub bit : ℕ
 
--- the layout of these fields, behind the name `before`
-unfoldable pub raw_name : List ℕ → Layout RawName
-raw_name before =
+-- as they stand one behind the other
+abbrev pub NameRow : Type 0
+NameRow = ℕ × (List ℕ × (ℕ × (ℕ × (ℕ × ℕ))))
+
+-- the fields of such a row
+abbrev pub name_fields : NameRow → NameFields
+name_fields r = record { length = r.0; name = r.1.0; area = r.1.1.0; width = r.1.1.1.0; byte = r.1.1.1.1.0; bit = r.1.1.1.1.1 }
+
+-- the row of these fields
+abbrev pub name_row : NameFields → NameRow
+name_row f = (f.length, (f.name, (f.area, (f.width, (f.byte, f.bit)))))
+
+-- the layout of a row, behind the name `before`
+unfoldable pub name_rows : List ℕ → Layout NameRow
+name_rows before =
     chain name_len (λ n.
     chain (name_bytes before n) (λ name.
     chain name_area (λ area.
@@ -293,16 +388,16 @@ raw_name before =
     chain plain_u16 (λ byte. name_bit w)))))
 
 -- the record of a name's fields, without the length: the name has as many bytes
-abbrev pub name_of_raw : RawName → NameRecord
-name_of_raw r = record { name = r.1.0; area = r.1.1.0; width = r.1.1.1.0; byte = r.1.1.1.1.0; bit = r.1.1.1.1.1 }
+abbrev pub name_of_fields : NameFields → NameRecord
+name_of_fields f = record { name = f.name; area = f.area; width = f.width; byte = f.byte; bit = f.bit }
 
 -- the fields of a name's record; the length is that of the name
-abbrev pub raw_of_name : NameRecord → RawName
-raw_of_name n = (length n.name, (n.name, (n.area, (n.width, (n.byte, n.bit)))))
+abbrev pub fields_of_name : NameRecord → NameFields
+fields_of_name n = record { length = length n.name; name = n.name; area = n.area; width = n.width; byte = n.byte; bit = n.bit }
 
 -- the bytes of a name and its variable as its record
 unfoldable pub name_record : List ℕ → Layout NameRecord
-name_record before = seen_as name_of_raw raw_of_name (raw_name before)
+name_record before = seen_as (λ r. name_of_fields (name_fields r)) (λ n. name_row (fields_of_name n)) (name_rows before)
 
 -- what stands before the next name: this one
 abbrev pub after_name : List ℕ → NameRecord → List ℕ
@@ -312,13 +407,32 @@ after_name before n = n.name
 unfoldable pub data_count : Layout ℕ
 data_count = field u16 (λ n. fault_of (field_of.DataBlockCount n))
 
--- the counts of code blocks, data blocks and names, zero
-abbrev pub Counts : Type 0
-Counts = ℕ × (ℕ × (ℕ × ℕ))
+-- how many records of each kind there are
+pub record Counts : Type 0 where
+  pub code_blocks : ℕ
+  pub data_blocks : ℕ
+  pub names : ℕ
+  pub reserved : ℕ
 
--- the last eight bytes of the header; more than 256 data blocks are fault 4
+-- as they stand one behind the other
+abbrev pub CountRow : Type 0
+CountRow = ℕ × (ℕ × (ℕ × ℕ))
+
+-- the counts of such a row
+abbrev pub counts_of_row : CountRow → Counts
+counts_of_row r = record { code_blocks = r.0; data_blocks = r.1.0; names = r.1.1.0; reserved = r.1.1.1 }
+
+-- the row of these counts
+abbrev pub row_of_counts : Counts → CountRow
+row_of_counts c = (c.code_blocks, (c.data_blocks, (c.names, c.reserved)))
+
+-- the last eight bytes of the header as a row; more than 256 data blocks are fault 4
+unfoldable pub count_rows : Layout CountRow
+count_rows = chain plain_u16 (λ codes. chain data_count (λ datas. chain plain_u16 (λ names. zero_u16)))
+
+-- the same bytes as counts
 unfoldable pub counts : Layout Counts
-counts = chain plain_u16 (λ codes. chain data_count (λ datas. chain plain_u16 (λ names. zero_u16)))
+counts = seen_as counts_of_row row_of_counts count_rows
 
 -- n code blocks, the first behind none
 unfoldable pub code_blocks : Bool → ℕ → Layout (List BlockRecord)
@@ -336,25 +450,44 @@ data_blocks n = remembered AllBlocks (plain_data_blocks n)
 unfoldable pub names : ℕ → Layout (List NameRecord)
 names n = many name_record after_name [] n
 
--- the parts of an image behind the total length: counts, code blocks, data blocks, names
-abbrev pub RawRecords : Type 0
-RawRecords = Counts × (List BlockRecord × (List DataBlock × List NameRecord))
+-- the parts of an image behind the total length
+pub record BodyParts : Type 0 where
+  pub counts : Counts
+  pub code_blocks : List BlockRecord
+  pub data_blocks : List DataBlock
+  pub names : List NameRecord
+
+-- as they stand one behind the other
+abbrev pub BodyRow : Type 0
+BodyRow = Counts × (List BlockRecord × (List DataBlock × List NameRecord))
+
+-- the parts of such a row
+abbrev pub parts_of_body_row : BodyRow → BodyParts
+parts_of_body_row r = record { counts = r.0; code_blocks = r.1.0; data_blocks = r.1.1.0; names = r.1.1.1 }
+
+-- the row of these parts
+abbrev pub row_of_body_parts : BodyParts → BodyRow
+row_of_body_parts p = (p.counts, (p.code_blocks, (p.data_blocks, p.names)))
 
 -- judged: the faults of code and lines (5 and 9) too
-unfoldable pub raw_records : Bool → Layout RawRecords
-raw_records judged = chain counts (λ c. chain (code_blocks judged c.0) (λ blocks. chain (data_blocks c.1.0) (λ datas. names c.1.1.0)))
+unfoldable pub body_rows : Bool → Layout BodyRow
+body_rows judged = chain counts (λ c. chain (code_blocks judged c.code_blocks) (λ blocks. chain (data_blocks c.data_blocks) (λ datas. names c.names)))
 
 -- the records without the counts: the lists are as long as these say
-abbrev pub records_of_raw : RawRecords → Records
-records_of_raw r = record { code_blocks = r.1.0; data_blocks = r.1.1.0; names = r.1.1.1 }
+abbrev pub records_of_parts : BodyParts → Records
+records_of_parts p = record { code_blocks = p.code_blocks; data_blocks = p.data_blocks; names = p.names }
 
 -- the counts are the lengths of the lists of records, and the reserved field is 0
-abbrev pub raw_of_records : Records → RawRecords
-raw_of_records r = ((length r.code_blocks, (length r.data_blocks, (length r.names, 0))), (r.code_blocks, (r.data_blocks, r.names)))
+abbrev pub counts_of : Records → Counts
+counts_of r = record { code_blocks = length r.code_blocks; data_blocks = length r.data_blocks; names = length r.names; reserved = 0 }
+
+-- the parts of records
+abbrev pub parts_of_records : Records → BodyParts
+parts_of_records r = record { counts = counts_of r; code_blocks = r.code_blocks; data_blocks = r.data_blocks; names = r.names }
 
 -- the records of an image, with their counts before them
 unfoldable pub records : Bool → Layout Records
-records judged = seen_as records_of_raw raw_of_records (raw_records judged)
+records judged = seen_as (λ r. records_of_parts (parts_of_body_row r)) (λ r. row_of_body_parts (parts_of_records r)) (body_rows judged)
 
 -- the kind where an image has blocks of code of it: OB, FC or FB; a data type in place of the others
 abbrev pub or_type : Option BlockKind → BlockKind
@@ -421,33 +554,60 @@ records_of p = record { code_blocks = map record_of_block p.code_blocks; data_bl
 unfoldable pub body : Bool → Layout Program
 body judged = seen_as program_of records_of (records judged)
 
--- HEADER up to the total length: magic u32, version u16, zero u16, total length u32
+-- HEADER up to the total length: magic u32, version u16, profile u16, total length u32
 unfoldable pub magic_field : Layout ℕ
 magic_field = field u32 (λ n. fault_of (field_of.Magic n))
 
--- the version: 1, else fault 2
+-- the version: 1 or 2, else fault 2
 unfoldable pub version_field : Layout ℕ
 version_field = field u16 (λ n. fault_of (field_of.Version n))
 
--- the fields of the header up to the total length: magic, version, zero, total length
-abbrev pub Front : Type 0
-Front = ℕ × (ℕ × (ℕ × ℕ))
+-- the profile that version 2 names, and 0 in version 1, else fault 4
+unfoldable pub profile_field : ℕ → Layout ℕ
+profile_field version = field u16 (λ n. fault_of (field_of.Profile version n))
 
--- the first twelve bytes of the header; whether the total length is right is tested by `cut`
+-- the fields of the header up to the total length
+pub record Front : Type 0 where
+  pub magic : ℕ
+  pub version : ℕ
+  pub profile : ℕ
+  pub total_length : ℕ
+
+-- as they stand one behind the other
+abbrev pub FrontRow : Type 0
+FrontRow = ℕ × (ℕ × (ℕ × ℕ))
+
+-- the front of such a row
+abbrev pub front_of_row : FrontRow → Front
+front_of_row r = record { magic = r.0; version = r.1.0; profile = r.1.1.0; total_length = r.1.1.1 }
+
+-- the row of a front
+abbrev pub row_of_front : Front → FrontRow
+row_of_front f = (f.magic, (f.version, (f.profile, f.total_length)))
+
+-- the first twelve bytes of the header as a row; whether the total length is right is tested by `cut`
+unfoldable pub front_rows : Layout FrontRow
+front_rows = chain magic_field (λ magic. chain version_field (λ version. chain (profile_field version) (λ profile. plain_u32)))
+
+-- the same bytes as a front
 unfoldable pub front : Layout Front
-front = chain magic_field (λ magic. chain version_field (λ version. chain zero_u16 (λ zero. plain_u32)))
+front = seen_as front_of_row row_of_front front_rows
 
--- 4 bytes magic, 2 version, 2 zero, 4 total length
+-- 4 bytes magic, 2 version, 2 profile, 4 total length
 abbrev pub front_size : ℕ
 front_size = 12
 
--- the front of an image of so many bytes: `S7FB`, version 1, zero, the total length
-abbrev pub front_of : ℕ → Front
-front_of total = (0x53374642, (1, (0, total)))
+-- the front of an image of so many bytes: `S7FB`, version and profile, the total length
+abbrev pub front_of : Stamp → ℕ → Front
+front_of stamp total = record { magic = 0x53374642; version = version_number stamp; profile = profile_field_of stamp; total_length = total }
+
+-- the stamp that a front says
+abbrev pub stamp_in : Front → Stamp
+stamp_in f = stamp_of f.version f.profile
 
 -- the bytes of a program: the front, with the length of them all, and the body
-unfoldable pub image : Program → List ℕ
-image p = front.spell (front_of (front_size + length ((body false).spell p))) ++ (body false).spell p
+unfoldable pub image : Stamp → Program → List ℕ
+image stamp p = front.spell (front_of stamp (front_size + length ((body false).spell p))) ++ (body false).spell p
 
 -- A PROGRAM: every number fits its field, nothing in it is fault 4, and its image has at most 8,388,608 bytes
 pub record IsProgram (p : Program) : Type 0 where
@@ -459,24 +619,28 @@ abbrev pub IsRight : Program → Type 0
 IsRight p = (body true).good p ≡ true
 
 -- 10: bytes behind the last record
-abbrev pub at_end : Program → Cursor → Read Program
-at_end p end = record { notes = if length end.rest == 0 then [] else Faulty end.at 10 ∷ []; found = Some (p, end) }
+abbrev pub at_end : Stamp → Program → Cursor → Read (Stamp × Program)
+at_end stamp p end = record { notes = if length end.rest == 0 then [] else Faulty end.at 10 ∷ []; found = Some ((stamp, p), end) }
+
+-- the body of so many bytes, and that nothing stands behind its last record
+abbrev pub read_body : Bool → Stamp → ℕ → Cursor → Read (Stamp × Program)
+read_body judged stamp size cur = bind ((body judged).read (record { at = cur.at; rest = take size cur.rest })) (at_end stamp)
 
 -- 3: a total length above the bytes there, or below 20. 4: one above 8,388,608. Both end the reading. 10: bytes
 -- behind the total length, which are cut off
-abbrev pub cut : Bool → ℕ → ℕ → Cursor → Read Program
-cut judged size total cur =
+abbrev pub cut : Bool → Stamp → (size total : ℕ) → Cursor → Read (Stamp × Program)
+cut judged stamp size total cur =
     if nat_lt total 20 || nat_lt size total then ended 8 3
     else if nat_lt 8388608 total then ended 8 4
     else record {
-      notes = (if size == total then [] else Faulty total 10 ∷ []) ++ (bind ((body judged).read (record { at = cur.at; rest = take (total - front_size) cur.rest })) at_end).notes;
-      found = (bind ((body judged).read (record { at = cur.at; rest = take (total - front_size) cur.rest })) at_end).found;
+      notes = (if size == total then [] else Faulty total 10 ∷ []) ++ (read_body judged stamp (total - front_size) cur).notes;
+      found = (read_body judged stamp (total - front_size) cur).found;
     }
 
 -- bytes read as an image: the front (faults 1, 2 and 4 don't end it), then by its total length
-unfoldable pub read_by : Bool → List ℕ → Read Program
-read_by judged text = bind (front.read (record { at = 0; rest = text })) (λ f cur. cut judged (length text) f.1.1.1 cur)
+unfoldable pub read_by : Bool → List ℕ → Read (Stamp × Program)
+read_by judged text = bind (front.read (record { at = 0; rest = text })) (λ f cur. cut judged (stamp_in f) (length text) f.total_length cur)
 
 -- bytes read as an image, with all faults of its fields, and of code and lines (5 and 9)
-abbrev pub read_image : List ℕ → Read Program
+abbrev pub read_image : List ℕ → Read (Stamp × Program)
 read_image text = read_by true text

@@ -2,16 +2,16 @@
 use Rattle.std.specs.Prelude.{ℕ, ◌-◌, slice_index_or}
 use Rattle.plc_base.specs.declared.flags.Flag.{Flag}
 use Rattle.plc_base.specs.declared.flags.Flag.TheVariants as flag
-use Rattle.flat_code.specs.declared.kinds.JumpWord.{JumpWord}
-use Rattle.flat_code.specs.declared.kinds.JumpWord.TheVariants as jump
+use Rattle.flat_code.specs.declared.kinds.JumpOperation.{JumpOperation}
+use Rattle.flat_code.specs.declared.kinds.JumpOperation.TheVariants as jump
 use Rattle.flat_code.specs.declared.kinds.TheConstants.{JUMPS, CONDITIONS}
 
 -- the jump of a kind, by the table that the code uses
-unfoldable pub jump_of : ℕ → JumpWord
+unfoldable pub jump_of : ℕ → JumpOperation
 jump_of kind = slice_index_or JUMPS kind jump.Ju
 
 -- the kind of a jump
-abbrev pub kind_of : JumpWord → ℕ
+abbrev pub kind_of : JumpOperation → ℕ
 kind_of jump.Ju = 0
 kind_of jump.Jl = 1
 kind_of jump.Jc = 2

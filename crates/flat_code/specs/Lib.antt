@@ -1,4 +1,4 @@
-pub mod Words
+pub mod Operations
 pub mod OpCodes
 pub mod Kinds
 pub mod Table
@@ -10,6 +10,7 @@ pub mod Programs
 pub mod Instr
 pub mod Names
 pub mod Records
+pub mod Stamps
 pub mod Layout
 pub mod Faults
 pub mod Codes

@@ -5,6 +5,7 @@ use Rattle.flat_code.specs.Programs.{DataBlock, Program}
 use Rattle.flat_code.specs.Records.{BlockRecord}
 use Rattle.flat_code.specs.Layout.{Note, Faulty, Whole, AllBlocks, Cursor, faults_in}
 use Rattle.flat_code.specs.Image.{image, IsProgram, IsRight, read_image, record_of_block}
+use Rattle.flat_code.specs.declared.stamps.Stamp.{Stamp}
 use Rattle.flat_code.specs.Blocks.{signature_of, Around, block_faults}
 
 -- the numbers and lengths of data blocks
@@ -56,10 +57,10 @@ faults_in_notes notes = faults_in notes ++ judged_blocks (option_map lens_of (al
 unfoldable pub faults_of : List ℕ → List (ℕ × ℕ)
 faults_of text = faults_in_notes (read_image text).notes
 
--- bytes have no fault and give a program
-pub record Gives (text : List ℕ) (p : Program) : Type 0 where
+-- bytes have no fault and give a program, with a version and profile
+pub record Gives (text : List ℕ) (stamp : Stamp) (p : Program) : Type 0 where
   pub end : Cursor
-  pub found : (read_image text).found ≡ Some (p, end)
+  pub found : (read_image text).found ≡ Some ((stamp, p), end)
   pub clean : faults_of text ≡ []
 
 -- A PROGRAM VERIFIES where no field, and no op of any block, has a fault
@@ -72,8 +73,8 @@ pub record Verifies (p : Program) : Type 0 where
   pub right : IsRight p
   pub blocks : AreVerified (lens_of p.data_blocks) (map record_of_block p.code_blocks) (map record_of_block p.code_blocks)
 
--- bytes give a program exactly where they are its image and it verifies
-pub record IsLoadable (text : List ℕ) (p : Program) : Type 0 where
-  pub spelled : text ≡ image p
+-- bytes give a program exactly where they are its image, of a version and profile, and it verifies
+pub record IsLoadable (text : List ℕ) (stamp : Stamp) (p : Program) : Type 0 where
+  pub spelled : text ≡ image stamp p
   pub program : IsProgram p
   pub verifies : Verifies p

@@ -3,8 +3,8 @@ use Rattle.flat_code.specs.declared.decoding.BadOp.{BadOp}
 use Rattle.std.specs.Prelude.{◌≡◌, ◌<◌, ◌≤◌, length, drop, Result, Ok, Err, ℕ, ◌+◌, ◌%◌, nat_lt, nat_le, Bool, true, ◌&&◌, if◌then◌else◌, List, ◌∷◌, Option, Some, None}
 use Rattle.std.specs.Option.{option_and_then}
 use Rattle.flat_code.specs.declared.operands.Operand.{Operand}
-use Rattle.flat_code.specs.declared.words.Word.{Word}
-use Rattle.flat_code.specs.Table.{takes_of, takes_of_word, admits}
+use Rattle.flat_code.specs.declared.operations.Operation.{Operation}
+use Rattle.flat_code.specs.Table.{takes_of, takes_of_operation, admits}
 use Rattle.flat_code.specs.Forms.{form_of_operand, payload_fits, payload, payload_in}
 
 -- an op: the code of its instruction, whether it ends its statement, its operand
@@ -21,9 +21,9 @@ op_of code last operand = record { code = code; last = last; operand = operand }
 unfoldable pub is_op : ℕ → Operand → Bool
 is_op code operand = nat_lt code 128 && admits (takes_of code) operand && payload_fits operand
 
--- whether a word takes the operand, so that the two make an op
-unfoldable pub is_instruction : Word → Operand → Bool
-is_instruction word operand = admits (takes_of_word word) operand && payload_fits operand
+-- whether an operation takes the operand, so that the two make an op
+unfoldable pub is_instruction : Operation → Operand → Bool
+is_instruction operation operand = admits (takes_of_operation operation) operand && payload_fits operand
 
 -- an op that the tables have: a code below 80, a form that it takes, values that fit the payload
 abbrev pub IsOp : OpData → Type 0

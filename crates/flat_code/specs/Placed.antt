@@ -3,6 +3,10 @@ use Rattle.std.specs.Prelude.{ℕ, ◌+◌, ◌-◌, nat_le, ◌==◌, Bool, tru
 use Rattle.flat_code.specs.declared.image_fields.OpenBracket.{OpenBracket}
 use Rattle.flat_code.specs.Ops.{OpData}
 use Rattle.flat_code.specs.Codes.{size}
+use Rattle.flat_code.specs.OpCodes.{code_of}
+use Rattle.flat_code.specs.declared.operations.Operation.TheVariants as operation
+use Rattle.flat_code.specs.declared.operations.RelayOperation.TheVariants as relay
+use Rattle.plc_base.specs.declared.instructions.Check.TheVariants as check
 
 -- the op at an offset and the offset after it, of ops that begin at an offset; none where no op begins there
 abbrev pub op_placed : ℕ → List OpData → ℕ → Option (OpData × ℕ)
@@ -17,18 +21,20 @@ line_placed from begins (op ∷ ops) lines at =
     if from == at then (if begins then slice_get lines 0 else None)
     else line_placed (from + size op) op.last ops (if op.last then drop 1 lines else lines) at
 
--- an op in its code: its offset, the brackets that stand open before it in the text (the outermost
--- first), the ops of its statement before it, the op, and the ops behind it
+-- an op in its code: its offset, the brackets that stand open before it in the text and the zones of the
+-- master control relay, by the offsets of their `MCR(` (the outermost first), the ops of its statement
+-- before it, the op, and the ops behind it
 pub record Placed : Type 0 where
   pub at : ℕ
   pub brackets : List OpenBracket
+  pub zones : List ℕ
   pub before : List OpData
   pub op : OpData
   pub rest : List OpData
 
--- the open brackets behind an op: 18 to 1D open one, 1E is `)`
+-- A( to XN(, whose codes stand together, open a bracket
 abbrev pub opens : ℕ → Bool
-opens code = nat_le 0x18 code && nat_le code 0x1D
+opens code = nat_le (code_of (operation.Nest check.A)) code && nat_le code (code_of (operation.Nest check.Xn))
 
 -- brackets without the innermost, which is the last of the list; of none, none
 abbrev pub inner : List OpenBracket → List OpenBracket
@@ -39,24 +45,32 @@ inner brackets = take (length brackets - 1) brackets
 abbrev pub opened : ℕ → ℕ → List OpenBracket → List OpenBracket
 opened at code brackets =
     if opens code then brackets ++ record { at = at; code = code } ∷ []
-    else if code == 0x1E then inner brackets
+    else if code == code_of operation.Unnest then inner brackets
     else brackets
+
+-- behind an op at an offset: `MCR(` opens a zone, `)MCR` ends the last one, and every other op leaves the
+-- zones as they are
+abbrev pub zones_behind : ℕ → ℕ → List ℕ → List ℕ
+zones_behind at code zones =
+    if code == code_of (operation.Relay relay.Open) then zones ++ at ∷ []
+    else if code == code_of (operation.Relay relay.Close) then take (length zones - 1) zones
+    else zones
 
 -- the ops of the statement before the next op
 abbrev pub before_next : OpData → List OpData → List OpData
 before_next op before = if op.last then [] else before ++ op ∷ []
 
--- ops at their places, the first at an offset, behind these open brackets and behind these ops of
--- its own statement
-abbrev pub placed : ℕ → List OpenBracket → List OpData → List OpData → List Placed
-placed at brackets before [] = []
-placed at brackets before (op ∷ ops) =
-    record { at = at; brackets = brackets; before = before; op = op; rest = ops }
-    ∷ placed (at + size op) (opened at op.code brackets) (before_next op before) ops
+-- ops at their places, the first at an offset, behind these open brackets and zones and behind these
+-- ops of its own statement
+abbrev pub placed : ℕ → List OpenBracket → List ℕ → List OpData → List OpData → List Placed
+placed at brackets zones before [] = []
+placed at brackets zones before (op ∷ ops) =
+    record { at = at; brackets = brackets; zones = zones; before = before; op = op; rest = ops }
+    ∷ placed (at + size op) (opened at op.code brackets) (zones_behind at op.code zones) (before_next op before) ops
 
 -- the ops of a block
 abbrev pub places : List OpData → List Placed
-places ops = placed 0 [] [] ops
+places ops = placed 0 [] [] [] ops
 
 -- nothing stands in the list: no op before in the statement, no open bracket, no parameter
 abbrev pub is_empty : {A : Type 0} → List A → Bool
@@ -72,31 +86,41 @@ abbrev pub bracket_codes : List OpenBracket → List ℕ
 bracket_codes [] = []
 bracket_codes (b ∷ bs) = b.code ∷ bracket_codes bs
 
--- the open brackets, where they are at most seven
-abbrev pub few : List OpenBracket → Option (List ℕ)
-few brackets = if nat_le (length brackets) 7 then Some (bracket_codes brackets) else None
+-- at most seven brackets stand open at a place
+abbrev pub most_brackets : ℕ
+most_brackets = 7
 
--- a statement of a block: the offset at which it begins, and the brackets that stand open there
+-- at most eight zones stand open at a place
+abbrev pub most_zones : ℕ
+most_zones = 8
+
+-- the codes of open brackets, where they are few enough
+abbrev pub few : List OpenBracket → Option (List ℕ)
+few brackets = if nat_le (length brackets) most_brackets then Some (bracket_codes brackets) else None
+
+-- a statement of a block: the offset at which it begins, the brackets that stand open there, and how
+-- many zones
 pub record Spot : Type 0 where
   pub at : ℕ
   pub codes : Option (List ℕ)
+  pub zones : ℕ
 
--- the statements of ops that begin at an offset, behind these open brackets; `begin`: whether the
--- first op begins a statement or goes on with one
-abbrev pub spots_from : ℕ → Bool → List OpenBracket → List OpData → List Spot
-spots_from at begin brackets [] = []
-spots_from at begin brackets (op ∷ ops) =
-    if begin then record { at = at; codes = few brackets } ∷ spots_from (at + size op) op.last (opened at op.code brackets) ops
-    else spots_from (at + size op) op.last (opened at op.code brackets) ops
+-- the statements of ops that begin at an offset, behind these open brackets and zones; `begin`: whether
+-- the first op begins a statement or goes on with one
+abbrev pub spots_from : ℕ → Bool → List OpenBracket → List ℕ → List OpData → List Spot
+spots_from at begin brackets zones [] = []
+spots_from at begin brackets zones (op ∷ ops) =
+    if begin then record { at = at; codes = few brackets; zones = length zones } ∷ spots_from (at + size op) op.last (opened at op.code brackets) (zones_behind at op.code zones) ops
+    else spots_from (at + size op) op.last (opened at op.code brackets) (zones_behind at op.code zones) ops
 
 -- the statements of a block
 abbrev pub spots : List OpData → List Spot
-spots ops = spots_from 0 true [] ops
+spots ops = spots_from 0 true [] [] ops
 
--- the brackets open at the statement that begins at an offset; None where none begins there
-abbrev pub spot_at : List Spot → ℕ → Option (Option (List ℕ))
+-- the statement that begins at an offset; None where none begins there
+abbrev pub spot_at : List Spot → ℕ → Option Spot
 spot_at [] at = None
-spot_at (s ∷ ss) at = if s.at == at then Some s.codes else spot_at ss at
+spot_at (s ∷ ss) at = if s.at == at then Some s else spot_at ss at
 
 -- the op that ends the statement of an op
 abbrev pub ending : OpData → List OpData → OpData
@@ -111,3 +135,8 @@ last_op p = ending p.op p.rest
 abbrev pub open_behind : ℕ → List OpenBracket → List OpData → List OpenBracket
 open_behind at brackets [] = brackets
 open_behind at brackets (op ∷ ops) = open_behind (at + size op) (opened at op.code brackets) ops
+
+-- the zones that stand open behind all ops
+abbrev pub zones_left : ℕ → List ℕ → List OpData → List ℕ
+zones_left at zones [] = zones
+zones_left at zones (op ∷ ops) = zones_left (at + size op) (zones_behind at op.code zones) ops

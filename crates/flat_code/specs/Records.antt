@@ -4,7 +4,19 @@ use Rattle.flat_code.specs.declared.image_fields.ParameterRecord.{ParameterRecor
 use Rattle.flat_code.specs.Ops.{OpData}
 use Rattle.flat_code.specs.Programs.{DataBlock}
 
--- a code block (kind 1 OB, 2 FC, 3 FB)
+-- the sections of parameters by number: VAR_INPUT, VAR_OUTPUT, VAR_IN_OUT
+abbrev pub section_in : ℕ
+section_in = 1
+
+-- VAR_OUTPUT
+abbrev pub section_out : ℕ
+section_out = 2
+
+-- VAR_IN_OUT
+abbrev pub section_in_out : ℕ
+section_in_out = 3
+
+-- a code block; its kind is that of an OB, FC or FB
 pub record BlockRecord : Type 0 where
   pub kind : ℕ
   pub number : ℕ

@@ -136,7 +136,7 @@ fn payload_at(form: u8, bytes: &[u8]) -> Option<(Operand, &[u8])>
     }
 }
 
-fn operand_at(form: u8, bytes: &[u8]) -> Option<(Operand, &[u8])>
+pub(crate) fn operand_at(form: u8, bytes: &[u8]) -> Option<(Operand, &[u8])>
     ensures read { option_map (λ r. (r.0, r.1.now)) result ≡ payload_in form bytes.now }
     ensures fits { IfSome result (λ r. payload_fits r.0 ≡ true) }
 {
@@ -163,7 +163,7 @@ fn op_from(bytes: &[u8]) -> Option<(u8, bool, Operand, &[u8])>
     }
 }
 
-fn behind(bytes: &[u8], at: usize) -> &[u8]
+pub(crate) fn behind(bytes: &[u8], at: usize) -> &[u8]
     requires { at ≤ length bytes.now }
     ensures { result.now ≡ drop at bytes.now }
 {

@@ -5,7 +5,7 @@ ghost use Rattle.flat_code.specs.Checking.{good_blocks, good_lines, good_params}
 ghost use Rattle.flat_code.specs.Codes.{are_ops, code_bytes};
 ghost use Rattle.flat_code.specs.Coding.{u8, u16};
 ghost use Rattle.flat_code.specs.Faults.{fault_of};
-ghost use Rattle.flat_code.specs.Image.{code_block, head, instance_bytes, local_bytes, parameter, plain_u16, plain_u32, raw_of_block, record_of_block, record_of_param, zero_u16};
+ghost use Rattle.flat_code.specs.Image.{code_block, head, head_of_block, instance_bytes, local_bytes, parameter, plain_u16, plain_u32, record_of_block, record_of_param, zero_u16};
 ghost use Rattle.flat_code.specs.Layout.{is_fine};
 
 use crate::image_fields::Field;
@@ -50,7 +50,7 @@ pub(crate) fn code_len(ops: &[Op]) -> Option<u32>
     Some(len)
 }
 
-#[tactic(auto, unfolding(crate::specs::Image::parameter, crate::specs::Image::raw_parameter, crate::specs::Image::section_field, crate::specs::Image::width_field, crate::specs::Image::parameter_byte, crate::specs::Image::parameter_bit), using(crate::proofs::CheckLemmas::zero_byte_good))]
+#[tactic(auto, unfolding(crate::specs::Image::parameter, crate::specs::Image::parameter_rows, crate::specs::Image::section_field, crate::specs::Image::width_field, crate::specs::Image::parameter_byte, crate::specs::Image::parameter_bit), using(crate::proofs::CheckLemmas::zero_byte_good))]
 fn is_good_parameter(kind: u8, instance: u16, param: &Param) -> bool
     ensures { result ≡ (parameter kind instance).good (record_of_param param.now) }
 {
@@ -147,10 +147,10 @@ fn are_good_lens(kind: u8, block: &CodeBlock) -> bool
 }
 
 /// Whether the head of a block behind another (kind 0 for none) has no fault.
-#[tactic(auto, unfolding(crate::specs::Image::head, crate::specs::Image::kind_field, crate::specs::Image::parameter_count, crate::specs::Image::block_number))]
+#[tactic(auto, unfolding(crate::specs::Image::head, crate::specs::Image::head_rows, crate::specs::Image::kind_field, crate::specs::Image::parameter_count, crate::specs::Image::block_number))]
 fn is_good_head(kind_before: u8, before: u16, block: &CodeBlock) -> bool
     ensures head { result
-        ≡ (head (kind_before, before)).good (raw_of_block (record_of_block block.now)).0 }
+        ≡ (head (kind_before, before)).good (head_of_block (record_of_block block.now)) }
     ensures ops { result ≡ true → are_ops block.now.code ≡ true }
     ensures lines { good_lines block.now.lines ≡ true }
 {

@@ -44,7 +44,7 @@ fn is_good_len(before: u32, len: usize) -> bool
 
 /// Whether a data block behind another's number (0 for none) and so many bytes of data blocks has
 /// no fault.
-#[tactic(auto, unfolding(crate::specs::Image::data_block, crate::specs::Image::raw_data, crate::specs::Image::data_number), using(crate::proofs::CheckLemmas::zero_word_good, crate::proofs::CheckLemmas::contents_good))]
+#[tactic(auto, unfolding(crate::specs::Image::data_block, crate::specs::Image::data_rows, crate::specs::Image::data_number), using(crate::proofs::CheckLemmas::zero_word_good, crate::proofs::CheckLemmas::contents_good))]
 fn is_good_data_block(before: u16, sum: u32, block: &DataBlock) -> bool
     ensures good { result ≡ (data_block (before, sum)).good block.now }
     ensures within { result ≡ true → sum + length block.now.bytes ≤ 2097152 }
@@ -92,7 +92,7 @@ fn is_good_name_len(len: usize) -> bool
 }
 
 /// Whether a name behind another (empty for none) has no fault.
-#[tactic(auto, unfolding(crate::specs::Image::name_record, crate::specs::Image::raw_name, crate::specs::Image::name_area, crate::specs::Image::width_field, crate::specs::Image::name_bit), using(crate::proofs::CheckLemmas::text_good))]
+#[tactic(auto, unfolding(crate::specs::Image::name_record, crate::specs::Image::name_rows, crate::specs::Image::name_area, crate::specs::Image::width_field, crate::specs::Image::name_bit), using(crate::proofs::CheckLemmas::text_good))]
 fn is_good_name(before: &[u8], entry: &NameEntry) -> bool
     ensures { result ≡ (name_record before.now).good (name_of_entry entry.now) }
 {

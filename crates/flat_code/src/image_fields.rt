@@ -2,7 +2,17 @@ ghost use Rattle.std.specs.Prelude.{◌≡◌, ◌≤◌};
 ghost use Rattle.flat_code.specs.Faults.{fault_of, has_number, holds_parameter, is_ob_number, unless};
 
 use crate::record_numbers::{code_of_area, width_of_number};
-use plc_base::Area;
+use crate::stamps::profile_number;
+use plc_base::{Area, BlockKind, Profile, Width};
+
+/// The section of an IN parameter.
+pub const SECTION_IN: u8 = 1;
+
+/// The section of an OUT parameter.
+pub const SECTION_OUT: u8 = 2;
+
+/// The section of an IN_OUT parameter.
+pub const SECTION_IN_OUT: u8 = 3;
 
 /// A field of an image, with what of the fields before it is needed to check it. Numbers are as
 /// written in the image: kinds 1 OB, 2 FC, 3 FB; sections 1 IN, 2 OUT, 3 IN_OUT; widths 1 bit,
@@ -13,6 +23,11 @@ pub enum Field {
         number: u32,
     },
     Version {
+        number: u16,
+    },
+    /// The field behind the version, which names the profile in version 2 (1 Small, 2 Large).
+    Profile {
+        version: u16,
         number: u16,
     },
     Reserved {
@@ -132,7 +147,7 @@ fn is_organization_block(number: u16) -> bool
 fn is_block_number(kind: u8, number: u16) -> bool
     ensures { result ≡ has_number kind number }
 {
-    if kind == 1 {
+    if kind == BlockKind::Ob.number() {
         is_organization_block(number)
     } else {
         number <= 2047
@@ -143,7 +158,7 @@ fn is_block_number(kind: u8, number: u16) -> bool
 fn is_parameter_byte(kind: u8, instance: u16, width: u8, byte: u16) -> bool
     ensures { result ≡ holds_parameter kind instance width byte }
 {
-    if kind == 3 {
+    if kind == BlockKind::Fb.number() {
         let bytes = width_of_number(width).byte_count();
         usize::from(byte) + bytes <= usize::from(instance)
     } else {
@@ -159,14 +174,26 @@ impl Field {
     {
         match self {
             Field::Magic { number } => fault_unless(number == 0x5337_4642, 1),
-            Field::Version { number } => fault_unless(number == 1, 2),
+            Field::Version { number } => fault_unless(number == 1 || number == 2, 2),
+            Field::Profile { version, number } => fault_unless(
+                if version == 2 {
+                    let first = profile_number(Profile::Small);
+                    let last = profile_number(Profile::Large);
+                    first <= number && number <= last
+                } else {
+                    number == 0
+                },
+                4,
+            ),
             Field::Reserved { number } => fault_unless(number == 0, 4),
             Field::DataBlockCount { count } => fault_unless(count <= 256, 4),
             Field::Kind { before, kind } => {
-                fault_unless(1 <= kind && kind <= 3 && before <= kind, 4)
+                let (first, last) = (BlockKind::Ob.number(), BlockKind::Fb.number());
+                fault_unless(first <= kind && kind <= last && before <= kind, 4)
             }
             Field::ParameterCount { kind, count } => {
-                fault_unless(count <= 60 && (kind != 1 || count == 0), 4)
+                let organization_block = kind == BlockKind::Ob.number();
+                fault_unless(count <= 60 && (!organization_block || count == 0), 4)
             }
             Field::Number {
                 kind_before,
@@ -178,11 +205,12 @@ impl Field {
                 fault_unless(is_block_number(kind, number) && rises, 4)
             }
             Field::LocalBytes { kind, bytes } => {
-                fault_unless(bytes <= 1024 && (kind != 1 || 20 <= bytes), 4)
+                let organization_block = kind == BlockKind::Ob.number();
+                fault_unless(bytes <= 1024 && (!organization_block || 20 <= bytes), 4)
             }
             Field::InstanceBytes { kind, bytes } => {
                 fault_unless(
-                    if kind == 3 {
+                    if kind == BlockKind::Fb.number() {
                         bytes <= 16_384
                     } else {
                         bytes == 0
@@ -190,16 +218,22 @@ impl Field {
                     4,
                 )
             }
-            Field::Section { section } => fault_unless(1 <= section && section <= 3, 4),
-            Field::Width { width } => fault_unless(1 <= width && width <= 4, 4),
+            Field::Section { section } => {
+                fault_unless(SECTION_IN <= section && section <= SECTION_IN_OUT, 4)
+            }
+            Field::Width { width } => {
+                let (first, last) = (Width::Bit.number(), Width::Dword.number());
+                fault_unless(first <= width && width <= last, 4)
+            }
             Field::ParameterByte {
                 kind,
                 instance,
                 width,
                 byte,
-            } => { fault_unless(is_parameter_byte(kind, instance, width, byte), 4) }
+            } => fault_unless(is_parameter_byte(kind, instance, width, byte), 4),
             Field::ParameterBit { kind, bit } => {
-                fault_unless(bit <= 7 && (kind == 3 || bit == 0), 4)
+                let function_block = kind == BlockKind::Fb.number();
+                fault_unless(bit <= 7 && (function_block || bit == 0), 4)
             }
             Field::StatementCount { end_marks, count } => {
                 fault_unless(end_marks == usize::from(count), 9)
@@ -217,8 +251,11 @@ impl Field {
             Field::NameArea { area } => {
                 let (first, last) = (code_of_area(Area::I), code_of_area(Area::M));
                 fault_unless(first <= area && area <= last, 4)
-            },
-            Field::NameBit { width, bit } => fault_unless(bit <= 7 && (width == 1 || bit == 0), 4),
+            }
+            Field::NameBit { width, bit } => {
+                let one_bit = width == Width::Bit.number();
+                fault_unless(bit <= 7 && (one_bit || bit == 0), 4)
+            }
         }
     }
 }

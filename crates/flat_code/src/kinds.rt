@@ -6,7 +6,7 @@ use plc_base::Flag;
 
 /// The jump instructions (manual: logic control instructions).
 #[derive(Clone, Copy, Debug, PartialEq, Eq)]
-pub enum JumpWord {
+pub enum JumpOperation {
     Ju,
     Jl,
     Jc,
@@ -28,37 +28,37 @@ pub enum JumpWord {
 }
 
 /// The jumps by their kinds.
-pub static JUMPS: [JumpWord; 18] = [
-    JumpWord::Ju,
-    JumpWord::Jl,
-    JumpWord::Jc,
-    JumpWord::Jcn,
-    JumpWord::Jcb,
-    JumpWord::Jnb,
-    JumpWord::Jbi,
-    JumpWord::Jnbi,
-    JumpWord::Jo,
-    JumpWord::Jos,
-    JumpWord::Jz,
-    JumpWord::Jn,
-    JumpWord::Jp,
-    JumpWord::Jm,
-    JumpWord::Jpz,
-    JumpWord::Jmz,
-    JumpWord::Juo,
-    JumpWord::Loop,
+pub static JUMPS: [JumpOperation; 18] = [
+    JumpOperation::Ju,
+    JumpOperation::Jl,
+    JumpOperation::Jc,
+    JumpOperation::Jcn,
+    JumpOperation::Jcb,
+    JumpOperation::Jnb,
+    JumpOperation::Jbi,
+    JumpOperation::Jnbi,
+    JumpOperation::Jo,
+    JumpOperation::Jos,
+    JumpOperation::Jz,
+    JumpOperation::Jn,
+    JumpOperation::Jp,
+    JumpOperation::Jm,
+    JumpOperation::Jpz,
+    JumpOperation::Jmz,
+    JumpOperation::Juo,
+    JumpOperation::Loop,
 ];
 
 /// The jump of a kind.
 #[tactic(auto, unfolding(crate::specs::Kinds::jump_of))]
-pub fn jump_of(kind: u8) -> JumpWord
+pub fn jump_of(kind: u8) -> JumpOperation
     requires { kind < 18 }
     ensures { result ≡ jump_of_kind kind }
 {
     JUMPS[kind as usize]
 }
 
-impl JumpWord {
+impl JumpOperation {
     /// The kind of the jump.
     pub fn kind(self) -> u8
         ensures { result ≡ kind_of self }

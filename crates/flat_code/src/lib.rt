@@ -14,24 +14,33 @@ pub mod laws;
 mod names;
 mod op_codes;
 mod operands;
+mod operations;
 mod ops;
 mod programs;
 mod record_numbers;
+mod stamps;
+mod system_functions;
 mod table;
-mod words;
+mod unchecked_decoding;
 
 pub use decoding::{BadOp, decode_op};
 pub use encoding::encode_op;
-pub use image_fields::{Field, OpenBracket, ParameterRecord};
-pub use kinds::{CONDITIONS, JUMPS, JumpWord, condition_of, flag_of, jump_of};
+pub use image_fields::{
+    Field, OpenBracket, ParameterRecord, SECTION_IN, SECTION_IN_OUT, SECTION_OUT,
+};
+pub use kinds::{CONDITIONS, JUMPS, JumpOperation, condition_of, flag_of, jump_of};
 pub use names::{NameEntry, Names, ends_blank, is_name_before, is_upper_case, order_of};
 pub use operands::{Operand, Passed};
+pub use operations::{
+    Adding, CallOperation, EndOperation, Logic, Number, OPERATIONS, Operation, PointerOperation,
+    RelayOperation, Shift, operation_of,
+};
 pub use ops::Op;
 pub use programs::{CodeBlock, DataBlock, Param, Program};
 pub use record_numbers::{
     area_number, area_of_number, kind_of_code, kind_of_number, width_of_number,
 };
-pub use table::{Takes, taken_by, taken_by_word};
-pub use words::{
-    Adding, CallWord, EndWord, Logic, Number, PointerWord, Shift, WORDS, Word, word_of,
-};
+pub use stamps::Stamp;
+pub use system_functions::{system_function_params, system_function_records};
+pub use table::{Takes, taken_by, taken_by_operation};
+pub use unchecked_decoding::decode_op_unchecked;

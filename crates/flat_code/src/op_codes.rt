@@ -1,22 +1,31 @@
 ghost use Rattle.std.specs.Prelude.{◌≡◌, ◌<◌};
 ghost use Rattle.flat_code.specs.OpCodes.{code_of};
 
-use crate::words::{Adding, CallWord, EndWord, Logic, Number, PointerWord, Shift, Word};
+use crate::operations::{
+    Adding, CallOperation, EndOperation, Logic, Number, Operation, PointerOperation,
+    RelayOperation, Shift,
+};
 use plc_base::{Check, Compare, TimerKind};
 
-impl Word {
-    /// The op code of the word, below 128; 0 of `NoWord`.
+impl Operation {
+    /// The op code of the operation, below 128; 0 of `NoOperation`.
     pub fn code(self) -> u8
         ensures value { result ≡ code_of self }
         ensures below { result < 128 }
     {
         match self {
-            Word::NoWord => 0x00,
-            Word::Nop => 0x01,
-            Word::UseDb => 0x02,
-            Word::Bld => 0x03,
-            Word::Pass => 0x04,
-            Word::Check(which) => match which {
+            Operation::NoOperation => 0x00,
+            Operation::Nop => 0x01,
+            Operation::UseDb => 0x02,
+            Operation::Bld => 0x03,
+            Operation::Pass => 0x04,
+            Operation::Relay(which) => match which {
+                RelayOperation::Activate => 0x05,
+                RelayOperation::Deactivate => 0x06,
+                RelayOperation::Open => 0x07,
+                RelayOperation::Close => 0x08,
+            },
+            Operation::Check(which) => match which {
                 Check::A => 0x10,
                 Check::An => 0x11,
                 Check::O => 0x12,
@@ -24,14 +33,14 @@ impl Word {
                 Check::X => 0x14,
                 Check::Xn => 0x15,
             },
-            Word::OrBare => 0x16,
-            Word::Add(which) => match which {
+            Operation::OrBare => 0x16,
+            Operation::Add(which) => match which {
                 Adding::Dword => 0x17,
                 Adding::Inc => 0x3E,
                 Adding::Dec => 0x3F,
                 Adding::Word => 0x40,
             },
-            Word::Nest(which) => match which {
+            Operation::Nest(which) => match which {
                 Check::A => 0x18,
                 Check::An => 0x19,
                 Check::O => 0x1A,
@@ -39,34 +48,34 @@ impl Word {
                 Check::X => 0x1C,
                 Check::Xn => 0x1D,
             },
-            Word::Unnest => 0x1E,
-            Word::Load => 0x20,
-            Word::Transfer => 0x21,
-            Word::Assign => 0x22,
-            Word::Set => 0x23,
-            Word::Reset => 0x24,
-            Word::Edge { rising: true } => 0x25,
-            Word::Edge { rising: false } => 0x26,
-            Word::SetRlo => 0x27,
-            Word::ClearRlo => 0x28,
-            Word::NegateRlo => 0x29,
-            Word::SaveRlo => 0x2A,
-            Word::LoadBcd => 0x2B,
-            Word::LoadStatus => 0x2C,
-            Word::TransferStatus => 0x2D,
-            Word::LoadOpenBlock => 0x2E,
-            Word::Pointer(which) => match which {
-                PointerWord::Lar1 => 0x30,
-                PointerWord::Lar2 => 0x31,
-                PointerWord::Tar1 => 0x32,
-                PointerWord::Tar2 => 0x33,
-                PointerWord::Lar1Ar2 => 0x34,
-                PointerWord::Tar1Ar2 => 0x35,
-                PointerWord::Car => 0x36,
-                PointerWord::AddAr1 => 0x37,
-                PointerWord::AddAr2 => 0x38,
+            Operation::Unnest => 0x1E,
+            Operation::Load => 0x20,
+            Operation::Transfer => 0x21,
+            Operation::Assign => 0x22,
+            Operation::Set => 0x23,
+            Operation::Reset => 0x24,
+            Operation::Edge { rising: true } => 0x25,
+            Operation::Edge { rising: false } => 0x26,
+            Operation::SetRlo => 0x27,
+            Operation::ClearRlo => 0x28,
+            Operation::NegateRlo => 0x29,
+            Operation::SaveRlo => 0x2A,
+            Operation::LoadBcd => 0x2B,
+            Operation::LoadStatus => 0x2C,
+            Operation::TransferStatus => 0x2D,
+            Operation::LoadOpenBlock => 0x2E,
+            Operation::Pointer(which) => match which {
+                PointerOperation::Lar1 => 0x30,
+                PointerOperation::Lar2 => 0x31,
+                PointerOperation::Tar1 => 0x32,
+                PointerOperation::Tar2 => 0x33,
+                PointerOperation::Lar1Ar2 => 0x34,
+                PointerOperation::Tar1Ar2 => 0x35,
+                PointerOperation::Car => 0x36,
+                PointerOperation::AddAr1 => 0x37,
+                PointerOperation::AddAr2 => 0x38,
             },
-            Word::Number(which) => match which {
+            Operation::Number(which) => match which {
                 Number::Tak => 0x39,
                 Number::Push => 0x3A,
                 Number::Pop => 0x3B,
@@ -93,7 +102,7 @@ impl Word {
                 Number::Rlda => 0x6D,
                 Number::Rrda => 0x6E,
             },
-            Word::CompareInt(which) => match which {
+            Operation::CompareInt(which) => match which {
                 Compare::Eq => 0x4A,
                 Compare::Ne => 0x4B,
                 Compare::Gt => 0x4C,
@@ -101,7 +110,7 @@ impl Word {
                 Compare::Ge => 0x4E,
                 Compare::Le => 0x4F,
             },
-            Word::CompareDint(which) => match which {
+            Operation::CompareDint(which) => match which {
                 Compare::Eq => 0x50,
                 Compare::Ne => 0x51,
                 Compare::Gt => 0x52,
@@ -109,7 +118,7 @@ impl Word {
                 Compare::Ge => 0x54,
                 Compare::Le => 0x55,
             },
-            Word::Logic(which) => match which {
+            Operation::Logic(which) => match which {
                 Logic::Aw => 0x5F,
                 Logic::Ow => 0x60,
                 Logic::Xow => 0x61,
@@ -117,7 +126,7 @@ impl Word {
                 Logic::Od => 0x63,
                 Logic::Xod => 0x64,
             },
-            Word::Shift(which) => match which {
+            Operation::Shift(which) => match which {
                 Shift::Ssi => 0x65,
                 Shift::Ssd => 0x66,
                 Shift::Slw => 0x67,
@@ -127,29 +136,29 @@ impl Word {
                 Shift::Rld => 0x6B,
                 Shift::Rrd => 0x6C,
             },
-            Word::Jump => 0x6F,
-            Word::Start(which) => match which {
+            Operation::Jump => 0x6F,
+            Operation::Start(which) => match which {
                 TimerKind::Sp => 0x70,
                 TimerKind::Se => 0x71,
                 TimerKind::Sd => 0x72,
                 TimerKind::Ss => 0x73,
                 TimerKind::Sf => 0x74,
             },
-            Word::Free => 0x75,
-            Word::CountUp => 0x76,
-            Word::CountDown => 0x77,
-            Word::Call(which) => match which {
-                CallWord::Call => 0x78,
-                CallWord::Uc => 0x79,
-                CallWord::Cc => 0x7A,
+            Operation::Free => 0x75,
+            Operation::CountUp => 0x76,
+            Operation::CountDown => 0x77,
+            Operation::Call(which) => match which {
+                CallOperation::Call => 0x78,
+                CallOperation::Uc => 0x79,
+                CallOperation::Cc => 0x7A,
             },
-            Word::End(which) => match which {
-                EndWord::Be => 0x7B,
-                EndWord::Bec => 0x7C,
-                EndWord::Beu => 0x7D,
+            Operation::End(which) => match which {
+                EndOperation::Be => 0x7B,
+                EndOperation::Bec => 0x7C,
+                EndOperation::Beu => 0x7D,
             },
-            Word::OpenBlock => 0x7E,
-            Word::Exchange => 0x7F,
+            Operation::OpenBlock => 0x7E,
+            Operation::Exchange => 0x7F,
         }
     }
 }

@@ -114,3 +114,42 @@ pub enum Passed {
         bit: u8,
     },
 }
+
+impl Operand {
+    ghost use Rattle.std.specs.Prelude.{◌≡◌, ◌≤◌, ◌+◌, length};
+    ghost use Rattle.flat_code.specs.Forms.{payload};
+
+    /// How many bytes an op with the operand takes: two, and the payload.
+    #[tactic(auto, unfolding(crate::specs::Forms::direct, crate::specs::Forms::actual))]
+    pub(crate) fn op_size(&self) -> u32
+        ensures size { result ≡ 2 + length (payload self.now) }
+        ensures small { result ≤ 11 }
+    {
+        match *self {
+            Operand::Nothing => 2,
+            Operand::OfStatus { .. } => 3,
+            Operand::Parameter { .. } | Operand::UseDb { .. } => 4,
+            Operand::Numbered { .. } | Operand::OpenBlock { .. } => 5,
+            Operand::Literal { .. } | Operand::NumberedBy { .. } | Operand::OpenBy { .. } => 6,
+            Operand::Direct { .. } | Operand::ByMemory { .. } => 7,
+            Operand::Jump { .. } | Operand::Called { .. } => 7,
+            Operand::ByRegister { .. } => 9,
+            Operand::Pass {
+                actual: Passed::Literal { .. },
+                ..
+            } => 8,
+            Operand::Pass {
+                actual: Passed::Direct { .. },
+                ..
+            } => 9,
+            Operand::Pass {
+                actual: Passed::Parameter { .. },
+                ..
+            } => 6,
+            Operand::Pass {
+                actual: Passed::InBlock { .. },
+                ..
+            } => 11,
+        }
+    }
+}

@@ -95,6 +95,7 @@ LeavesTo [] old new None = new ≡ old
 LeavesTo (f ∷ rest) old new (Some frame) =
     (frame ≡ f) × (frames_of new ≡ rest) × (new.running.locals ≡ closed old.running.locals)
     × (new.running.regs ≡ old.running.regs) × (new.class ≡ old.class) × (new.ob ≡ old.ob) × (new.delay ≡ old.delay)
+    × (new.profile ≡ old.profile)
 LeavesTo standing old new answer = ⊥
 
 -- the same by the frames that stand; without one the answer is None, and nothing changes
@@ -110,6 +111,7 @@ abbrev pub LeavesBlock : (below : List Frame) → (old new : Activation) → Boo
 LeavesBlock [] old new false =
     (frames_of new ≡ []) × (new.running.locals ≡ closed old.running.locals)
     × (new.running.regs ≡ old.running.regs) × (new.class ≡ old.class) × (new.ob ≡ old.ob) × (new.delay ≡ old.delay)
+    × (new.profile ≡ old.profile)
 LeavesBlock (caller ∷ rest) old new true = new ≡ record old {
   running = record old.running { frame = caller; locals = closed old.running.locals };
   below = rest;

@@ -127,7 +127,8 @@ impl Below {
 }
 
 /// An organization block that runs or is suspended: its priority class and number, how often interrupts
-/// are delayed in it, what its statements work on, and the frames below the innermost one.
+/// are delayed in it, what its statements work on, and the frames below the innermost one. It is made
+/// for a profile, which only `restart` sets anew.
 #[derive(Drop)]
 pub struct Activation {
     pub profile: Profile,

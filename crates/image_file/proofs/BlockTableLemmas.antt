@@ -9,7 +9,7 @@ use Rattle.plc_base.specs.declared.blocks.BlockId.{BlockId}
 use Rattle.plc_base.proofs.ListLemmas.{drop_next, get_past}
 use Rattle.flat_code.specs.Programs.{CodeBlock}
 use Rattle.image_file.specs.Readers.{same_id, block_of}
-use Rattle.image_file.specs.Seats.{slots, slot_of, FindsBlocks, HaveSlots}
+use Rattle.image_file.specs.Tables.{slots, slot_of, FindsBlocks, HaveSlots}
 
 record HasSlot (id : BlockId) (slot : ℕ) : Type 0 where
   kind : kind_order id.kind < 3

@@ -3,11 +3,12 @@ use Rattle.std.proofs.Common.{◌≡◌, ℕ, zero, suc, ◌+◌, ◌-◌, Bool,
 use Rattle.flat_code.specs.Coding.{Coding, u8, u16, u32}
 use Rattle.flat_code.specs.Ops.{OpData}
 use Rattle.flat_code.specs.Programs.{DataBlock, Program}
+use Rattle.flat_code.specs.declared.stamps.Stamp.{Stamp}
 use Rattle.flat_code.specs.Records.{BlockRecord, NameRecord}
 use Rattle.flat_code.specs.declared.image_fields.ParameterRecord.{ParameterRecord}
 use Rattle.flat_code.specs.Layout.{Note, Faulty, AllBlocks, Cursor, Read, Layout, ended, given, go_on, bind, noted, field_of, field, chain, checked, located, read_many, many, seen_as, remembered, faults_in}
 use Rattle.flat_code.specs.Codes.{ops_from, stop_at, read_ops, read_code, code_of}
-use Rattle.flat_code.specs.Image.{plain, plain_u16, plain_u32, zero_u8, zero_u16, width_field, bytes, section_field, parameter_byte, parameter_bit, raw_parameter, parameter_of_raw, raw_of_parameter, parameter, kind_field, parameter_count, block_number, local_bytes, instance_bytes, Head, head, params_in, instance_in, statements_in, code_len_in, same_state, parameters, line_after, line_field, lines_of, code_and_lines, RawBlock, raw_block, block_of_raw, raw_of_block, plain_block, whole_at, code_block_at, code_block, after_block, data_number, instance_field, data_len, contents, raw_data, data_of_raw, raw_of_data, data_block, after_data, name_len, name_bytes, name_area, name_bit, raw_name, name_of_raw, raw_of_name, name_record, after_name, data_count, Counts, counts, code_blocks, plain_data_blocks, data_blocks, names, raw_records, records_of_raw, raw_of_records, records, program_of, records_of, body, magic_field, version_field, Front, front, front_size, at_end, cut, read_by, read_image}
+use Rattle.flat_code.specs.Image.{plain, plain_u16, plain_u32, zero_u8, zero_u16, width_field, bytes, section_field, parameter_byte, parameter_bit, parameter_rows, parameter_fields, parameter_row, parameter_of_fields, fields_of_parameter, parameter, kind_field, parameter_count, block_number, local_bytes, instance_bytes, Head, head_of_row, row_of_head, head_rows, head, same_state, parameters, line_after, line_field, lines_of, code_and_lines, BlockRow, parts_of_block_row, row_of_block_parts, block_rows, block_of_parts, parts_of_block, plain_block, whole_at, code_block_at, code_block, after_block, data_number, instance_field, data_len, contents, data_rows, data_fields, data_row, data_of_fields, fields_of_data, data_block, after_data, name_len, name_bytes, name_area, name_bit, name_rows, name_fields, name_row, name_of_fields, fields_of_name, name_record, after_name, data_count, Counts, counts_of_row, row_of_counts, count_rows, counts, code_blocks, plain_data_blocks, data_blocks, names, parts_of_body_row, row_of_body_parts, body_rows, records_of_parts, parts_of_records, records, program_of, records_of, body, magic_field, version_field, profile_field, Front, front_of_row, row_of_front, front_rows, front, front_size, stamp_in, at_end, cut, read_by, read_image}
 use Rattle.image_file.proofs.LayoutLemmas.{no_faults, at_place}
 
 -- reading that ends has a fault
@@ -78,9 +79,9 @@ unfolding code_of
 code_sound n = record { ends = code_ends n }
 
 parameter_sound : (kind instance : ℕ) → Sound ParameterRecord (parameter kind instance)
-unfolding parameter raw_parameter section_field width_field parameter_byte parameter_bit zero_u8
+unfolding parameter parameter_rows section_field width_field parameter_byte parameter_bit zero_u8
 parameter_sound kind instance =
-    seen_sound parameter_of_raw raw_of_parameter (raw_parameter kind instance)
+    seen_sound (λ r. parameter_of_fields (parameter_fields r)) (λ p. parameter_row (fields_of_parameter p)) (parameter_rows kind instance)
     (chain_sound section_field _ (field_sound u8 _) (λ s.
     chain_sound width_field _ (field_sound u8 _) (λ w.
     chain_sound (parameter_byte kind instance w) _ (field_sound u16 _) (λ byte.
@@ -88,41 +89,41 @@ parameter_sound kind instance =
 
 parameters_sound : (h : Head) → Sound (List ParameterRecord) (parameters h)
 unfolding parameters
-parameters_sound h = many_sound (λ s. parameter h.0 (instance_in h)) same_state (λ s. parameter_sound h.0 (instance_in h)) 0 (params_in h)
+parameters_sound h = many_sound (λ s. parameter h.kind h.instance_bytes) same_state (λ s. parameter_sound h.kind h.instance_bytes) 0 h.parameter_count
 
 head_sound : (before : ℕ × ℕ) → Sound Head (head before)
-unfolding head kind_field parameter_count block_number local_bytes instance_bytes zero_u16 plain_u16 plain_u32
-head_sound before =
-    chain_sound (kind_field before.0) _ (field_sound u8 _) (λ kind.
+unfolding head head_rows kind_field parameter_count block_number local_bytes instance_bytes zero_u16 plain_u16 plain_u32
+head_sound before = seen_sound head_of_row row_of_head (head_rows before)
+    (chain_sound (kind_field before.0) _ (field_sound u8 _) (λ kind.
     chain_sound (parameter_count kind) _ (field_sound u8 _) (λ params.
     chain_sound (block_number before.0 before.1 kind) _ (field_sound u16 _) (λ number.
     chain_sound (local_bytes kind) _ (field_sound u16 _) (λ locals.
     chain_sound (instance_bytes kind) _ (field_sound u16 _) (λ instance.
     chain_sound plain_u16 _ (field_sound u16 plain) (λ statements.
-    chain_sound zero_u16 _ (field_sound u16 _) (λ zero. field_sound u32 plain)))))))
+    chain_sound zero_u16 _ (field_sound u16 _) (λ zero. field_sound u32 plain))))))))
 
 lines_sound : (start : ℕ) (h : Head) (ops : List OpData) → Sound (List ℕ) (lines_of true start h ops)
 unfolding lines_of line_field
-lines_sound start h ops = checked_sound (start + 8) _ (many (line_field true) line_after 0 (statements_in h)) (many_sound (line_field true) line_after (λ s. field_sound u32 _) 0 (statements_in h))
+lines_sound start h ops = checked_sound (start + 8) _ (many (line_field true) line_after 0 h.statement_count) (many_sound (line_field true) line_after (λ s. field_sound u32 _) 0 h.statement_count)
 
-raw_block_sound : (before : ℕ × ℕ) (at : ℕ) → Sound RawBlock (raw_block true before at)
-unfolding raw_block code_and_lines
-raw_block_sound before at =
+block_rows_sound : (before : ℕ × ℕ) (at : ℕ) → Sound BlockRow (block_rows true before at)
+unfolding block_rows code_and_lines
+block_rows_sound before at =
     chain_sound (head before) _ (head_sound before) (λ h.
     chain_sound (parameters h) (λ params. code_and_lines true at h) (parameters_sound h) (λ params.
-    chain_sound (code_of true (code_len_in h)) (lines_of true at h) (code_sound (code_len_in h)) (lines_sound at h)))
+    chain_sound (code_of true h.code_length) (lines_of true at h) (code_sound h.code_length) (lines_sound at h)))
 
 code_block_sound : (before : ℕ × ℕ) → Sound BlockRecord (code_block true before)
 unfolding code_block plain_block
-code_block_sound before = located_sound (code_block_at true before) (λ at. remembered_sound (whole_at at) (plain_block true before at) (seen_sound block_of_raw raw_of_block (raw_block true before at) (raw_block_sound before at)))
+code_block_sound before = located_sound (code_block_at true before) (λ at. remembered_sound (whole_at at) (plain_block true before at) (seen_sound (λ r. block_of_parts (parts_of_block_row r)) (λ b. row_of_block_parts (parts_of_block b)) (block_rows true before at) (block_rows_sound before at)))
 
 code_blocks_sound : (n : ℕ) → Sound (List BlockRecord) (code_blocks true n)
 unfolding code_blocks
 code_blocks_sound n = many_sound (code_block true) after_block code_block_sound (0, 0) n
 
 data_sound : (before : ℕ × ℕ) → Sound DataBlock (data_block before)
-unfolding data_block raw_data data_number instance_field data_len zero_u16 contents
-data_sound before = seen_sound data_of_raw raw_of_data (raw_data before)
+unfolding data_block data_rows data_number instance_field data_len zero_u16 contents
+data_sound before = seen_sound (λ r. data_of_fields (data_fields r)) (λ d. data_row (fields_of_data d)) (data_rows before)
     (chain_sound (data_number before.0) _ (field_sound u16 _) (λ number.
     chain_sound instance_field _ (field_sound u16 _) (λ instance.
     chain_sound (data_len before.1) _ (field_sound u16 _) (λ n.
@@ -133,8 +134,8 @@ unfolding data_blocks
 data_blocks_sound n = remembered_sound AllBlocks (plain_data_blocks n) (many_sound data_block after_data data_sound (0, 0) n)
 
 name_sound : (before : List ℕ) → Sound NameRecord (name_record before)
-unfolding name_record raw_name name_len name_bytes name_area width_field plain_u16 name_bit
-name_sound before = seen_sound name_of_raw raw_of_name (raw_name before)
+unfolding name_record name_rows name_len name_bytes name_area width_field plain_u16 name_bit
+name_sound before = seen_sound (λ r. name_of_fields (name_fields r)) (λ n. name_row (fields_of_name n)) (name_rows before)
     (chain_sound name_len _ (field_sound u8 _) (λ n.
     chain_sound (name_bytes before n) _ (field_sound (bytes n) _) (λ name.
     chain_sound name_area _ (field_sound u8 _) (λ area.
@@ -146,36 +147,36 @@ unfolding names
 names_sound n = many_sound name_record after_name name_sound [] n
 
 counts_sound : Sound Counts counts
-unfolding counts plain_u16 data_count zero_u16
-counts_sound =
-    chain_sound plain_u16 _ (field_sound u16 plain) (λ codes.
+unfolding counts count_rows plain_u16 data_count zero_u16
+counts_sound = seen_sound counts_of_row row_of_counts count_rows
+    (chain_sound plain_u16 _ (field_sound u16 plain) (λ codes.
     chain_sound data_count _ (field_sound u16 _) (λ datas.
-    chain_sound plain_u16 (λ names. zero_u16) (field_sound u16 plain) (λ names. field_sound u16 _)))
+    chain_sound plain_u16 (λ names. zero_u16) (field_sound u16 plain) (λ names. field_sound u16 _))))
 
 body_sound : Sound Program (body true)
-unfolding body records raw_records
-body_sound = seen_sound program_of records_of (records true) (seen_sound records_of_raw raw_of_records (raw_records true)
-    (chain_sound counts (λ c. chain (code_blocks true c.0) (λ blocks. chain (data_blocks c.1.0) (λ datas. names c.1.1.0))) counts_sound (λ c.
-    chain_sound (code_blocks true c.0) (λ blocks. chain (data_blocks c.1.0) (λ datas. names c.1.1.0)) (code_blocks_sound c.0) (λ blocks.
-    chain_sound (data_blocks c.1.0) (λ datas. names c.1.1.0) (data_blocks_sound c.1.0) (λ datas. names_sound c.1.1.0)))))
+unfolding body records body_rows
+body_sound = seen_sound program_of records_of (records true) (seen_sound (λ r. records_of_parts (parts_of_body_row r)) (λ r. row_of_body_parts (parts_of_records r)) (body_rows true)
+    (chain_sound counts (λ c. chain (code_blocks true c.code_blocks) (λ blocks. chain (data_blocks c.data_blocks) (λ datas. names c.names))) counts_sound (λ c.
+    chain_sound (code_blocks true c.code_blocks) (λ blocks. chain (data_blocks c.data_blocks) (λ datas. names c.names)) (code_blocks_sound c.code_blocks) (λ blocks.
+    chain_sound (data_blocks c.data_blocks) (λ datas. names c.names) (data_blocks_sound c.data_blocks) (λ datas. names_sound c.names)))))
 
 front_sound : Sound Front front
-unfolding front magic_field version_field zero_u16 plain_u32
-front_sound =
-    chain_sound magic_field _ (field_sound u32 _) (λ magic.
+unfolding front front_rows magic_field version_field profile_field plain_u32
+front_sound = seen_sound front_of_row row_of_front front_rows
+    (chain_sound magic_field _ (field_sound u32 _) (λ magic.
     chain_sound version_field _ (field_sound u16 _) (λ version.
-    chain_sound zero_u16 (λ zero. plain_u32) (field_sound u16 _) (λ zero. field_sound u32 plain)))
+    chain_sound (profile_field version) (λ profile. plain_u32) (field_sound u16 _) (λ profile. field_sound u32 plain))))
 
 joined_ends : {A : Type 0} (notes : List Note) (r : Read A) → Ends r → Ends {A = A} (record { notes = notes ++ r.notes; found = r.found })
 joined_ends {A = A} notes r p e clean = p e (no_faults notes r.notes clean).1
 
-cut_ends : (size total : ℕ) (cur : Cursor) → Ends (cut true size total cur)
-cut_ends size total cur =
+cut_ends : (stamp : Stamp) (size total : ℕ) (cur : Cursor) → Ends (cut true stamp size total cur)
+cut_ends stamp size total cur =
     let inner = (body true).read (record { at = cur.at; rest = take (total - front_size) cur.rest }) in
     cond_ends (ltb total 20 || ltb size total) (ended 8 3) _ (ended_ends 8 3)
     (cond_ends (ltb 8388608 total) (ended 8 4) _ (ended_ends 8 4)
-    (joined_ends (cond (eqb size total) [] (Faulty total 10 ∷ [])) (bind inner at_end) (bind_ends inner at_end (body_sound.ends (record { at = cur.at; rest = take (total - front_size) cur.rest })) (λ p end. noted_ends (at_end p end).notes p end))))
+    (joined_ends (cond (eqb size total) [] (Faulty total 10 ∷ [])) (bind inner (at_end stamp)) (bind_ends inner (at_end stamp) (body_sound.ends (record { at = cur.at; rest = take (total - front_size) cur.rest })) (λ p end. noted_ends (at_end stamp p end).notes (stamp, p) end))))
 
 pub image_ends : (text : List ℕ) → (read_image text).found ≡ None → faults_in (read_image text).notes ≡ [] → ⊥
 unfolding read_by
-image_ends text = bind_ends (front.read (at_place 0 text)) (λ f cur. cut true (length text) f.1.1.1 cur) (front_sound.ends (at_place 0 text)) (λ f cur. cut_ends (length text) f.1.1.1 cur)
+image_ends text = bind_ends (front.read (at_place 0 text)) (λ f cur. cut true (stamp_in f) (length text) f.total_length cur) (front_sound.ends (at_place 0 text)) (λ f cur. cut_ends (stamp_in f) (length text) f.total_length cur)

@@ -1,6 +1,6 @@
 -- The image is laid out exactly.
 use Rattle.std.proofs.Common.{◌≡◌, ℕ, zero, suc, ◌+◌, ◌-◌, ◌≤◌, Bool, true, false, cond, eqb, ltb, leb, ◌&&◌, ◌||◌, List, [], ◌∷◌, ◌++◌, map, length, take, drop, Option, Some, None, refl, sym, ap, subst, ◌∙◌, length-append, arith, inl, inr}
-use Rattle.std.proofs.lemmas.Bool.{cases_lt, eq-eqb, and_parts, and_from, eqb-true, leb-true, ltb-false, le-ltb, lt-ltb, or_from}
+use Rattle.std.proofs.lemmas.Bool.{cases_lt, eq-eqb, ne_eqb, and_parts, and_from, eqb-true, leb-true, ltb-false, le-ltb, lt-ltb, or_from}
 use Rattle.std.proofs.lemmas.List.{append-nil, take_at, drop_at, take-append-drop, nil_from_length, get_or-drop, get_or-take, get_or_past, length-take}
 use Rattle.std.proofs.lemmas.Option.{same_Some}
 use Rattle.plc_base.specs.Widths.{width_number}
@@ -22,9 +22,13 @@ use Rattle.flat_code.specs.Records.{BlockRecord, NameRecord, Records}
 use Rattle.flat_code.specs.Faults.{fault_of, name_fault, unless, lies_within}
 use Rattle.flat_code.specs.Layout.{Faulty, AllBlocks, Cursor, Read, Layout, ended, bind, is_fine, chain, spell_many, good_many, faults_in}
 use Rattle.flat_code.specs.Codes.{are_ops, code_bytes, stop_at, is_nowhere, code_of, only}
-use Rattle.flat_code.specs.Image.{plain, plain_u16, plain_u32, zero_u8, zero_u16, width_field, bytes_fit, bytes, section_field, parameter_byte, parameter_bit, RawParameter, raw_parameter, parameter_of_raw, raw_of_parameter, parameter, kind_field, parameter_count, block_number, local_bytes, instance_bytes, Head, head, params_in, instance_in, statements_in, code_len_in, same_state, parameters, end_marks, line_after, line_field, lines_of, code_and_lines, RawBlock, raw_block, block_of_raw, raw_of_block, plain_block, whole_at, code_block_at, code_block, after_block, data_number, instance_field, data_len, contents, RawData, raw_data, instance_of_number, number_of_instance, data_of_raw, raw_of_data, data_block, after_data, name_len, name_bytes, name_area, name_bit, RawName, raw_name, name_of_raw, raw_of_name, name_record, after_name, data_count, Counts, counts, code_blocks, plain_data_blocks, data_blocks, names, RawRecords, raw_records, records_of_raw, raw_of_records, records, kind_of_number, area_of_number, number_of_area, param_of, record_of_param, block_of_record, record_of_block, entry_of_name, name_of_entry, program_of, records_of, body, magic_field, version_field, Front, front, front_size, front_of, image, IsProgram, IsRight, at_end, cut, read_by, read_image}
+use Rattle.plc_base.specs.declared.profiles.Profile.TheVariants as profiles
+use Rattle.flat_code.specs.Stamps.{version_number, profile_field_of, stamp_of}
+use Rattle.flat_code.specs.declared.stamps.Stamp.{Stamp}
+use Rattle.flat_code.specs.declared.stamps.Stamp.TheVariants as stamps
+use Rattle.flat_code.specs.Image.{plain, plain_u16, plain_u32, zero_u8, zero_u16, width_field, bytes_fit, bytes, section_field, parameter_byte, parameter_bit, ParameterRow, parameter_rows, parameter_fields, parameter_row, parameter_of_fields, fields_of_parameter, parameter, kind_field, parameter_count, block_number, local_bytes, instance_bytes, Head, HeadRow, head_of_row, row_of_head, head_rows, head, same_state, parameters, end_marks, line_after, line_field, lines_of, code_and_lines, BlockRow, parts_of_block_row, row_of_block_parts, block_rows, block_of_parts, head_of_block, parts_of_block, plain_block, whole_at, code_block_at, code_block, after_block, data_number, instance_field, data_len, contents, DataRow, data_rows, data_fields, data_row, instance_of_number, number_of_instance, data_of_fields, fields_of_data, data_block, after_data, name_len, name_bytes, name_area, name_bit, NameRow, name_rows, name_fields, name_row, name_of_fields, fields_of_name, name_record, after_name, data_count, Counts, CountRow, counts_of_row, row_of_counts, count_rows, counts, counts_of, code_blocks, plain_data_blocks, data_blocks, names, BodyParts, BodyRow, parts_of_body_row, row_of_body_parts, body_rows, records_of_parts, parts_of_records, records, kind_of_number, area_of_number, number_of_area, param_of, record_of_param, block_of_record, record_of_block, entry_of_name, name_of_entry, program_of, records_of, body, magic_field, version_field, profile_field, Front, FrontRow, front_of_row, row_of_front, front_rows, front, front_size, front_of, stamp_in, image, IsProgram, IsRight, at_end, cut, read_by, read_image}
 use Rattle.flat_code.proofs.CodingLemmas.{IsBytes, Takes, IsExact, pair_is, u8_exact, u16_exact, u32_exact}
-use Rattle.flat_code.proofs.PartLemmas.{BlockParts, behind_head, block_parts, chain_parts, from_params, head_parts, head_params, unless_fine}
+use Rattle.flat_code.proofs.PartLemmas.{GoodBlock, behind_head, good_block, chain_parts, from_params, good_head, head_params, unless_fine}
 use Rattle.image_file.specs.Typing.{AreFew}
 use Rattle.image_file.proofs.LayoutLemmas.{at_place, Finds, IsLaidOut, bind_parts, bind_finds, field_laid, chain_laid, checked_laid, seen_laid, remembered_laid, many_laid, located_laid, no_faults}
 use Rattle.image_file.proofs.CodeLemmas.{code_laid, cond_finds, ended_finds}
@@ -90,36 +94,36 @@ many_count l next s (suc n) (x ∷ xs) h = ap suc (many_count l next (next s x) 
 
 -- ---- parameters
 
-raw_parameter_laid : (kind instance : ℕ) → IsLaidOut RawParameter (raw_parameter kind instance)
-unfolding raw_parameter section_field width_field parameter_byte parameter_bit zero_u8
-raw_parameter_laid kind instance =
+parameter_rows_laid : (kind instance : ℕ) → IsLaidOut ParameterRow (parameter_rows kind instance)
+unfolding parameter_rows section_field width_field parameter_byte parameter_bit zero_u8
+parameter_rows_laid kind instance =
     chain_laid section_field _ (field_laid u8 _ u8_exact) (λ s.
     chain_laid width_field _ (field_laid u8 _ u8_exact) (λ w.
     chain_laid (parameter_byte kind instance w) _ (field_laid u16 _ u16_exact) (λ byte.
     chain_laid (parameter_bit kind) _ (field_laid u8 _ u8_exact) (λ bit. field_laid u8 _ u8_exact))))
 
-raw_parameter_is : (kind instance : ℕ) (x : RawParameter) → (raw_parameter kind instance).good x ≡ true → raw_of_parameter (parameter_of_raw x) ≡ x
-unfolding raw_parameter
-raw_parameter_is kind instance x good =
+parameter_row_is : (kind instance : ℕ) (x : ParameterRow) → (parameter_rows kind instance).good x ≡ true → parameter_row (fields_of_parameter (parameter_of_fields (parameter_fields x))) ≡ x
+unfolding parameter_rows
+parameter_row_is kind instance x good =
     let a = chain_parts section_field (λ s. chain width_field (λ w. chain (parameter_byte kind instance w) (λ byte. chain (parameter_bit kind) (λ bit. zero_u8)))) x good in
     let b = chain_parts width_field (λ w. chain (parameter_byte kind instance w) (λ byte. chain (parameter_bit kind) (λ bit. zero_u8))) x.1 a.1 in
     let c = chain_parts (parameter_byte kind instance x.1.0) (λ byte. chain (parameter_bit kind) (λ bit. zero_u8)) x.1.1 b.1 in
     let d = chain_parts (parameter_bit kind) (λ bit. zero_u8) x.1.1.1 c.1 in
-    ap (λ (z : ℕ). let r : RawParameter = (x.0, (x.1.0, (x.1.1.0, (x.1.1.1.0, z)))) in r) (sym (zero_u8_is x.1.1.1.1 d.1))
+    ap (λ (z : ℕ). let r : ParameterRow = (x.0, (x.1.0, (x.1.1.0, (x.1.1.1.0, z)))) in r) (sym (zero_u8_is x.1.1.1.1 d.1))
 
 parameter_laid : (kind instance : ℕ) → IsLaidOut ParameterRecord (parameter kind instance)
 unfolding parameter
-parameter_laid kind instance = seen_laid parameter_of_raw raw_of_parameter (raw_parameter kind instance) (raw_parameter_is kind instance) (λ p good. refl) (raw_parameter_laid kind instance)
+parameter_laid kind instance = seen_laid (λ r. parameter_of_fields (parameter_fields r)) (λ p. parameter_row (fields_of_parameter p)) (parameter_rows kind instance) (parameter_row_is kind instance) (λ p good. refl) (parameter_rows_laid kind instance)
 
 parameters_laid : (h : Head) → IsLaidOut (List ParameterRecord) (parameters h)
 unfolding parameters
-parameters_laid h = many_laid (λ s. parameter h.0 (instance_in h)) same_state (λ s. parameter_laid h.0 (instance_in h)) 0 (params_in h)
+parameters_laid h = many_laid (λ s. parameter h.kind h.instance_bytes) same_state (λ s. parameter_laid h.kind h.instance_bytes) 0 h.parameter_count
 
 -- ---- code blocks
 
-head_laid : (before : ℕ × ℕ) → IsLaidOut Head (head before)
-unfolding head kind_field parameter_count block_number local_bytes instance_bytes zero_u16 plain_u16 plain_u32
-head_laid before =
+head_rows_laid : (before : ℕ × ℕ) → IsLaidOut HeadRow (head_rows before)
+unfolding head_rows kind_field parameter_count block_number local_bytes instance_bytes zero_u16 plain_u16 plain_u32
+head_rows_laid before =
     chain_laid (kind_field before.0) (from_params before) (field_laid u8 _ u8_exact) (λ kind.
     chain_laid (parameter_count kind) _ (field_laid u8 _ u8_exact) (λ params.
     chain_laid (block_number before.0 before.1 kind) _ (field_laid u16 _ u16_exact) (λ number.
@@ -129,66 +133,73 @@ head_laid before =
     chain_laid zero_u16 _ (field_laid u16 _ u16_exact) (λ zero.
     field_laid u32 plain u32_exact)))))))
 
-head_zero : (before : ℕ × ℕ) (h : Head) → (head before).good h ≡ true → h.1.1.1.1.1.1.0 ≡ 0
-head_zero before h good = zero_u16_is h.1.1.1.1.1.1.0 (head_parts before h good).zero_good
+head_laid : (before : ℕ × ℕ) → IsLaidOut Head (head before)
+unfolding head
+head_laid before = seen_laid head_of_row row_of_head (head_rows before) (λ r good. refl) (λ h good. refl) (head_rows_laid before)
 
-pub head_kind : (before : ℕ × ℕ) (h : Head) → (head before).good h ≡ true → lies_within 1 3 h.0 ≡ true
+head_zero : (before : ℕ × ℕ) (h : Head) → (head before).good h ≡ true → h.reserved ≡ 0
+head_zero before h good = zero_u16_is h.reserved (good_head before h good).zero_good
+
+pub head_kind : (before : ℕ × ℕ) (h : Head) → (head before).good h ≡ true → lies_within 1 3 h.kind ≡ true
 unfolding kind_field fault_of
 head_kind before h good =
-    let b = and_parts (ltb h.0 256) (is_fine (unless (lies_within 1 3 h.0 && leb before.0 h.0) 4)) (head_parts before h good).kind_good in
-    (and_parts (lies_within 1 3 h.0) (leb before.0 h.0) (unless_fine _ 4 b.1)).0
+    let b = and_parts (ltb h.kind 256) (is_fine (unless (lies_within 1 3 h.kind && leb before.0 h.kind) 4)) (good_head before h good).kind_good in
+    (and_parts (lies_within 1 3 h.kind) (leb before.0 h.kind) (unless_fine _ 4 b.1)).0
 
 lines_laid : (judged : Bool) (start : ℕ) (h : Head) (ops : List OpData) → IsLaidOut (List ℕ) (lines_of judged start h ops)
 unfolding lines_of line_field
-lines_laid judged start h ops = checked_laid (start + 8) (only judged (fault_of (StatementCount (end_marks ops) (statements_in h)))) _ (many_laid (line_field judged) line_after (λ s. field_laid u32 _ u32_exact) 0 (statements_in h))
+lines_laid judged start h ops = checked_laid (start + 8) (only judged (fault_of (StatementCount (end_marks ops) h.statement_count))) _ (many_laid (line_field judged) line_after (λ s. field_laid u32 _ u32_exact) 0 h.statement_count)
 
 code_and_lines_laid : (judged : Bool) (start : ℕ) (h : Head) → IsLaidOut (List OpData × List ℕ) (code_and_lines judged start h)
 unfolding code_and_lines
-code_and_lines_laid judged start h = chain_laid (code_of judged (code_len_in h)) (lines_of judged start h) (code_laid judged (code_len_in h)) (lines_laid judged start h)
+code_and_lines_laid judged start h = chain_laid (code_of judged h.code_length) (lines_of judged start h) (code_laid judged h.code_length) (lines_laid judged start h)
 
-raw_block_laid : (judged : Bool) (before : ℕ × ℕ) (start : ℕ) → IsLaidOut RawBlock (raw_block judged before start)
-unfolding raw_block
-raw_block_laid judged before start =
+block_rows_laid : (judged : Bool) (before : ℕ × ℕ) (start : ℕ) → IsLaidOut BlockRow (block_rows judged before start)
+unfolding block_rows
+block_rows_laid judged before start =
     chain_laid (head before) (behind_head judged start) (head_laid before) (λ h.
     chain_laid (parameters h) (λ params. code_and_lines judged start h) (parameters_laid h) (λ params. code_and_lines_laid judged start h))
 
 quad : {a b c d x y z w : ℕ} → a ≡ x → b ≡ y → c ≡ z → d ≡ w → ◌≡◌ {A = ℕ × (ℕ × (ℕ × ℕ))} (a, (b, (c, d))) (x, (y, (z, w)))
 quad p q r s = rw (p, q, r, s) refl
 
-params_count : (h : Head) (ps : List ParameterRecord) → (parameters h).good ps ≡ true → params_in h ≡ length ps
+params_count : (h : Head) (ps : List ParameterRecord) → (parameters h).good ps ≡ true → h.parameter_count ≡ length ps
 unfolding parameters
-params_count h ps good = many_count (λ s. parameter h.0 (instance_in h)) same_state 0 (params_in h) ps good
+params_count h ps good = many_count (λ s. parameter h.kind h.instance_bytes) same_state 0 h.parameter_count ps good
 
-lines_count : (judged : Bool) (start : ℕ) (h : Head) (ops : List OpData) (lines : List ℕ) → (lines_of judged start h ops).good lines ≡ true → statements_in h ≡ length lines
+lines_count : (judged : Bool) (start : ℕ) (h : Head) (ops : List OpData) (lines : List ℕ) → (lines_of judged start h ops).good lines ≡ true → h.statement_count ≡ length lines
 unfolding lines_of
 lines_count judged start h ops lines good =
-    let c = and_parts (is_fine (only judged (fault_of (StatementCount (end_marks ops) (statements_in h))))) (good_many (line_field judged) line_after 0 (statements_in h) lines) good in
-    many_count (line_field judged) line_after 0 (statements_in h) lines c.1
+    let c = and_parts (is_fine (only judged (fault_of (StatementCount (end_marks ops) h.statement_count)))) (good_many (line_field judged) line_after 0 h.statement_count lines) good in
+    many_count (line_field judged) line_after 0 h.statement_count lines c.1
 
 code_size : (judged : Bool) (n : ℕ) (ops : List OpData) → (code_of judged n).good ops ≡ true → length (code_bytes ops) ≡ n
 unfolding code_of
 code_size judged n ops good = eqb-true (length (code_bytes ops)) n (and_parts (are_ops ops && is_nowhere (stop_at judged ops [])) (eqb (length (code_bytes ops)) n) good).1
 
 -- a block without fault has the counts of its lists
-raw_is : (judged : Bool) (before : ℕ × ℕ) (start : ℕ) (x : RawBlock) → (raw_block judged before start).good x ≡ true → raw_of_block (block_of_raw x) ≡ x
-raw_is judged before start x good =
-    let p = block_parts judged before start x good in
-    ap (λ (z : ℕ × (ℕ × (ℕ × ℕ))). let r : RawBlock = ((x.0.0, (z.0, (x.0.1.1.0, (x.0.1.1.1.0, (x.0.1.1.1.1.0, (z.1.0, (z.1.1.0, z.1.1.1))))))), x.1) in r)
-    (quad (sym (params_count x.0 x.1.0 p.params_good)) (sym (lines_count judged start x.0 x.1.1.0 x.1.1.1 p.lines_good)) (sym (head_zero before x.0 p.head_good)) (code_size judged (code_len_in x.0) x.1.1.0 p.code_good))
+block_row_is : (judged : Bool) (before : ℕ × ℕ) (start : ℕ) (x : BlockRow) → (block_rows judged before start).good x ≡ true → row_of_block_parts (parts_of_block (block_of_parts (parts_of_block_row x))) ≡ x
+block_row_is judged before start x good =
+    let h = x.0 in
+    let g = good_block judged before start (parts_of_block_row x) good in
+    ap (λ (z : CountRow).
+    let head : Head = record { kind = h.kind; parameter_count = z.0; number = h.number; local_bytes = h.local_bytes; instance_bytes = h.instance_bytes; statement_count = z.1.0; reserved = z.1.1.0; code_length = z.1.1.1 } in
+    let r : BlockRow = (head, x.1) in r)
+    (quad (sym (params_count h x.1.0 g.params_good)) (sym (lines_count judged start h x.1.1.0 x.1.1.1 g.lines_good)) (sym (head_zero before h g.head_good)) (code_size judged h.code_length x.1.1.0 g.code_good))
 
-same_spell : (judged : Bool) (before : ℕ × ℕ) (at : ℕ) (x : RawBlock) → (raw_block judged before at).spell x ≡ (raw_block judged before 0).spell x
-unfolding raw_block code_and_lines lines_of
+same_spell : (judged : Bool) (before : ℕ × ℕ) (at : ℕ) (x : BlockRow) → (block_rows judged before at).spell x ≡ (block_rows judged before 0).spell x
+unfolding block_rows code_and_lines lines_of
 same_spell judged before at x = refl
 
-same_good : (judged : Bool) (before : ℕ × ℕ) (at : ℕ) (x : RawBlock) → (raw_block judged before at).good x ≡ (raw_block judged before 0).good x
-unfolding raw_block code_and_lines lines_of
+same_good : (judged : Bool) (before : ℕ × ℕ) (at : ℕ) (x : BlockRow) → (block_rows judged before at).good x ≡ (block_rows judged before 0).good x
+unfolding block_rows code_and_lines lines_of
 same_good judged before at x = refl
 
 code_block_laid : (judged : Bool) (before : ℕ × ℕ) → IsLaidOut BlockRecord (code_block judged before)
 unfolding code_block plain_block
 code_block_laid judged before =
-    located_laid (code_block_at judged before) (λ at b. same_spell judged before at (raw_of_block b)) (λ at b. same_good judged before at (raw_of_block b))
-    (λ at. remembered_laid (whole_at at) (plain_block judged before at) (λ b. refl) (seen_laid block_of_raw raw_of_block (raw_block judged before at) (raw_is judged before at) (λ b good. refl) (raw_block_laid judged before at)))
+    located_laid (code_block_at judged before) (λ at b. same_spell judged before at (row_of_block_parts (parts_of_block b))) (λ at b. same_good judged before at (row_of_block_parts (parts_of_block b)))
+    (λ at. remembered_laid (whole_at at) (plain_block judged before at) (λ b. refl) (seen_laid (λ r. block_of_parts (parts_of_block_row r)) (λ b. row_of_block_parts (parts_of_block b)) (block_rows judged before at) (block_row_is judged before at) (λ b good. refl) (block_rows_laid judged before at)))
 
 code_blocks_laid : (judged : Bool) (n : ℕ) → IsLaidOut (List BlockRecord) (code_blocks judged n)
 unfolding code_blocks
@@ -205,9 +216,9 @@ data_from_len sum = chain (data_len sum) data_from_zero
 abbrev data_from_instance : ℕ → Layout (ℕ × (ℕ × (ℕ × List ℕ)))
 data_from_instance sum = chain instance_field (λ instance. data_from_len sum)
 
-raw_data_laid : (before : ℕ × ℕ) → IsLaidOut RawData (raw_data before)
-unfolding raw_data data_number instance_field data_len zero_u16 contents
-raw_data_laid before =
+data_rows_laid : (before : ℕ × ℕ) → IsLaidOut DataRow (data_rows before)
+unfolding data_rows data_number instance_field data_len zero_u16 contents
+data_rows_laid before =
     chain_laid (data_number before.0) (λ number. data_from_instance before.1) (field_laid u16 _ u16_exact) (λ number.
     chain_laid instance_field (λ instance. data_from_len before.1) (field_laid u16 _ u16_exact) (λ instance.
     chain_laid (data_len before.1) data_from_zero (field_laid u16 _ u16_exact) (λ n.
@@ -224,22 +235,22 @@ instance_again (Some n) = refl
 triple : {a b c x y z : ℕ} → a ≡ x → b ≡ y → c ≡ z → ◌≡◌ {A = ℕ × (ℕ × ℕ)} (a, (b, c)) (x, (y, z))
 triple p q r = rw (p, q, r) refl
 
-raw_data_is : (before : ℕ × ℕ) (x : RawData) → (raw_data before).good x ≡ true → raw_of_data (data_of_raw x) ≡ x
-unfolding raw_data
-raw_data_is before x good =
+data_row_is : (before : ℕ × ℕ) (x : DataRow) → (data_rows before).good x ≡ true → data_row (fields_of_data (data_of_fields (data_fields x))) ≡ x
+unfolding data_rows
+data_row_is before x good =
     let a = chain_parts (data_number before.0) (λ number. data_from_instance before.1) x good in
     let b = chain_parts instance_field (λ instance. data_from_len before.1) x.1 a.1 in
     let c = chain_parts (data_len before.1) data_from_zero x.1.1 b.1 in
     let d = chain_parts zero_u16 (λ zero. contents x.1.1.0) x.1.1.1 c.1 in
-    ap (λ (z : ℕ × (ℕ × ℕ)). let r : RawData = (x.0, (z.0, (z.1.0, (z.1.1, x.1.1.1.1)))) in r)
+    ap (λ (z : ℕ × (ℕ × ℕ)). let r : DataRow = (x.0, (z.0, (z.1.0, (z.1.1, x.1.1.1.1)))) in r)
     (triple (instance_is x.1.0) (bytes_len x.1.1.0 x.1.1.1.1 d.1) (sym (zero_u16_is x.1.1.1.0 d.0)))
 
-data_again : (d : DataBlock) → data_of_raw (raw_of_data d) ≡ d
+data_again : (d : DataBlock) → data_of_fields (data_fields (data_row (fields_of_data d))) ≡ d
 data_again d = ap (λ (o : Option ℕ). let y : DataBlock = record { number = d.number; instance_of = o; bytes = d.bytes } in y) (instance_again d.instance_of)
 
 data_block_laid : (before : ℕ × ℕ) → IsLaidOut DataBlock (data_block before)
 unfolding data_block
-data_block_laid before = seen_laid data_of_raw raw_of_data (raw_data before) (raw_data_is before) (λ d good. data_again d) (raw_data_laid before)
+data_block_laid before = seen_laid (λ r. data_of_fields (data_fields r)) (λ d. data_row (fields_of_data d)) (data_rows before) (data_row_is before) (λ d good. data_again d) (data_rows_laid before)
 
 data_blocks_laid : (n : ℕ) → IsLaidOut (List DataBlock) (data_blocks n)
 unfolding data_blocks
@@ -259,16 +270,16 @@ name_from_area = chain name_area (λ area. name_from_width)
 abbrev name_from_bytes : List ℕ → ℕ → Layout (List ℕ × (ℕ × (ℕ × (ℕ × ℕ))))
 name_from_bytes before n = chain (name_bytes before n) (λ name. name_from_area)
 
-raw_name_laid : (before : List ℕ) → IsLaidOut RawName (raw_name before)
-unfolding raw_name name_len name_bytes name_area width_field plain_u16 name_bit
-raw_name_laid before =
+name_rows_laid : (before : List ℕ) → IsLaidOut NameRow (name_rows before)
+unfolding name_rows name_len name_bytes name_area width_field plain_u16 name_bit
+name_rows_laid before =
     chain_laid name_len (name_from_bytes before) (field_laid u8 _ u8_exact) (λ n.
     chain_laid (name_bytes before n) (λ name. name_from_area) (field_laid (bytes n) _ (run_exact n)) (λ name.
     chain_laid name_area (λ area. name_from_width) (field_laid u8 _ u8_exact) (λ area.
     chain_laid width_field name_from_byte (field_laid u8 _ u8_exact) (λ w.
     chain_laid plain_u16 (λ byte. name_bit w) (field_laid u16 plain u16_exact) (λ byte. field_laid u8 _ u8_exact)))))
 
-pub record NameParts (before : List ℕ) (x : RawName) : Type 0 where
+pub record NameParts (before : List ℕ) (x : NameRow) : Type 0 where
   pub len_is : length x.1.0 ≡ x.0
   pub area_good : lies_within (area_code area.I) (area_code area.M) x.1.1.0 ≡ true
   pub width_good : lies_within 1 4 x.1.1.1.0 ≡ true
@@ -281,8 +292,8 @@ within_area : (a : ℕ) → name_area.good a ≡ true → lies_within (area_code
 unfolding name_area fault_of
 within_area a good = unless_fine (lies_within (area_code area.I) (area_code area.M) a) 4 (and_parts (ltb a 256) (is_fine (unless (lies_within (area_code area.I) (area_code area.M) a) 4)) good).1
 
-name_parts : (before : List ℕ) (x : RawName) → (raw_name before).good x ≡ true → NameParts before x
-unfolding raw_name
+name_parts : (before : List ℕ) (x : NameRow) → (name_rows before).good x ≡ true → NameParts before x
+unfolding name_rows
 name_parts before x good =
     let a = chain_parts name_len (name_from_bytes before) x good in
     let b = chain_parts (name_bytes before x.0) (λ name. name_from_area) x.1 a.1 in
@@ -290,12 +301,12 @@ name_parts before x good =
     let d = chain_parts width_field name_from_byte x.1.1.1 c.1 in
     record { len_is = name_len_is before x.0 x.1.0 b.0; area_good = within_area x.1.1.0 c.0; width_good = within_width x.1.1.1.0 d.0 }
 
-raw_name_is : (before : List ℕ) (x : RawName) → (raw_name before).good x ≡ true → raw_of_name (name_of_raw x) ≡ x
-raw_name_is before x good = ap (λ (n : ℕ). let r : RawName = (n, x.1) in r) (name_parts before x good).len_is
+name_row_is : (before : List ℕ) (x : NameRow) → (name_rows before).good x ≡ true → name_row (fields_of_name (name_of_fields (name_fields x))) ≡ x
+name_row_is before x good = ap (λ (n : ℕ). let r : NameRow = (n, x.1) in r) (name_parts before x good).len_is
 
 name_record_laid : (before : List ℕ) → IsLaidOut NameRecord (name_record before)
 unfolding name_record
-name_record_laid before = seen_laid name_of_raw raw_of_name (raw_name before) (raw_name_is before) (λ n good. refl) (raw_name_laid before)
+name_record_laid before = seen_laid (λ r. name_of_fields (name_fields r)) (λ n. name_row (fields_of_name n)) (name_rows before) (name_row_is before) (λ n good. refl) (name_rows_laid before)
 
 names_laid : (n : ℕ) → IsLaidOut (List NameRecord) (names n)
 unfolding names
@@ -309,45 +320,52 @@ counts_from_names = chain plain_u16 (λ names. zero_u16)
 abbrev counts_from_datas : Layout (ℕ × (ℕ × ℕ))
 counts_from_datas = chain data_count (λ datas. counts_from_names)
 
-counts_laid : IsLaidOut Counts counts
-unfolding counts plain_u16 data_count zero_u16
-counts_laid =
+count_rows_laid : IsLaidOut CountRow count_rows
+unfolding count_rows plain_u16 data_count zero_u16
+count_rows_laid =
     chain_laid plain_u16 (λ codes. counts_from_datas) (field_laid u16 plain u16_exact) (λ codes.
     chain_laid data_count (λ datas. counts_from_names) (field_laid u16 _ u16_exact) (λ datas.
     chain_laid plain_u16 (λ names. zero_u16) (field_laid u16 plain u16_exact) (λ names. field_laid u16 _ u16_exact)))
 
-counts_zero : (c : Counts) → counts.good c ≡ true → c.1.1.1 ≡ 0
+counts_laid : IsLaidOut Counts counts
 unfolding counts
+counts_laid = seen_laid counts_of_row row_of_counts count_rows (λ r good. refl) (λ c good. refl) count_rows_laid
+
+counts_zero : (c : Counts) → counts.good c ≡ true → c.reserved ≡ 0
+unfolding counts count_rows
 counts_zero c good =
-    let a = chain_parts plain_u16 (λ codes. counts_from_datas) c good in
-    let b = chain_parts data_count (λ datas. counts_from_names) c.1 a.1 in
-    let d = chain_parts plain_u16 (λ names. zero_u16) c.1.1 b.1 in
-    zero_u16_is c.1.1.1 d.1
+    let row = row_of_counts c in
+    let a = chain_parts plain_u16 (λ codes. counts_from_datas) row good in
+    let b = chain_parts data_count (λ datas. counts_from_names) row.1 a.1 in
+    let d = chain_parts plain_u16 (λ names. zero_u16) row.1.1 b.1 in
+    zero_u16_is c.reserved d.1
 
 abbrev blocks_and_names : Bool → Counts → Layout (List BlockRecord × (List DataBlock × List NameRecord))
-blocks_and_names judged c = chain (code_blocks judged c.0) (λ blocks. chain (data_blocks c.1.0) (λ datas. names c.1.1.0))
+blocks_and_names judged c = chain (code_blocks judged c.code_blocks) (λ blocks. chain (data_blocks c.data_blocks) (λ datas. names c.names))
 
-raw_records_laid : (judged : Bool) → IsLaidOut RawRecords (raw_records judged)
-unfolding raw_records
-raw_records_laid judged =
+body_rows_laid : (judged : Bool) → IsLaidOut BodyRow (body_rows judged)
+unfolding body_rows
+body_rows_laid judged =
     chain_laid counts (blocks_and_names judged) counts_laid (λ c.
-    chain_laid (code_blocks judged c.0) (λ blocks. chain (data_blocks c.1.0) (λ datas. names c.1.1.0)) (code_blocks_laid judged c.0) (λ blocks.
-    chain_laid (data_blocks c.1.0) (λ datas. names c.1.1.0) (data_blocks_laid c.1.0) (λ datas. names_laid c.1.1.0)))
+    chain_laid (code_blocks judged c.code_blocks) (λ blocks. chain (data_blocks c.data_blocks) (λ datas. names c.names)) (code_blocks_laid judged c.code_blocks) (λ blocks.
+    chain_laid (data_blocks c.data_blocks) (λ datas. names c.names) (data_blocks_laid c.data_blocks) (λ datas. names_laid c.names)))
 
 -- the parts of records without fault
-pub record RecordParts (judged : Bool) (x : RawRecords) : Type 0 where
-  pub counts_good : counts.good x.0 ≡ true
-  pub codes_good : (code_blocks judged x.0.0).good x.1.0 ≡ true
-  pub datas_good : (data_blocks x.0.1.0).good x.1.1.0 ≡ true
-  pub names_good : (names x.0.1.1.0).good x.1.1.1 ≡ true
+pub record GoodRecords (judged : Bool) (x : BodyParts) : Type 0 where
+  pub counts_good : counts.good x.counts ≡ true
+  pub codes_good : (code_blocks judged x.counts.code_blocks).good x.code_blocks ≡ true
+  pub datas_good : (data_blocks x.counts.data_blocks).good x.data_blocks ≡ true
+  pub names_good : (names x.counts.names).good x.names ≡ true
 
-record_parts : (judged : Bool) (x : RawRecords) → (raw_records judged).good x ≡ true → RecordParts judged x
-unfolding raw_records
-record_parts judged x good =
-    let a = chain_parts counts (blocks_and_names judged) x good in
-    let b = chain_parts (code_blocks judged x.0.0) (λ blocks. chain (data_blocks x.0.1.0) (λ datas. names x.0.1.1.0)) x.1 a.1 in
-    let c = chain_parts (data_blocks x.0.1.0) (λ datas. names x.0.1.1.0) x.1.1 b.1 in
-    record { counts_good = a.0; codes_good = b.0; datas_good = c.0; names_good = c.1 }
+good_parts : (judged : Bool) (x : BodyParts) → (body_rows judged).good (row_of_body_parts x) ≡ true → GoodRecords judged x
+unfolding body_rows
+good_parts judged x good =
+    let row = row_of_body_parts x in
+    let c = x.counts in
+    let a = chain_parts counts (blocks_and_names judged) row good in
+    let b = chain_parts (code_blocks judged c.code_blocks) (λ blocks. chain (data_blocks c.data_blocks) (λ datas. names c.names)) row.1 a.1 in
+    let d = chain_parts (data_blocks c.data_blocks) (λ datas. names c.names) row.1.1 b.1 in
+    record { counts_good = a.0; codes_good = b.0; datas_good = d.0; names_good = d.1 }
 
 codes_count : (judged : Bool) (n : ℕ) (bs : List BlockRecord) → (code_blocks judged n).good bs ≡ true → n ≡ length bs
 unfolding code_blocks
@@ -361,15 +379,16 @@ names_count : (n : ℕ) (ns : List NameRecord) → (names n).good ns ≡ true �
 unfolding names
 names_count n ns good = many_count name_record after_name [] n ns good
 
-raw_records_is : (judged : Bool) (x : RawRecords) → (raw_records judged).good x ≡ true → raw_of_records (records_of_raw x) ≡ x
-raw_records_is judged x good =
-    let p = record_parts judged x good in
-    ap (λ (z : Counts). let r : RawRecords = (z, x.1) in r)
-    (quad (sym (codes_count judged x.0.0 x.1.0 p.codes_good)) (sym (datas_count x.0.1.0 x.1.1.0 p.datas_good)) (sym (names_count x.0.1.1.0 x.1.1.1 p.names_good)) (sym (counts_zero x.0 p.counts_good)))
+body_row_is : (judged : Bool) (x : BodyRow) → (body_rows judged).good x ≡ true → row_of_body_parts (parts_of_records (records_of_parts (parts_of_body_row x))) ≡ x
+body_row_is judged x good =
+    let g = good_parts judged (parts_of_body_row x) good in
+    let c = x.0 in
+    ap (λ (z : CountRow). let r : BodyRow = (counts_of_row z, x.1) in r)
+    (quad (sym (codes_count judged c.code_blocks x.1.0 g.codes_good)) (sym (datas_count c.data_blocks x.1.1.0 g.datas_good)) (sym (names_count c.names x.1.1.1 g.names_good)) (sym (counts_zero c g.counts_good)))
 
 pub records_laid : (judged : Bool) → IsLaidOut Records (records judged)
 unfolding records
-records_laid judged = seen_laid records_of_raw raw_of_records (raw_records judged) (raw_records_is judged) (λ r good. refl) (raw_records_laid judged)
+records_laid judged = seen_laid (λ r. records_of_parts (parts_of_body_row r)) (λ r. row_of_body_parts (parts_of_records r)) (body_rows judged) (body_row_is judged) (λ r good. refl) (body_rows_laid judged)
 
 -- ---- programs: kinds, widths and areas by their numbers
 
@@ -442,40 +461,40 @@ back_many l next to from h s (suc n) (y ∷ ys) good =
     rw (h s y g.0, back_many l next to from h (next s (from y)) n ys g.1) refl
 
 param_back : (kind instance : ℕ) (p : ParameterRecord) → (parameter kind instance).good p ≡ true → record_of_param (param_of p) ≡ p
-unfolding parameter raw_parameter
+unfolding parameter parameter_rows
 param_back kind instance p good =
-    let a = chain_parts section_field (λ s. chain width_field (λ w. chain (parameter_byte kind instance w) (λ byte. chain (parameter_bit kind) (λ bit. zero_u8)))) (raw_of_parameter p) good in
-    let b = chain_parts width_field (λ w. chain (parameter_byte kind instance w) (λ byte. chain (parameter_bit kind) (λ bit. zero_u8))) (raw_of_parameter p).1 a.1 in
+    let a = chain_parts section_field (λ s. chain width_field (λ w. chain (parameter_byte kind instance w) (λ byte. chain (parameter_bit kind) (λ bit. zero_u8)))) (parameter_row (fields_of_parameter p)) good in
+    let b = chain_parts width_field (λ w. chain (parameter_byte kind instance w) (λ byte. chain (parameter_bit kind) (λ bit. zero_u8))) (parameter_row (fields_of_parameter p)).1 a.1 in
     ap (λ (w : ℕ). let r : ParameterRecord = record { section = p.section; width = w; byte = p.byte; bit = p.bit } in r) (width_back p.width (within_width p.width b.0))
 
 params_back : (h : Head) (ps : List ParameterRecord) → (parameters h).good ps ≡ true → map record_of_param (map param_of ps) ≡ ps
 unfolding parameters
-params_back h ps good = there_many (λ s. parameter h.0 (instance_in h)) same_state param_of record_of_param (λ s p g. param_back h.0 (instance_in h) p g) 0 (params_in h) ps good
+params_back h ps good = there_many (λ s. parameter h.kind h.instance_bytes) same_state param_of record_of_param (λ s p g. param_back h.kind h.instance_bytes p g) 0 h.parameter_count ps good
 
 params_there : (ps : List Param) → map param_of (map record_of_param ps) ≡ ps
 params_there [] = refl
 params_there (p ∷ ps) = rw (width_there p.width, params_there ps) refl
 
 -- the parts of a block record without fault
-pub record_parts_of : (judged : Bool) (before : ℕ × ℕ) (b : BlockRecord) → (code_block judged before).good b ≡ true → BlockParts judged before 0 (raw_of_block b)
+pub good_block_of : (judged : Bool) (before : ℕ × ℕ) (b : BlockRecord) → (code_block judged before).good b ≡ true → GoodBlock judged before 0 (parts_of_block b)
 unfolding code_block plain_block
-record_parts_of judged before b good = block_parts judged before 0 (raw_of_block b) good
+good_block_of judged before b good = good_block judged before 0 (parts_of_block b) good
 
 block_back : (judged : Bool) (before : ℕ × ℕ) (b : BlockRecord) → (code_block judged before).good b ≡ true → record_of_block (block_of_record b) ≡ b
 block_back judged before b good =
-    let p = record_parts_of judged before b good in
-    ap (λ (k : ℕ). let r : BlockRecord = record { kind = k; number = b.number; local_len = b.local_len; instance_len = b.instance_len; params = map record_of_param (map param_of b.params); code = b.code; lines = b.lines } in r) (kind_back b.kind (head_kind before (raw_of_block b).0 p.head_good))
-    ∙ ap (λ (ps : List ParameterRecord). let r : BlockRecord = record { kind = b.kind; number = b.number; local_len = b.local_len; instance_len = b.instance_len; params = ps; code = b.code; lines = b.lines } in r) (params_back (raw_of_block b).0 b.params p.params_good)
+    let p = good_block_of judged before b good in
+    ap (λ (k : ℕ). let r : BlockRecord = record { kind = k; number = b.number; local_len = b.local_len; instance_len = b.instance_len; params = map record_of_param (map param_of b.params); code = b.code; lines = b.lines } in r) (kind_back b.kind (head_kind before (head_of_block b) p.head_good))
+    ∙ ap (λ (ps : List ParameterRecord). let r : BlockRecord = record { kind = b.kind; number = b.number; local_len = b.local_len; instance_len = b.instance_len; params = ps; code = b.code; lines = b.lines } in r) (params_back (head_of_block b) b.params p.params_good)
 
 block_there : (judged : Bool) (before : ℕ × ℕ) (b : CodeBlock) → (code_block judged before).good (record_of_block b) ≡ true → block_of_record (record_of_block b) ≡ b
 block_there judged before b good =
-    let p = record_parts_of judged before (record_of_block b) good in
-    ap (λ (k : BlockKind). let r : CodeBlock = record { id = record { kind = k; number = b.id.number }; local_len = b.local_len; instance_len = b.instance_len; params = map param_of (map record_of_param b.params); code = b.code; lines = b.lines } in r) (kind_there b.id.kind (head_kind before (raw_of_block (record_of_block b)).0 p.head_good))
+    let p = good_block_of judged before (record_of_block b) good in
+    ap (λ (k : BlockKind). let r : CodeBlock = record { id = record { kind = k; number = b.id.number }; local_len = b.local_len; instance_len = b.instance_len; params = map param_of (map record_of_param b.params); code = b.code; lines = b.lines } in r) (kind_there b.id.kind (head_kind before (head_of_block (record_of_block b)) p.head_good))
     ∙ ap (λ (ps : List Param). let r : CodeBlock = record { id = b.id; local_len = b.local_len; instance_len = b.instance_len; params = ps; code = b.code; lines = b.lines } in r) (params_there b.params)
 
-pub name_parts_of : (before : List ℕ) (n : NameRecord) → (name_record before).good n ≡ true → NameParts before (raw_of_name n)
+pub name_parts_of : (before : List ℕ) (n : NameRecord) → (name_record before).good n ≡ true → NameParts before (name_row (fields_of_name n))
 unfolding name_record
-name_parts_of before n good = name_parts before (raw_of_name n) good
+name_parts_of before n good = name_parts before (name_row (fields_of_name n)) good
 
 name_back : (before : List ℕ) (n : NameRecord) → (name_record before).good n ≡ true → name_of_entry (entry_of_name n) ≡ n
 name_back before n good = let p = name_parts_of before n good in rw (area_back n.area p.area_good, width_back n.width p.width_good) refl
@@ -504,19 +523,19 @@ names_there : (n : ℕ) (es : List NameEntry) → (names n).good (map name_of_en
 unfolding names
 names_there n es good = back_many name_record after_name entry_of_name name_of_entry name_there [] n es good
 
-pub records_parts : (judged : Bool) (r : Records) → (records judged).good r ≡ true → RecordParts judged (raw_of_records r)
+pub good_records : (judged : Bool) (r : Records) → (records judged).good r ≡ true → GoodRecords judged (parts_of_records r)
 unfolding records
-records_parts judged r good = record_parts judged (raw_of_records r) good
+good_records judged r good = good_parts judged (parts_of_records r) good
 
 pub records_back : (judged : Bool) (r : Records) → (records judged).good r ≡ true → records_of (program_of r) ≡ r
 records_back judged r good =
-    let p = records_parts judged r good in
+    let p = good_records judged r good in
     ap (λ (z : List BlockRecord). let y : Records = record { code_blocks = z; data_blocks = r.data_blocks; names = map name_of_entry (map entry_of_name r.names) } in y) (codes_back judged (length r.code_blocks) r.code_blocks p.codes_good)
     ∙ ap (λ (z : List NameRecord). let y : Records = record { code_blocks = r.code_blocks; data_blocks = r.data_blocks; names = z } in y) (names_back (length r.names) r.names p.names_good)
 
 records_there : (judged : Bool) (p : Program) → (records judged).good (records_of p) ≡ true → program_of (records_of p) ≡ p
 records_there judged p good =
-    let q = records_parts judged (records_of p) good in
+    let q = good_records judged (records_of p) good in
     ap (λ (z : List CodeBlock). let y : Program = record { code_blocks = z; data_blocks = p.data_blocks; names = map entry_of_name (map name_of_entry p.names) } in y) (codes_there judged (length (map record_of_block p.code_blocks)) p.code_blocks q.codes_good)
     ∙ ap (λ (z : List NameEntry). let y : Program = record { code_blocks = p.code_blocks; data_blocks = p.data_blocks; names = z } in y) (names_there (length (map name_of_entry p.names)) p.names q.names_good)
 
@@ -539,17 +558,18 @@ unfolding code_of
 code_text n ops = refl
 
 block_text : (before : ℕ × ℕ) (b : BlockRecord) → (code_block true before).spell b ≡ (code_block false before).spell b
-unfolding code_block plain_block raw_block code_and_lines lines_of
+unfolding code_block plain_block block_rows code_and_lines lines_of
 block_text before b =
-    let x = raw_of_block b in
-    ap (λ (z : List ℕ). (head before).spell x.0 ++ ((parameters x.0).spell x.1.0 ++ (z ++ spell_many (line_field true) line_after 0 b.lines))) (code_text (code_len_in x.0) b.code)
-    ∙ ap (λ (z : List ℕ). (head before).spell x.0 ++ ((parameters x.0).spell x.1.0 ++ ((code_of false (code_len_in x.0)).spell b.code ++ z))) (many_text (line_field true) (line_field false) line_after line_text 0 b.lines)
+    let h = head_of_block b in
+    ap (λ (z : List ℕ). (head before).spell h ++ ((parameters h).spell b.params ++ (z ++ spell_many (line_field true) line_after 0 b.lines))) (code_text h.code_length b.code)
+    ∙ ap (λ (z : List ℕ). (head before).spell h ++ ((parameters h).spell b.params ++ ((code_of false h.code_length).spell b.code ++ z))) (many_text (line_field true) (line_field false) line_after line_text 0 b.lines)
 
 pub true_text : (p : Program) → (body true).spell p ≡ (body false).spell p
-unfolding body records raw_records code_blocks
+unfolding body records body_rows code_blocks
 true_text p =
-    let r = raw_of_records (records_of p) in
-    ap (λ (z : List ℕ). counts.spell r.0 ++ (z ++ ((data_blocks r.0.1.0).spell r.1.1.0 ++ (names r.0.1.1.0).spell r.1.1.1))) (many_text (code_block true) (code_block false) after_block block_text (0, 0) r.1.0)
+    let r = records_of p in
+    let c = counts_of r in
+    ap (λ (z : List ℕ). counts.spell c ++ (z ++ ((data_blocks c.data_blocks).spell r.data_blocks ++ (names c.names).spell r.names))) (many_text (code_block true) (code_block false) after_block block_text (0, 0) r.code_blocks)
 
 pub same_text : (judged : Bool) (p : Program) → (body judged).spell p ≡ (body false).spell p
 same_text true p = true_text p
@@ -577,94 +597,112 @@ code_weaker n ops h =
 lines_weaker : (h : Head) (ops : List OpData) (lines : List ℕ) → (lines_of true 0 h ops).good lines ≡ true → (lines_of false 0 h ops).good lines ≡ true
 unfolding lines_of
 lines_weaker h ops lines good =
-    let c = and_parts (is_fine (only true (fault_of (StatementCount (end_marks ops) (statements_in h))))) (good_many (line_field true) line_after 0 (statements_in h) lines) good in
-    and_from true _ refl (many_weaker (line_field true) (line_field false) line_after line_weaker 0 (statements_in h) lines c.1)
+    let c = and_parts (is_fine (only true (fault_of (StatementCount (end_marks ops) h.statement_count)))) (good_many (line_field true) line_after 0 h.statement_count lines) good in
+    and_from true _ refl (many_weaker (line_field true) (line_field false) line_after line_weaker 0 h.statement_count lines c.1)
 
-parts_good : (before : ℕ × ℕ) (b : BlockRecord) → BlockParts true before 0 (raw_of_block b) → (code_block false before).good b ≡ true
-unfolding code_block plain_block raw_block code_and_lines
-parts_good before b p =
-    let x = raw_of_block b in
-    and_from ((head before).good x.0) _ p.head_good (and_from ((parameters x.0).good x.1.0) _ p.params_good (and_from ((code_of false (code_len_in x.0)).good x.1.1.0) _ (code_weaker (code_len_in x.0) x.1.1.0 p.code_good) (lines_weaker x.0 x.1.1.0 x.1.1.1 p.lines_good)))
+parts_good : (before : ℕ × ℕ) (b : BlockRecord) → GoodBlock true before 0 (parts_of_block b) → (code_block false before).good b ≡ true
+unfolding code_block plain_block block_rows code_and_lines
+parts_good before b g =
+    let h = head_of_block b in
+    and_from ((head before).good h) _ g.head_good (and_from ((parameters h).good b.params) _ g.params_good (and_from ((code_of false h.code_length).good b.code) _ (code_weaker h.code_length b.code g.code_good) (lines_weaker h b.code b.lines g.lines_good)))
 
 block_weaker : (before : ℕ × ℕ) (b : BlockRecord) → (code_block true before).good b ≡ true → (code_block false before).good b ≡ true
-block_weaker before b h = parts_good before b (record_parts_of true before b h)
+block_weaker before b h = parts_good before b (good_block_of true before b h)
 
 codes_weaker : (n : ℕ) (bs : List BlockRecord) → (code_blocks true n).good bs ≡ true → (code_blocks false n).good bs ≡ true
 unfolding code_blocks
 codes_weaker n bs h = many_weaker (code_block true) (code_block false) after_block block_weaker (0, 0) n bs h
 
-all_good : (x : RawRecords) → RecordParts true x → (raw_records false).good x ≡ true
-unfolding raw_records
-all_good x p =
-    and_from (counts.good x.0) _ p.counts_good (and_from ((code_blocks false x.0.0).good x.1.0) _ (codes_weaker x.0.0 x.1.0 p.codes_good) (and_from ((data_blocks x.0.1.0).good x.1.1.0) _ p.datas_good p.names_good))
+all_good : (x : BodyParts) → GoodRecords true x → (body_rows false).good (row_of_body_parts x) ≡ true
+unfolding body_rows
+all_good x g =
+    let c = x.counts in
+    and_from (counts.good c) _ g.counts_good (and_from ((code_blocks false c.code_blocks).good x.code_blocks) _ (codes_weaker c.code_blocks x.code_blocks g.codes_good) (and_from ((data_blocks c.data_blocks).good x.data_blocks) _ g.datas_good g.names_good))
 
 pub good_weaker : (p : Program) → (body true).good p ≡ true → (body false).good p ≡ true
 unfolding body records
-good_weaker p h = all_good (raw_of_records (records_of p)) (record_parts true (raw_of_records (records_of p)) h)
+good_weaker p h = let x = parts_of_records (records_of p) in all_good x (good_parts true x h)
 
 -- ---- the header
 
-abbrev front_from_zero : Layout (ℕ × ℕ)
-front_from_zero = chain zero_u16 (λ zero. plain_u32)
+abbrev front_from_profile : ℕ → Layout (ℕ × ℕ)
+front_from_profile version = chain (profile_field version) (λ profile. plain_u32)
 
 abbrev front_from_version : Layout (ℕ × (ℕ × ℕ))
-front_from_version = chain version_field (λ version. front_from_zero)
+front_from_version = chain version_field front_from_profile
+
+front_rows_laid : IsLaidOut FrontRow front_rows
+unfolding front_rows magic_field version_field profile_field plain_u32
+front_rows_laid =
+    chain_laid magic_field (λ magic. front_from_version) (field_laid u32 _ u32_exact) (λ magic.
+    chain_laid version_field front_from_profile (field_laid u16 _ u16_exact) (λ version.
+    chain_laid (profile_field version) (λ profile. plain_u32) (field_laid u16 _ u16_exact) (λ profile. field_laid u32 plain u32_exact)))
 
 pub front_laid : IsLaidOut Front front
-unfolding front magic_field version_field zero_u16 plain_u32
-front_laid =
-    chain_laid magic_field (λ magic. front_from_version) (field_laid u32 _ u32_exact) (λ magic.
-    chain_laid version_field (λ version. front_from_zero) (field_laid u16 _ u16_exact) (λ version.
-    chain_laid zero_u16 (λ zero. plain_u32) (field_laid u16 _ u16_exact) (λ zero. field_laid u32 plain u32_exact)))
+unfolding front
+front_laid = seen_laid front_of_row row_of_front front_rows (λ r good. refl) (λ f good. refl) front_rows_laid
 
 total_good : (total : ℕ) → total ≤ 8388608 → plain_u32.good total ≡ true
 unfolding plain_u32
 total_good total le = and_from (ltb total 4294967296) true (lt-ltb total 4294967296 (omega arith)) refl
 
-front_good : (total : ℕ) → total ≤ 8388608 → front.good (front_of total) ≡ true
-unfolding front magic_field version_field zero_u16 fault_of
-front_good total le = and_from true _ refl (and_from true _ refl (and_from true _ refl (total_good total le)))
+front_good : (stamp : Stamp) (total : ℕ) → total ≤ 8388608 → front.good (front_of stamp total) ≡ true
+unfolding front front_rows magic_field version_field profile_field fault_of
+front_good stamps.One total le = and_from true _ refl (and_from true _ refl (and_from true _ refl (total_good total le)))
+front_good (stamps.Two profiles.Small) total le = and_from true _ refl (and_from true _ refl (and_from true _ refl (total_good total le)))
+front_good (stamps.Two profiles.Large) total le = and_from true _ refl (and_from true _ refl (and_from true _ refl (total_good total le)))
 
 front_length : (f : Front) → length (front.spell f) ≡ 12
-unfolding front magic_field version_field zero_u16 plain_u32
+unfolding front front_rows magic_field version_field profile_field plain_u32
 front_length f = refl
 
 counts_length : (c : Counts) → length (counts.spell c) ≡ 8
-unfolding counts plain_u16 data_count zero_u16
+unfolding counts count_rows plain_u16 data_count zero_u16
 counts_length c = refl
 
 abbrev text_of : Program → List ℕ
 text_of p = (body false).spell p
 
 text_long : (p : Program) → 8 ≤ length (text_of p)
-unfolding body records raw_records
+unfolding body records body_rows
 text_long p =
-    let r = raw_of_records (records_of p) in
-    omega (arith, counts_length r.0, length-append (counts.spell r.0) ((code_blocks false r.0.0).spell r.1.0 ++ ((data_blocks r.0.1.0).spell r.1.1.0 ++ (names r.0.1.1.0).spell r.1.1.1)))
+    let r = records_of p in
+    let c = counts_of r in
+    omega (arith, counts_length c, length-append (counts.spell c) ((code_blocks false c.code_blocks).spell r.code_blocks ++ ((data_blocks c.data_blocks).spell r.data_blocks ++ (names c.names).spell r.names)))
+
+-- the stamp of the two fields that a stamp has
+stamp_again : (stamp : Stamp) → stamp_of (version_number stamp) (profile_field_of stamp) ≡ stamp
+stamp_again stamps.One = refl
+stamp_again (stamps.Two profiles.Small) = refl
+stamp_again (stamps.Two profiles.Large) = refl
 
 -- ---- the image
 
-abbrev rest_of : Bool → ℕ → Cursor → Read Program
-rest_of judged total cur = bind ((body judged).read (record { at = cur.at; rest = take (total - front_size) cur.rest })) at_end
+-- a program with the version and profile of its image
+abbrev pub Stamped : Type 0
+Stamped = Stamp × Program
+
+abbrev rest_of : Bool → Stamp → ℕ → Cursor → Read Stamped
+rest_of judged stamp total cur = bind ((body judged).read (record { at = cur.at; rest = take (total - front_size) cur.rest })) (at_end stamp)
 
 -- nothing is cut off, and nothing is noted
-cut_finds : (judged : Bool) (total : ℕ) (cur : Cursor) (p : Program) (end : Cursor) → 20 ≤ total → total ≤ 8388608 → Finds Program (rest_of judged total cur) p end → Finds Program (cut judged total total cur) p end
-cut_finds judged total cur p end le most h =
+cut_finds : (judged : Bool) (stamp : Stamp) (total : ℕ) (cur : Cursor) (p : Stamped) (end : Cursor) → 20 ≤ total → total ≤ 8388608 → Finds Stamped (rest_of judged stamp total cur) p end → Finds Stamped (cut judged stamp total total cur) p end
+cut_finds judged stamp total cur p end le most h =
     let no_cut : (ltb total 20 || ltb total total) ≡ false = or_from _ _ (le-ltb total 20 le) (le-ltb total total (omega arith)) in
     let same : eqb total total ≡ true = eq-eqb total total refl in
     let small : ltb 8388608 total ≡ false = le-ltb 8388608 total most in
-    let shape : cut judged total total cur ≡ rest_of judged total cur = rw (no_cut, small, same) refl in
-    subst (λ (z : Read Program). Finds Program z p end) (sym shape) h
+    let shape : cut judged stamp total total cur ≡ rest_of judged stamp total cur = rw (no_cut, small, same) refl in
+    subst (λ (z : Read Stamped). Finds Stamped z p end) (sym shape) h
 
-pub image_again : (judged : Bool) (p : Program) → (body judged).good p ≡ true → front_size + length (text_of p) ≤ 8388608 → Finds Program (read_by judged (image p)) p (at_place (front_size + length (text_of p)) [])
+pub image_again : (judged : Bool) (stamp : Stamp) (p : Program) → (body judged).good p ≡ true → front_size + length (text_of p) ≤ 8388608 → Finds Stamped (read_by judged (image stamp p)) (stamp, p) (at_place (front_size + length (text_of p)) [])
 unfolding read_by image
-image_again judged p good short =
+image_again judged stamp p good short =
     let text = text_of p in
     let total = front_size + length text in
-    let values : Front = front_of total in
+    let values : Front = front_of stamp total in
     let all = front.spell values ++ text in
     let end = at_place total [] in
-    let one = front_laid.again values 0 text (front_good total short) in
+    let one = front_laid.again values 0 text (front_good stamp total short) in
     let mid = at_place (0 + length (front.spell values)) text in
     let mid_is : mid ≡ at_place 12 text = ap (λ (k : ℕ). at_place (0 + k) text) (front_length values) in
     let one_here : Finds Front (front.read (at_place 0 all)) values (at_place 12 text) = subst (λ (z : Cursor). Finds Front (front.read (at_place 0 all)) values z) mid_is one in
@@ -674,19 +712,20 @@ image_again judged p good short =
     let two = (body_laid judged).again p 12 [] good in
     let two_at : Finds Program ((body judged).read (at_place 12 ((body judged).spell p ++ []))) p (at_place (12 + length text) []) = subst (λ (z : List ℕ). Finds Program ((body judged).read (at_place 12 ((body judged).spell p ++ []))) p (at_place (12 + length z) [])) spelled two in
     let two_here : Finds Program ((body judged).read (at_place 12 (take (total - front_size) text))) p (at_place (12 + length text) []) = subst (λ (z : List ℕ). Finds Program ((body judged).read (at_place 12 z)) p (at_place (12 + length text) [])) (sym whole) two_at in
-    let three : Finds Program (at_end p (at_place (12 + length text) [])) p end = record { found = refl; clean = refl } in
-    let inner : Finds Program (rest_of judged total (at_place 12 text)) p end = bind_finds _ at_end p (at_place (12 + length text) []) p end two_here three in
-    let cut_there : Finds Program (cut judged total total (at_place 12 text)) p end = cut_finds judged total (at_place 12 text) p end (let l = text_long p in omega arith) short inner in
-    let cut_here : Finds Program (cut judged (length all) total (at_place 12 text)) p end = subst (λ (k : ℕ). Finds Program (cut judged k total (at_place 12 text)) p end) (sym size) cut_there in
-    bind_finds (front.read (at_place 0 all)) (λ f cur. cut judged (length all) f.1.1.1 cur) values (at_place 12 text) p end one_here cut_here
+    let three : Finds Stamped (at_end stamp p (at_place (12 + length text) [])) (stamp, p) end = record { found = refl; clean = refl } in
+    let inner : Finds Stamped (rest_of judged stamp total (at_place 12 text)) (stamp, p) end = bind_finds _ (at_end stamp) p (at_place (12 + length text) []) (stamp, p) end two_here three in
+    let cut_there : Finds Stamped (cut judged stamp total total (at_place 12 text)) (stamp, p) end = cut_finds judged stamp total (at_place 12 text) (stamp, p) end (let l = text_long p in omega arith) short inner in
+    let cut_by : Finds Stamped (cut judged stamp (length all) total (at_place 12 text)) (stamp, p) end = subst (λ (k : ℕ). Finds Stamped (cut judged stamp k total (at_place 12 text)) (stamp, p) end) (sym size) cut_there in
+    let cut_here : Finds Stamped (cut judged (stamp_in values) (length all) total (at_place 12 text)) (stamp, p) end = subst (λ (s : Stamp). Finds Stamped (cut judged s (length all) total (at_place 12 text)) (stamp, p) end) (sym (stamp_again stamp)) cut_by in
+    bind_finds (front.read (at_place 0 all)) (λ f cur. cut judged (stamp_in f) (length all) f.total_length cur) values (at_place 12 text) (stamp, p) end one_here cut_here
 
--- every byte string is the image of at most one program
-pub image_one : (p q : Program) → IsProgram p → IsProgram q → image p ≡ image q → p ≡ q
-image_one p q hp hq e =
-    let a = image_again false p hp.good hp.short in
-    let b = image_again false q hq.good hq.short in
+-- every byte string is the image of at most one program, version and profile
+pub image_one : (s t : Stamp) (p q : Program) → IsProgram p → IsProgram q → image s p ≡ image t q → (s ≡ t) × (p ≡ q)
+image_one s t p q hp hq e =
+    let a = image_again false s p hp.good hp.short in
+    let b = image_again false t q hq.good hq.short in
     let both = same_Some _ _ (sym a.found ∙ ap (λ (z : List ℕ). (read_by false z).found) e ∙ b.found) in
-    ap (λ (z : Program × Cursor). z.0) both
+    (ap (λ (z : Stamped × Cursor). z.0.0) both, ap (λ (z : Stamped × Cursor). z.0.1) both)
 
 no_note : (b : Bool) (at code : ℕ) → faults_in (cond b [] (Faulty at code ∷ [])) ≡ [] → b ≡ true
 no_note true at code h = refl
@@ -696,46 +735,88 @@ magic_is : (n : ℕ) → magic_field.good n ≡ true → n ≡ 0x53374642
 unfolding magic_field fault_of
 magic_is n good = eqb-true n 0x53374642 (unless_fine _ 1 (and_parts (ltb n 4294967296) (is_fine (unless (eqb n 0x53374642) 1)) good).1)
 
-version_is : (n : ℕ) → version_field.good n ≡ true → n ≡ 1
-unfolding version_field fault_of
-version_is n good = eqb-true n 1 (unless_fine _ 2 (and_parts (ltb n 65536) (is_fine (unless (eqb n 1) 2)) good).1)
+-- version and profile without fault are those of their stamp
+record IsStamp (version profile : ℕ) : Type 0 where
+  version_is : version ≡ version_number (stamp_of version profile)
+  profile_is : profile ≡ profile_field_of (stamp_of version profile)
+
+stamp_is : (version profile : ℕ) → version_field.good version ≡ true → (profile_field version).good profile ≡ true → IsStamp version profile
+unfolding version_field profile_field fault_of
+stamp_is version profile good fine = by_version version v f
+  where
+    v : (eqb version 1 || eqb version 2) ≡ true
+    v = unless_fine _ 2 (and_parts (ltb version 65536) (is_fine (unless (eqb version 1 || eqb version 2) 2)) good).1
+
+    test : ℕ → ℕ → Bool
+    test n m = cond (eqb n 2) (lies_within 1 2 m) (eqb m 0)
+
+    f : test version profile ≡ true
+    f = unless_fine (test version profile) 4 (and_parts (ltb profile 65536) (is_fine (unless (test version profile) 4)) fine).1
+
+    by_profile : (m : ℕ) → lies_within 1 2 m ≡ true → IsStamp 2 m
+    by_profile zero h = absurd cc
+    by_profile (suc zero) h = record { version_is = refl; profile_is = refl }
+    by_profile (suc (suc zero)) h = record { version_is = refl; profile_is = refl }
+    by_profile (suc (suc (suc m))) h = absurd (let le = leb-true (suc (suc (suc m))) 2 (and_parts (leb 1 (suc (suc (suc m)))) (leb (suc (suc (suc m))) 2) h).1 in omega arith)
+
+    by_version : (n : ℕ) → (eqb n 1 || eqb n 2) ≡ true → test n profile ≡ true → IsStamp n profile
+    by_version zero h g = absurd cc
+    by_version (suc zero) h g = record { version_is = refl; profile_is = eqb-true profile 0 g }
+    by_version (suc (suc zero)) h g = by_profile profile g
+    by_version (suc (suc (suc n))) h g =
+        let m = suc (suc (suc n)) in
+        let none : (eqb m 1 || eqb m 2) ≡ false = or_from (eqb m 1) (eqb m 2) (ne_eqb m 1 (λ e. omega (arith, e))) (ne_eqb m 2 (λ e. omega (arith, e))) in
+        let e : true ≡ false = sym h ∙ none in
+        absurd cc
 
 -- what a front without fault says
-front_is : (f : Front) → front.good f ≡ true → (f.0 ≡ 0x53374642) × (f.1.0 ≡ 1) × (f.1.1.0 ≡ 0)
-unfolding front
-front_is f good =
-    let a = chain_parts magic_field (λ magic. front_from_version) f good in
-    let b = chain_parts version_field (λ version. front_from_zero) f.1 a.1 in
-    let c = chain_parts zero_u16 (λ zero. plain_u32) f.1.1 b.1 in
-    (magic_is f.0 a.0, version_is f.1.0 b.0, zero_u16_is f.1.1.0 c.0)
+record GoodFront (f : Front) : Type 0 where
+  magic : f.magic ≡ 0x53374642
+  stamp : IsStamp f.version f.profile
 
-pub image_takes : (text : List ℕ) (p : Program) (end : Cursor) → IsBytes text → Finds Program (read_image text) p end → (text ≡ image p) × IsProgram p × IsRight p
+good_front : (f : Front) → front.good f ≡ true → GoodFront f
+unfolding front front_rows
+good_front f good =
+    let row = row_of_front f in
+    let a = chain_parts magic_field (λ magic. front_from_version) row good in
+    let b = chain_parts version_field front_from_profile row.1 a.1 in
+    let c = chain_parts (profile_field f.version) (λ profile. plain_u32) row.1.1 b.1 in
+    record { magic = magic_is f.magic a.0; stamp = stamp_is f.version f.profile b.0 c.0 }
+
+front_is : (f : Front) (total : ℕ) → GoodFront f → f.total_length ≡ total → f ≡ front_of (stamp_in f) total
+front_is f total g t = ap front_of_row (quad g.magic g.stamp.version_is g.stamp.profile_is t)
+
+pub image_takes : (text : List ℕ) (s : Stamp) (p : Program) (end : Cursor) → IsBytes text → Finds Stamped (read_image text) (s, p) end → (text ≡ image s p) × IsProgram p × IsRight p
 unfolding read_by image
-image_takes text p end are h =
-    let a = bind_parts (front.read (at_place 0 text)) (λ f cur. cut true (length text) f.1.1.1 cur) p end h in
+image_takes text s p end are h =
+    let a = bind_parts (front.read (at_place 0 text)) (λ f cur. cut true (stamp_in f) (length text) f.total_length cur) (s, p) end h in
     let f = a.first in
-    let total = f.1.1.1 in
+    let stamp = stamp_in f in
+    let total = f.total_length in
     let cur = a.next in
     let t = front_laid.takes (at_place 0 text) f cur are a.one in
-    let fs = front_is f t.good in
-    cond_finds (ltb total 20 || ltb (length text) total) (ended 8 3) _ p end _ a.two (λ _ k. absurd (ended_finds 8 3 p end k)) (λ within g.
-    cond_finds (ltb 8388608 total) (ended 8 4) _ p end _ g (λ _ k. absurd (ended_finds 8 4 p end k)) (λ small g.
+    let fs = good_front f t.good in
+    cond_finds (ltb total 20 || ltb (length text) total) (ended 8 3) _ (s, p) end _ a.two (λ _ k. absurd (ended_finds 8 3 (s, p) end k)) (λ within g.
+    cond_finds (ltb 8388608 total) (ended 8 4) _ (s, p) end _ g (λ _ k. absurd (ended_finds 8 4 (s, p) end k)) (λ small g.
     let most : total ≤ 8388608 = ltb-false 8388608 total small in
-    let n = no_faults (cond (eqb (length text) total) [] (Faulty total 10 ∷ [])) (rest_of true total cur).notes g.clean in
+    let n = no_faults (cond (eqb (length text) total) [] (Faulty total 10 ∷ [])) (rest_of true stamp total cur).notes g.clean in
     let size : length text ≡ total = eqb-true _ _ (no_note _ total 10 n.0) in
-    let b = bind_parts ((body true).read (at_place cur.at (take (total - front_size) cur.rest))) at_end p end (record { found = g.found; clean = n.1 }) in
+    let b = bind_parts ((body true).read (at_place cur.at (take (total - front_size) cur.rest))) (at_end stamp) (s, p) end (record { found = g.found; clean = n.1 }) in
     let u = (body_laid true).takes (at_place cur.at (take (total - front_size) cur.rest)) b.first b.next (bytes_taken (total - front_size) cur.rest t.text.rest_fits) b.one in
-    let made = same_Some (b.first, b.next) (p, end) b.two.found in
-    let p_is : b.first ≡ p = ap (λ (z : Program × Cursor). z.0) made in
+    let made = same_Some ((stamp, b.first), b.next) ((s, p), end) b.two.found in
+    let s_is : stamp ≡ s = ap (λ (z : Stamped × Cursor). z.0.0) made in
+    let p_is : b.first ≡ p = ap (λ (z : Stamped × Cursor). z.0.1) made in
     let none : b.next.rest ≡ [] = nil_from_length b.next.rest (eqb-true _ _ (no_note _ b.next.at 10 b.two.clean)) in
     let lengths : length text ≡ 12 + length cur.rest = ap length t.text.parts ∙ length-append (front.spell f) cur.rest ∙ ap (λ (k : ℕ). k + length cur.rest) (front_length f) in
     let all : take (total - front_size) cur.rest ≡ cur.rest = ap (λ (z : List ℕ). take (total - front_size) z) (sym (append-nil cur.rest)) ∙ take_at cur.rest [] (total - front_size) (omega (arith, lengths, size)) in
     let behind : cur.rest ≡ text_of b.first = sym all ∙ u.text.parts ∙ ap (λ (z : List ℕ). (body true).spell b.first ++ z) none ∙ append-nil ((body true).spell b.first) ∙ same_text true b.first in
     let total_is : total ≡ front_size + length (text_of b.first) = sym size ∙ lengths ∙ ap (λ (z : List ℕ). 12 + length z) behind in
-    let values : f ≡ front_of (front_size + length (text_of b.first)) = quad fs.0 fs.1 fs.2 total_is in
-    let whole : text ≡ image b.first = t.text.parts ∙ ap (λ (z : List ℕ). front.spell f ++ z) behind ∙ ap (λ (z : Front). front.spell z ++ text_of b.first) values in
-    let here : (text ≡ image b.first) × IsProgram b.first × IsRight b.first = (whole, record { good = good_weaker b.first u.good; short = rw (← total_is) most }, u.good) in
-    subst (λ (z : Program). (text ≡ image z) × IsProgram z × IsRight z) p_is here))
+    let values : f ≡ front_of stamp (front_size + length (text_of b.first)) = front_is f (front_size + length (text_of b.first)) fs total_is in
+    let whole : text ≡ image stamp b.first = t.text.parts ∙ ap (λ (z : List ℕ). front.spell f ++ z) behind ∙ ap (λ (z : Front). front.spell z ++ text_of b.first) values in
+    let right : IsProgram b.first × IsRight b.first = (record { good = good_weaker b.first u.good; short = rw (← total_is) most }, u.good) in
+    let whole_here : text ≡ image s p = whole ∙ ap (λ (z : Stamp). image z b.first) s_is ∙ ap (λ (z : Program). image s z) p_is in
+    let right_here : IsProgram p × IsRight p = subst (λ (z : Program). IsProgram z × IsRight z) p_is right in
+    (whole_here, right_here.0, right_here.1)))
 
 -- ---- programs again, and their parameters
 
@@ -744,7 +825,7 @@ unfolding body
 program_again p h = records_there false p h.good
 
 block_few : (judged : Bool) (before : ℕ × ℕ) (b : BlockRecord) → (code_block judged before).good b ≡ true → length b.params ≤ 60
-block_few judged before b good = head_params before (raw_of_block b).0 (record_parts_of judged before b good).head_good
+block_few judged before b good = head_params before (head_of_block b) (good_block_of judged before b good).head_good
 
 blocks_few : (judged : Bool) (s : ℕ × ℕ) (n : ℕ) (bs : List BlockRecord) → good_many (code_block judged) after_block s n bs ≡ true → AreFew bs
 blocks_few judged s zero [] h = tt
@@ -760,4 +841,4 @@ codes_few judged n bs good = blocks_few judged (0, 0) n bs good
 
 pub program_few : (p : Program) → IsProgram p → AreFew (map record_of_block p.code_blocks)
 unfolding body
-program_few p h = let q = records_parts false (records_of p) h.good in codes_few false (length (map record_of_block p.code_blocks)) (map record_of_block p.code_blocks) q.codes_good
+program_few p h = let q = good_records false (records_of p) h.good in codes_few false (length (map record_of_block p.code_blocks)) (map record_of_block p.code_blocks) q.codes_good

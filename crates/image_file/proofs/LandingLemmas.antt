@@ -1,5 +1,5 @@
 -- Where the jumps of a program that verifies lead.
-use Rattle.std.proofs.Common.{◌≡◌, ◌⊎◌, ℕ, ◌+◌, ◌<◌, ◌≤◌, Bool, true, false, cond, eqb, leb, List, [], ◌∷◌, length, Option, Some, None, refl, sym, ap, subst, ◌∙◌, arith, inl, inr}
+use Rattle.std.proofs.Common.{◌≡◌, ◌⊎◌, ℕ, ◌+◌, ◌<◌, ◌≤◌, Bool, true, false, cond, eqb, leb, not, ◌||◌, List, [], ◌∷◌, length, Option, Some, None, refl, sym, ap, subst, ◌∙◌, arith, inl, inr}
 use Rattle.std.proofs.lemmas.Bool.{and_parts, eqb-true, ne_eqb, le-leb, cases_lt, not-false}
 use Rattle.std.proofs.lemmas.Option.{same_Some}
 use Rattle.flat_code.specs.declared.image_fields.OpenBracket.{OpenBracket}
@@ -8,69 +8,81 @@ use Rattle.flat_code.specs.declared.operands.Operand.TheVariants as operand
 use Rattle.flat_code.specs.Ops.{OpData}
 use Rattle.flat_code.specs.Codes.{size}
 use Rattle.flat_code.specs.Programs.{CodeBlock, Program}
-use Rattle.flat_code.specs.Placed.{Placed, placed, places, is_empty, bracket_codes, few, Spot, spots, spots_from, spot_at, opened, before_next}
-use Rattle.flat_code.specs.Blocks.{same_codes, target_fault, is_bad_list, operand_fault, leads}
+use Rattle.flat_code.specs.Placed.{Placed, placed, places, is_empty, bracket_codes, few, most_brackets, Spot, spots, spots_from, spot_at, opened, zones_behind, before_next}
+use Rattle.flat_code.specs.Kinds.{kind_of}
+use Rattle.flat_code.specs.declared.kinds.JumpOperation.TheVariants as jump
+use Rattle.flat_code.specs.Blocks.{same_codes, are_other, target_fault, is_bad_list, operand_fault, leads}
 use Rattle.image_file.specs.Verified.{place_at, IsOp, Lands}
 use Rattle.image_file.proofs.VerifiedLemmas.{chosen, none_if, empty_next, op_long, place_offset, op_none, around_in, brackets_right}
 
-spot_none : (from : ℕ) (begin : Bool) (brackets : List OpenBracket) (ops : List OpData) (at : ℕ) → at < from → spot_at (spots_from from begin brackets ops) at ≡ None
-spot_none from begin brackets [] at lt = refl
-spot_none from begin brackets (op ∷ ops) at lt =
+spot_none : (from : ℕ) (begin : Bool) (brackets : List OpenBracket) (zones : List ℕ) (ops : List OpData) (at : ℕ) → at < from → spot_at (spots_from from begin brackets zones ops) at ≡ None
+spot_none from begin brackets zones [] at lt = refl
+spot_none from begin brackets zones (op ∷ ops) at lt =
     let p = op_long op in
-    by begin (ne_eqb from at (λ e. omega (arith, e, lt))) (spot_none (from + size op) op.last (opened from op.code brackets) ops at (omega (arith, lt, p)))
+    by begin (ne_eqb from at (λ e. omega (arith, e, lt))) (spot_none (from + size op) op.last (opened from op.code brackets) (zones_behind from op.code zones) ops at (omega (arith, lt, p)))
   where
     behind : List Spot
-    behind = spots_from (from + size op) op.last (opened from op.code brackets) ops
+    behind = spots_from (from + size op) op.last (opened from op.code brackets) (zones_behind from op.code zones) ops
 
-    by : (b : Bool) → eqb from at ≡ false → spot_at behind at ≡ None → spot_at (cond b (record { at = from; codes = few brackets } ∷ behind) behind) at ≡ None
+    by : (b : Bool) → eqb from at ≡ false → spot_at behind at ≡ None → spot_at (cond b (record { at = from; codes = few brackets; zones = length zones } ∷ behind) behind) at ≡ None
     by true f more = rw f more
     by false f more = more
 
-spot_past : (from : ℕ) (begin : Bool) (brackets : List OpenBracket) (ops : List OpData) (at : ℕ) (codes : Option (List ℕ)) → spot_at (spots_from from begin brackets ops) at ≡ Some codes → from ≤ at
-spot_past from begin brackets ops at codes found = by (cases_lt at from)
+spot_past : (from : ℕ) (begin : Bool) (brackets : List OpenBracket) (zones : List ℕ) (ops : List OpData) (at : ℕ) (s : Spot) → spot_at (spots_from from begin brackets zones ops) at ≡ Some s → from ≤ at
+spot_past from begin brackets zones ops at s found = by (cases_lt at from)
   where
     by : (at < from) ⊎ (from ≤ at) → from ≤ at
-    by (inl lt) = let e : ◌≡◌ {A = Option (Option (List ℕ))} None (Some codes) = sym (spot_none from begin brackets ops at lt) ∙ found in absurd cc
+    by (inl lt) = let e : ◌≡◌ {A = Option Spot} None (Some s) = sym (spot_none from begin brackets zones ops at lt) ∙ found in absurd cc
     by (inr le) = le
 
 -- a statement of a block as the op that begins it
-record IsSpot (qs : List Placed) (at : ℕ) (codes : Option (List ℕ)) : Type 0 where
+record IsSpot (qs : List Placed) (at : ℕ) (s : Spot) : Type 0 where
   there : Placed
   place : place_at at qs ≡ Some there
   first : is_empty there.before ≡ true
-  same : few there.brackets ≡ codes
+  codes_are : few there.brackets ≡ s.codes
+  zones_are : length there.zones ≡ s.zones
 
-spot_there : (from : ℕ) (brackets : List OpenBracket) (before ops : List OpData) (at : ℕ) (codes : Option (List ℕ)) → spot_at (spots_from from (is_empty before) brackets ops) at ≡ Some codes → IsSpot (placed from brackets before ops) at codes
-spot_there from brackets before [] at codes found = absurd cc
-spot_there from brackets before (o ∷ ops) at codes found = by (is_empty before) refl found (λ h. spot_there (from + size o) (opened from o.code brackets) (before_next o before) ops at codes (subst (λ (z : Bool). spot_at (spots_from (from + size o) z (opened from o.code brackets) ops) at ≡ Some codes) (sym (empty_next o before)) h))
+spot_there : (from : ℕ) (brackets : List OpenBracket) (zones : List ℕ) (before ops : List OpData) (at : ℕ) (s : Spot) → spot_at (spots_from from (is_empty before) brackets zones ops) at ≡ Some s → IsSpot (placed from brackets zones before ops) at s
+spot_there from brackets zones before [] at s found = absurd cc
+spot_there from brackets zones before (o ∷ ops) at s found = by (is_empty before) refl found (λ h. spot_there (from + size o) (opened from o.code brackets) (zones_behind from o.code zones) (before_next o before) ops at s (subst (λ (z : Bool). spot_at (spots_from (from + size o) z (opened from o.code brackets) (zones_behind from o.code zones) ops) at ≡ Some s) (sym (empty_next o before)) h))
   where
     here : Placed
-    here = record { at = from; brackets = brackets; before = before; op = o; rest = ops }
+    here = record { at = from; brackets = brackets; zones = zones; before = before; op = o; rest = ops }
+
+    spot : Spot
+    spot = record { at = from; codes = few brackets; zones = length zones }
 
     behind : List Spot
-    behind = spots_from (from + size o) o.last (opened from o.code brackets) ops
+    behind = spots_from (from + size o) o.last (opened from o.code brackets) (zones_behind from o.code zones) ops
 
     rest : List Placed
-    rest = placed (from + size o) (opened from o.code brackets) (before_next o before) ops
+    rest = placed (from + size o) (opened from o.code brackets) (zones_behind from o.code zones) (before_next o before) ops
 
-    later : IsSpot rest at codes → eqb from at ≡ false → IsSpot (here ∷ rest) at codes
-    later s f = record { there = s.there; place = rw f s.place; first = s.first; same = s.same }
+    later : IsSpot rest at s → eqb from at ≡ false → IsSpot (here ∷ rest) at s
+    later i f = record { there = i.there; place = rw f i.place; first = i.first; codes_are = i.codes_are; zones_are = i.zones_are }
 
-    apart : spot_at behind at ≡ Some codes → eqb from at ≡ false
+    apart : spot_at behind at ≡ Some s → eqb from at ≡ false
     apart h =
-        let past = spot_past (from + size o) o.last (opened from o.code brackets) ops at codes h in
+        let past = spot_past (from + size o) o.last (opened from o.code brackets) (zones_behind from o.code zones) ops at s h in
         let p = op_long o in
         ne_eqb from at (λ e. omega (arith, e, past, p))
 
-    by : (b : Bool) → is_empty before ≡ b → spot_at (cond b (record { at = from; codes = few brackets } ∷ behind) behind) at ≡ Some codes → (spot_at behind at ≡ Some codes → IsSpot rest at codes) → IsSpot (here ∷ rest) at codes
+    by : (b : Bool) → is_empty before ≡ b → spot_at (cond b (spot ∷ behind) behind) at ≡ Some s → (spot_at behind at ≡ Some s → IsSpot rest at s) → IsSpot (here ∷ rest) at s
     by true first e more =
-        chosen (eqb from at) (few brackets) (spot_at behind at) codes e (IsSpot (here ∷ rest) at codes)
-        (λ t s. record { there = here; place = rw t refl; first = first; same = s })
+        chosen (eqb from at) spot (spot_at behind at) s e (IsSpot (here ∷ rest) at s)
+        (λ t same. record {
+          there = here;
+          place = rw t refl;
+          first = first;
+          codes_are = ap (λ (z : Spot). z.codes) same;
+          zones_are = ap (λ (z : Spot). z.zones) same;
+        })
         (λ f h. later (more h) f)
     by false first e more = later (more e) (apart e)
 
 few_codes : (bs : List OpenBracket) (codes : List ℕ) → few bs ≡ Some codes → bracket_codes bs ≡ codes
-few_codes bs codes e = by (leb (length bs) 7) e
+few_codes bs codes e = by (leb (length bs) most_brackets) e
   where
     by : (b : Bool) → cond b (Some (bracket_codes bs)) None ≡ Some codes → bracket_codes bs ≡ codes
     by true e = same_Some (bracket_codes bs) codes e
@@ -83,43 +95,50 @@ same_list (x ∷ xs) [] e = absurd cc
 same_list (x ∷ xs) (y ∷ ys) e = let p = and_parts (eqb x y) (same_codes xs ys) e in rw (eqb-true x y p.0, same_list xs ys p.1) refl
 
 -- the brackets at a target
-record HasTarget (codes : List ℕ) (found : Option (Option (List ℕ))) : Type 0 where
-  others : List ℕ
-  is : found ≡ Some (Some others)
-  same : codes ≡ others
+same_brackets : (codes : List ℕ) (others : Option (List ℕ)) → are_other (Some codes) others ≡ false → others ≡ Some codes
+same_brackets codes None e = absurd cc
+same_brackets codes (Some others) e = ap (λ (z : List ℕ). Some z) (sym (same_list codes others (not-false (same_codes codes others) e)))
 
-has_target : (codes : List ℕ) (found : Option (Option (List ℕ))) → target_fault (Some codes) found ≡ None → HasTarget codes found
-has_target codes None e = absurd cc
-has_target codes (Some None) e = absurd cc
-has_target codes (Some (Some others)) e = record { others = others; is = refl; same = by (same_codes codes others) refl e }
+-- what stands open at a target
+record HasTarget (codes : List ℕ) (zones : ℕ) (found : Option Spot) : Type 0 where
+  spot : Spot
+  is : found ≡ Some spot
+  same_codes : spot.codes ≡ Some codes
+  same_zones : zones ≡ spot.zones
+
+has_target : (codes : List ℕ) (zones : ℕ) (found : Option Spot) → target_fault (Some codes) zones found ≡ None → HasTarget codes zones found
+has_target codes zones None e = absurd cc
+has_target codes zones (Some s) e = by (are_other (Some codes) s.codes) refl (eqb zones s.zones) refl e
   where
-    by : (b : Bool) → same_codes codes others ≡ b → cond {A = Option ℕ} b None (Some 8) ≡ None → codes ≡ others
-    by true s e = same_list codes others s
-    by false s e = absurd cc
+    by : (a : Bool) → are_other (Some codes) s.codes ≡ a → (b : Bool) → eqb zones s.zones ≡ b → cond {A = Option ℕ} (a || not b) (Some 8) None ≡ None → HasTarget codes zones (Some s)
+    by true o b n e = absurd cc
+    by false o true n e = record { spot = s; is = refl; same_codes = same_brackets codes s.codes o; same_zones = eqb-true zones s.zones n }
+    by false o false n e = absurd cc
 
 -- a jump without fault
 record IsRightJump (p : Program) (b : CodeBlock) (q : Placed) (kind target : ℕ) : Type 0 where
   list : is_bad_list q kind target ≡ false
-  target_is : target_fault (few q.brackets) (spot_at (spots b.code) target) ≡ None
+  target_is : target_fault (few q.brackets) (length q.zones) (spot_at (spots b.code) target) ≡ None
 
 right_jump : (p : Program) (b : CodeBlock) (q : Placed) (kind target : ℕ) → IsOp p b q → q.op.operand ≡ operand.Jump kind target → IsRightJump p b q kind target
 right_jump p b q kind target h is =
     let none = subst (λ (z : Operand). operand_fault (around_in p b) (spots b.code) q z ≡ None) is (op_none p b q h).operand in
-    let parts = none_if (is_bad_list q kind target) 6 (target_fault (few q.brackets) (spot_at (spots b.code) target)) none in
+    let parts = none_if (is_bad_list q kind target) 6 (target_fault (few q.brackets) (length q.zones) (spot_at (spots b.code) target)) none in
     record { list = parts.0; target_is = parts.1 }
 
 pub jump_lands : (p : Program) (b : CodeBlock) (q : Placed) (kind target : ℕ) → IsOp p b q → q.op.operand ≡ operand.Jump kind target → Lands b q target
 jump_lands p b q kind target h is =
-    let few_here : few q.brackets ≡ Some (bracket_codes q.brackets) = rw (le-leb (length q.brackets) 7 (brackets_right p b q h).few) refl in
-    let t = has_target (bracket_codes q.brackets) (spot_at (spots b.code) target) (ap (λ (z : Option (List ℕ)). target_fault z (spot_at (spots b.code) target)) (sym few_here) ∙ (right_jump p b q kind target h is).target_is) in
-    let s = spot_there 0 [] [] b.code target (Some t.others) t.is in
+    let few_here : few q.brackets ≡ Some (bracket_codes q.brackets) = rw (le-leb (length q.brackets) most_brackets (brackets_right p b q h).few) refl in
+    let t = has_target (bracket_codes q.brackets) (length q.zones) (spot_at (spots b.code) target) (ap (λ (z : Option (List ℕ)). target_fault z (length q.zones) (spot_at (spots b.code) target)) (sym few_here) ∙ (right_jump p b q kind target h is).target_is) in
+    let s = spot_there 0 [] [] [] b.code target t.spot t.is in
     record {
       there = s.there;
       place = s.place;
       offset = place_offset (places b.code) target s.there s.place;
       statement = s.first;
-      same = t.same ∙ sym (few_codes s.there.brackets t.others s.same);
+      same = sym (few_codes s.there.brackets (bracket_codes q.brackets) (s.codes_are ∙ t.same_codes));
+      same_zones = t.same_zones ∙ sym s.zones_are;
     }
 
-pub list_leads : (p : Program) (b : CodeBlock) (q : Placed) (target : ℕ) → IsOp p b q → q.op.operand ≡ operand.Jump 1 target → leads 255 target (q.at + size q.op) q.rest ≡ true
-list_leads p b q target h is = not-false (leads 255 target (q.at + size q.op) q.rest) (right_jump p b q 1 target h is).list
+pub list_leads : (p : Program) (b : CodeBlock) (q : Placed) (target : ℕ) → IsOp p b q → q.op.operand ≡ operand.Jump (kind_of jump.Jl) target → leads 255 target (q.at + size q.op) q.rest ≡ true
+list_leads p b q target h is = not-false (leads 255 target (q.at + size q.op) q.rest) (right_jump p b q (kind_of jump.Jl) target h is).list

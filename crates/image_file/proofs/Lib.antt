@@ -12,7 +12,8 @@ pub mod WritingLemmas
 pub mod FitLemmas
 pub mod ProgramFaultLemmas
 pub mod RefusalLemmas
-pub mod SeatLemmas
+pub mod TableLemmas
+pub mod MarkLemmas
 pub mod BlockTableLemmas
 pub mod ProgramLemmas
 pub mod VerifiedLemmas

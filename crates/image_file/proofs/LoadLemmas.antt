@@ -1,12 +1,14 @@
 -- The faults of all blocks that were read.
-use Rattle.std.proofs.Common.{Bool, true, false, cond, append_assoc, ◌≡◌, ℕ, ◌+◌, ◌<◌, ◌≤◌, List, [], ◌∷◌, ◌++◌, map, length, drop, get_or, Option, Some, None, refl, sym, ap, subst, ◌∙◌}
+use Rattle.std.proofs.Common.{Bool, true, false, cond, append_assoc, ◌≡◌, ℕ, ◌+◌, ◌<◌, ◌≤◌, List, [], ◌∷◌, ◌++◌, map, length, drop, get_or, Option, Some, None, IsSome, Vec, Global, refl, sym, ap, subst, ◌∙◌}
 use Rattle.std.proofs.Math.ListN.{drop_of_length-le}
 use Rattle.std.specs.Option.{option_map}
 use Rattle.std.proofs.lemmas.List.{append-nil}
 use Rattle.std.proofs.lemmas.Option.{same_Some}
 use Rattle.plc_base.proofs.ListLemmas.{drop_next, nil_parts}
 use Rattle.flat_code.specs.Programs.{CodeBlock, DataBlock, NameEntry, Program}
+use Rattle.flat_code.specs.declared.stamps.Stamp.{Stamp}
 use Rattle.flat_code.specs.Records.{BlockRecord, NameRecord}
+use Rattle.flat_code.specs.declared.programs.DataBlock.{DataBlock as Block}
 use Rattle.flat_code.specs.Layout.{Note, Faulty, Whole, AllBlocks, Cursor, faults_in}
 use Rattle.flat_code.specs.Image.{program_of, read_image, IsProgram, record_of_block, block_of_record, entry_of_name}
 use Rattle.flat_code.specs.Blocks.{Signature, signature_of, Around, block_faults}
@@ -16,10 +18,14 @@ use Rattle.image_file.specs.declared.records.Started.{Started}
 use Rattle.image_file.specs.Least.{is_less, fault, with_faults}
 use Rattle.image_file.specs.Typing.{AreFew, program_from}
 use Rattle.image_file.specs.declared.reader.Reader.{Reader}
-use Rattle.image_file.specs.Running.{started, with_wholes, with_all, Log, logged, Ran, Goes, Stops, ran, ran_read, log_of, SeesNames, HasFound}
+use Rattle.image_file.specs.declared.loading.ImageRead.{ImageRead}
+use Rattle.image_file.specs.declared.loading.Judged.{Judged}
+use Rattle.image_file.specs.declared.loading.Judged.TheVariants as outcome
+use Rattle.image_file.specs.declared.records.FoundRead.{FoundRead}
+use Rattle.image_file.specs.Running.{started, judged_read, program_read, found_values, HoldsAll, IsJudged, with_wholes, with_all, Log, logged, Ran, Goes, Stops, ran, ran_read, log_of, SeesFound, HasFound}
 use Rattle.flat_code.proofs.CodingLemmas.{IsBytes}
 use Rattle.image_file.proofs.EndLemmas.{image_ends}
-use Rattle.image_file.proofs.ImageLemmas.{program_again, program_few}
+use Rattle.image_file.proofs.ImageLemmas.{program_again, program_few, Stamped}
 use Rattle.image_file.proofs.RunLemmas.{with_more}
 use Rattle.image_file.proofs.WholeLemmas.{image_noted, gives_image}
 
@@ -80,37 +86,38 @@ kept_by text log e = record {
   datas = ap (λ (z : Log). z.datas) e ∙ datas_kept None (read_image text).notes ∙ later_none (all_blocks (read_image text).notes);
 }
 
-goes_found : (o : Option (Program × Cursor)) (p : Program) (end : Cursor) (log all : Log) → Goes p end log ≡ ran o all → (o ≡ Some (p, end)) × (log ≡ all)
+goes_found : (o : Option (Stamped × Cursor)) (p : Stamped) (end : Cursor) (log all : Log) → Goes p end log ≡ ran o all → (o ≡ Some (p, end)) × (log ≡ all)
 goes_found None p end log all e = absurd cc
 goes_found (Some x) p end log all e = let a : p ≡ x.0 = cc in let b : end ≡ x.1 = cc in (rw (a, b) refl, cc)
 
-stops_found : (o : Option (Program × Cursor)) (log all : Log) → ◌≡◌ {A = Ran Program} (Stops log) (ran o all) → (o ≡ None) × (log ≡ all)
+stops_found : (o : Option (Stamped × Cursor)) (log all : Log) → ◌≡◌ {A = Ran Stamped} (Stops log) (ran o all) → (o ≡ None) × (log ≡ all)
 stops_found None log all e = (refl, cc)
 stops_found (Some x) log all e = absurd cc
 
-kept_of : (names : Option (List NameRecord)) (r : Reader) (text : List ℕ) → SeesNames names r (ran_read (read_image text) empty_log) → Kept text (log_of r)
+kept_of : (found : Option (Stamp × List NameRecord)) (r : Reader) (text : List ℕ) → SeesFound found r (ran_read (read_image text) empty_log) → Kept text (log_of r)
 unfolding ran_read
 kept_of None r text h = kept_by text (log_of r) (stops_found (read_image text).found (log_of r) (logged empty_log (read_image text).notes) h).1
-kept_of (Some names) r text h = kept_by text (log_of r) (goes_found (read_image text).found (program_of h.0) h.1 (log_of r) (logged empty_log (read_image text).notes) h.2).1
+kept_of (Some found) r text h = kept_by text (log_of r) (goes_found (read_image text).found (found.0, program_of h.0) h.1 (log_of r) (logged empty_log (read_image text).notes) h.2).1
 
-pub found_of : (names : Option (List NameRecord)) (r : Reader) (text : List ℕ) → SeesNames names r (ran_read (read_image text) empty_log) → HasFound text (map started r.blocks.items) (option_map (λ v. v.items) r.datas) names
+pub found_of : (found : Option (Stamp × List NameRecord)) (r : Reader) (text : List ℕ) → SeesFound found r (ran_read (read_image text) empty_log) → HasFound text (map started r.blocks.items) (option_map (λ v. v.items) r.datas) found
 unfolding ran_read
 found_of None r text h = (stops_found (read_image text).found (log_of r) (logged empty_log (read_image text).notes) h).0
-found_of (Some names) r text h =
-    let g = goes_found (read_image text).found (program_of h.0) h.1 (log_of r) (logged empty_log (read_image text).notes) h.2 in
+found_of (Some found) r text h =
+    let g = goes_found (read_image text).found (found.0, program_of h.0) h.1 (log_of r) (logged empty_log (read_image text).notes) h.2 in
     let k = kept_by text (log_of r) g.1 in
     (h.0, h.1, g.0, h.3, k.blocks, k.datas)
 
 -- the least of all faults
-pub least_of : (names : Option (List NameRecord)) (r : Reader) (text : List ℕ) (lens : Lens) (result : Option LoadFault) → SeesNames names r (ran_read (read_image text) empty_log) → lens ≡ option_map lens_of (option_map (λ v. v.items) r.datas)
-    → result ≡ with_faults r.least (judged_blocks lens (blocks_of (map started r.blocks.items)) (map started r.blocks.items)) → result ≡ with_faults None (faults_of text)
+pub least_of : (found : Option (Stamp × List NameRecord)) (r : Reader) (text : List ℕ) (result : Option LoadFault) → SeesFound found r (ran_read (read_image text) empty_log)
+    → result ≡ with_faults r.least (judged_read (log_of r)) → result ≡ with_faults None (faults_of text)
 unfolding faults_of
-least_of names r text lens result h l e =
-    let k = kept_of names r text h in
+least_of found r text result h e =
+    let k = kept_of found r text h in
     let notes = (read_image text).notes in
-    e ∙ ap (λ (z : Option LoadFault). with_faults z (judged_blocks lens (blocks_of (map started r.blocks.items)) (map started r.blocks.items))) k.least
+    let lens : Lens = option_map lens_of (log_of r).datas in
+    e ∙ ap (λ (z : Option LoadFault). with_faults z (judged_read (log_of r))) k.least
     ∙ ap (λ (z : List (ℕ × BlockRecord)). with_faults (with_faults None (faults_in notes)) (judged_blocks lens (blocks_of z) z)) k.blocks
-    ∙ ap (λ (z : Lens). with_faults (with_faults None (faults_in notes)) (judged_blocks z (blocks_of (wholes notes)) (wholes notes))) (l ∙ ap (option_map lens_of) k.datas)
+    ∙ ap (λ (z : Option (List DataBlock)). with_faults (with_faults None (faults_in notes)) (judged_blocks (option_map lens_of z) (blocks_of (wholes notes)) (wholes notes))) k.datas
     ∙ sym (with_more None (faults_in notes) (judged_blocks (option_map lens_of (all_blocks notes)) (blocks_of (wholes notes)) (wholes notes)))
 
 -- ---- bytes without fault
@@ -138,31 +145,31 @@ pub never_ends : (text : List ℕ) (bs : List (ℕ × BlockRecord)) (ds : Option
 never_ends text bs ds none h = image_ends text h (fields_clean text none)
 
 -- what the bytes without fault give
-pub record Loads (text : List ℕ) (bs : List (ℕ × BlockRecord)) (p : Program) : Type 0 where
-  pub gives : Gives text p
+pub record Loads (text : List ℕ) (bs : List (ℕ × BlockRecord)) (stamp : Stamp) (p : Program) : Type 0 where
+  pub gives : Gives text stamp p
   pub program : IsProgram p
   pub verifies : Verifies p
   pub few : AreFew (blocks_of bs)
 
-pub has_datas : (text : List ℕ) (bs : List (ℕ × BlockRecord)) (ns : List NameRecord) → IsBytes text → faults_of text ≡ [] → HasFound text bs None (Some ns) → ⊥
-has_datas text bs ns are none h =
-    let m = image_noted text (program_of h.0) h.1 are h.2 (fields_clean text none) in
+pub has_datas : (text : List ℕ) (bs : List (ℕ × BlockRecord)) (found : Stamp × List NameRecord) → IsBytes text → faults_of text ≡ [] → HasFound text bs None (Some found) → ⊥
+has_datas text bs found are none h =
+    let m = image_noted text found.0 (program_of h.0) h.1 are h.2 (fields_clean text none) in
     let e : ◌≡◌ {A = Option (List DataBlock)} None (Some (program_of h.0).data_blocks) = h.5 ∙ m.datas in
     cc
 
-pub loads : (text : List ℕ) (bs : List (ℕ × BlockRecord)) (ds : List DataBlock) (ns : List NameRecord) → IsBytes text → faults_of text ≡ [] → HasFound text bs (Some ds) (Some ns) → Loads text bs (program_from bs ds ns)
-loads text bs ds ns are none h =
+pub loads : (text : List ℕ) (bs : List (ℕ × BlockRecord)) (ds : List DataBlock) (stamp : Stamp) (ns : List NameRecord) → IsBytes text → faults_of text ≡ [] → HasFound text bs (Some ds) (Some (stamp, ns)) → Loads text bs stamp (program_from bs ds ns)
+loads text bs ds stamp ns are none h =
     let p = program_of h.0 in
-    let gives : Gives text p = record { end = h.1; found = h.2; clean = none } in
-    let is = gives_image text p are gives in
-    let m = image_noted text p h.1 are h.2 (fields_clean text none) in
+    let gives : Gives text stamp p = record { end = h.1; found = h.2; clean = none } in
+    let is = gives_image text stamp p are gives in
+    let m = image_noted text stamp p h.1 are h.2 (fields_clean text none) in
     let raws : blocks_of bs ≡ map record_of_block p.code_blocks = ap blocks_of h.4 ∙ m.codes in
     let codes : map block_of_record (blocks_of bs) ≡ p.code_blocks = ap (map block_of_record) raws ∙ ap (λ (z : Program). z.code_blocks) (program_again p is.program) in
     let datas : ds ≡ p.data_blocks = same_Some ds p.data_blocks (h.5 ∙ m.datas) in
     let named : map entry_of_name ns ≡ p.names = ap (map entry_of_name) (sym h.3) in
     let same : p ≡ program_from bs ds ns = sym (programs codes datas named) in
     record {
-      gives = subst (Gives text) same gives;
+      gives = subst (Gives text stamp) same gives;
       program = subst IsProgram same is.program;
       verifies = subst Verifies same is.verifies;
       few = subst AreFew (sym raws) (program_few p is.program);
@@ -170,3 +177,35 @@ loads text bs ds ns are none h =
   where
     programs : {a x : List CodeBlock} {b y : List DataBlock} {c z : List NameEntry} → a ≡ x → b ≡ y → c ≡ z → ◌≡◌ {A = Program} (record { code_blocks = a; data_blocks = b; names = c }) (record { code_blocks = x; data_blocks = y; names = z })
     programs p q r = rw (p, q, r) refl
+
+-- ---- bytes that were read and checked
+
+abbrev Found : List ℕ → Reader → Option FoundRead → Type 0
+Found text r found = HasFound text (map started r.blocks.items) (option_map (λ v. v.items) r.datas) (option_map found_values found)
+
+no_faults_by : (text : List ℕ) (least : Option LoadFault) → least ≡ with_faults None (faults_of text) → least ≡ None → faults_of text ≡ []
+no_faults_by text least e none = none_left (faults_of text) (sym e ∙ none)
+
+pub image_there : (text : List ℕ) (least : Option LoadFault) (r : Reader) (found : Option FoundRead) → least ≡ with_faults None (faults_of text) → Found text r found → least ≡ None → IsSome found
+image_there text least r None e h none = absurd (never_ends text (map started r.blocks.items) (option_map (λ v. v.items) r.datas) (no_faults_by text least e none) h)
+image_there text least r (Some f) e h none = refl
+
+pub datas_there : (text : List ℕ) (least : Option LoadFault) (r : Reader) (found : Option FoundRead) → IsBytes text → least ≡ with_faults None (faults_of text) → Found text r found → least ≡ None → IsSome r.datas
+datas_there text least r None are e h none = absurd (never_ends text (map started r.blocks.items) (option_map (λ v. v.items) r.datas) (no_faults_by text least e none) h)
+datas_there text least r (Some f) are e h none = by r.datas h
+  where
+    by : (d : Option (Vec Block Global)) → HasFound text (map started r.blocks.items) (option_map (λ v. v.items) d) (Some (found_values f)) → IsSome d
+    by None h = absurd (has_datas text (map started r.blocks.items) (found_values f) are (no_faults_by text least e none) h)
+    by (Some v) h = refl
+
+pub judged_by : (text : List ℕ) (least : Option LoadFault) (r : Reader) (found : Option FoundRead) (j : Judged) → least ≡ with_faults None (faults_of text) → Found text r found → HoldsAll least r.blocks.items (option_map (λ v. v.items) r.datas) found j → IsJudged text j
+judged_by text least r found (outcome.Faulty f) e h all = sym e ∙ all
+judged_by text least r found (outcome.Clean image) e h all = (
+  sym e ∙ all.0,
+  subst (λ (z : List Started). HasFound text (map started z) (Some image.data_blocks.items) (Some (image.stamp, image.names.items))) (sym all.1)
+      (subst (λ (z : Option (List DataBlock)). HasFound text (map started r.blocks.items) z (Some (image.stamp, image.names.items))) all.2
+      (subst (λ (z : Option (Stamp × List NameRecord)). HasFound text (map started r.blocks.items) (option_map (λ v. v.items) r.datas) z) all.3 h)),
+)
+
+pub image_loads : (text : List ℕ) (image : ImageRead) → IsBytes text → IsJudged text (outcome.Clean image) → Loads text (map started image.blocks.items) image.stamp (program_read image)
+image_loads text image are h = loads text (map started image.blocks.items) image.data_blocks.items image.stamp image.names.items are (none_left (faults_of text) h.0) h.1

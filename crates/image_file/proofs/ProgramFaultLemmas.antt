@@ -9,18 +9,18 @@ use Rattle.flat_code.specs.Ops.{OpData}
 use Rattle.flat_code.specs.Codes.{size, are_ops, code_bytes, code_fault, code_of, ends, is_nowhere, last_place, overlong, stop_at}
 use Rattle.flat_code.specs.Blocks.{Around, Signature, signature_of, at_offset, block_faults}
 use Rattle.flat_code.specs.Faults.{fault_of}
-use Rattle.flat_code.specs.Image.{end_marks, head, parameters, code_len_in, line_field, line_after, lines_of, code_and_lines, raw_block, raw_of_block, plain_block, code_block, after_block, code_blocks, data_blocks, counts, raw_of_records, raw_records, records, records_of, record_of_block, body, IsProgram, IsRight}
+use Rattle.flat_code.specs.Image.{end_marks, head, head_of_block, parts_of_block, parameters, line_field, line_after, lines_of, code_and_lines, block_rows, plain_block, code_block, after_block, code_blocks, data_blocks, counts, parts_of_records, row_of_body_parts, body_rows, records, records_of, record_of_block, body, IsProgram, IsRight}
 use Rattle.flat_code.specs.Layout.{good_many, is_fine}
 use Rattle.flat_code.specs.Loading.{lens_of, around, AreVerified, Verifies}
 use Rattle.flat_code.specs.Programs.{CodeBlock, Program}
 use Rattle.flat_code.specs.Records.{BlockRecord}
-use Rattle.flat_code.proofs.PartLemmas.{BlockParts}
+use Rattle.flat_code.proofs.PartLemmas.{GoodBlock}
 use Rattle.image_file.specs.declared.faults.LoadFault.{LoadFault}
 use Rattle.image_file.specs.declared.faults.VerifyFault.{VerifyFault}
 use Rattle.image_file.specs.Least.{with_faults, IsLeast}
 use Rattle.image_file.specs.Verifying.{line_faults, count_faults, faults_unless, faults_of_block, are_whole, lens_where, lens_judged, DecidesFor, IsFirstOf, AreClean, IsClean}
 use Rattle.image_file.proofs.CodeLemmas.{bytes-append, ends_at, last_of}
-use Rattle.image_file.proofs.ImageLemmas.{record_parts_of, RecordParts, records_parts}
+use Rattle.image_file.proofs.ImageLemmas.{good_block_of, GoodRecords, good_records}
 use Rattle.image_file.proofs.LeastLemmas.{kept_is_least}
 use Rattle.image_file.proofs.LoadLemmas.{none_left}
 use Rattle.image_file.proofs.RunLemmas.{with_more}
@@ -191,20 +191,20 @@ code_right n ops h e =
     let b = and_parts (are_ops ops) (is_nowhere (stop_at false ops [])) a.0 in
     and_from (are_ops ops && is_nowhere (code_fault ops)) (eqb (length (code_bytes ops)) n) (and_from (are_ops ops) (is_nowhere (code_fault ops)) b.0 (is_whole (code_fault ops) e)) a.1
 
-lines_of_right : (b : BlockRecord) → (lines_of false 0 (raw_of_block b).0 b.code).good b.lines ≡ true → count_faults b ≡ [] → line_faults 0 b.lines ≡ [] → (lines_of true 0 (raw_of_block b).0 b.code).good b.lines ≡ true
+lines_of_right : (b : BlockRecord) → (lines_of false 0 (head_of_block b) b.code).good b.lines ≡ true → count_faults b ≡ [] → line_faults 0 b.lines ≡ [] → (lines_of true 0 (head_of_block b) b.code).good b.lines ≡ true
 unfolding lines_of
 lines_of_right b h count lines =
     let f = fault_of (StatementCount (end_marks b.code) (length b.lines)) in
     let g = and_parts true (good_many (line_field false) line_after 0 (length b.lines) b.lines) h in
     and_from (is_fine f) (good_many (line_field true) line_after 0 (length b.lines) b.lines) (fine f count) (lines_right (length b.lines) 0 b.lines g.1 lines)
 
-parts_right : (before : ℕ × ℕ) (around : Around) (b : BlockRecord) → BlockParts false before 0 (raw_of_block b) → Clean around b → (code_block true before).good b ≡ true
-unfolding code_block plain_block raw_block code_and_lines
+parts_right : (before : ℕ × ℕ) (around : Around) (b : BlockRecord) → GoodBlock false before 0 (parts_of_block b) → Clean around b → (code_block true before).good b ≡ true
+unfolding code_block plain_block block_rows code_and_lines
 parts_right before around b p h =
-    let x = raw_of_block b in
-    and_from ((head before).good x.0) _ p.head_good
-    (and_from ((parameters x.0).good x.1.0) _ p.params_good
-    (and_from ((code_of true (code_len_in x.0)).good b.code) ((lines_of true 0 x.0 b.code).good b.lines) (code_right (code_len_in x.0) b.code p.code_good h.code) (lines_of_right b p.lines_good h.count h.lines)))
+    let x = head_of_block b in
+    and_from ((head before).good x) _ p.head_good
+    (and_from ((parameters x).good b.params) _ p.params_good
+    (and_from ((code_of true x.code_length).good b.code) ((lines_of true 0 x b.code).good b.lines) (code_right x.code_length b.code p.code_good h.code) (lines_of_right b p.lines_good h.count h.lines)))
 
 blocks_right : (lens : Lens) (all : List BlockRecord) (s : ℕ × ℕ) (n : ℕ) (bs : List CodeBlock) → good_many (code_block false) after_block s n (map record_of_block bs) ≡ true → AreClean lens all bs → good_many (code_block true) after_block s n (map record_of_block bs) ≡ true
 blocks_right lens all s zero [] h clean = refl
@@ -214,23 +214,24 @@ blocks_right lens all s (suc n) (b ∷ bs) h clean =
     let r = record_of_block b in
     let a = around lens all r in
     let g = and_parts ((code_block false s).good r) (good_many (code_block false) after_block (after_block s r) n (map record_of_block bs)) h in
-    and_from _ _ (parts_right s a r (record_parts_of false s r g.0) (clean_parts a r clean.0)) (blocks_right lens all (after_block s r) n bs g.1 clean.1)
+    and_from _ _ (parts_right s a r (good_block_of false s r g.0) (clean_parts a r clean.0)) (blocks_right lens all (after_block s r) n bs g.1 clean.1)
 
 codes_right : (lens : Lens) (all : List BlockRecord) (n : ℕ) (bs : List CodeBlock) → (code_blocks false n).good (map record_of_block bs) ≡ true → AreClean lens all bs → (code_blocks true n).good (map record_of_block bs) ≡ true
 unfolding code_blocks
 codes_right lens all n bs h clean = blocks_right lens all (0, 0) n bs h clean
 
-right_by : (p : Program) (lens : Lens) (all : List BlockRecord) → RecordParts false (raw_of_records (records_of p)) → AreClean lens all p.code_blocks → (raw_records true).good (raw_of_records (records_of p)) ≡ true
-unfolding raw_records
+right_by : (p : Program) (lens : Lens) (all : List BlockRecord) → GoodRecords false (parts_of_records (records_of p)) → AreClean lens all p.code_blocks → (body_rows true).good (row_of_body_parts (parts_of_records (records_of p))) ≡ true
+unfolding body_rows
 right_by p lens all q clean =
-    let x = raw_of_records (records_of p) in
-    and_from (counts.good x.0) _ q.counts_good
-    (and_from ((code_blocks true x.0.0).good x.1.0) _ (codes_right lens all x.0.0 p.code_blocks q.codes_good clean)
-    (and_from ((data_blocks x.0.1.0).good x.1.1.0) _ q.datas_good q.names_good))
+    let x = parts_of_records (records_of p) in
+    let c = x.counts in
+    and_from (counts.good c) _ q.counts_good
+    (and_from ((code_blocks true c.code_blocks).good x.code_blocks) _ (codes_right lens all c.code_blocks p.code_blocks q.codes_good clean)
+    (and_from ((data_blocks c.data_blocks).good x.data_blocks) _ q.datas_good q.names_good))
 
 right : (p : Program) → IsProgram p → IsClean p → IsRight p
 unfolding body records
-right p h clean = right_by p (lens_judged p) (map record_of_block p.code_blocks) (records_parts false (records_of p) h.good) clean
+right p h clean = right_by p (lens_judged p) (map record_of_block p.code_blocks) (good_records false (records_of p) h.good) clean
 
 ops_verified : (lens : List (ℕ × ℕ)) (all : List BlockRecord) (bs : List CodeBlock) → AreClean (Some lens) all bs → AreVerified lens all (map record_of_block bs)
 ops_verified lens all [] h = tt

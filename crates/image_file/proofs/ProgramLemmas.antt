@@ -1,6 +1,6 @@
 -- What a program's records have: small numbers, and a slot for each block.
 use Rattle.std.proofs.Common.{◌≡◌, ℕ, zero, suc, ◌+◌, ◌<◌, ◌≤◌, Bool, true, false, cond, eqb, ltb, leb, not, ◌&&◌, ◌||◌, List, [], ◌∷◌, length, map, is_some, Option, Some, None, refl, ap, subst, arith}
-use Rattle.std.proofs.lemmas.Bool.{and_parts, eqb-true, ltb-true, leb-true, lt-ltb}
+use Rattle.std.proofs.lemmas.Bool.{and_parts, eqb-true, leb-true, lt-ltb}
 use Rattle.std.proofs.lemmas.Bool.Decides.{nat_tests}
 use Rattle.std.proofs.lemmas.List.{length-map}
 use Rattle.std.proofs.lemmas.Option.{same_Some}
@@ -16,14 +16,14 @@ use Rattle.flat_code.specs.declared.image_fields.Field.TheVariants.{StatementCou
 use Rattle.flat_code.specs.Ops.{OpData, is_op}
 use Rattle.flat_code.specs.Programs.{CodeBlock, Program}
 use Rattle.flat_code.specs.declared.programs.Param.{Param}
-use Rattle.flat_code.specs.Image.{plain_u16, zero_u16, parameter_count, block_number, local_bytes, Head, head, counts, data_count, code_block, code_blocks, after_block, raw_of_block, records_of, raw_of_records, body, record_of_block, IsProgram, IsRight, end_marks, statements_in, lines_of, line_field, line_after, record_of_param}
+use Rattle.flat_code.specs.Image.{plain_u16, zero_u16, parameter_count, block_number, local_bytes, Head, head, head_of_block, Counts, row_of_counts, count_rows, counts, counts_of, data_count, code_block, code_blocks, after_block, records_of, body, record_of_block, IsProgram, IsRight, end_marks, lines_of, line_field, line_after, record_of_param}
 use Rattle.flat_code.specs.declared.image_fields.OpenBracket.{OpenBracket}
-use Rattle.flat_code.specs.Placed.{Placed, placed, places, opened, before_next}
-use Rattle.flat_code.proofs.PartLemmas.{all_of_blocks, chain_parts, dword_fits, head_parts, unless_fine, word_fits}
+use Rattle.flat_code.specs.Placed.{Placed, placed, places, opened, zones_behind, before_next}
+use Rattle.flat_code.proofs.PartLemmas.{all_of_blocks, chain_parts, dword_fits, good_head, unless_fine, word_fits}
 use Rattle.image_file.specs.Verified.{place_at, Begins, BlockIsRight}
 use Rattle.image_file.specs.Readers.{same_id, block_of}
-use Rattle.image_file.specs.Seats.{AreSmall, slot_of, HaveSlots}
-use Rattle.image_file.proofs.ImageLemmas.{records_parts, record_parts_of, head_kind}
+use Rattle.image_file.specs.Tables.{AreSmall, slot_of, HaveSlots}
+use Rattle.image_file.proofs.ImageLemmas.{good_records, good_block_of, head_kind}
 
 ob_small : (n : ℕ) → is_ob_number n ≡ true → n < 2048
 ob_small n h = grind (arith, nat_tests, h)
@@ -34,22 +34,22 @@ number_small false n h = let le = leb-true n 2047 h in omega (arith, le)
 
 -- the numbers of a head without fault
 record HasSmall (h : Head) : Type 0 where
-  number : h.1.1.0 < 2048
-  statements : h.1.1.1.1.1.0 < 65536
-  code : h.1.1.1.1.1.1.1 < 4294967296
+  number : h.number < 2048
+  statements : h.statement_count < 65536
+  code : h.code_length < 4294967296
 
 head_small : (before : ℕ × ℕ) (h : Head) → (head before).good h ≡ true → HasSmall h
 unfolding block_number fault_of
 head_small before h good =
-    let parts = head_parts before h good in
-    let n = h.1.1.0 in
-    let rises = not (eqb h.0 before.0) || ltb before.1 n in
-    let fine = and_parts (ltb n 65536) (is_fine (unless (has_number h.0 n && rises) 4)) parts.number_good in
-    let right = and_parts (has_number h.0 n) rises (unless_fine (has_number h.0 n && rises) 4 fine.1) in
+    let parts = good_head before h good in
+    let n = h.number in
+    let rises = not (eqb h.kind before.0) || ltb before.1 n in
+    let fine = and_parts (ltb n 65536) (is_fine (unless (has_number h.kind n && rises) 4)) parts.number_good in
+    let right = and_parts (has_number h.kind n) rises (unless_fine (has_number h.kind n && rises) 4 fine.1) in
     record {
-      number = number_small (eqb h.0 1) n right.0;
-      statements = word_fits h.1.1.1.1.1.0 parts.statements_good;
-      code = dword_fits h.1.1.1.1.1.1.1 parts.size_good;
+      number = number_small (eqb h.kind 1) n right.0;
+      statements = word_fits h.statement_count parts.statements_good;
+      code = dword_fits h.code_length parts.size_good;
     }
 
 kind_small : (k : BlockKind) → lies_within 1 3 (kind_number k) ≡ true → ltb (kind_order k) 3 ≡ true
@@ -75,9 +75,9 @@ blocks_room judged s (suc n) [] h = absurd cc
 blocks_room judged s (suc n) (b ∷ bs) h =
     let r = record_of_block b in
     let g = and_parts ((code_block judged s).good r) (good_many (code_block judged) after_block (after_block s r) n (map record_of_block bs)) h in
-    let p = record_parts_of judged s r g.0 in
-    let small = head_small s (raw_of_block r).0 p.head_good in
-    let kind = kind_small b.id.kind (head_kind s (raw_of_block r).0 p.head_good) in
+    let p = good_block_of judged s r g.0 in
+    let small = head_small s (head_of_block r) p.head_good in
+    let kind = kind_small b.id.kind (head_kind s (head_of_block r) p.head_good) in
     let more = blocks_room judged (after_block s r) n bs g.1 in
     record {
       small = (record { code = omega (arith, small.code); lines = small.statements }, more.small);
@@ -90,20 +90,17 @@ codes_room judged n bs good = blocks_room judged (0, 0) n bs good
 
 pub program_room : (p : Program) → IsProgram p → HasRoom p.code_blocks
 unfolding body
-program_room p h = let q = records_parts false (records_of p) h.good in codes_room false (length (map record_of_block p.code_blocks)) p.code_blocks q.codes_good
+program_room p h = let q = good_records false (records_of p) h.good in codes_room false (length (map record_of_block p.code_blocks)) p.code_blocks q.codes_good
 
-count_small : (codes datas names last : ℕ) → counts.good (codes, (datas, (names, last))) ≡ true → codes < 65536
-unfolding counts plain_u16
-count_small codes datas names last good =
-    let a = chain_parts plain_u16 (λ codes. chain data_count (λ datas. chain plain_u16 (λ names. zero_u16))) (codes, (datas, (names, last))) good in
-    ltb-true codes 65536 (and_parts (ltb codes 65536) true a.0).0
+count_small : (c : Counts) → counts.good c ≡ true → c.code_blocks < 65536
+unfolding counts count_rows
+count_small c good = word_fits c.code_blocks (chain_parts plain_u16 (λ codes. chain data_count (λ datas. chain plain_u16 (λ names. zero_u16))) (row_of_counts c) good).0
 
 pub program_count : (p : Program) → IsProgram p → length p.code_blocks ≤ 0xFFFF
 unfolding body
 program_count p h =
-    let q = records_parts false (records_of p) h.good in
-    let r = raw_of_records (records_of p) in
-    let small = count_small r.0.0 r.0.1.0 r.0.1.1.0 r.0.1.1.1 q.counts_good in
+    let q = good_records false (records_of p) h.good in
+    let small = count_small (counts_of (records_of p)) q.counts_good in
     omega (arith, small, length-map p.code_blocks record_of_block)
 
 -- ---- code and lines of a program without fault
@@ -139,53 +136,54 @@ none_if_ob kind count is h = eqb-true count 0 (rw is at h)
 room_if_ob : (kind bytes : ℕ) → kind ≡ 1 → (not (eqb kind 1) || leb 20 bytes) ≡ true → 20 ≤ bytes
 room_if_ob kind bytes is h = leb-true 20 bytes (rw is at h)
 
-locals_right : (before : ℕ × ℕ) (h : Head) → (head before).good h ≡ true → h.1.1.1.0 ≤ 1024
+locals_right : (before : ℕ × ℕ) (h : Head) → (head before).good h ≡ true → h.local_bytes ≤ 1024
 unfolding local_bytes fault_of
 locals_right before h good =
-    let bytes = h.1.1.1.0 in
-    let has_room = not (eqb h.0 1) || leb 20 bytes in
-    let long = and_parts (ltb bytes 65536) (is_fine (unless (leb bytes 1024 && has_room) 4)) (head_parts before h good).locals_good in
+    let bytes = h.local_bytes in
+    let has_room = not (eqb h.kind 1) || leb 20 bytes in
+    let long = and_parts (ltb bytes 65536) (is_fine (unless (leb bytes 1024 && has_room) 4)) (good_head before h good).locals_good in
     leb-true bytes 1024 (and_parts (leb bytes 1024) has_room (unless_fine (leb bytes 1024 && has_room) 4 long.1)).0
 
-ob_right : (before : ℕ × ℕ) (h : Head) → (head before).good h ≡ true → h.0 ≡ 1 → (h.1.0 ≡ 0) × (20 ≤ h.1.1.1.0)
+ob_right : (before : ℕ × ℕ) (h : Head) → (head before).good h ≡ true → h.kind ≡ kind_number kinds.Ob → (h.parameter_count ≡ 0) × (20 ≤ h.local_bytes)
 unfolding parameter_count local_bytes fault_of
 ob_right before h good is =
-    let parts = head_parts before h good in
-    let count = h.1.0 in
-    let bytes = h.1.1.1.0 in
-    let no_params = not (eqb h.0 1) || eqb count 0 in
-    let has_room = not (eqb h.0 1) || leb 20 bytes in
+    let parts = good_head before h good in
+    let count = h.parameter_count in
+    let bytes = h.local_bytes in
+    let no_params = not (eqb h.kind 1) || eqb count 0 in
+    let has_room = not (eqb h.kind 1) || leb 20 bytes in
     let few = and_parts (ltb count 256) (is_fine (unless (leb count 60 && no_params) 4)) parts.params_good in
     let long = and_parts (ltb bytes 65536) (is_fine (unless (leb bytes 1024 && has_room) 4)) parts.locals_good in (
-      none_if_ob h.0 count is (and_parts (leb count 60) no_params (unless_fine (leb count 60 && no_params) 4 few.1)).1,
-      room_if_ob h.0 bytes is (and_parts (leb bytes 1024) has_room (unless_fine (leb bytes 1024 && has_room) 4 long.1)).1,
+      none_if_ob h.kind count is (and_parts (leb count 60) no_params (unless_fine (leb count 60 && no_params) 4 few.1)).1,
+      room_if_ob h.kind bytes is (and_parts (leb bytes 1024) has_room (unless_fine (leb bytes 1024 && has_room) 4 long.1)).1,
     )
 
 none_mapped : (ps : List Param) → length (map record_of_param ps) ≡ 0 → ps ≡ []
 none_mapped [] e = refl
 none_mapped (p ∷ ps) e = absurd (omega (arith, e))
 
-ob_block : (s : ℕ × ℕ) (b : CodeBlock) → (head s).good (raw_of_block (record_of_block b)).0 ≡ true → b.id.kind ≡ kinds.Ob → (b.params ≡ []) × (20 ≤ b.local_len)
+ob_block : (s : ℕ × ℕ) (b : CodeBlock) → (head s).good (head_of_block (record_of_block b)) ≡ true → b.id.kind ≡ kinds.Ob → (b.params ≡ []) × (20 ≤ b.local_len)
 ob_block s b good is =
-    let right = ob_right s (raw_of_block (record_of_block b)).0 good (ap kind_number is) in
+    let right = ob_right s (head_of_block (record_of_block b)) good (ap kind_number is) in
     (none_mapped b.params right.0, right.1)
 
-lines_right : (start : ℕ) (h : Head) (ops : List OpData) (lines : List ℕ) → (lines_of true start h ops).good lines ≡ true → end_marks ops ≡ statements_in h
+lines_right : (start : ℕ) (h : Head) (ops : List OpData) (lines : List ℕ) → (lines_of true start h ops).good lines ≡ true → end_marks ops ≡ h.statement_count
 unfolding lines_of fault_of
 lines_right start h ops lines good =
-    let c = and_parts (is_fine (only true (fault_of (StatementCount (end_marks ops) (statements_in h))))) (good_many (line_field true) line_after 0 (statements_in h) lines) good in
-    eqb-true (end_marks ops) (statements_in h) (unless_fine (eqb (end_marks ops) (statements_in h)) 9 c.0)
+    let c = and_parts (is_fine (only true (fault_of (StatementCount (end_marks ops) h.statement_count)))) (good_many (line_field true) line_after 0 h.statement_count lines) good in
+    eqb-true (end_marks ops) h.statement_count (unless_fine (eqb (end_marks ops) h.statement_count) 9 c.0)
 
 right_code : (s : ℕ × ℕ) (b : CodeBlock) → (code_block true s).good (record_of_block b) ≡ true → IsRightCode b
 right_code s b good =
     let r = record_of_block b in
-    let p = record_parts_of true s r good in
+    let p = good_block_of true s r good in
+    let h = head_of_block r in
     let c = code_right (length (code_bytes b.code)) b.code p.code_good in
-    record { ended = c.1; few = c.0; ops = c.2; room = locals_right s (raw_of_block r).0 p.head_good; organization = λ is. ob_block s b p.head_good is; marks = lines_right 0 (raw_of_block r).0 b.code b.lines p.lines_good }
+    record { ended = c.1; few = c.0; ops = c.2; room = locals_right s h p.head_good; organization = λ is. ob_block s b p.head_good is; marks = lines_right 0 h b.code b.lines p.lines_good }
 
 pub program_right : (p : Program) → IsRight p → AreRight p.code_blocks
 unfolding body
-program_right p h = let q = records_parts true (records_of p) h in all_of_blocks true IsRightCode right_code (length (map record_of_block p.code_blocks)) p.code_blocks q.codes_good
+program_right p h = let q = good_records true (records_of p) h in all_of_blocks true IsRightCode right_code (length (map record_of_block p.code_blocks)) p.code_blocks q.codes_good
 
 pub right_at : (bs : List CodeBlock) (b : CodeBlock) (id : BlockId) → AreRight bs → block_of id bs ≡ Some b → IsRightCode b
 right_at [] b id h found = absurd cc
@@ -197,17 +195,17 @@ right_at (c ∷ bs) b id h found = by (same_id c.id id) found (λ e. right_at bs
 
 -- ---- the ops and the beginning of a block
 
-pub op_right : (from : ℕ) (brackets : List OpenBracket) (before ops : List OpData) (at : ℕ) (q : Placed) → are_ops ops ≡ true → place_at at (placed from brackets before ops) ≡ Some q → is_op q.op.code q.op.operand ≡ true
-op_right from brackets before [] at q right found = absurd cc
-op_right from brackets before (o ∷ ops) at q right found =
+pub op_right : (from : ℕ) (brackets : List OpenBracket) (zones : List ℕ) (before ops : List OpData) (at : ℕ) (q : Placed) → are_ops ops ≡ true → place_at at (placed from brackets zones before ops) ≡ Some q → is_op q.op.code q.op.operand ≡ true
+op_right from brackets zones before [] at q right found = absurd cc
+op_right from brackets zones before (o ∷ ops) at q right found =
     let parts = and_parts (is_op o.code o.operand) (are_ops ops) right in
-    by (eqb from at) found parts.0 (λ e. op_right (from + size o) (opened from o.code brackets) (before_next o before) ops at q parts.1 e)
+    by (eqb from at) found parts.0 (λ e. op_right (from + size o) (opened from o.code brackets) (zones_behind from o.code zones) (before_next o before) ops at q parts.1 e)
   where
     here : Placed
-    here = record { at = from; brackets = brackets; before = before; op = o; rest = ops }
+    here = record { at = from; brackets = brackets; zones = zones; before = before; op = o; rest = ops }
 
     behind : Option Placed
-    behind = place_at at (placed (from + size o) (opened from o.code brackets) (before_next o before) ops)
+    behind = place_at at (placed (from + size o) (opened from o.code brackets) (zones_behind from o.code zones) (before_next o before) ops)
 
     by : (t : Bool) → cond t (Some here) behind ≡ Some q → is_op o.code o.operand ≡ true → (behind ≡ Some q → is_op q.op.code q.op.operand ≡ true) → is_op q.op.code q.op.operand ≡ true
     by true e is more = subst (λ (z : Placed). is_op z.op.code z.op.operand ≡ true) (same_Some here q e) is
@@ -216,8 +214,9 @@ op_right from brackets before (o ∷ ops) at q right found =
 pub code_begins : (b : CodeBlock) (ops : List OpData) → b.code ≡ ops → ends ops ≡ true → Begins b
 code_begins b [] is ended = absurd cc
 code_begins b (o ∷ ops) is ended =
-    let there : place_at 0 (places b.code) ≡ Some (record { at = 0; brackets = []; before = []; op = o; rest = ops }) = rw is refl in
-    record { first = record { at = 0; brackets = []; before = []; op = o; rest = ops }; place = there; offset = refl; statement = refl; closed = refl }
+    let first : Placed = record { at = 0; brackets = []; zones = []; before = []; op = o; rest = ops } in
+    let there : place_at 0 (places b.code) ≡ Some first = rw is refl in
+    record { first = first; place = there; offset = refl; statement = refl; closed = refl; no_zones = refl }
 
 pub block_right : (b : CodeBlock) → IsRightCode b → BlockIsRight b
 block_right b right = record { begins = code_begins b b.code refl right.ended; room = right.room; organization = right.organization }

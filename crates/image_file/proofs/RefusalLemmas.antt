@@ -1,7 +1,6 @@
 -- A program that verifies has no fault that `verify` tells, and its image is loaded.
 use Rattle.std.proofs.Common.{◌≡◌, ℕ, zero, suc, ◌<◌, ◌⊎◌, true, ltb, eqb, ◌&&◌, List, [], ◌∷◌, ◌++◌, length, map, get_or, Option, Some, None, Result, Ok, Err, IfOk, IfErr, refl, sym, ap, subst, ◌∙◌, arith, inl, inr}
 use Rattle.std.proofs.lemmas.Bool.{and_parts, and_from}
-use Rattle.std.proofs.lemmas.Option.{same_Some}
 use Rattle.std.specs.List.{AllByRecursion}
 use Rattle.plc_base.specs.declared.blocks.BlockId.{BlockId}
 use Rattle.flat_code.specs.declared.image_fields.Field.TheVariants.{StatementCount, Line}
@@ -9,27 +8,29 @@ use Rattle.flat_code.specs.Ops.{OpData}
 use Rattle.flat_code.specs.Codes.{are_ops, code_bytes, code_fault, code_of, is_nowhere}
 use Rattle.flat_code.specs.Blocks.{at_offset}
 use Rattle.flat_code.specs.Faults.{fault_of}
-use Rattle.flat_code.specs.Image.{end_marks, raw_of_block, code_len_in, line_field, line_after, lines_of, code_block, records_of, record_of_block, body, image, IsProgram, IsRight}
-use Rattle.flat_code.specs.Layout.{Cursor, good_many, is_fine}
-use Rattle.flat_code.specs.Loading.{lens_of, around, AreVerified, Verifies, Gives, faults_of}
+use Rattle.flat_code.specs.Image.{end_marks, head_of_block, line_field, line_after, lines_of, code_block, records_of, record_of_block, body, image, IsProgram, IsRight}
+use Rattle.flat_code.specs.Layout.{good_many, is_fine}
+use Rattle.flat_code.specs.Loading.{lens_of, around, AreVerified, Verifies, faults_of}
 use Rattle.flat_code.specs.Programs.{CodeBlock, Program}
+use Rattle.flat_code.specs.Stamps.{profile_of}
+use Rattle.flat_code.specs.declared.stamps.Stamp.{Stamp}
 use Rattle.flat_code.specs.Records.{BlockRecord}
 use Rattle.image_file.specs.declared.faults.LoadFault.{LoadFault}
 use Rattle.image_file.specs.declared.faults.VerifyFault.{VerifyFault}
 use Rattle.image_file.specs.declared.refusing.LoadError.{LoadError}
 use Rattle.image_file.specs.declared.refusing.LoadError.TheVariants as error
-use Rattle.image_file.specs.Laws.{GivesBack}
+use Rattle.image_file.specs.Images.{GivesBack, IsImageOf}
 use Rattle.image_file.specs.Least.{with_faults, IsUpTo, IsLeast}
 use Rattle.image_file.specs.Loaded.{LoadedProgram}
 use Rattle.image_file.specs.Refusing.{IsRefusedBy}
 use Rattle.image_file.specs.Verifying.{line_faults, count_faults, faults_of_block, are_whole, lens_judged, DecidesFor, IsFirstOf, IsFaultOf, AreClean, IsClean}
 use Rattle.flat_code.proofs.PartLemmas.{all_of_blocks}
 use Rattle.image_file.proofs.CodeLemmas.{is_none}
-use Rattle.image_file.proofs.ImageLemmas.{record_parts_of, records_parts}
+use Rattle.image_file.proofs.ImageLemmas.{good_block_of, good_records, image_one}
 use Rattle.image_file.proofs.LeastLemmas.{kept_is_least}
 use Rattle.image_file.proofs.LoadLemmas.{none_left}
 use Rattle.image_file.proofs.ProgramFaultLemmas.{Lens, is_whole, clean_from, lens_are, clean_verifies}
-use Rattle.image_file.proofs.WholeLemmas.{image_gives}
+use Rattle.image_file.proofs.WholeLemmas.{gives_image, image_gives}
 
 -- ---- a program that verifies is clean
 
@@ -65,7 +66,7 @@ IsRightBlock b = Right (record_of_block b)
 abbrev AreRight : List CodeBlock → Type 0
 AreRight bs = AllByRecursion IsRightBlock bs
 
-lines_of_clean : (b : BlockRecord) → (lines_of true 0 (raw_of_block b).0 b.code).good b.lines ≡ true → (count_faults b ≡ []) × (line_faults 0 b.lines ≡ [])
+lines_of_clean : (b : BlockRecord) → (lines_of true 0 (head_of_block b) b.code).good b.lines ≡ true → (count_faults b ≡ []) × (line_faults 0 b.lines ≡ [])
 unfolding lines_of
 lines_of_clean b h =
     let f = fault_of (StatementCount (end_marks b.code) (length b.lines)) in
@@ -75,13 +76,13 @@ lines_of_clean b h =
 block_right : (before : ℕ × ℕ) (block : CodeBlock) → (code_block true before).good (record_of_block block) ≡ true → IsRightBlock block
 block_right before block h =
     let b = record_of_block block in
-    let p = record_parts_of true before b h in
+    let p = good_block_of true before b h in
     let l = lines_of_clean b p.lines_good in
-    record { code = code_clean (code_len_in (raw_of_block b).0) b.code p.code_good; count = l.0; lines = l.1 }
+    record { code = code_clean (length (code_bytes b.code)) b.code p.code_good; count = l.0; lines = l.1 }
 
 program_right : (p : Program) → IsRight p → AreRight p.code_blocks
 unfolding body
-program_right p h = all_of_blocks true IsRightBlock block_right (length (map record_of_block p.code_blocks)) p.code_blocks (records_parts true (records_of p) h).codes_good
+program_right p h = all_of_blocks true IsRightBlock block_right (length (map record_of_block p.code_blocks)) p.code_blocks (good_records true (records_of p) h).codes_good
 
 right_whole : (bs : List CodeBlock) → AreRight bs → are_whole (map record_of_block bs) ≡ true
 right_whole [] h = refl
@@ -165,13 +166,12 @@ fault_is_one p f g a b = first_one (lens_judged p) (map record_of_block p.code_b
 
 -- ---- what was written is loaded
 
-given_one : (bytes : List ℕ) (p q : Program) → Gives bytes p → Gives bytes q → p ≡ q
-given_one bytes p q a b = ap (λ (z : Program × Cursor). z.0) (same_Some (p, a.end) (q, b.end) (sym a.found ∙ b.found))
-
-gives_back : (p : Program) (bytes : List ℕ) (result : Result LoadedProgram LoadError) → Gives bytes p → IfOk result (λ l. Gives bytes l.program) → IfErr result (λ e. IsRefusedBy e (faults_of bytes)) → GivesBack p result
-gives_back p bytes (Ok l) gives ok err = given_one bytes l.program p ok gives
-gives_back p bytes (Err (error.Fault f)) gives ok err = (subst (IsLeast f) gives.clean err).one
-gives_back p bytes (Err error.NoMemory) gives ok err = tt
-
-pub given_back : (p : Program) (bytes : List ℕ) (result : Result LoadedProgram LoadError) → ((i : ℕ) → get_or bytes i 0 < 256) → IsProgram p → Verifies p → bytes ≡ image p → IfOk result (λ l. Gives bytes l.program) → IfErr result (λ e. IsRefusedBy e (faults_of bytes)) → GivesBack p result
-given_back p bytes result are program verifies spelled ok err = gives_back p bytes result (image_gives bytes p are (record { spelled = spelled; program = program; verifies = verifies })) ok err
+pub given_back : (stamp : Stamp) (p : Program) (bytes : List ℕ) (result : Result LoadedProgram LoadError) → ((i : ℕ) → get_or bytes i 0 < 256) → IsProgram p → bytes ≡ image stamp p
+    → IfOk result (λ l. IsImageOf bytes l) → IfErr result (λ e. IsRefusedBy e (faults_of bytes)) → GivesBack p (profile_of stamp) result
+given_back stamp p bytes (Ok l) are program spelled ok err =
+    let found = gives_image bytes ok.stamp l.program are ok.given in
+    let same = image_one stamp ok.stamp p l.program program found.program (sym spelled ∙ found.spelled) in
+    (sym same.1, ok.profile ∙ ap profile_of (sym same.0))
+given_back stamp p bytes (Err (error.Fault f)) are program spelled ok err = λ verifies.
+    (subst (IsLeast f) (image_gives bytes stamp p are (record { spelled = spelled; program = program; verifies = verifies })).clean err).one
+given_back stamp p bytes (Err error.NoMemory) are program spelled ok err = tt

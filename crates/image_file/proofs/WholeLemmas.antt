@@ -7,18 +7,19 @@ use Rattle.plc_base.proofs.ListLemmas.{nil_parts}
 use Rattle.flat_code.specs.Coding.{Coding, u8, u16, u32}
 use Rattle.flat_code.specs.Ops.{OpData}
 use Rattle.flat_code.specs.Programs.{DataBlock, Program}
+use Rattle.flat_code.specs.declared.stamps.Stamp.{Stamp}
 use Rattle.flat_code.specs.Records.{BlockRecord, NameRecord, Records}
 use Rattle.flat_code.specs.declared.image_fields.ParameterRecord.{ParameterRecord}
 use Rattle.flat_code.specs.Layout.{Note, Faulty, Whole, AllBlocks, Cursor, Read, Layout, ended, given, go_on, bind, noted, field_of, field, chain, checked, located, read_many, many, seen_as, remembered, faults_in}
 use Rattle.flat_code.specs.Codes.{ops_from, stop_at, read_ops, read_code, code_of}
-use Rattle.flat_code.specs.Image.{plain, plain_u16, plain_u32, zero_u8, zero_u16, width_field, bytes, section_field, parameter_byte, parameter_bit, raw_parameter, parameter_of_raw, raw_of_parameter, parameter, kind_field, parameter_count, block_number, local_bytes, instance_bytes, Head, head, params_in, instance_in, statements_in, code_len_in, same_state, parameters, line_after, line_field, lines_of, code_and_lines, RawBlock, raw_block, block_of_raw, raw_of_block, plain_block, whole_at, code_block_at, code_block, after_block, data_number, instance_field, data_len, contents, raw_data, data_of_raw, raw_of_data, data_block, after_data, name_len, name_bytes, name_area, name_bit, raw_name, name_of_raw, raw_of_name, name_record, after_name, data_count, Counts, counts, code_blocks, plain_data_blocks, data_blocks, names, RawRecords, raw_records, records_of_raw, raw_of_records, records, record_of_block, program_of, records_of, body, magic_field, version_field, Front, front, front_size, at_end, cut, read_by, read_image}
+use Rattle.flat_code.specs.Image.{plain, plain_u16, plain_u32, zero_u8, zero_u16, width_field, bytes, section_field, parameter_byte, parameter_bit, parameter_rows, parameter_fields, parameter_row, parameter_of_fields, fields_of_parameter, parameter, kind_field, parameter_count, block_number, local_bytes, instance_bytes, Head, head_of_row, row_of_head, head_rows, head, same_state, parameters, line_after, line_field, lines_of, code_and_lines, BlockRow, parts_of_block_row, row_of_block_parts, block_rows, block_of_parts, parts_of_block, plain_block, whole_at, code_block_at, code_block, after_block, data_number, instance_field, data_len, contents, data_rows, data_fields, data_row, data_of_fields, fields_of_data, data_block, after_data, name_len, name_bytes, name_area, name_bit, name_rows, name_fields, name_row, name_of_fields, fields_of_name, name_record, after_name, data_count, Counts, counts_of_row, row_of_counts, count_rows, counts, code_blocks, plain_data_blocks, data_blocks, names, BodyRow, parts_of_body_row, row_of_body_parts, body_rows, records_of_parts, parts_of_records, records, record_of_block, program_of, records_of, body, magic_field, version_field, profile_field, Front, front_of_row, row_of_front, front_rows, front, front_size, stamp_in, at_end, cut, read_by, read_image}
 use Rattle.flat_code.specs.declared.image_fields.OpenBracket.{OpenBracket}
-use Rattle.flat_code.specs.Placed.{Placed, Spot, spots, places, open_behind}
-use Rattle.flat_code.specs.Blocks.{Around, operand_fault, call_fault, mark_fault, bracket_fault, at_offset, op_faults, faults_over, open_faults, block_faults}
+use Rattle.flat_code.specs.Placed.{Placed, Spot, spots, places, open_behind, zones_left}
+use Rattle.flat_code.specs.Blocks.{Around, operand_fault, call_fault, mark_fault, bracket_fault, zone_fault, at_offset, op_faults, faults_over, open_faults, open_zone_faults, block_faults}
 use Rattle.flat_code.specs.Loading.{lens_of, later, around, wholes, all_blocks, blocks_of, judged_blocks, faults_of, Gives, AreVerified, IsLoadable}
 use Rattle.flat_code.proofs.CodingLemmas.{IsBytes}
 use Rattle.image_file.proofs.LayoutLemmas.{at_place, no_faults}
-use Rattle.image_file.proofs.ImageLemmas.{image_again, image_takes, records_back, records_laid, front_laid, bytes_taken}
+use Rattle.image_file.proofs.ImageLemmas.{image_again, image_takes, records_back, records_laid, front_laid, bytes_taken, Stamped}
 
 -- the code blocks that notes tell of, and the data blocks, once all were read
 abbrev Lens : Type 0
@@ -205,9 +206,9 @@ unfolding code_of
 code_notes n = record { says = code_says n }
 
 parameter_notes : (kind instance : ℕ) → Notes ParameterRecord (parameter kind instance) (λ p. nothing)
-unfolding parameter raw_parameter section_field width_field parameter_byte parameter_bit zero_u8
+unfolding parameter parameter_rows section_field width_field parameter_byte parameter_bit zero_u8
 parameter_notes kind instance =
-    seen_notes parameter_of_raw raw_of_parameter (raw_parameter kind instance) (λ x. nothing) (λ p. nothing) (λ x. refl)
+    seen_notes (λ r. parameter_of_fields (parameter_fields r)) (λ p. parameter_row (fields_of_parameter p)) (parameter_rows kind instance) (λ x. nothing) (λ p. nothing) (λ x. refl)
     (chain_none section_field _ (field_notes u8 _) (λ s.
     chain_none width_field _ (field_notes u8 _) (λ w.
     chain_none (parameter_byte kind instance w) _ (field_notes u16 _) (λ byte.
@@ -215,33 +216,33 @@ parameter_notes kind instance =
 
 parameters_notes : (h : Head) → Notes (List ParameterRecord) (parameters h) (λ ps. nothing)
 unfolding parameters
-parameters_notes h = many_none (λ s. parameter h.0 (instance_in h)) same_state (λ s. parameter_notes h.0 (instance_in h)) 0 (params_in h)
+parameters_notes h = many_none (λ s. parameter h.kind h.instance_bytes) same_state (λ s. parameter_notes h.kind h.instance_bytes) 0 h.parameter_count
 
 head_notes : (before : ℕ × ℕ) → Notes Head (head before) (λ h. nothing)
-unfolding head kind_field parameter_count block_number local_bytes instance_bytes zero_u16 plain_u16 plain_u32
-head_notes before =
-    chain_none (kind_field before.0) _ (field_notes u8 _) (λ kind.
+unfolding head head_rows kind_field parameter_count block_number local_bytes instance_bytes zero_u16 plain_u16 plain_u32
+head_notes before = seen_notes head_of_row row_of_head (head_rows before) (λ r. nothing) (λ h. nothing) (λ r. refl)
+    (chain_none (kind_field before.0) _ (field_notes u8 _) (λ kind.
     chain_none (parameter_count kind) _ (field_notes u8 _) (λ params.
     chain_none (block_number before.0 before.1 kind) _ (field_notes u16 _) (λ number.
     chain_none (local_bytes kind) _ (field_notes u16 _) (λ locals.
     chain_none (instance_bytes kind) _ (field_notes u16 _) (λ instance.
     chain_none plain_u16 _ (field_notes u16 plain) (λ statements.
-    chain_none zero_u16 _ (field_notes u16 _) (λ zero. field_notes u32 plain)))))))
+    chain_none zero_u16 _ (field_notes u16 _) (λ zero. field_notes u32 plain))))))))
 
 lines_notes : (start : ℕ) (h : Head) (ops : List OpData) → Notes (List ℕ) (lines_of true start h ops) (λ x. nothing)
 unfolding lines_of line_field
-lines_notes start h ops = checked_notes (start + 8) _ (many (line_field true) line_after 0 (statements_in h)) (λ x. nothing) (many_none (line_field true) line_after (λ s. field_notes u32 _) 0 (statements_in h))
+lines_notes start h ops = checked_notes (start + 8) _ (many (line_field true) line_after 0 h.statement_count) (λ x. nothing) (many_none (line_field true) line_after (λ s. field_notes u32 _) 0 h.statement_count)
 
-raw_block_notes : (before : ℕ × ℕ) (at : ℕ) → Notes RawBlock (raw_block true before at) (λ r. nothing)
-unfolding raw_block code_and_lines
-raw_block_notes before at =
+block_rows_notes : (before : ℕ × ℕ) (at : ℕ) → Notes BlockRow (block_rows true before at) (λ r. nothing)
+unfolding block_rows code_and_lines
+block_rows_notes before at =
     chain_none (head before) _ (head_notes before) (λ h.
     chain_none (parameters h) (λ params. code_and_lines true at h) (parameters_notes h) (λ params.
-    chain_none (code_of true (code_len_in h)) (lines_of true at h) (code_notes (code_len_in h)) (lines_notes at h)))
+    chain_none (code_of true h.code_length) (lines_of true at h) (code_notes h.code_length) (lines_notes at h)))
 
 code_block_notes : (before : ℕ × ℕ) → Notes BlockRecord (code_block true before) one
 unfolding code_block plain_block
-code_block_notes before = located_notes (code_block_at true before) one (λ at. remembered_notes (whole_at at) (plain_block true before at) one (one_block at) (seen_notes block_of_raw raw_of_block (raw_block true before at) (λ x. nothing) (λ b. nothing) (λ x. refl) (raw_block_notes before at)))
+code_block_notes before = located_notes (code_block_at true before) one (λ at. remembered_notes (whole_at at) (plain_block true before at) one (one_block at) (seen_notes (λ r. block_of_parts (parts_of_block_row r)) (λ b. row_of_block_parts (parts_of_block b)) (block_rows true before at) (λ x. nothing) (λ b. nothing) (λ x. refl) (block_rows_notes before at)))
 
 singles : (bs : List BlockRecord) → all_of one bs ≡ (bs, None)
 unfolding all_of one join nothing
@@ -256,8 +257,8 @@ unfolding code_blocks
 code_blocks_notes n = weaker (many (code_block true) after_block (0, 0) n) (all_of one) codes_told singles (many_notes (code_block true) after_block one code_block_notes (0, 0) n)
 
 data_notes : (before : ℕ × ℕ) → Notes DataBlock (data_block before) (λ d. nothing)
-unfolding data_block raw_data data_number instance_field data_len zero_u16 contents
-data_notes before = seen_notes data_of_raw raw_of_data (raw_data before) (λ x. nothing) (λ d. nothing) (λ x. refl)
+unfolding data_block data_rows data_number instance_field data_len zero_u16 contents
+data_notes before = seen_notes (λ r. data_of_fields (data_fields r)) (λ d. data_row (fields_of_data d)) (data_rows before) (λ x. nothing) (λ d. nothing) (λ x. refl)
     (chain_none (data_number before.0) _ (field_notes u16 _) (λ number.
     chain_none instance_field _ (field_notes u16 _) (λ instance.
     chain_none (data_len before.1) _ (field_notes u16 _) (λ n.
@@ -268,8 +269,8 @@ unfolding data_blocks
 data_blocks_notes n = remembered_notes AllBlocks (plain_data_blocks n) all_told all_are_told (many_none data_block after_data data_notes (0, 0) n)
 
 name_notes : (before : List ℕ) → Notes NameRecord (name_record before) (λ n. nothing)
-unfolding name_record raw_name name_len name_bytes name_area width_field plain_u16 name_bit
-name_notes before = seen_notes name_of_raw raw_of_name (raw_name before) (λ x. nothing) (λ n. nothing) (λ x. refl)
+unfolding name_record name_rows name_len name_bytes name_area width_field plain_u16 name_bit
+name_notes before = seen_notes (λ r. name_of_fields (name_fields r)) (λ n. name_row (fields_of_name n)) (name_rows before) (λ x. nothing) (λ n. nothing) (λ x. refl)
     (chain_none name_len _ (field_notes u8 _) (λ n.
     chain_none (name_bytes before n) _ (field_notes (bytes n) _) (λ name.
     chain_none name_area _ (field_notes u8 _) (λ area.
@@ -281,11 +282,11 @@ unfolding names
 names_notes n = many_none name_record after_name name_notes [] n
 
 counts_notes : Notes Counts counts (λ c. nothing)
-unfolding counts plain_u16 data_count zero_u16
-counts_notes =
-    chain_none plain_u16 _ (field_notes u16 plain) (λ codes.
+unfolding counts count_rows plain_u16 data_count zero_u16
+counts_notes = seen_notes counts_of_row row_of_counts count_rows (λ r. nothing) (λ c. nothing) (λ r. refl)
+    (chain_none plain_u16 _ (field_notes u16 plain) (λ codes.
     chain_none data_count _ (field_notes u16 _) (λ datas.
-    chain_none plain_u16 (λ names. zero_u16) (field_notes u16 plain) (λ names. field_notes u16 _)))
+    chain_none plain_u16 (λ names. zero_u16) (field_notes u16 plain) (λ names. field_notes u16 _))))
 
 abbrev datas_and_names : List DataBlock × List NameRecord → Told
 datas_and_names x = join (all_told x.0) nothing
@@ -293,31 +294,31 @@ datas_and_names x = join (all_told x.0) nothing
 abbrev blocks_and_names : List BlockRecord × (List DataBlock × List NameRecord) → Told
 blocks_and_names x = join (codes_told x.0) (datas_and_names x.1)
 
-raw_records_notes : Notes RawRecords (raw_records true) (λ r. join nothing (blocks_and_names r.1))
-unfolding raw_records
-raw_records_notes =
-    chain_notes counts (λ c. chain (code_blocks true c.0) (λ blocks. chain (data_blocks c.1.0) (λ datas. names c.1.1.0))) (λ c. nothing) (λ c. blocks_and_names) counts_notes (λ c.
-    chain_notes (code_blocks true c.0) (λ blocks. chain (data_blocks c.1.0) (λ datas. names c.1.1.0)) codes_told (λ bs. datas_and_names) (code_blocks_notes c.0) (λ blocks.
-    chain_notes (data_blocks c.1.0) (λ datas. names c.1.1.0) all_told (λ ds ns. nothing) (data_blocks_notes c.1.0) (λ datas. names_notes c.1.1.0)))
+body_rows_notes : Notes BodyRow (body_rows true) (λ r. join nothing (blocks_and_names r.1))
+unfolding body_rows
+body_rows_notes =
+    chain_notes counts (λ c. chain (code_blocks true c.code_blocks) (λ blocks. chain (data_blocks c.data_blocks) (λ datas. names c.names))) (λ c. nothing) (λ c. blocks_and_names) counts_notes (λ c.
+    chain_notes (code_blocks true c.code_blocks) (λ blocks. chain (data_blocks c.data_blocks) (λ datas. names c.names)) codes_told (λ bs. datas_and_names) (code_blocks_notes c.code_blocks) (λ blocks.
+    chain_notes (data_blocks c.data_blocks) (λ datas. names c.names) all_told (λ ds ns. nothing) (data_blocks_notes c.data_blocks) (λ datas. names_notes c.names)))
 
 -- all blocks of records
 told_of : Records → Told
 told_of r = (r.code_blocks, Some r.data_blocks)
 
-records_told : (x : RawRecords) → join nothing (blocks_and_names x.1) ≡ told_of (records_of_raw x)
+records_told : (x : BodyRow) → join nothing (blocks_and_names x.1) ≡ told_of (records_of_parts (parts_of_body_row x))
 unfolding join nothing all_told told_of
 records_told x = pairs (append-nil x.1.0) refl
 
 records_notes : Notes Records (records true) told_of
 unfolding records
-records_notes = seen_notes records_of_raw raw_of_records (raw_records true) (λ r. join nothing (blocks_and_names r.1)) told_of records_told raw_records_notes
+records_notes = seen_notes (λ r. records_of_parts (parts_of_body_row r)) (λ r. row_of_body_parts (parts_of_records r)) (body_rows true) (λ r. join nothing (blocks_and_names r.1)) told_of records_told body_rows_notes
 
 front_notes : Notes Front front (λ f. nothing)
-unfolding front magic_field version_field zero_u16 plain_u32
-front_notes =
-    chain_none magic_field _ (field_notes u32 _) (λ magic.
+unfolding front front_rows magic_field version_field profile_field plain_u32
+front_notes = seen_notes front_of_row row_of_front front_rows (λ r. nothing) (λ f. nothing) (λ r. refl)
+    (chain_none magic_field _ (field_notes u32 _) (λ magic.
     chain_none version_field _ (field_notes u16 _) (λ version.
-    chain_none zero_u16 (λ zero. plain_u32) (field_notes u16 _) (λ zero. field_notes u32 plain)))
+    chain_none (profile_field version) (λ profile. plain_u32) (field_notes u16 _) (λ profile. field_notes u32 plain))))
 
 cond_note : (b : Bool) (at code : ℕ) → told_in (cond b [] (Faulty at code ∷ [])) ≡ nothing
 unfolding told_in nothing
@@ -351,48 +352,50 @@ body_from cur p end are e clean =
 abbrev cut_cursor : ℕ → Cursor → Cursor
 cut_cursor total cur = record { at = cur.at; rest = take (total - front_size) cur.rest }
 
-abbrev cut_inner : List ℕ → ℕ → Cursor → Read Program
-cut_inner text total cur = record {
-  notes = cond (eqb (length text) total) [] (Faulty total 10 ∷ []) ++ (bind ((body true).read (cut_cursor total cur)) at_end).notes;
-  found = (bind ((body true).read (cut_cursor total cur)) at_end).found;
+abbrev cut_inner : Stamp → List ℕ → ℕ → Cursor → Read Stamped
+cut_inner stamp text total cur = record {
+  notes = cond (eqb (length text) total) [] (Faulty total 10 ∷ []) ++ (bind ((body true).read (cut_cursor total cur)) (at_end stamp)).notes;
+  found = (bind ((body true).read (cut_cursor total cur)) (at_end stamp)).found;
 }
 
-inner_from : (text : List ℕ) (total : ℕ) (cur : Cursor) (p : Program) (end : Cursor) → IsBytes cur.rest → (cut_inner text total cur).found ≡ Some (p, end) → faults_in (cut_inner text total cur).notes ≡ [] → FromRecords p (cut_inner text total cur).notes
-inner_from text total cur p end are e clean =
+inner_from : (stamp : Stamp) (text : List ℕ) (total : ℕ) (cur : Cursor) (p : Stamped) (end : Cursor) → IsBytes cur.rest → (cut_inner stamp text total cur).found ≡ Some (p, end) → faults_in (cut_inner stamp text total cur).notes ≡ [] → FromRecords p.1 (cut_inner stamp text total cur).notes
+inner_from stamp text total cur p end are e clean =
     let inner = (body true).read (cut_cursor total cur) in
-    let a = steps inner at_end p end e in
-    let made = same_Some (a.first, a.next) (p, end) a.two in
-    let c = no_faults (cond (eqb (length text) total) [] (Faulty total 10 ∷ [])) (bind inner at_end).notes clean in
-    let d = no_faults inner.notes (at_end a.first a.next).notes (sym (ap faults_in a.are) ∙ c.1) in
+    let a = steps inner (at_end stamp) p end e in
+    let made = same_Some ((stamp, a.first), a.next) (p, end) a.two in
+    let c = no_faults (cond (eqb (length text) total) [] (Faulty total 10 ∷ [])) (bind inner (at_end stamp)).notes clean in
+    let d = no_faults inner.notes (at_end stamp a.first a.next).notes (sym (ap faults_in a.are) ∙ c.1) in
     let f = body_from (cut_cursor total cur) a.first a.next (bytes_taken (total - front_size) cur.rest are) a.one d.0 in
     record {
       records = f.records;
-      program = f.program ∙ ap (λ (z : Program × Cursor). z.0) made;
+      program = f.program ∙ ap (λ (z : Stamped × Cursor). z.0.1) made;
       good = f.good;
-      told = told-append (cond (eqb (length text) total) [] (Faulty total 10 ∷ [])) (bind inner at_end).notes
-          ∙ ap (λ (z : Told). join z (told_in (bind inner at_end).notes)) (cond_note (eqb (length text) total) total 10)
-          ∙ nothing-join (told_in (bind inner at_end).notes)
+      told = told-append (cond (eqb (length text) total) [] (Faulty total 10 ∷ [])) (bind inner (at_end stamp)).notes
+          ∙ ap (λ (z : Told). join z (told_in (bind inner (at_end stamp)).notes)) (cond_note (eqb (length text) total) total 10)
+          ∙ nothing-join (told_in (bind inner (at_end stamp)).notes)
           ∙ a.notes ∙ ap (λ (z : Told). join (told_in inner.notes) z) (cond_note (eqb (length a.next.rest) 0) a.next.at 10) ∙ join-nothing (told_in inner.notes)
           ∙ f.told;
     }
 
-cut_from : (text : List ℕ) (total : ℕ) (cur : Cursor) (p : Program) (end : Cursor) (b d : Bool) → IsBytes cur.rest → (cond b (ended 8 3) (cond d (ended 8 4) (cut_inner text total cur))).found ≡ Some (p, end) → faults_in (cond b (ended 8 3) (cond d (ended 8 4) (cut_inner text total cur))).notes ≡ [] → FromRecords p (cond b (ended 8 3) (cond d (ended 8 4) (cut_inner text total cur))).notes
-cut_from text total cur p end true d are e clean = absurd cc
-cut_from text total cur p end false true are e clean = absurd cc
-cut_from text total cur p end false false are e clean = inner_from text total cur p end are e clean
+cut_from : (stamp : Stamp) (text : List ℕ) (total : ℕ) (cur : Cursor) (p : Stamped) (end : Cursor) (b d : Bool) → IsBytes cur.rest → (cond b (ended 8 3) (cond d (ended 8 4) (cut_inner stamp text total cur))).found ≡ Some (p, end) → faults_in (cond b (ended 8 3) (cond d (ended 8 4) (cut_inner stamp text total cur))).notes ≡ [] → FromRecords p.1 (cond b (ended 8 3) (cond d (ended 8 4) (cut_inner stamp text total cur))).notes
+cut_from stamp text total cur p end true d are e clean = absurd cc
+cut_from stamp text total cur p end false true are e clean = absurd cc
+cut_from stamp text total cur p end false false are e clean = inner_from stamp text total cur p end are e clean
 
-image_from : (text : List ℕ) (p : Program) (end : Cursor) → IsBytes text → (read_image text).found ≡ Some (p, end) → faults_in (read_image text).notes ≡ [] → FromRecords p (read_image text).notes
+image_from : (text : List ℕ) (p : Stamped) (end : Cursor) → IsBytes text → (read_image text).found ≡ Some (p, end) → faults_in (read_image text).notes ≡ [] → FromRecords p.1 (read_image text).notes
 unfolding read_by
 image_from text p end are e clean =
-    let a = steps (front.read (at_place 0 text)) (λ f cur. cut true (length text) f.1.1.1 cur) p end e in
-    let c = no_faults (front.read (at_place 0 text)).notes (cut true (length text) a.first.1.1.1 a.next).notes (sym (ap faults_in a.are) ∙ clean) in
+    let a = steps (front.read (at_place 0 text)) (λ f cur. cut true (stamp_in f) (length text) f.total_length cur) p end e in
+    let stamp = stamp_in a.first in
+    let total = a.first.total_length in
+    let c = no_faults (front.read (at_place 0 text)).notes (cut true stamp (length text) total a.next).notes (sym (ap faults_in a.are) ∙ clean) in
     let t = front_laid.takes (at_place 0 text) a.first a.next are (record { found = a.one; clean = c.0 }) in
-    let f = cut_from text a.first.1.1.1 a.next p end (ltb a.first.1.1.1 20 || ltb (length text) a.first.1.1.1) (ltb 8388608 a.first.1.1.1) t.text.rest_fits a.two c.1 in
+    let f = cut_from stamp text total a.next p end (ltb total 20 || ltb (length text) total) (ltb 8388608 total) t.text.rest_fits a.two c.1 in
     record {
       records = f.records;
       program = f.program;
       good = f.good;
-      told = a.notes ∙ ap (λ (z : Told). join z (told_in (cut true (length text) a.first.1.1.1 a.next).notes)) (front_notes.says (at_place 0 text) a.first a.next a.one) ∙ nothing-join (told_in (cut true (length text) a.first.1.1.1 a.next).notes) ∙ f.told;
+      told = a.notes ∙ ap (λ (z : Told). join z (told_in (cut true stamp (length text) total a.next).notes)) (front_notes.says (at_place 0 text) a.first a.next a.one) ∙ nothing-join (told_in (cut true stamp (length text) total a.next).notes) ∙ f.told;
     }
 
 -- what reading without fault noted, by the program
@@ -400,10 +403,10 @@ pub record Noted (p : Program) (notes : List Note) : Type 0 where
   pub codes : blocks_of (wholes notes) ≡ map record_of_block p.code_blocks
   pub datas : all_blocks notes ≡ Some p.data_blocks
 
-pub image_noted : (text : List ℕ) (p : Program) (end : Cursor) → IsBytes text → (read_image text).found ≡ Some (p, end) → faults_in (read_image text).notes ≡ [] → Noted p (read_image text).notes
+pub image_noted : (text : List ℕ) (stamp : Stamp) (p : Program) (end : Cursor) → IsBytes text → (read_image text).found ≡ Some ((stamp, p), end) → faults_in (read_image text).notes ≡ [] → Noted p (read_image text).notes
 unfolding told_in told_of
-image_noted text p end are e clean =
-    let f = image_from text p end are e clean in
+image_noted text stamp p end are e clean =
+    let f = image_from text (stamp, p) end are e clean in
     let back : records_of p ≡ f.records = ap records_of (sym f.program) ∙ records_back true f.records f.good in
     record {
       codes = ap (λ (z : Told). z.0) f.told ∙ sym (ap (λ (z : Records). z.code_blocks) back);
@@ -428,10 +431,12 @@ op_moved around ps start other p e =
     let b = at_offset at (call_fault around around.data_lens p) in
     let c = at_offset at (mark_fault p.op) in
     let d = at_offset at (bracket_fault p.op.code p.brackets) in
-    let n = nil_parts ((a ++ b) ++ c) d e in
+    let f = at_offset at (zone_fault p.op.code p.zones) in
+    let o = nil_parts (((a ++ b) ++ c) ++ d) f e in
+    let n = nil_parts ((a ++ b) ++ c) d o.0 in
     let m = nil_parts (a ++ b) c n.0 in
     let l = nil_parts a b m.0 in
-    nil_join (nil_join (nil_join (elsewhere at to (operand_fault around ps p p.op.operand) l.0) (elsewhere at to (call_fault around around.data_lens p) l.1)) (elsewhere at to (mark_fault p.op) m.1)) (elsewhere at to (bracket_fault p.op.code p.brackets) n.1)
+    nil_join (nil_join (nil_join (nil_join (elsewhere at to (operand_fault around ps p p.op.operand) l.0) (elsewhere at to (call_fault around around.data_lens p) l.1)) (elsewhere at to (mark_fault p.op) m.1)) (elsewhere at to (bracket_fault p.op.code p.brackets) n.1)) (elsewhere at to (zone_fault p.op.code p.zones) o.1)
 
 over_moved : (around : Around) (ps : List Spot) (start other : ℕ) (rest : List Placed) → faults_over around ps start rest ≡ [] → faults_over around ps other rest ≡ []
 over_moved around ps start other [] e = refl
@@ -443,12 +448,17 @@ open_moved : (start other : ℕ) (bs : List OpenBracket) → open_faults start b
 open_moved start other [] e = refl
 open_moved start other (b ∷ bs) e = absurd cc
 
+open_zones_moved : (start other : ℕ) (zones : List ℕ) → open_zone_faults start zones ≡ [] → open_zone_faults other zones ≡ []
+open_zones_moved start other [] e = refl
+open_zones_moved start other (at ∷ zones) e = absurd cc
+
 -- where a block begins doesn't matter for whether it has a fault
 pub moved : (around : Around) (start other : ℕ) (ops : List OpData) → block_faults around start ops ≡ [] → block_faults around other ops ≡ []
 unfolding block_faults
 moved around start other ops e =
-    let n = nil_parts (faults_over around (spots ops) start (places ops)) (open_faults start (open_behind 0 [] ops)) e in
-    nil_join (over_moved around (spots ops) start other (places ops) n.0) (open_moved start other (open_behind 0 [] ops) n.1)
+    let m = nil_parts (faults_over around (spots ops) start (places ops) ++ open_faults start (open_behind 0 [] ops)) (open_zone_faults start (zones_left 0 [] ops)) e in
+    let n = nil_parts (faults_over around (spots ops) start (places ops)) (open_faults start (open_behind 0 [] ops)) m.0 in
+    nil_join (nil_join (over_moved around (spots ops) start other (places ops) n.0) (open_moved start other (open_behind 0 [] ops) n.1)) (open_zones_moved start other (zones_left 0 [] ops) m.1)
 
 verified : (lens : List (ℕ × ℕ)) (all : List BlockRecord) (bs : List (ℕ × BlockRecord)) → judged_blocks (Some lens) all bs ≡ [] → AreVerified lens all (blocks_of bs)
 verified lens all [] e = tt
@@ -460,13 +470,13 @@ unjudged : (lens : List (ℕ × ℕ)) (all : List BlockRecord) (bs : List (ℕ �
 unjudged lens all [] h = refl
 unjudged lens all (b ∷ bs) h = nil_join (moved (around (Some lens) all b.1) 0 b.0 b.1.code h.0) (unjudged lens all bs h.1)
 
-pub gives_image : (text : List ℕ) (p : Program) → IsBytes text → Gives text p → IsLoadable text p
+pub gives_image : (text : List ℕ) (stamp : Stamp) (p : Program) → IsBytes text → Gives text stamp p → IsLoadable text stamp p
 unfolding faults_of
-gives_image text p are g =
+gives_image text stamp p are g =
     let notes = (read_image text).notes in
     let n = nil_parts (faults_in notes) (judged_blocks (option_map lens_of (all_blocks notes)) (blocks_of (wholes notes)) (wholes notes)) g.clean in
-    let t = image_takes text p g.end are (record { found = g.found; clean = n.0 }) in
-    let m = image_noted text p g.end are g.found n.0 in
+    let t = image_takes text stamp p g.end are (record { found = g.found; clean = n.0 }) in
+    let m = image_noted text stamp p g.end are g.found n.0 in
     let judged : judged_blocks (Some (lens_of p.data_blocks)) (blocks_of (wholes notes)) (wholes notes) ≡ [] = ap (λ (z : Option (List DataBlock)). judged_blocks (option_map lens_of z) (blocks_of (wholes notes)) (wholes notes)) (sym m.datas) ∙ n.1 in
     let v = verified (lens_of p.data_blocks) (blocks_of (wholes notes)) (wholes notes) judged in
     record {
@@ -475,15 +485,15 @@ gives_image text p are g =
       verifies = record { right = t.2; blocks = subst (λ (z : List BlockRecord). AreVerified (lens_of p.data_blocks) z z) m.codes v };
     }
 
-pub image_gives : (text : List ℕ) (p : Program) → IsBytes text → IsLoadable text p → Gives text p
+pub image_gives : (text : List ℕ) (stamp : Stamp) (p : Program) → IsBytes text → IsLoadable text stamp p → Gives text stamp p
 unfolding faults_of
-image_gives text p are h =
-    let is = image_again true p h.verifies.right h.program.short in
+image_gives text stamp p are h =
+    let is = image_again true stamp p h.verifies.right h.program.short in
     let end : Cursor = at_place (front_size + length ((body false).spell p)) [] in
     let notes = (read_image text).notes in
-    let found : (read_image text).found ≡ Some (p, end) = ap (λ (z : List ℕ). (read_image z).found) h.spelled ∙ is.found in
+    let found : (read_image text).found ≡ Some ((stamp, p), end) = ap (λ (z : List ℕ). (read_image z).found) h.spelled ∙ is.found in
     let clean : faults_in notes ≡ [] = ap (λ (z : List ℕ). faults_in (read_image z).notes) h.spelled ∙ is.clean in
-    let m = image_noted text p end are found clean in
+    let m = image_noted text stamp p end are found clean in
     let v : AreVerified (lens_of p.data_blocks) (blocks_of (wholes notes)) (blocks_of (wholes notes)) = subst (λ (z : List BlockRecord). AreVerified (lens_of p.data_blocks) z z) (sym m.codes) h.verifies.blocks in
     let judged : judged_blocks (option_map lens_of (all_blocks notes)) (blocks_of (wholes notes)) (wholes notes) ≡ [] = ap (λ (z : Option (List DataBlock)). judged_blocks (option_map lens_of z) (blocks_of (wholes notes)) (wholes notes)) m.datas ∙ unjudged (lens_of p.data_blocks) (blocks_of (wholes notes)) (wholes notes) v in
     record { end = end; found = found; clean = nil_join clean judged }

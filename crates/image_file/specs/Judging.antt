@@ -23,6 +23,11 @@ abbrev pub AllUpTo : ℕ → List OpenBracket → Type 0
 AllUpTo n [] = Unit {0}
 AllUpTo n (b ∷ bs) = (b.at ≤ n) × AllUpTo n bs
 
+-- all zones are opened at most at an offset
+abbrev pub ZonesUpTo : ℕ → List ℕ → Type 0
+ZonesUpTo n [] = Unit {0}
+ZonesUpTo n (at ∷ zones) = (at ≤ n) × ZonesUpTo n zones
+
 -- an op in its place
 abbrev pub placed_of : OpData → Place → Placed
-placed_of op p = record { at = p.at; brackets = p.stack.now; before = p.before.now; op = op; rest = p.rest.now }
+placed_of op p = record { at = p.at; brackets = p.brackets.now; zones = p.zones.now; before = p.before.now; op = op; rest = p.rest.now }

@@ -5,9 +5,11 @@ pub mod Running
 pub mod Judging
 pub mod Loaded
 pub mod Refusing
+pub mod Images
 pub mod Typing
 pub mod Writing
 pub mod Verifying
 pub mod Readers
-pub mod Seats
+pub mod Tables
+pub mod Marks
 pub mod Verified

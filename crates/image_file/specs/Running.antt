@@ -8,17 +8,23 @@ use Rattle.flat_code.specs.Layout.{Note, Faulty, Whole, AllBlocks, Cursor, Read,
 use Rattle.flat_code.specs.Records.{BlockRecord, NameRecord, Records}
 use Rattle.flat_code.specs.Programs.{DataBlock, Program}
 use Rattle.flat_code.specs.Image.{Head, Counts, Front, program_of, read_image}
-use Rattle.flat_code.specs.Loading.{wholes, all_blocks}
+use Rattle.flat_code.specs.declared.stamps.Stamp.{Stamp}
+use Rattle.flat_code.specs.Loading.{lens_of, wholes, all_blocks, blocks_of, judged_blocks, faults_of}
 use Rattle.image_file.specs.declared.faults.LoadFault.{LoadFault}
+use Rattle.image_file.specs.declared.loading.ImageRead.{ImageRead}
+use Rattle.image_file.specs.declared.loading.Judged.{Judged}
+use Rattle.image_file.specs.declared.loading.Judged.TheVariants as outcome
 use Rattle.image_file.specs.declared.reader.Reader.{Reader}
 use Rattle.image_file.specs.declared.records.HeadRead.{HeadRead}
 use Rattle.image_file.specs.declared.records.CountsRead.{CountsRead}
 use Rattle.image_file.specs.declared.records.FrontRead.{FrontRead}
+use Rattle.image_file.specs.declared.records.FoundRead.{FoundRead}
 use Rattle.image_file.specs.declared.records.Started.{Started}
 use Rattle.image_file.specs.declared.stops.Ended.{Ended}
 use Rattle.image_file.specs.declared.stops.Stop.{Stop}
 use Rattle.image_file.specs.declared.stops.Stop.TheVariants as stop
 use Rattle.image_file.specs.Least.{with_faults}
+use Rattle.image_file.specs.Typing.{program_from}
 
 -- the faults of a field that begins at an offset: one, or none
 abbrev pub judged : ℕ → Field → List (ℕ × ℕ)
@@ -84,9 +90,18 @@ abbrev pub seen : {X A : Type 0} → (X → A) → Result X Ended → Reader →
 seen view (Ok x) r = Goes (view x) (place_of r) (log_of r)
 seen view (Err e) r = Stops (log_of r)
 
--- the head of a code block, its fields in the order of the image
+-- the head of a code block
 abbrev pub head_values : HeadRead → Head
-head_values h = (h.kind, (h.params, (h.number, (h.locals, (h.instance, (h.statements, (h.reserved, h.size)))))))
+head_values h = record {
+  kind = h.kind;
+  parameter_count = h.parameter_count;
+  number = h.number;
+  local_bytes = h.local_bytes;
+  instance_bytes = h.instance_bytes;
+  statement_count = h.statement_count;
+  reserved = h.reserved;
+  code_length = h.code_length;
+}
 
 -- the same where memory may be wanting
 abbrev pub Sees : {X A : Type 0} → (X → A) → Result X Stop → Reader → Ran A → Type 0
@@ -123,7 +138,7 @@ SeesDatas (Err stop.NoMemory) r all = Unit {0}
 
 -- the counts of code blocks, data blocks and names, and the reserved field behind them
 abbrev pub counts_values : CountsRead → Counts
-counts_values c = (c.codes, (c.datas, (c.names, c.reserved)))
+counts_values c = record { code_blocks = c.code_blocks; data_blocks = c.data_blocks; names = c.names; reserved = c.reserved }
 
 -- all records were read; the names are answered, the blocks are kept
 abbrev pub SeesRecords : {X : Type 0} → (X → List NameRecord) → Result X Stop → Reader → Ran Records → Type 0
@@ -131,27 +146,53 @@ SeesRecords view (Ok names) r all = (x : Records) × (Goes x (place_of r) (log_o
 SeesRecords view (Err stop.AtFault) r all = Stops (log_of r) ≡ all
 SeesRecords view (Err stop.NoMemory) r all = Unit {0}
 
--- the header up to the total length: magic, version, the reserved field, the total length
+-- the header up to the total length
 abbrev pub front_values : FrontRead → Front
-front_values f = (f.magic, (f.version, (f.reserved, f.total)))
+front_values f = record { magic = f.magic; version = f.version; profile = f.profile; total_length = f.total_length }
+
+-- the version and profile of an image, and its names
+abbrev pub found_values : FoundRead → Stamp × List NameRecord
+found_values f = (f.stamp, f.names.items)
 
 -- what reading as a whole comes to, behind a log
 unfoldable pub ran_read : {A : Type 0} → Read A → Log → Ran A
 ran_read r log = ran r.found (logged log r.notes)
 
--- an image was read whole and its names are answered, or reading ended at a fault; nothing is said
--- where memory is wanting
-abbrev pub SeesImage : {X : Type 0} → (X → List NameRecord) → Result X Stop → Reader → Ran Program → Type 0
-SeesImage view (Ok names) r all = (x : Records) × (end : Cursor) × (Goes (program_of x) end (log_of r) ≡ all) × (x.names ≡ view names)
-SeesImage view (Err stop.AtFault) r all = Stops (log_of r) ≡ all
-SeesImage view (Err stop.NoMemory) r all = Unit {0}
-
 -- an image was read whole, or reading ended at a fault
-abbrev pub SeesNames : Option (List NameRecord) → Reader → Ran Program → Type 0
-SeesNames (Some names) r all = (x : Records) × (end : Cursor) × (Goes (program_of x) end (log_of r) ≡ all) × (x.names ≡ names)
-SeesNames None r all = Stops (log_of r) ≡ all
+abbrev pub SeesFound : Option (Stamp × List NameRecord) → Reader → Ran (Stamp × Program) → Type 0
+SeesFound (Some found) r all = (x : Records) × (end : Cursor) × (Goes (found.0, program_of x) end (log_of r) ≡ all) × (x.names ≡ found.1)
+SeesFound None r all = Stops (log_of r) ≡ all
+
+-- an image was read whole, and its version and profile and its names are answered, or reading ended at a
+-- fault; nothing is said where memory is wanting
+abbrev pub SeesImage : Result FoundRead Stop → Reader → Ran (Stamp × Program) → Type 0
+SeesImage (Ok found) r all = SeesFound (Some (found_values found)) r all
+SeesImage (Err stop.AtFault) r all = SeesFound None r all
+SeesImage (Err stop.NoMemory) r all = Unit {0}
 
 -- what was kept is what bytes hold, as far as they could be read
-abbrev pub HasFound : List ℕ → List (ℕ × BlockRecord) → Option (List DataBlock) → Option (List NameRecord) → Type 0
+abbrev pub HasFound : List ℕ → List (ℕ × BlockRecord) → Option (List DataBlock) → Option (Stamp × List NameRecord) → Type 0
 HasFound text blocks datas None = (read_image text).found ≡ None
-HasFound text blocks datas (Some names) = (x : Records) × (end : Cursor) × ((read_image text).found ≡ Some (program_of x, end)) × (x.names ≡ names) × (blocks ≡ wholes (read_image text).notes) × (datas ≡ all_blocks (read_image text).notes)
+HasFound text blocks datas (Some found) = (x : Records) × (end : Cursor) × ((read_image text).found ≡ Some ((found.0, program_of x), end)) × (x.names ≡ found.1) × (blocks ≡ wholes (read_image text).notes) × (datas ≡ all_blocks (read_image text).notes)
+
+-- the faults of the ops of the blocks that were read, by what one pass keeps
+abbrev pub judged_read : Log → List (ℕ × ℕ)
+judged_read log = judged_blocks (option_map lens_of log.datas) (blocks_of log.blocks) log.blocks
+
+-- the program of an image that was read whole
+abbrev pub program_read : ImageRead → Program
+program_read image = program_from (map started image.blocks.items) image.data_blocks.items image.names.items
+
+-- the least fault, or all that was read where there is none
+abbrev pub HoldsAll : Option LoadFault → List Started → Option (List DataBlock) → Option FoundRead → Judged → Type 0
+HoldsAll least blocks datas found (outcome.Faulty f) = least ≡ Some f
+HoldsAll least blocks datas found (outcome.Clean image) =
+    (least ≡ None) × (image.blocks.items ≡ blocks) × (datas ≡ Some image.data_blocks.items)
+    × (option_map found_values found ≡ Some (image.stamp, image.names.items))
+
+-- what bytes come to that were read and checked: the least of their faults, or all that they hold
+abbrev pub IsJudged : List ℕ → Judged → Type 0
+IsJudged text (outcome.Faulty f) = with_faults None (faults_of text) ≡ Some f
+IsJudged text (outcome.Clean image) =
+    (with_faults None (faults_of text) ≡ None)
+    × HasFound text (map started image.blocks.items) (Some image.data_blocks.items) (Some (image.stamp, image.names.items))

@@ -4,6 +4,7 @@ use Rattle.plc_base.specs.declared.blocks.BlockId.{BlockId}
 use Rattle.plc_base.specs.declared.blocks.BlockKind.TheVariants as kinds
 use Rattle.plc_base.specs.declared.places.Area.{Area}
 use Rattle.plc_base.specs.declared.places.Area.TheVariants as area
+use Rattle.plc_base.specs.Kinds.{kind_number}
 use Rattle.plc_base.specs.Widths.{byte_count}
 use Rattle.plc_base.specs.declared.places.Width.{Width}
 use Rattle.flat_code.specs.declared.programs.Param.{Param}
@@ -12,13 +13,21 @@ use Rattle.flat_code.specs.declared.operands.Operand.{Operand}
 use Rattle.flat_code.specs.declared.operands.Operand.TheVariants as operand
 use Rattle.flat_code.specs.declared.operands.Passed.{Passed}
 use Rattle.flat_code.specs.declared.operands.Passed.TheVariants as passed
+use Rattle.flat_code.specs.Kinds.{kind_of}
+use Rattle.flat_code.specs.declared.kinds.JumpOperation.TheVariants as jump
+use Rattle.flat_code.specs.OpCodes.{code_of}
+use Rattle.flat_code.specs.declared.operations.CallOperation.TheVariants as calls
+use Rattle.flat_code.specs.declared.operations.EndOperation.TheVariants as ends
+use Rattle.flat_code.specs.declared.operations.Operation.TheVariants as operation
+use Rattle.flat_code.specs.declared.operations.RelayOperation.TheVariants as relay
 use Rattle.flat_code.specs.Ops.{OpData, is_op}
 use Rattle.flat_code.specs.Codes.{size}
 use Rattle.flat_code.specs.Programs.{CodeBlock, Program}
 use Rattle.flat_code.specs.Image.{record_of_block, record_of_param, kind_of_number}
 use Rattle.flat_code.specs.Loading.{Verifies, lens_of, around}
+use Rattle.flat_code.specs.Records.{section_in}
 use Rattle.flat_code.specs.Table.{takes_of, has_width}
-use Rattle.flat_code.specs.Placed.{Placed, op_placed, line_placed, places, begins, bracket_codes, opens, opened, before_next, last_op}
+use Rattle.flat_code.specs.Placed.{Placed, op_placed, line_placed, places, begins, bracket_codes, opens, opened, zones_behind, most_brackets, most_zones, before_next, last_op}
 use Rattle.flat_code.specs.Blocks.{Signature, signature_of, Callee, callee, writes, prepares, is_odd_bit, is_in_db, is_above, pass_before, are_passed, is_bad_instance, misfits_parameter, leads}
 use Rattle.image_file.specs.Readers.{block_of}
 
@@ -48,10 +57,18 @@ pub record IsRead (ops : List OpData) (at : ℕ) (op : OpData) (next : ℕ) : Ty
 abbrev pub OpsArePlaced : Type 0
 OpsArePlaced = (ops : List OpData) (at : ℕ) (op : OpData) (next : ℕ) → op_placed 0 ops at ≡ Some (op, next) → IsRead ops at op next
 
--- behind an op stands the next one; the last op of a block is BE, ends its statement, and no bracket stands open there
+-- behind an op stands the next one; the last op of a block is BE, ends its statement, and no bracket and
+-- no zone stands open there
 abbrev pub Next : CodeBlock → Placed → List OpData → Type 0
-Next b q [] = (q.op.code ≡ 0x7B) × (q.op.last ≡ true) × (q.brackets ≡ [])
-Next b q (op ∷ ops) = place_at (q.at + size q.op) (places b.code) ≡ Some (record { at = q.at + size q.op; brackets = opened q.at q.op.code q.brackets; before = before_next q.op q.before; op = op; rest = ops })
+Next b q [] = (q.op.code ≡ code_of (operation.End ends.Be)) × (q.op.last ≡ true) × (q.brackets ≡ []) × (q.zones ≡ [])
+Next b q (op ∷ ops) = place_at (q.at + size q.op) (places b.code) ≡ Some (record {
+  at = q.at + size q.op;
+  brackets = opened q.at q.op.code q.brackets;
+  zones = zones_behind q.at q.op.code q.zones;
+  before = before_next q.op q.before;
+  op = op;
+  rest = ops;
+})
 
 -- in a program that verifies each op has one behind it, but BE at the end of its block
 abbrev pub CodeGoesOn : Type 0
@@ -83,13 +100,14 @@ OpsAreOfTable =
 
 -- ---- blocks
 
--- a block begins with a statement, before which no bracket stands open
+-- a block begins with a statement, before which no bracket and no zone stands open
 pub record Begins (b : CodeBlock) : Type 0 where
   pub first : Placed
   pub place : place_at 0 (places b.code) ≡ Some first
   pub offset : first.at ≡ 0
   pub statement : begins first ≡ true
   pub closed : first.brackets ≡ []
+  pub no_zones : first.zones ≡ []
 
 -- a block has at most 1,024 local bytes; an organization block has no parameters, and at least 20
 pub record BlockIsRight (b : CodeBlock) : Type 0 where
@@ -103,33 +121,44 @@ BlocksAreRight =
     (p : Program) (b : CodeBlock) (id : BlockId) → Verifies p
     → block_of id p.code_blocks ≡ Some b → BlockIsRight b
 
--- ---- jumps and brackets
+-- ---- jumps, brackets and zones
 
--- a jump's target is a statement of the block, where the same brackets stand open
+-- a jump's target is a statement of the block, where the same brackets and as many zones stand open
 pub record Lands (b : CodeBlock) (q : Placed) (target : ℕ) : Type 0 where
   pub there : Placed
   pub place : place_at target (places b.code) ≡ Some there
   pub offset : there.at ≡ target
   pub statement : begins there ≡ true
   pub same : bracket_codes q.brackets ≡ bracket_codes there.brackets
+  pub same_zones : length q.zones ≡ length there.zones
 
 -- in a program that verifies each jump has such a target, JL and LOOP too
 abbrev pub JumpsLand : Type 0
 JumpsLand = (p : Program) (b : CodeBlock) (q : Placed) (kind target : ℕ) → IsOp p b q → q.op.operand ≡ operand.Jump kind target → Lands b q target
 
--- between a JL (kind 1) and its target stand at most 255 JU and nothing else
+-- between a JL and its target stand at most 255 JU and nothing else
 abbrev pub ListsLead : Type 0
-ListsLead = (p : Program) (b : CodeBlock) (q : Placed) (target : ℕ) → IsOp p b q → q.op.operand ≡ operand.Jump 1 target → leads 255 target (q.at + size q.op) q.rest ≡ true
+ListsLead = (p : Program) (b : CodeBlock) (q : Placed) (target : ℕ) → IsOp p b q → q.op.operand ≡ operand.Jump (kind_of jump.Jl) target → leads 255 target (q.at + size q.op) q.rest ≡ true
 
 -- at most seven brackets stand open, one of A( to XN( finds room, `)` finds an open one
 pub record BracketsAreRight (q : Placed) : Type 0 where
-  pub few : length q.brackets ≤ 7
-  pub room : opens q.op.code ≡ true → length q.brackets < 7
-  pub there : q.op.code ≡ 0x1E → 0 < length q.brackets
+  pub few : length q.brackets ≤ most_brackets
+  pub room : opens q.op.code ≡ true → length q.brackets < most_brackets
+  pub there : q.op.code ≡ code_of operation.Unnest → 0 < length q.brackets
 
 -- in a program that verifies no bracket is an eighth open one, and no `)` lacks an open one
 abbrev pub BracketsFit : Type 0
 BracketsFit = (p : Program) (b : CodeBlock) (q : Placed) → IsOp p b q → BracketsAreRight q
+
+-- at most eight zones stand open, `MCR(` finds room, `)MCR` finds an open one
+pub record ZonesAreRight (q : Placed) : Type 0 where
+  pub few : length q.zones ≤ most_zones
+  pub room : q.op.code ≡ code_of (operation.Relay relay.Open) → length q.zones < most_zones
+  pub there : q.op.code ≡ code_of (operation.Relay relay.Close) → 0 < length q.zones
+
+-- in a program that verifies no zone is a ninth open one, and no `)MCR` lacks an open one
+abbrev pub ZonesFit : Type 0
+ZonesFit = (p : Program) (b : CodeBlock) (q : Placed) → IsOp p b q → ZonesAreRight q
 
 -- ---- operands
 
@@ -150,7 +179,7 @@ abbrev pub FitsOperand : CodeBlock → OpData → Operand → Type 0
 FitsOperand b op (operand.Direct a w byte bit) = (has_width (takes_of op.code) w ≡ true) × (is_odd_bit w bit ≡ false) × LiesWithin b a w byte
 FitsOperand b op (operand.ByMemory a w from byte) = has_width (takes_of op.code) w ≡ true
 FitsOperand b op (operand.ByRegister a w register bits) = has_width (takes_of op.code) w ≡ true
-FitsOperand b op (operand.Parameter index w) = (has_width (takes_of op.code) w ≡ true) × (param : Param) × HasParam b index w param × (writes op.code ≡ true → param.section ≡ 1 → ⊥)
+FitsOperand b op (operand.Parameter index w) = (has_width (takes_of op.code) w ≡ true) × (param : Param) × HasParam b index w param × (writes op.code ≡ true → param.section ≡ section_in → ⊥)
 FitsOperand b op _ = Unit {0}
 
 -- in a program that verifies each operand fits its instruction and its block
@@ -170,7 +199,7 @@ FitsPassed b (passed.InBlock number a w byte bit) = (a ≡ area.Db) × (is_odd_b
 -- by CALL, with an index above that of the PASS before it
 abbrev pub FitsPrepared : CodeBlock → Placed → Operand → Type 0
 FitsPrepared b q (operand.UseDb number) = (begins q ≡ true) × (is_in_db (last_op q).operand ≡ true)
-FitsPrepared b q (operand.Pass index actual) = ((last_op q).code ≡ 0x78) × (is_above index (pass_before None q.before) ≡ true) × FitsPassed b actual
+FitsPrepared b q (operand.Pass index actual) = ((last_op q).code ≡ code_of (operation.Call calls.Call)) × (is_above index (pass_before None q.before) ≡ true) × FitsPassed b actual
 FitsPrepared b q _ = Unit {0}
 
 -- in a program that verifies USEDB stands first before a place in DB, and PASS before a CALL
@@ -188,7 +217,7 @@ signatures p = map signature_of (map record_of_block p.code_blocks)
 pub record FitsCall (p : Program) (q : Placed) (kind number instance : ℕ) : Type 0 where
   pub called : Callee
   pub there : callee (signatures p) kind number ≡ Some called
-  pub all : (called.0 ≡ 3 → ⊥) → are_passed 0 called.2 q.before ≡ true
+  pub all : (called.0 ≡ kind_number kinds.Fb → ⊥) → are_passed 0 called.2 q.before ≡ true
   pub instance_fits : is_bad_instance (lens_of p.data_blocks) called instance ≡ false
 
 -- in a program that verifies each CALL, UC and CC has its block, what it passes, and its instance
@@ -205,12 +234,12 @@ pub record FitsParameter (p : Program) (b : CodeBlock) (called : Callee) (index 
 abbrev pub PassedFit : Type 0
 PassedFit = (p : Program) (b : CodeBlock) (q : Placed) (index : ℕ) (actual : Passed) (kind number instance : ℕ) (called : Callee) → IsOp p b q → q.op.operand ≡ operand.Pass index actual → (last_op q).operand ≡ operand.Called kind number instance → callee (signatures p) kind number ≡ Some called → FitsParameter p b called index actual
 
--- a function (2) or function block (3) that is called is a block of the program
+-- a function or function block that is called is a block of the program
 pub record IsCalled (p : Program) (kind number : ℕ) (called : Callee) : Type 0 where
   pub block : CodeBlock
   pub there : block_of (record { kind = kind_of_number kind; number = number }) p.code_blocks ≡ Some block
   pub same : called ≡ (kind, block.instance_len, map record_of_param block.params)
 
--- what a call of kind 2 or 3 finds is such a block, whether the program verifies or not
+-- what a call of a function or function block finds is such a block, whether the program verifies or not
 abbrev pub CalledAreThere : Type 0
-CalledAreThere = (p : Program) (kind number : ℕ) (called : Callee) → (kind ≡ 2) ⊎ (kind ≡ 3) → callee (signatures p) kind number ≡ Some called → IsCalled p kind number called
+CalledAreThere = (p : Program) (kind number : ℕ) (called : Callee) → (kind ≡ kind_number kinds.Fc) ⊎ (kind ≡ kind_number kinds.Fb) → callee (signatures p) kind number ≡ Some called → IsCalled p kind number called

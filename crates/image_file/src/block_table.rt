@@ -1,9 +1,9 @@
 //! The table by which a block is found without a search.
 ghost use Rattle.std.specs.Prelude.{◌≡◌, ◌≤◌, length, slice_index_or, ◌<◌, IfSome, IfOk};
 ghost use Rattle.std.specs.Option.{option_map};
-ghost use Rattle.image_file.specs.Seats.{slot_of, slots, FindsBlocks};
+ghost use Rattle.image_file.specs.Tables.{slot_of, slots, FindsBlocks};
 
-use flat_code::CodeBlock;
+use crate::loaded_blocks::LoadedBlock;
 use plc_base::{BlockId, NoMemory};
 use std::alloc::Global;
 
@@ -25,14 +25,14 @@ pub(crate) fn slot_of(block: BlockId) -> Option<usize>
 }
 
 /// The kind and number of a block.
-pub(crate) fn id_of(block: &CodeBlock) -> BlockId
+pub(crate) fn id_of(block: &LoadedBlock) -> BlockId
     ensures { result ≡ block.now.id }
 {
     block.id
 }
 
 /// By its place in the table, where a block stands in a list.
-pub(crate) fn block_table(alloc: Global, blocks: &[CodeBlock]) -> Result<Vec<u16>, NoMemory>
+pub(crate) fn block_table(alloc: Global, blocks: &[LoadedBlock]) -> Result<Vec<u16>, NoMemory>
     requires { length blocks.now ≤ 0xFFFF }
     ensures { IfOk result (λ v. FindsBlocks blocks.now v.items) }
 {

@@ -43,7 +43,7 @@ fn code_start(at: u32, block: &BlockRead) -> u32
 }
 
 impl Reader<'_> {
-    #[tactic(auto, unfolding(flat_code::specs::Image::head), using(crate::proofs::RunLemmas::run_chain))]
+    #[tactic(auto, unfolding(flat_code::specs::Image::head, flat_code::specs::Image::head_rows), using(crate::proofs::RunLemmas::run_seen, crate::proofs::RunLemmas::run_chain))]
     fn head(&mut self, kind_before: u8, before: u16) -> Result<HeadRead, Ended>
         requires { self.old.at + length self.old.rest.now < 2 ^ 32 }
         ensures read { seen head_values result self.new
@@ -53,26 +53,26 @@ impl Reader<'_> {
         ensures step { OnOk result (self.new.at ≡ self.old.at + 16) }
     {
         let kind = self.kind(kind_before)?;
-        let params = self.parameter_count(kind)?;
+        let parameter_count = self.parameter_count(kind)?;
         let number = self.block_number(kind_before, before, kind)?;
-        let locals = self.local_bytes(kind)?;
-        let instance = self.instance_bytes(kind)?;
-        let statements = self.plain_u16()?;
+        let local_bytes = self.local_bytes(kind)?;
+        let instance_bytes = self.instance_bytes(kind)?;
+        let statement_count = self.plain_u16()?;
         let reserved = self.reserved_u16()?;
-        let size = self.plain_u32()?;
+        let code_length = self.plain_u32()?;
         Ok(HeadRead {
             kind,
-            params,
+            parameter_count,
             number,
-            locals,
-            instance,
-            statements,
+            local_bytes,
+            instance_bytes,
+            statement_count,
             reserved,
-            size,
+            code_length,
         })
     }
 
-    #[tactic(auto, unfolding(flat_code::specs::Image::parameter, flat_code::specs::Image::raw_parameter), using(crate::proofs::RunLemmas::run_seen, crate::proofs::RunLemmas::run_chain))]
+    #[tactic(auto, unfolding(flat_code::specs::Image::parameter, flat_code::specs::Image::parameter_rows), using(crate::proofs::RunLemmas::run_seen, crate::proofs::RunLemmas::run_chain))]
     fn parameter(&mut self, kind: u8, instance: u16) -> Result<ParameterRecord, Ended>
         requires { self.old.at + length self.old.rest.now < 2 ^ 32 }
         ensures read { seen (λ p. p) result self.new
@@ -104,10 +104,10 @@ impl Reader<'_> {
         ensures step { IfOk result (λ v. self.new.at ≡ self.old.at + 6 * vec_len v) }
         ensures count { IfOk result (λ v. vec_len v ≤ 255) }
     {
-        let count = head.params;
+        let count = head.parameter_count;
         let mut params = Vec::new(alloc);
         for _ in 0..count {
-            let param = self.parameter(head.kind, head.instance)?;
+            let param = self.parameter(head.kind, head.instance_bytes)?;
             params.push(param)?;
         }
         Ok(params)
@@ -181,10 +181,10 @@ impl Reader<'_> {
             start + 8,
             Field::StatementCount {
                 end_marks,
-                count: head.statements,
+                count: head.statement_count,
             },
         );
-        let lines = self.lines(alloc, head.statements)?;
+        let lines = self.lines(alloc, head.statement_count)?;
         Ok(lines)
     }
 
@@ -205,13 +205,13 @@ impl Reader<'_> {
         ensures room { IfOk result (λ r. length (code_bytes r.0.items)
             ≤ length self.old.rest.now) }
     {
-        let ops = self.code(alloc, head.size)?;
+        let ops = self.code(alloc, head.code_length)?;
         let lines = self.counted_lines(alloc, start, head, &ops)?;
         Ok((ops, lines))
     }
 
     /// A code block.
-    #[tactic(auto, unfolding(flat_code::specs::Image::plain_block, flat_code::specs::Image::raw_block), using(crate::proofs::RunLemmas::run_seen, crate::proofs::RunLemmas::run_chain))]
+    #[tactic(auto, unfolding(flat_code::specs::Image::plain_block, flat_code::specs::Image::block_rows), using(crate::proofs::RunLemmas::run_seen, crate::proofs::RunLemmas::run_chain))]
     fn plain_block(
         &mut self,
         alloc: Global,
@@ -235,8 +235,8 @@ impl Reader<'_> {
         Ok(BlockRead {
             kind: head.kind,
             number: head.number,
-            local_len: head.locals,
-            instance_len: head.instance,
+            local_len: head.local_bytes,
+            instance_len: head.instance_bytes,
             params,
             code,
             lines,

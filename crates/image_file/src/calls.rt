@@ -4,6 +4,7 @@ ghost use Rattle.flat_code.specs.Placed.{is_empty, Placed, last_op};
 ghost use Rattle.flat_code.specs.Blocks.{Callee, is_short, is_bad_instance, is_bad_call, are_passed, misfits_index, misfits_callee, misfits_call, callee};
 ghost use Rattle.image_file.specs.Judging.{around_of};
 
+use crate::numbers::FUNCTION_BLOCK;
 use crate::operands::{is_passed, misfits_parameter};
 use crate::surroundings::{DataLens, Surroundings, callee};
 use flat_code::{Op, Operand, ParameterRecord, Passed};
@@ -27,7 +28,7 @@ fn is_bad_instance(
 ) -> bool
     ensures { result ≡ is_bad_instance lens.now (kind, instance_len, params.now) instance }
 {
-    if kind == 3 {
+    if kind == FUNCTION_BLOCK {
         if instance == 0 {
             !params.is_empty()
         } else {
@@ -66,7 +67,7 @@ pub(crate) fn is_bad_call(
     match callee(around.blocks, kind, number) {
         None => true,
         Some((kind, instance_len, params)) => {
-            kind != 3 && !are_passed(params, before)
+            kind != FUNCTION_BLOCK && !are_passed(params, before)
                 || is_bad_instance(lens, kind, instance_len, params, instance)
         }
     }

@@ -1,8 +1,11 @@
 //! A program once more.
 ghost use Rattle.std.specs.Prelude.{◌≡◌, IfOk};
+ghost use Rattle.flat_code.specs.Image.{IsProgram};
 
+use crate::loaded_blocks::LoadedBlock;
+use crate::loaded_code::LoadedCode;
 use arrayvec::ArrayVec;
-use flat_code::{CodeBlock, DataBlock, NameEntry, Names, Param, Program};
+use flat_code::{CodeBlock, DataBlock, NameEntry, Names, Op, Param, Program};
 use plc_base::NoMemory;
 use std::alloc::Global;
 
@@ -16,10 +19,23 @@ pub(crate) fn params_again(params: &ArrayVec<Param, 60>) -> ArrayVec<Param, 60>
     again
 }
 
-fn code_block_again(alloc: Global, block: &CodeBlock) -> Result<CodeBlock, NoMemory>
+/// The ops of a block, each decoded once more.
+fn ops_again(alloc: Global, code: &LoadedCode<'_>) -> Result<Vec<Op>, NoMemory>
+    ensures { IfOk result (λ v. v.items ≡ code.now.code) }
+{
+    let mut ops = Vec::new(alloc);
+    let mut at = 0;
+    while let Some(found) = code.op(at) {
+        ops.push(found.0)?;
+        at = found.1;
+    }
+    Ok(ops)
+}
+
+fn code_block_again(alloc: Global, block: &LoadedBlock) -> Result<CodeBlock, NoMemory>
     ensures { IfOk result (λ b. b ≡ block.now) }
 {
-    let code = Vec::from_slice(alloc, block.code.as_slice())?;
+    let code = ops_again(alloc, &LoadedCode::new(block))?;
     let lines = Vec::from_slice(alloc, block.lines.as_slice())?;
     Ok(CodeBlock {
         id: block.id,
@@ -31,7 +47,7 @@ fn code_block_again(alloc: Global, block: &CodeBlock) -> Result<CodeBlock, NoMem
     })
 }
 
-fn code_blocks_again(alloc: Global, blocks: &[CodeBlock]) -> Result<Vec<CodeBlock>, NoMemory>
+fn code_blocks_again(alloc: Global, blocks: &[LoadedBlock]) -> Result<Vec<CodeBlock>, NoMemory>
     ensures { IfOk result (λ v. v.items ≡ blocks.now) }
 {
     let mut again = Vec::new(alloc);
@@ -86,13 +102,27 @@ fn entries_again(alloc: Global, entries: &[NameEntry]) -> Result<Vec<NameEntry>,
     Ok(again)
 }
 
-/// The same program once more.
-pub(crate) fn program_again(alloc: Global, program: &Program) -> Result<Program, NoMemory>
-    ensures { IfOk result (λ p. p ≡ program.now) }
+/// The program of loaded blocks and of names.
+pub(crate) fn program_again(
+    alloc: Global,
+    code_blocks: &[LoadedBlock],
+    data_blocks: &[DataBlock],
+    names: &Names,
+) -> Result<Program, NoMemory>
+    requires { IsProgram (record {
+      code_blocks = code_blocks.now;
+      data_blocks = data_blocks.now;
+      names = names.now;
+    }) }
+    ensures { IfOk result (λ p. p ≡ record {
+      code_blocks = code_blocks.now;
+      data_blocks = data_blocks.now;
+      names = names.now;
+    }) }
 {
-    let code_blocks = code_blocks_again(alloc, program.code_blocks.as_slice())?;
-    let data_blocks = data_blocks_again(alloc, program.data_blocks.as_slice())?;
-    let entries = entries_again(alloc, program.names.as_slice())?;
+    let code_blocks = code_blocks_again(alloc, code_blocks)?;
+    let data_blocks = data_blocks_again(alloc, data_blocks)?;
+    let entries = entries_again(alloc, names.as_slice())?;
     Ok(Program {
         code_blocks,
         data_blocks,

@@ -58,7 +58,7 @@ impl<'a> Reader<'a> {
     }
 
     /// A data block behind another one and so many bytes of data blocks together.
-    #[tactic(auto, unfolding(flat_code::specs::Image::data_block, flat_code::specs::Image::raw_data), using(crate::proofs::RunLemmas::run_seen, crate::proofs::RunLemmas::run_chain))]
+    #[tactic(auto, unfolding(flat_code::specs::Image::data_block, flat_code::specs::Image::data_rows), using(crate::proofs::RunLemmas::run_seen, crate::proofs::RunLemmas::run_chain))]
     fn data_block(&mut self, alloc: Global, before: u16, sum: u32) -> Result<DataBlock, Stop>
         requires { self.old.at + length self.old.rest.now < 2 ^ 32 }
         ensures read { Sees (λ d. d) result self.new (run (data_block (before, sum))
@@ -121,7 +121,7 @@ impl<'a> Reader<'a> {
     }
 
     /// A name behind another: its bytes, area, width, byte and bit.
-    #[tactic(auto, unfolding(flat_code::specs::Image::name_record, flat_code::specs::Image::raw_name), using(crate::proofs::RunLemmas::run_seen, crate::proofs::RunLemmas::run_chain))]
+    #[tactic(auto, unfolding(flat_code::specs::Image::name_record, flat_code::specs::Image::name_rows), using(crate::proofs::RunLemmas::run_seen, crate::proofs::RunLemmas::run_chain))]
     fn name(&mut self, before: &[u8]) -> Result<(&'a [u8], u8, u8, u16, u8), Ended>
         requires { self.old.at + length self.old.rest.now < 2 ^ 32 }
         ensures read { seen name_values result self.new

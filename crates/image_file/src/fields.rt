@@ -1,6 +1,6 @@
 //! The fields of an image, each read and checked.
 ghost use Rattle.std.specs.Prelude.{true, ◌≡◌, ◌+◌, ◌<◌, ◌^◌, length, min, OnOk};
-ghost use Rattle.flat_code.specs.Image.{plain_u16, plain_u32, zero_u8, zero_u16, width_field, section_field, parameter_byte, parameter_bit, kind_field, parameter_count, block_number, local_bytes, instance_bytes, line_field, data_number, instance_field, data_len, name_len, name_area, name_bit, data_count, magic_field, version_field};
+ghost use Rattle.flat_code.specs.Image.{plain_u16, plain_u32, zero_u8, zero_u16, width_field, section_field, parameter_byte, parameter_bit, kind_field, parameter_count, block_number, local_bytes, instance_bytes, line_field, data_number, instance_field, data_len, name_len, name_area, name_bit, data_count, magic_field, version_field, profile_field};
 ghost use Rattle.image_file.specs.Running.{seen, run, place_of, log_of};
 
 use crate::reader::Reader;
@@ -405,6 +405,21 @@ impl Reader<'_> {
         let at = self.at;
         let number = self.u16()?;
         self.judge(at, Field::Version { number });
+        Ok(number)
+    }
+
+    #[tactic(auto, unfolding(crate::specs::Running::run, crate::specs::Running::logged, crate::specs::Least::with_faults, flat_code::specs::Image::profile_field))]
+    pub(crate) fn profile(&mut self, version: u16) -> Result<u16, Ended>
+        requires { self.old.at + min 4 (length self.old.rest.now) < 2 ^ 32 }
+        ensures read { seen (λ n. n) result self.new
+            ≡ run (profile_field version) (place_of self.old) (log_of self.old) }
+        ensures all { self.new.at + length self.new.rest.now
+            ≡ self.old.at + length self.old.rest.now }
+        ensures step { OnOk result (self.new.at ≡ self.old.at + 2) }
+    {
+        let at = self.at;
+        let number = self.u16()?;
+        self.judge(at, Field::Profile { version, number });
         Ok(number)
     }
 }

@@ -1,8 +1,9 @@
 //! Laws of images: each function does nothing, and its contract is the law.
-ghost use Rattle.image_file.specs.Laws.{ImagesAreOfOne, ImagesAreRead, ReadingsAreImages, GivesExactlyImages, KeptIsLeast, WrittenIsLoaded, VerifiesOrHasFault, FaultsAreOne};
-ghost use Rattle.image_file.specs.Verified.{OpsAreOfTable, BlocksAreRight, OpsArePlaced, CodeGoesOn, StatementsAreRight, StatementsHaveLines, JumpsLand, ListsLead, BracketsFit, OperandsFit, PreparedFit, CallsFit, PassedFit, CalledAreThere};
+ghost use Rattle.image_file.specs.Laws.{ImagesAreOfOne, ImagesAreRead, ReadingsAreImages, GivesExactlyImages, KeptIsLeast, VerifiesOrHasFault, FaultsAreOne};
+ghost use Rattle.image_file.specs.Verified.{OpsAreOfTable, BlocksAreRight, OpsArePlaced, CodeGoesOn, StatementsAreRight, StatementsHaveLines, JumpsLand, ListsLead, BracketsFit, ZonesFit, OperandsFit, PreparedFit, CallsFit, PassedFit, CalledAreThere};
 
-/// Every program has one image, and every byte string is the image of at most one program.
+/// Every program has one image of each version and profile, and every byte string is the image of at
+/// most one program, version and profile.
 pub fn one_program()
     ensures one { ImagesAreOfOne }
     ensures read { ImagesAreRead }
@@ -17,11 +18,6 @@ pub fn gives_exactly_images()
 /// The fault that one pass keeps is the least of all.
 pub fn kept_is_least()
     ensures { KeptIsLeast }
-{}
-
-/// The image of a program that verifies is loaded as this program, where memory is found.
-pub fn written_is_loaded()
-    ensures { WrittenIsLoaded }
 {}
 
 /// A program verifies or has a fault that `verify` tells, and not both; it has one at most.
@@ -40,7 +36,7 @@ pub fn ops_are_of_the_table()
     ensures { OpsAreOfTable }
 {}
 
-/// Of a program that verifies each block begins with a statement and no open bracket, and has at
+/// Of a program that verifies each block begins with a statement and no open bracket or zone, and has at
 /// most 1,024 local bytes; an organization block has no parameters, and at least 20.
 pub fn blocks_are_right()
     ensures { BlocksAreRight }
@@ -67,8 +63,14 @@ pub fn brackets_fit()
     ensures { BracketsFit }
 {}
 
-/// Of a program that verifies a jump leads to a statement of its block, where the same brackets stand
-/// open; behind a JL stand at most 255 JU up to its target.
+/// Of a program that verifies at most eight zones stand open, `MCR(` finds room, and `)MCR` finds an
+/// open one.
+pub fn zones_fit()
+    ensures { ZonesFit }
+{}
+
+/// Of a program that verifies a jump leads to a statement of its block, where the same brackets and as
+/// many zones stand open; behind a JL stand at most 255 JU up to its target.
 pub fn jumps_land()
     ensures targets { JumpsLand }
     ensures lists { ListsLead }

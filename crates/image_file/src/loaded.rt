@@ -1,26 +1,29 @@
 ghost use Rattle.std.specs.Prelude.{◌≡◌, ◌++◌, map, slice_get, IfOk};
 ghost use Rattle.std.specs.Option.{option_map};
-ghost use Rattle.image_file.specs.Readers.{data_id, bytes_of};
-ghost use Rattle.image_file.specs.Seats.{AreSeated, AreSmall};
+ghost use Rattle.image_file.specs.Readers.{block_of, data_id, bytes_of};
+ghost use Rattle.image_file.specs.Tables.{AreSmall, FindsBlocks, HaveSlots};
 
 use crate::block_table::{block_table, id_of, place_in};
 use crate::copies::program_again;
 use crate::heads::Head;
+use crate::loaded_blocks::LoadedBlock;
 use crate::loaded_code::LoadedCode;
-use crate::seats::{Seating, seating_of};
 use flat_code::{CodeBlock, DataBlock, Names, Op, Program};
-use plc_base::{BlockId, BlockKind, NoMemory};
+use plc_base::{BlockId, BlockKind, NoMemory, Profile};
 use std::alloc::Global;
 use std::marker::Model;
 
-/// A program that verifies: no field and no op of it has a fault, so no jump leaves the code, and no
-/// operand, bracket, parameter or called block is missing. Blocks and ops are read without a search.
+/// A program that verifies, and the sizes of the controller that runs it: no field and no op of the
+/// program has a fault, so no jump leaves the code, and no operand, bracket, zone, parameter or called
+/// block is missing. The code of its blocks is kept as bytes. Blocks and ops are read without a search.
 #[derive(Drop)]
 pub struct Loaded {
-    program: Program,
+    blocks: Vec<LoadedBlock>,
+    data_blocks: Vec<DataBlock>,
+    names: Names,
     ids: Vec<BlockId>,
     table: Vec<u16>,
-    seatings: Vec<Seating>,
+    profile: Profile,
 }
 
 impl Model for Loaded {
@@ -28,27 +31,38 @@ impl Model for Loaded {
 
     ghost Value = { LoadedProgram };
 
-    ghost view = { λ l. record { program = l.program } };
+    ghost view = { λ l. record {
+      program = record {
+        code_blocks = l.blocks.items;
+        data_blocks = l.data_blocks.items;
+        names = l.names;
+      };
+      profile = l.profile;
+    } };
 
-    ghost invariant = { λ l. IsLoaded l.program l.ids.items l.table.items l.seatings.items };
+    ghost invariant = { λ l. IsLoaded (record {
+      code_blocks = l.blocks.items;
+      data_blocks = l.data_blocks.items;
+      names = l.names;
+    }) l.ids.items l.table.items };
 }
 
-fn seatings_of(alloc: Global, blocks: &[CodeBlock]) -> Result<Vec<Seating>, NoMemory>
-    requires { AreSmall blocks.now }
-    ensures { IfOk result (λ v. AreSeated blocks.now v.items) }
+/// Puts the code of blocks in place.
+fn loaded_blocks(alloc: Global, blocks: Vec<CodeBlock>) -> Result<Vec<LoadedBlock>, NoMemory>
+    requires { AreSmall blocks.items }
+    ensures { IfOk result (λ v. v.items ≡ blocks.items) }
 {
-    let mut seatings = Vec::new(alloc);
+    let mut loaded = Vec::with_capacity(alloc, blocks.len())?;
     for block in blocks {
-        let seating = seating_of(alloc, block)?;
-        seatings.push(seating)?;
+        loaded.push(LoadedBlock::new(alloc, block)?)?;
     }
-    Ok(seatings)
+    Ok(loaded)
 }
 
 /// The blocks of a program: code blocks, then data blocks.
 fn ids_of(
     alloc: Global,
-    code_blocks: &[CodeBlock],
+    code_blocks: &[LoadedBlock],
     data_blocks: &[DataBlock],
 ) -> Result<Vec<BlockId>, NoMemory>
     ensures { IfOk result (λ v. v.items
@@ -73,24 +87,21 @@ fn data_id(block: &DataBlock) -> BlockId
     }
 }
 
-fn code_blocks(program: &Program) -> &[CodeBlock]
-    ensures { result.now ≡ program.now.code_blocks }
+/// The block at a place of a list.
+fn block_at(blocks: &[LoadedBlock], place: usize) -> Option<&LoadedBlock>
+    ensures { option_map (λ b. b.now) result ≡ slice_get blocks.now place }
 {
-    program.code_blocks.as_slice()
+    blocks.get(place)
 }
 
-/// The block at a place of a list, with its seating.
-fn code_at<'a>(
-    blocks: &'a [CodeBlock],
-    seatings: &'a [Seating],
-    place: usize,
-) -> Option<LoadedCode<'a>>
-    requires { AreSeated blocks.now seatings.now }
-    ensures { result ≡ slice_get blocks.now place }
+/// The block of a list that its table finds.
+fn block_of<'a>(blocks: &'a [LoadedBlock], table: &[u16], block: BlockId) -> Option<&'a LoadedBlock>
+    requires finds { FindsBlocks blocks.now table.now }
+    requires slots { HaveSlots blocks.now }
+    ensures { option_map (λ b. b.now) result ≡ block_of block blocks.now }
 {
-    let block = blocks.get(place)?;
-    let seating = seatings.get(place)?;
-    Some(LoadedCode::new(block, seating))
+    let place = place_in(table, block)?;
+    block_at(blocks, place)
 }
 
 /// The bytes of the data block of a number.
@@ -108,26 +119,30 @@ fn bytes_of(number: u16, blocks: &[DataBlock]) -> Option<&[u8]>
 impl Loaded {
     ghost use Rattle.std.specs.Prelude.{◌≡◌, IfOk};
     ghost use Rattle.std.specs.Option.{option_map};
+    ghost use Rattle.flat_code.specs.Codes.{code_bytes};
     ghost use Rattle.flat_code.specs.Loading.{Verifies};
     ghost use Rattle.image_file.specs.Readers.{block_of, op_of, line_of, bytes_of, ids_of, head_of};
 
     /// Takes a program over that verifies.
-    pub(crate) fn new(alloc: Global, program: Program) -> Result<Self, NoMemory>
+    pub(crate) fn new(alloc: Global, program: Program, profile: Profile) -> Result<Self, NoMemory>
         requires { Verifies program }
-        ensures { IfOk result (λ l. l.program ≡ program) }
+        ensures { IfOk result (λ l. (l.program ≡ program) × (l.profile ≡ profile)) }
     {
-        let ids = ids_of(
-            alloc,
-            program.code_blocks.as_slice(),
-            program.data_blocks.as_slice(),
-        )?;
-        let table = block_table(alloc, program.code_blocks.as_slice())?;
-        let seatings = seatings_of(alloc, program.code_blocks.as_slice())?;
+        let Program {
+            code_blocks,
+            data_blocks,
+            names,
+        } = program;
+        let blocks = loaded_blocks(alloc, code_blocks)?;
+        let ids = ids_of(alloc, blocks.as_slice(), data_blocks.as_slice())?;
+        let table = block_table(alloc, blocks.as_slice())?;
         Ok(Loaded {
-            program,
+            blocks,
+            data_blocks,
+            names,
             ids,
             table,
-            seatings,
+            profile,
         })
     }
 
@@ -135,14 +150,30 @@ impl Loaded {
     pub fn law_of_verifying(&self)
         ensures { Verifies self.now.program }
     {
-        let _ = &self.program;
+        let _ = &self.blocks;
+    }
+
+    /// The sizes of the controller that runs the program.
+    pub fn profile(&self) -> Profile
+        ensures { result ≡ self.now.profile }
+    {
+        self.profile
+    }
+
+    /// The same program with other sizes of the controller.
+    pub fn with_profile(self, profile: Profile) -> Loaded
+        ensures { result ≡ record self { profile = profile } }
+    {
+        let mut loaded = self;
+        loaded.profile = profile;
+        loaded
     }
 
     /// The names of the program's variables.
     pub fn names(&self) -> &Names
         ensures { result.now ≡ self.now.program.names }
     {
-        &self.program.names
+        &self.names
     }
 
     /// The blocks: code blocks, then data blocks, in the image's order.
@@ -152,19 +183,29 @@ impl Loaded {
         self.ids.as_slice()
     }
 
-    /// The code of a block. `None` exactly where it isn't a loaded code block.
-    pub fn code(&self, block: BlockId) -> Option<LoadedCode<'_>>
+    /// A code block. `None` exactly where it isn't a loaded code block.
+    pub fn block(&self, block: BlockId) -> Option<LoadedCode<'_>>
         ensures { result ≡ block_of block self.now.program.code_blocks }
     {
-        let place = place_in(self.table.as_slice(), block)?;
-        code_at(code_blocks(&self.program), self.seatings.as_slice(), place)
+        let block = block_of(self.blocks.as_slice(), self.table.as_slice(), block)?;
+        Some(LoadedCode::new(block))
+    }
+
+    /// The bytes of a block's code, as an image has them. `None` exactly where it isn't a loaded code
+    /// block.
+    pub fn code(&self, block: BlockId) -> Option<&[u8]>
+        ensures { option_map (λ s. s.now) result
+            ≡ option_map (λ b. code_bytes b.code) (block_of block self.now.program.code_blocks) }
+    {
+        let block = block_of(self.blocks.as_slice(), self.table.as_slice(), block)?;
+        Some(block.code())
     }
 
     /// The head of a block. `None` exactly where it isn't a loaded code block.
     pub fn head(&self, block: BlockId) -> Option<Head>
         ensures { result ≡ option_map head_of (block_of block self.now.program.code_blocks) }
     {
-        Some(self.code(block)?.head())
+        Some(self.block(block)?.head())
     }
 
     /// The op of a block that begins at an offset in bytes, and the offset after it. `None` exactly
@@ -172,9 +213,7 @@ impl Loaded {
     pub fn op(&self, block: BlockId, at: u32) -> Option<(Op, u32)>
         ensures { result ≡ op_of block at self.now.program.code_blocks }
     {
-        let code = self.code(block)?;
-        let (op, next) = code.op(at)?;
-        Some((*op, next))
+        self.block(block)?.op(at)
     }
 
     /// The source line of the statement of a block that begins at an offset in bytes. `None` exactly
@@ -182,21 +221,25 @@ impl Loaded {
     pub fn line(&self, block: BlockId, at: u32) -> Option<u32>
         ensures { result ≡ line_of block at self.now.program.code_blocks }
     {
-        let code = self.code(block)?;
-        code.line(at)
+        self.block(block)?.line(at)
     }
 
     /// The bytes with which a data block begins. `None` exactly where there is none of the number.
     pub fn data_block(&self, number: u16) -> Option<&[u8]>
         ensures { option_map (λ d. d.now) result ≡ bytes_of number self.now.program.data_blocks }
     {
-        bytes_of(number, self.program.data_blocks.as_slice())
+        bytes_of(number, self.data_blocks.as_slice())
     }
 
     /// The whole program, once more.
     pub fn program(&self, alloc: Global) -> Result<Program, NoMemory>
         ensures { IfOk result (λ p. p ≡ self.now.program) }
     {
-        program_again(alloc, &self.program)
+        program_again(
+            alloc,
+            self.blocks.as_slice(),
+            self.data_blocks.as_slice(),
+            &self.names,
+        )
     }
 }

@@ -1,48 +1,62 @@
-ghost use Rattle.std.specs.Prelude.{◌≡◌};
+ghost use Rattle.std.specs.Prelude.{◌≡◌, slice_get};
 
 use crate::copies::params_again;
 use crate::heads::Head;
-use crate::seats::{Seating, line_at, op_at, place_at};
-use flat_code::{CodeBlock, Op, Param};
+use crate::loaded_blocks::LoadedBlock;
+use crate::tables::NOWHERE;
+use flat_code::{Op, Param, decode_op_unchecked};
 use std::marker::Model;
 
-/// The code of a loaded block, from which ops are read without a search. It takes no memory.
+/// The code of a loaded block, from whose bytes each op is decoded in place. It takes no memory.
 #[derive(Drop)]
 pub struct LoadedCode<'a> {
-    block: &'a CodeBlock,
-    seating: &'a Seating,
+    bytes: &'a [u8],
+    marks: &'a [u32],
+    lines: &'a [u32],
+    block: &'a LoadedBlock,
 }
 
 impl<'a> Model for LoadedCode<'a> {
     ghost use Rattle.flat_code.specs.Programs.{CodeBlock as CodeBlockData};
-    ghost use Rattle.image_file.specs.Seats.{IsSeated};
+    ghost use Rattle.image_file.specs.Marks.{IsInPlace};
 
     ghost Value = { CodeBlockData };
 
     ghost view = { λ c. c.block.now };
 
-    ghost invariant = { λ c. IsSeated c.block.now c.seating.now };
+    ghost invariant = { λ c. IsInPlace c.block.now c.bytes.now c.marks.now c.lines.now };
 }
 
-fn ops_of(block: &CodeBlock) -> &[Op]
-    ensures { result.now ≡ block.now.code }
+/// The mark of an offset.
+#[inline(always)]
+fn mark_at(marks: &[u32], at: u32) -> Option<u32>
+    ensures { result ≡ slice_get marks.now at }
 {
-    block.code.as_slice()
+    marks.get(at as usize).copied()
+}
+
+/// The line of the statement that a mark numbers. Other marks are past the end of the lines.
+fn line_of(lines: &[u32], mark: u32) -> Option<u32>
+    ensures { result ≡ slice_get lines.now mark }
+{
+    lines.get(mark as usize).copied()
 }
 
 impl<'a> LoadedCode<'a> {
     ghost use Rattle.std.specs.Prelude.{◌≡◌, ◌≤◌, length, true};
-    ghost use Rattle.std.specs.Option.{option_map};
     ghost use Rattle.flat_code.specs.Placed.{op_placed, line_placed};
     ghost use Rattle.image_file.specs.Readers.{head_of};
-    ghost use Rattle.image_file.specs.Seats.{IsSeated};
 
-    /// A block whose ops are found by a seating.
-    pub(crate) fn new(block: &'a CodeBlock, seating: &'a Seating) -> Self
-        requires { IsSeated block.now seating.now }
+    /// The code of a block.
+    pub(crate) fn new(block: &'a LoadedBlock) -> Self
         ensures { result ≡ block.now }
     {
-        LoadedCode { block, seating }
+        LoadedCode {
+            bytes: block.bytes.as_slice(),
+            marks: block.marks.as_slice(),
+            lines: block.lines.as_slice(),
+            block,
+        }
     }
 
     /// What the block's head says.
@@ -53,19 +67,23 @@ impl<'a> LoadedCode<'a> {
         Head {
             local_len: block.local_len,
             instance_len: block.instance_len,
-            statements: block.lines.len() as u16,
-            code_len: self.seating.table.len() as u32,
+            statements: self.lines.len() as u16,
+            code_len: self.bytes.len() as u32,
             params: params_again(&block.params),
         }
     }
 
     /// The op that begins at an offset in bytes, and the offset after it. `None` exactly where no op
     /// begins there.
-    pub fn op(&self, at: u32) -> Option<(&'a Op, u32)>
-        ensures { option_map (λ r. (r.0.now, r.1)) result ≡ op_placed 0 self.now.code at }
+    #[inline(always)]
+    pub fn op(&self, at: u32) -> Option<(Op, u32)>
+        ensures { result ≡ op_placed 0 self.now.code at }
     {
-        let place = place_at(self.seating.table.as_slice(), at)?;
-        op_at(ops_of(self.block), self.seating.seats.as_slice(), place)
+        let mark = mark_at(self.marks, at)?;
+        if mark == NOWHERE {
+            return None;
+        }
+        Some(decode_op_unchecked(self.bytes, at))
     }
 
     /// The source line of the statement that begins at an offset in bytes. `None` exactly where no
@@ -73,8 +91,8 @@ impl<'a> LoadedCode<'a> {
     pub fn line(&self, at: u32) -> Option<u32>
         ensures { result ≡ line_placed 0 true self.now.code self.now.lines at }
     {
-        let place = place_at(self.seating.table.as_slice(), at)?;
-        line_at(self.seating.seats.as_slice(), place)
+        let mark = mark_at(self.marks, at)?;
+        line_of(self.lines, mark)
     }
 
     /// How many bytes the block's local data has.

@@ -1,25 +1,30 @@
 //! Bytes checked as an image: read in one pass, and then the ops of each block.
-ghost use Rattle.std.specs.Prelude.{◌≡◌, ◌++◌, ◌∷◌, [], ◌+◌, ◌<◌, ◌^◌, length, map, IfOk, IfErr, None};
+ghost use Rattle.std.specs.Prelude.{ℕ, ◌≡◌, ◌++◌, ◌∷◌, [], ◌+◌, ◌<◌, ◌^◌, length, map, get_or, IfOk, IfErr, IsSome, None};
 ghost use Rattle.std.specs.Option.{option_map};
+ghost use Rattle.plc_base.specs.declared.profiles.Profile.TheVariants as profiles;
 ghost use Rattle.flat_code.specs.Blocks.{signature_of, block_faults};
-ghost use Rattle.flat_code.specs.Loading.{lens_of, blocks_of, judged_blocks, faults_of, Gives};
+ghost use Rattle.flat_code.specs.Image.{IsProgram, read_image};
+ghost use Rattle.flat_code.specs.Loading.{lens_of, blocks_of, judged_blocks, faults_of, Verifies};
+ghost use Rattle.flat_code.specs.Stamps.{profile_of};
+ghost use Rattle.image_file.specs.Images.{GivesBack, IsImageOf};
 ghost use Rattle.image_file.specs.Judging.{around_of};
 ghost use Rattle.image_file.specs.Least.{with_faults};
 ghost use Rattle.image_file.specs.Refusing.{IsRefusedBy};
-ghost use Rattle.flat_code.specs.Image.{read_image};
-ghost use Rattle.image_file.specs.Running.{started, ran_read, log_of, SeesNames, HasFound};
+ghost use Rattle.image_file.specs.Running.{started, found_values, judged_read, ran_read, log_of, program_read, HoldsAll, IsJudged, SeesFound};
+ghost use Rattle.image_file.specs.Typing.{AreFew};
 
 use crate::faults::LoadFault;
 use crate::loaded::Loaded;
 use crate::reader::Reader;
-use crate::records::{BlockRead, NameRead, Started};
+use crate::records::{BlockRead, FoundRead, NameRead, Started};
 use crate::refusing::LoadError;
 use crate::stops::Stop;
 use crate::surroundings::{DataLens, SignatureRead, Signatures, Surroundings};
 use crate::typing::program;
 use crate::verifying::judge_block;
-use flat_code::DataBlock;
-use plc_base::NoMemory;
+use crate::writing::write_stamped;
+use flat_code::{DataBlock, Program, Stamp};
+use plc_base::{NoMemory, Profile};
 use std::alloc::{AllocError, Global};
 
 /// What a CALL sees of a block.
@@ -135,21 +140,78 @@ fn judge_started(
     judge_block(alloc, &around, started.start, block.code.as_slice(), least)
 }
 
-/// What was read of bytes, and the least of their faults. Where they have none, all was read.
+/// The records of an image that was read whole, with its version and profile.
 #[derive(Drop)]
-pub(crate) struct Judged {
-    pub least: Option<LoadFault>,
+pub(crate) struct ImageRead {
+    pub stamp: Stamp,
     pub blocks: Vec<Started>,
-    pub datas: Option<Vec<DataBlock>>,
-    pub names: Option<Vec<NameRead>>,
+    pub data_blocks: Vec<DataBlock>,
+    pub names: Vec<NameRead>,
+}
+
+/// Bytes that were read and checked: the least of their faults, or all that they hold.
+#[derive(Drop)]
+pub(crate) enum Judged {
+    Faulty { fault: LoadFault },
+    Clean { image: ImageRead },
+}
+
+/// The version and profile and the names, or none where reading ended at a fault.
+fn found_by(alloc: Global, reader: &mut Reader) -> Result<Option<FoundRead>, NoMemory>
+    requires { reader.old.at ≡ 0 }
+    ensures { IfOk result (λ f. SeesFound (option_map found_values f) reader.new (ran_read
+        (read_image reader.old.rest.now) (log_of reader.old))) }
+{
+    match reader.image(alloc) {
+        Ok(found) => Ok(Some(found)),
+        Err(Stop::AtFault) => Ok(None),
+        Err(Stop::NoMemory) => Err(AllocError),
+    }
+}
+
+/// The least of the faults so far and those of the ops of the blocks that were read.
+fn least_fault(alloc: Global, reader: &Reader) -> Result<Option<LoadFault>, NoMemory>
+    ensures { IfOk result (λ l. l ≡ with_faults reader.now.least (judged_read (log_of reader.now))) }
+{
+    let blocks = reader.blocks.as_slice();
+    let signatures = signatures(alloc, blocks)?;
+    let lens = data_lens(alloc, &reader.datas)?;
+    judge_blocks(alloc, &signatures, &lens, blocks, reader.least)
+}
+
+/// What was read, whose least fault is known. Where there is none, all was read.
+fn outcome_of(
+    least: Option<LoadFault>,
+    blocks: Vec<Started>,
+    datas: Option<Vec<DataBlock>>,
+    found: Option<FoundRead>,
+) -> Judged
+    requires found { least ≡ None → IsSome found }
+    requires datas { least ≡ None → IsSome datas }
+    ensures { HoldsAll least blocks.items (option_map (λ v. v.items) datas) found result }
+{
+    match least {
+        Some(fault) => Judged::Faulty { fault },
+        None => match found {
+            None => unreachable!(),
+            Some(found) => match datas {
+                None => unreachable!(),
+                Some(data_blocks) => Judged::Clean {
+                    image: ImageRead {
+                        stamp: found.stamp,
+                        blocks,
+                        data_blocks,
+                        names: found.names,
+                    },
+                },
+            },
+        },
+    }
 }
 
 /// Reads bytes as an image and checks them.
-pub(crate) fn judge(alloc: Global, bytes: &[u8]) -> Result<Judged, NoMemory>
-    ensures least { IfOk result (λ j. j.least ≡ with_faults None (faults_of bytes.now)) }
-    ensures found { IfOk result
-        (λ j. HasFound bytes.now (map started j.blocks.items) (option_map
-        (λ v. v.items) j.datas) (option_map (λ v. v.items) j.names)) }
+fn judge(alloc: Global, bytes: &[u8]) -> Result<Judged, NoMemory>
+    ensures { IfOk result (λ j. IsJudged bytes.now j) }
 {
     let mut reader = Reader {
         rest: bytes,
@@ -158,66 +220,89 @@ pub(crate) fn judge(alloc: Global, bytes: &[u8]) -> Result<Judged, NoMemory>
         blocks: Vec::new(alloc),
         datas: None,
     };
-    let names = read_names(alloc, &mut reader)?;
-    let signatures = signatures(alloc, reader.blocks.as_slice())?;
-    let lens = data_lens(alloc, &reader.datas)?;
-    let least = judge_blocks(
-        alloc,
-        &signatures,
-        &lens,
-        reader.blocks.as_slice(),
-        reader.least,
-    )?;
-    Ok(Judged {
-        least,
-        blocks: reader.blocks,
-        datas: reader.datas,
-        names,
-    })
+    let found = found_by(alloc, &mut reader)?;
+    let least = least_fault(alloc, &reader)?;
+    Ok(outcome_of(least, reader.blocks, reader.datas, found))
 }
 
-/// The names, or none where reading ended at a fault.
-fn read_names(alloc: Global, reader: &mut Reader) -> Result<Option<Vec<NameRead>>, NoMemory>
-    requires { reader.old.at ≡ 0 }
-    ensures { IfOk result (λ n. SeesNames (option_map
-        (λ v. v.items) n) reader.new (ran_read (read_image reader.old.rest.now)
-        (log_of reader.old))) }
+/// The program of an image without fault.
+fn loaded(alloc: Global, image: ImageRead) -> Result<Loaded, NoMemory>
+    requires program { IsProgram (program_read image) }
+    requires few { AreFew (blocks_of (map started image.blocks.items)) }
+    requires verifies { Verifies (program_read image) }
+    ensures program { IfOk result (λ l. l.program ≡ program_read image) }
+    ensures profile { IfOk result (λ l. l.profile ≡ profile_of image.stamp) }
 {
-    match reader.image(alloc) {
-        Ok(names) => Ok(Some(names)),
-        Err(Stop::AtFault) => Ok(None),
-        Err(Stop::NoMemory) => Err(AllocError),
-    }
+    let profile = image.stamp.profile();
+    let program = program(alloc, image.blocks, image.data_blocks, image.names)?;
+    Loaded::new(alloc, program, profile)
 }
 
-/// Reads bytes as the image of a program that verifies.
+/// Reads bytes as the image of a program that verifies, of version 1 or 2. An image of version 1 has
+/// the profile Small.
 ///
 /// # Errors
 ///
 /// `Fault` exactly where they aren't such an image, with the least of their faults by offset, then
 /// code; `NoMemory`.
 pub fn load(alloc: Global, bytes: &[u8]) -> Result<Loaded, LoadError>
-    ensures gives { IfOk result (λ l. Gives bytes.now l.program) }
+    ensures gives { IfOk result (λ l. IsImageOf bytes.now l) }
     ensures refused { IfErr result (λ e. IsRefusedBy e (faults_of bytes.now)) }
 {
-    let Judged {
-        least,
-        blocks,
-        datas,
-        names,
-    } = judge(alloc, bytes)?;
-    if let Some(fault) = least {
-        return Err(LoadError::Fault { fault });
+    match judge(alloc, bytes)? {
+        Judged::Faulty { fault } => Err(LoadError::Fault { fault }),
+        Judged::Clean { image } => {
+            let loaded = loaded(alloc, image)?;
+            Ok(loaded)
+        }
     }
-    match names {
-        None => unreachable!(),
-        Some(names) => match datas {
-            None => unreachable!(),
-            Some(datas) => {
-                let program = program(alloc, blocks, datas, names)?;
-                let loaded = Loaded::new(alloc, program)?;
-                Ok(loaded)
-            }
-        },
-    }
+}
+
+/// Nothing is done. The contract says what the type of a program keeps.
+fn law_of_program(program: &Program)
+    ensures { IsProgram program.now }
+{
+    let _ = &program.names;
+}
+
+/// Nothing is done. The contract says what the type of a slice keeps.
+fn law_of_bytes(bytes: &[u8])
+    ensures { (i : ℕ) → get_or bytes.now i 0 < 256 }
+{}
+
+/// A program that is written as its image of a version and profile, and loaded.
+fn load_stamped(alloc: Global, program: &Program, stamp: Stamp) -> Result<Loaded, LoadError>
+    ensures { GivesBack program.now (profile_of stamp) result }
+{
+    law_of_program(program);
+    let image = write_stamped(alloc, program, stamp)?;
+    let bytes = image.as_slice();
+    law_of_bytes(bytes);
+    load(alloc, bytes)
+}
+
+/// The program of its image of version 1, which is written and loaded.
+///
+/// # Errors
+///
+/// `Fault` exactly where it doesn't verify; `NoMemory`.
+pub fn load_written(alloc: Global, program: &Program) -> Result<Loaded, LoadError>
+    ensures { GivesBack program.now profiles.Small result }
+{
+    load_stamped(alloc, program, Stamp::One)
+}
+
+/// The program and the profile of its image of version 2, which is written and loaded.
+///
+/// # Errors
+///
+/// `Fault` exactly where it doesn't verify; `NoMemory`.
+pub fn load_written2(
+    alloc: Global,
+    program: &Program,
+    profile: Profile,
+) -> Result<Loaded, LoadError>
+    ensures { GivesBack program.now profile result }
+{
+    load_stamped(alloc, program, Stamp::Two(profile))
 }

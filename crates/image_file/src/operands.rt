@@ -2,12 +2,16 @@
 ghost use Rattle.std.specs.Prelude.{◌≡◌, ◌+◌, ◌<◌, ◌^◌, ◌||◌, ◌==◌, not, length, None};
 ghost use Rattle.std.specs.Option.{option_map};
 ghost use Rattle.flat_code.specs.Codes.{code_bytes};
+ghost use Rattle.flat_code.specs.OpCodes.{code_of};
+ghost use Rattle.flat_code.specs.declared.operations.CallOperation.TheVariants as calls;
+ghost use Rattle.flat_code.specs.declared.operations.Operation.TheVariants as operation;
 ghost use Rattle.flat_code.specs.Placed.{is_empty, ending};
 ghost use Rattle.flat_code.specs.Blocks.{is_odd_bit, is_past_locals, is_bad_place, lacks_width, writes, own_parameter, lacks_own, is_input, is_in_db, pass_index, pass_before, is_above, is_bad_actual, literal_fits, misfits_parameter, is_index, is_passed, is_ju, leads};
 ghost use Rattle.image_file.specs.Judging.{around_of};
 
+use crate::numbers::{CALL, EDGE_NEGATIVE, FUNCTION, JUMP, TRANSFER};
 use crate::surroundings::Surroundings;
-use flat_code::{Op, Operand, ParameterRecord, Passed, taken_by};
+use flat_code::{Op, Operand, ParameterRecord, Passed, SECTION_IN, taken_by};
 use plc_base::{Area, Width};
 
 /// Whether a bit number stands where no bit is meant.
@@ -54,14 +58,14 @@ pub(crate) fn lacks_width(op: &Op, width: Width) -> bool
 pub(crate) fn writes(code: u8) -> bool
     ensures { result ≡ writes code }
 {
-    0x21 <= code && code <= 0x26
+    TRANSFER <= code && code <= EDGE_NEGATIVE
 }
 
 /// The parameter of the function that runs.
 pub(crate) fn own_parameter(around: &Surroundings, index: u8) -> Option<ParameterRecord>
     ensures { result ≡ own_parameter (around_of around.now) index }
 {
-    if around.kind == 2 {
+    if around.kind == FUNCTION {
         around.params.get(usize::from(index)).copied()
     } else {
         None
@@ -82,7 +86,7 @@ pub(crate) fn is_input(parameter: Option<ParameterRecord>) -> bool
 {
     match parameter {
         None => false,
-        Some(parameter) => parameter.section == 1,
+        Some(parameter) => parameter.section == SECTION_IN,
     }
 }
 
@@ -160,10 +164,10 @@ fn is_above(index: u8, other: Option<u8>) -> bool
 
 /// Whether a PASS has no CALL, or an index that doesn't rise.
 pub(crate) fn is_stray_pass(before: &[Op], last: &Op, index: u8) -> bool
-    ensures { result ≡ (not (last.now.code == 0x78) || not (is_above index
-        (pass_before None before.now))) }
+    ensures { result ≡ (not (last.now.code == code_of (operation.Call calls.Call))
+        || not (is_above index (pass_before None before.now))) }
 {
-    last.code != 0x78 || !is_above(index, pass_before(before))
+    last.code != CALL || !is_above(index, pass_before(before))
 }
 
 pub(crate) fn is_bad_actual(around: &Surroundings, actual: Passed) -> bool
@@ -209,12 +213,12 @@ pub(crate) fn misfits_parameter(
 {
     match actual {
         Passed::Literal { value } => {
-            parameter.section != 1 || !literal_fits(parameter.width, value)
+            parameter.section != SECTION_IN || !literal_fits(parameter.width, value)
         }
         Passed::Direct { width, .. } => parameter.width != width.number(),
         Passed::Parameter { index, width } => {
             parameter.width != width.number()
-                || parameter.section != 1 && is_input(own_parameter(around, index))
+                || parameter.section != SECTION_IN && is_input(own_parameter(around, index))
         }
         Passed::InBlock { width, .. } => parameter.width != width.number(),
     }
@@ -245,7 +249,7 @@ fn is_ju(op: &Op) -> bool
     ensures { result ≡ is_ju op.now.operand }
 {
     match op.operand {
-        Operand::Jump { kind: 0, .. } => true,
+        Operand::Jump { kind, .. } => kind == JUMP,
         _ => false,
     }
 }

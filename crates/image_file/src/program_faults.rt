@@ -1,6 +1,7 @@
 //! A program checked block by block, without its image.
 ghost use Rattle.std.specs.Prelude.{◌≡◌, ◌<◌, length, map, All, IfOk, IfErr, IfSome, IfNone, None, Some, if◌then◌else◌};
 ghost use Rattle.std.specs.Option.{option_map};
+ghost use Rattle.plc_base.specs.declared.profiles.Profile.TheVariants as profiles;
 ghost use Rattle.flat_code.specs.Blocks.{signature_of};
 ghost use Rattle.flat_code.specs.Codes.{code_bytes, code_fault, ends, last_place, overlong};
 ghost use Rattle.flat_code.specs.Image.{record_of_block, record_of_param};
@@ -21,7 +22,7 @@ use crate::surroundings::{DataLens, SignatureRead, Signatures, Surroundings};
 use crate::verifying::judge_block;
 use crate::writing::code_len;
 use flat_code::{CodeBlock, DataBlock, Field, Op, Param, ParameterRecord, Program};
-use plc_base::NoMemory;
+use plc_base::{NoMemory, Profile};
 use std::alloc::Global;
 
 /// The offset of the first op that is the 65th of its statement.
@@ -268,20 +269,21 @@ fn program_fault(alloc: Global, program: &Program) -> Result<Option<VerifyFault>
     }
 }
 
-/// Takes a program for one that verifies.
+/// Takes a program for one that verifies, with the profile Small.
 ///
 /// # Errors
 ///
 /// `Fault` exactly where it doesn't, with the least fault by offset, then code, of its first block
 /// that has one: 5 a statement of more than 64 ops, or code that doesn't end with BE; 6 jump targets,
-/// 7 operands and calls, 8 brackets, 9 statement count and lines. `NoMemory`.
+/// 7 operands and calls, 8 brackets and zones, 9 statement count and lines. `NoMemory`.
 pub fn verify(alloc: Global, program: Program) -> Result<Loaded, VerifyError>
     ensures gives { IfOk result (λ l. l.program ≡ program) }
+    ensures small { IfOk result (λ l. l.profile ≡ profiles.Small) }
     ensures refused { IfErr result (λ e. IsUnverified e program) }
 {
     if let Some(fault) = program_fault(alloc, &program)? {
         return Err(VerifyError::Fault { fault });
     }
-    let loaded = Loaded::new(alloc, program)?;
+    let loaded = Loaded::new(alloc, program, Profile::Small)?;
     Ok(loaded)
 }

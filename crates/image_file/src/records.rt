@@ -2,20 +2,20 @@
 ghost use Rattle.std.specs.Prelude.{◌+◌, ◌<◌, ◌^◌, length};
 ghost use Rattle.flat_code.specs.Codes.{code_bytes};
 
-use flat_code::{Op, ParameterRecord};
+use flat_code::{Op, ParameterRecord, Stamp};
 use std::marker::Model;
 
 /// The head of a code block.
 #[derive(Clone, Copy)]
 pub(crate) struct HeadRead {
     pub kind: u8,
-    pub params: u8,
+    pub parameter_count: u8,
     pub number: u16,
-    pub locals: u16,
-    pub instance: u16,
-    pub statements: u16,
+    pub local_bytes: u16,
+    pub instance_bytes: u16,
+    pub statement_count: u16,
     pub reserved: u16,
-    pub size: u32,
+    pub code_length: u32,
 }
 
 /// The header up to the total length.
@@ -23,15 +23,15 @@ pub(crate) struct HeadRead {
 pub(crate) struct FrontRead {
     pub magic: u32,
     pub version: u16,
-    pub reserved: u16,
-    pub total: u32,
+    pub profile: u16,
+    pub total_length: u32,
 }
 
 /// How many records of each kind there are.
 #[derive(Clone, Copy)]
 pub(crate) struct CountsRead {
-    pub codes: u16,
-    pub datas: u16,
+    pub code_blocks: u16,
+    pub data_blocks: u16,
     pub names: u16,
     pub reserved: u16,
 }
@@ -94,4 +94,11 @@ impl Model for NameRead {
       byte = n.byte;
       bit = n.bit;
     } };
+}
+
+/// The version and profile of an image that was read whole, and its names.
+#[derive(Drop)]
+pub(crate) struct FoundRead {
+    pub stamp: Stamp,
+    pub names: Vec<NameRead>,
 }

@@ -4,9 +4,9 @@ ghost use Rattle.std.specs.Option.{option_map};
 ghost use Rattle.flat_code.specs.Codes.{code_bytes};
 ghost use Rattle.flat_code.specs.Placed.{few, spots, spot_at};
 
-use crate::judging::{Statement, few, is_last, open};
-use crate::seats::{place_at, table_of};
-use flat_code::{Op, OpenBracket};
+use crate::judging::{Nesting, Statement, few, is_last};
+use crate::tables::{place_at, table_of};
+use flat_code::Op;
 use plc_base::NoMemory;
 use std::alloc::Global;
 use std::marker::Model;
@@ -21,7 +21,7 @@ pub(crate) struct Statements {
 impl Model for Statements {
     ghost use Rattle.std.specs.Prelude.{List};
     ghost use Rattle.flat_code.specs.Placed.{Spot};
-    ghost use Rattle.image_file.specs.Seats.{FindsStatements};
+    ghost use Rattle.image_file.specs.Tables.{FindsStatements};
 
     ghost Value = { List Spot };
 
@@ -37,12 +37,12 @@ fn statement_list(alloc: Global, ops: &[Op]) -> Result<(Vec<Statement>, u32), No
     ensures end { IfOk result (λ r. r.1 ≡ length (code_bytes ops.now)) }
 {
     let mut statements = Vec::new(alloc);
-    let mut stack = Vec::new(alloc);
+    let mut nesting = Nesting::new(alloc);
     let mut at = 0;
     let mut begin = true;
     for op in ops {
-        add_statement(&mut statements, begin, at, &stack)?;
-        open(&mut stack, at, op)?;
+        add_statement(&mut statements, begin, at, &nesting)?;
+        nesting.pass(at, op)?;
         at += op.size();
         begin = is_last(op);
     }
@@ -54,17 +54,21 @@ fn add_statement(
     statements: &mut Vec<Statement>,
     begin: bool,
     at: u32,
-    stack: &[OpenBracket],
+    nesting: &Nesting,
 ) -> Result<(), NoMemory>
-    ensures { OnOk result (statements.new.items
-        ≡ (if begin then statements.old.items ++ record { at = at; codes = few stack.now } ∷ []
+    ensures { OnOk result (statements.new.items ≡ (if begin then statements.old.items ++ record {
+      at = at;
+      codes = few nesting.now.brackets.items;
+      zones = length nesting.now.zones.items;
+    } ∷ []
         else statements.old.items)) }
 {
     if !begin {
         return Ok(());
     }
-    let codes = few(stack);
-    statements.push(Statement { at, codes })?;
+    let codes = few(nesting.brackets.as_slice());
+    let zones = nesting.zones.len();
+    statements.push(Statement { at, codes, zones })?;
     Ok(())
 }
 
@@ -105,7 +109,7 @@ impl Statements {
 
     /// The statement that begins at an offset.
     pub(crate) fn at(&self, at: u32) -> Option<&Statement>
-        ensures { option_map (λ s. s.now.codes) result ≡ spot_at self.now at }
+        ensures { option_map (λ s. s.now) result ≡ spot_at self.now at }
     {
         let place = place_at(self.table.as_slice(), at)?;
         statement_at(self.list.as_slice(), place)

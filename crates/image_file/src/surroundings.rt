@@ -1,12 +1,13 @@
 //! What surrounds a block whose ops are judged: its own head, and the blocks that it may call.
 ghost use Rattle.std.specs.Prelude.{◌≡◌, map, slice_get, IfOk};
 ghost use Rattle.std.specs.Option.{option_map};
-ghost use Rattle.flat_code.specs.Blocks.{system_params, block_with, callee};
+ghost use Rattle.flat_code.specs.Blocks.{block_with, callee};
 ghost use Rattle.image_file.specs.Judging.{callee_values};
-ghost use Rattle.image_file.specs.Seats.{call_key, callee_of, found_callee};
+ghost use Rattle.image_file.specs.Tables.{call_key, callee_of, found_callee};
 
-use crate::seats::{place_at, table_of};
-use flat_code::ParameterRecord;
+use crate::numbers::{FUNCTION, FUNCTION_BLOCK, SYSTEM_FUNCTION};
+use crate::tables::{place_at, table_of};
+use flat_code::{ParameterRecord, system_function_records};
 use plc_base::NoMemory;
 use std::alloc::Global;
 use std::marker::Model;
@@ -54,7 +55,7 @@ pub(crate) struct Signatures {
 impl Model for Signatures {
     ghost use Rattle.std.specs.Prelude.{List};
     ghost use Rattle.flat_code.specs.Blocks.{Signature};
-    ghost use Rattle.image_file.specs.Seats.{FindsCallees};
+    ghost use Rattle.image_file.specs.Tables.{FindsCallees};
 
     ghost Value = { List Signature };
 
@@ -72,7 +73,7 @@ pub(crate) struct DataLens {
 
 impl Model for DataLens {
     ghost use Rattle.std.specs.Prelude.{List, ℕ};
-    ghost use Rattle.image_file.specs.Seats.{FindsLens};
+    ghost use Rattle.image_file.specs.Tables.{FindsLens};
 
     ghost Value = { List (ℕ × ℕ) };
 
@@ -90,8 +91,8 @@ fn call_key(block: &SignatureRead) -> u32
 {
     let number = u32::from(block.number);
     match block.kind {
-        2 => 2 * number,
-        3 => 2 * number + 1,
+        FUNCTION => 2 * number,
+        FUNCTION_BLOCK => 2 * number + 1,
         _ => 131_072,
     }
 }
@@ -142,98 +143,6 @@ fn data_numbers(alloc: Global, lens: &[(u16, usize)]) -> Result<Vec<u32>, NoMemo
     Ok(numbers)
 }
 
-static SRT_DINT: [ParameterRecord; 4] = [
-    ParameterRecord {
-        section: 1,
-        width: 3,
-        byte: 0,
-        bit: 0,
-    },
-    ParameterRecord {
-        section: 1,
-        width: 4,
-        byte: 0,
-        bit: 0,
-    },
-    ParameterRecord {
-        section: 1,
-        width: 3,
-        byte: 0,
-        bit: 0,
-    },
-    ParameterRecord {
-        section: 2,
-        width: 3,
-        byte: 0,
-        bit: 0,
-    },
-];
-
-static CAN_DINT: [ParameterRecord; 2] = [
-    ParameterRecord {
-        section: 1,
-        width: 3,
-        byte: 0,
-        bit: 0,
-    },
-    ParameterRecord {
-        section: 2,
-        width: 3,
-        byte: 0,
-        bit: 0,
-    },
-];
-
-static DIS_IRT: [ParameterRecord; 3] = [
-    ParameterRecord {
-        section: 1,
-        width: 2,
-        byte: 0,
-        bit: 0,
-    },
-    ParameterRecord {
-        section: 1,
-        width: 3,
-        byte: 0,
-        bit: 0,
-    },
-    ParameterRecord {
-        section: 2,
-        width: 3,
-        byte: 0,
-        bit: 0,
-    },
-];
-
-static DIS_AIRT: [ParameterRecord; 1] = [ParameterRecord {
-    section: 2,
-    width: 3,
-    byte: 0,
-    bit: 0,
-}];
-
-static TIME_TCK: [ParameterRecord; 1] = [ParameterRecord {
-    section: 2,
-    width: 4,
-    byte: 0,
-    bit: 0,
-}];
-
-/// The parameters of a system function, if there is one of the number.
-fn system_params(number: u16) -> Option<&'static [ParameterRecord]>
-    ensures { option_map (λ p. p.now) result ≡ system_params number }
-{
-    match number {
-        32 => Some(&SRT_DINT),
-        33 => Some(&CAN_DINT),
-        39 | 40 => Some(&DIS_IRT),
-        41 | 42 => Some(&DIS_AIRT),
-        43 | 46 => Some(&[]),
-        64 => Some(&TIME_TCK),
-        _ => None,
-    }
-}
-
 /// The block that is called: its kind, the bytes of an instance, its parameters.
 #[tactic(auto, unfolding(flat_code::specs::Blocks::callee))]
 pub(crate) fn callee(
@@ -243,11 +152,11 @@ pub(crate) fn callee(
 ) -> Option<(u8, u16, &[ParameterRecord])>
     ensures { option_map callee_values result ≡ callee blocks.now kind number }
 {
-    if kind != 5 {
+    if kind != SYSTEM_FUNCTION {
         return blocks.block_with(kind, number);
     }
-    let params = system_params(number)?;
-    Some((5, 0, params))
+    let params = system_function_records(number)?;
+    Some((SYSTEM_FUNCTION, 0, params))
 }
 
 impl Signatures {
@@ -262,8 +171,12 @@ impl Signatures {
     {
         let number_key = 2 * u32::from(number);
         match kind {
-            2 => found_callee(self.list.as_slice(), self.table.as_slice(), number_key),
-            3 => found_callee(self.list.as_slice(), self.table.as_slice(), number_key + 1),
+            FUNCTION => found_callee(self.list.as_slice(), self.table.as_slice(), number_key),
+            FUNCTION_BLOCK => found_callee(
+                self.list.as_slice(),
+                self.table.as_slice(),
+                number_key + 1,
+            ),
             _ => searched(self.list.as_slice(), kind, number),
         }
     }

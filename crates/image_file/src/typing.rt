@@ -14,24 +14,13 @@ use flat_code::{
 use plc_base::{BlockId, NoMemory, Place};
 use std::alloc::Global;
 
-fn param_of(parameter: &ParameterRecord) -> Param
-    ensures { result ≡ param_of parameter.now }
-{
-    Param {
-        section: parameter.section,
-        width: width_of_number(parameter.width),
-        byte: parameter.byte,
-        bit: parameter.bit,
-    }
-}
-
 /// Parameters, if they are at most 60.
 fn params_of(parameters: &[ParameterRecord]) -> ArrayVec<Param, 60>
     ensures { length parameters.now ≤ 60 → result.items ≡ map param_of parameters.now }
 {
     let mut params = ArrayVec::new();
     for parameter in parameters {
-        let _ = params.try_push(param_of(parameter));
+        let _ = params.try_push(parameter.param());
     }
     params
 }

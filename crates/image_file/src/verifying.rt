@@ -3,16 +3,17 @@ ghost use Rattle.std.specs.Prelude.{◌≡◌, ◌+◌, ◌<◌, ◌≤◌, ◌^
 ghost use Rattle.std.specs.Option.{option_map};
 ghost use Rattle.flat_code.specs.Codes.{size, code_bytes};
 ghost use Rattle.flat_code.specs.Placed.{few, spots, spot_at};
-ghost use Rattle.flat_code.specs.Blocks.{call_fault_among, differing, target_fault, jump_fault, operand_fault, call_fault, op_faults, open_faults, block_faults};
-ghost use Rattle.image_file.specs.Judging.{AllUpTo, around_of, placed_of};
+ghost use Rattle.flat_code.specs.Blocks.{are_other, call_fault_among, differing, target_fault, jump_fault, operand_fault, call_fault, op_faults, open_faults, open_zone_faults, block_faults};
+ghost use Rattle.image_file.specs.Judging.{AllUpTo, ZonesUpTo, around_of, placed_of};
 ghost use Rattle.image_file.specs.Least.{with_faults};
 
 use crate::calls::{is_bad_call, misfits_call};
 use crate::faults::LoadFault;
 use crate::judging::{
-    Statement, bracket_fault, few, is_last, lesser_if, mark_fault, open, prepare, same_codes,
-    seven_if,
+    Nesting, Statement, bracket_fault, few, lesser_if, mark_fault, prepare, same_codes, seven_if,
+    zone_fault,
 };
+use crate::numbers::{CALL, JUMP_LIST};
 use crate::operands::{
     ending, is_bad_actual, is_bad_place, is_input, is_stray_pass, is_stray_use_db, lacks_own,
     lacks_width, leads, own_parameter, writes,
@@ -33,48 +34,60 @@ fn ops_from(ops: &[Op], at: usize) -> &[Op]
     &ops[at..]
 }
 
-/// An op in its place: its offset, the open brackets, the ops of its statement before it, and those
-/// behind it.
+/// An op in its place: its offset, what stands open before it, the ops of its statement before it,
+/// and those behind it.
 #[derive(Clone, Copy)]
 pub(crate) struct Place<'a> {
     pub at: u32,
-    pub stack: &'a [OpenBracket],
+    pub brackets: &'a [OpenBracket],
+    pub zones: &'a [u32],
     pub before: &'a [Op],
     pub rest: &'a [Op],
 }
 
-fn differing(here: &Option<ArrayVec<u8, 7>>, there: &Option<ArrayVec<u8, 7>>) -> Option<u16>
-    ensures { result ≡ differing (option_map (λ v. v.items) here.now) (option_map
+/// Whether other brackets stand open at a jump's target.
+fn are_other(here: &Option<ArrayVec<u8, 7>>, there: &Option<ArrayVec<u8, 7>>) -> bool
+    ensures { result ≡ are_other (option_map (λ v. v.items) here.now) (option_map
         (λ v. v.items) there.now) }
 {
     match here {
-        None => None,
+        None => false,
         Some(here) => match there {
-            None => Some(8),
-            Some(there) => {
-                if same_codes(here.as_slice(), there.as_slice()) {
-                    None
-                } else {
-                    Some(8)
-                }
-            }
+            None => true,
+            Some(there) => !same_codes(here.as_slice(), there.as_slice()),
         },
     }
 }
 
-fn codes_differ(statement: &Statement, here: &Option<ArrayVec<u8, 7>>) -> Option<u16>
-    ensures { result ≡ differing (option_map (λ v. v.items) here.now) statement.now.codes }
+/// Whether other brackets stand open at a statement.
+fn codes_differ(here: &Option<ArrayVec<u8, 7>>, there: &Statement) -> bool
+    ensures { result ≡ are_other (option_map (λ v. v.items) here.now) there.now.codes }
 {
-    differing(here, &statement.codes)
+    are_other(here, &there.codes)
 }
 
-fn target_fault(statements: &Statements, here: &Option<ArrayVec<u8, 7>>, target: u32) -> Option<u16>
+fn differing(here: &Option<ArrayVec<u8, 7>>, zones: usize, there: &Statement) -> Option<u16>
+    ensures { result ≡ differing (option_map (λ v. v.items) here.now) zones there.now }
+{
+    if codes_differ(here, there) || zones != there.zones {
+        Some(8)
+    } else {
+        None
+    }
+}
+
+fn target_fault(
+    statements: &Statements,
+    here: &Option<ArrayVec<u8, 7>>,
+    zones: usize,
+    target: u32,
+) -> Option<u16>
     ensures { result ≡ target_fault (option_map
-        (λ v. v.items) here.now) (spot_at statements.now target) }
+        (λ v. v.items) here.now) zones (spot_at statements.now target) }
 {
     match statements.at(target) {
         None => Some(6),
-        Some(statement) => codes_differ(statement, here),
+        Some(there) => differing(here, zones, there),
     }
 }
 
@@ -83,11 +96,11 @@ fn jump_fault(statements: &Statements, op: &Op, place: &Place, kind: u8, target:
     requires { place.now.at + size op.now + length (code_bytes place.now.rest.now) < 2 ^ 32 }
     ensures { result ≡ jump_fault statements.now (placed_of op.now place.now) kind target }
 {
-    if kind == 1 && !leads(target, place.at + op.size(), place.rest) {
+    if kind == JUMP_LIST && !leads(target, place.at + op.size(), place.rest) {
         return Some(6);
     }
-    let here = few(place.stack);
-    target_fault(statements, &here, target)
+    let here = few(place.brackets);
+    target_fault(statements, &here, place.zones.len(), target)
 }
 
 /// The fault of an op's operand by itself.
@@ -140,7 +153,7 @@ fn call_fault_among(around: &Surroundings, lens: &DataLens, op: &Op, place: &Pla
         } => { seven_if(is_bad_call(around, lens, kind, number, instance, place.before)) }
         Operand::Pass { index, actual } => {
             let last = ending(op, place.rest);
-            seven_if(last.code == 0x78 && misfits_call(around, &last, index, actual))
+            seven_if(last.code == CALL && misfits_call(around, &last, index, actual))
         }
         _ => None,
     }
@@ -158,7 +171,7 @@ fn call_fault(around: &Surroundings, op: &Op, place: &Place) -> Option<u16>
 }
 
 /// The lesser of the fault so far and those of an op.
-#[tactic(auto, unfolding(flat_code::specs::Blocks::op_faults), using(crate::proofs::JudgeLemmas::four))]
+#[tactic(auto, unfolding(flat_code::specs::Blocks::op_faults), using(crate::proofs::JudgeLemmas::five))]
 fn judge_op(
     around: &Surroundings,
     statements: &Statements,
@@ -176,25 +189,62 @@ fn judge_op(
     let least = lesser_if(least, at, operand_fault(around, statements, op, place));
     let least = lesser_if(least, at, call_fault(around, op, place));
     let least = lesser_if(least, at, mark_fault(op));
-    lesser_if(least, at, bracket_fault(op.code, place.stack))
+    let least = lesser_if(least, at, bracket_fault(op.code, place.brackets));
+    lesser_if(least, at, zone_fault(op.code, place.zones))
 }
 
 /// The lesser of the fault so far and those of brackets that are open at the end.
 fn judge_open(
     start: u32,
-    stack: &[OpenBracket],
+    brackets: &[OpenBracket],
     limit: u32,
     least: Option<LoadFault>,
 ) -> Option<LoadFault>
-    requires within { AllUpTo limit stack.now }
+    requires within { AllUpTo limit brackets.now }
     requires room { start + limit < 2 ^ 32 }
-    ensures { result ≡ with_faults least (open_faults start stack.now) }
+    ensures { result ≡ with_faults least (open_faults start brackets.now) }
 {
     let mut least = least;
-    for bracket in stack {
+    for bracket in brackets {
         least = lesser(least, start + bracket.at, 8);
     }
     least
+}
+
+/// The lesser of the fault so far and those of zones that are open at the end.
+fn judge_open_zones(
+    start: u32,
+    zones: &[u32],
+    limit: u32,
+    least: Option<LoadFault>,
+) -> Option<LoadFault>
+    requires within { ZonesUpTo limit zones.now }
+    requires room { start + limit < 2 ^ 32 }
+    ensures { result ≡ with_faults least (open_zone_faults start zones.now) }
+{
+    let mut least = least;
+    for zone in zones {
+        least = lesser(least, start + *zone, 8);
+    }
+    least
+}
+
+/// The same of all that stands open at the end.
+fn judge_nesting(
+    start: u32,
+    nesting: &Nesting,
+    limit: u32,
+    least: Option<LoadFault>,
+) -> Option<LoadFault>
+    requires brackets { AllUpTo limit nesting.now.brackets.items }
+    requires zones { ZonesUpTo limit nesting.now.zones.items }
+    requires room { start + limit < 2 ^ 32 }
+    ensures { result ≡ with_faults (with_faults least
+        (open_faults start nesting.now.brackets.items))
+        (open_zone_faults start nesting.now.zones.items) }
+{
+    let least = judge_open(start, nesting.brackets.as_slice(), limit, least);
+    judge_open_zones(start, nesting.zones.as_slice(), limit, least)
 }
 
 /// The lesser of the fault so far and those of the ops of a block with these statements.
@@ -212,22 +262,23 @@ fn judge_ops(
         ≡ with_faults least (block_faults (around_of around.now) start ops.now)) }
 {
     let mut least = least;
-    let mut stack = Vec::new(alloc);
+    let mut nesting = Nesting::new(alloc);
     let mut before = Vec::new(alloc);
     let mut at = 0;
     for (i, op) in ops.iter().enumerate() {
         let place = Place {
             at,
-            stack: &stack,
-            before: &before,
+            brackets: nesting.brackets.as_slice(),
+            zones: nesting.zones.as_slice(),
+            before: before.as_slice(),
             rest: ops_from(ops, i + 1),
         };
         least = judge_op(around, statements, start, op, &place, least);
-        open(&mut stack, at, op)?;
+        nesting.pass(at, op)?;
         prepare(&mut before, op)?;
         at += op.size();
     }
-    Ok(judge_open(start, &stack, at, least))
+    Ok(judge_nesting(start, &nesting, at, least))
 }
 
 /// The lesser of the fault so far and those of the ops of a block whose code begins at an offset.

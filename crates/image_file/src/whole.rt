@@ -5,8 +5,9 @@ ghost use Rattle.flat_code.specs.Layout.{Faulty};
 ghost use Rattle.image_file.specs.Running.{seen, run, ran_read, logged, place_of, log_of, counts_values, front_values, Sees, SeesDatas, SeesRecords, SeesImage};
 
 use crate::reader::Reader;
-use crate::records::{CountsRead, FrontRead, NameRead};
+use crate::records::{CountsRead, FoundRead, FrontRead, NameRead};
 use crate::stops::{Ended, Stop};
+use flat_code::Stamp;
 use std::alloc::Global;
 
 /// The bytes up to a length.
@@ -18,7 +19,7 @@ fn up_to(bytes: &[u8], count: usize) -> &[u8]
 }
 
 impl Reader<'_> {
-    #[tactic(auto, unfolding(flat_code::specs::Image::counts), using(crate::proofs::RunLemmas::run_chain))]
+    #[tactic(auto, unfolding(flat_code::specs::Image::counts, flat_code::specs::Image::count_rows), using(crate::proofs::RunLemmas::run_seen, crate::proofs::RunLemmas::run_chain))]
     fn counts(&mut self) -> Result<CountsRead, Ended>
         requires { self.old.at + length self.old.rest.now < 2 ^ 32 }
         ensures read { seen counts_values result self.new
@@ -26,13 +27,13 @@ impl Reader<'_> {
         ensures all { self.new.at + length self.new.rest.now
             ≡ self.old.at + length self.old.rest.now }
     {
-        let codes = self.plain_u16()?;
-        let datas = self.data_count()?;
+        let code_blocks = self.plain_u16()?;
+        let data_blocks = self.data_count()?;
         let names = self.plain_u16()?;
         let reserved = self.reserved_u16()?;
         Ok(CountsRead {
-            codes,
-            datas,
+            code_blocks,
+            data_blocks,
             names,
             reserved,
         })
@@ -62,13 +63,13 @@ impl Reader<'_> {
             ≡ self.old.at + length self.old.rest.now) }
     {
         let counts = self.counts()?;
-        self.code_blocks(alloc, counts.codes)?;
-        self.data_blocks(alloc, counts.datas)?;
+        self.code_blocks(alloc, counts.code_blocks)?;
+        self.data_blocks(alloc, counts.data_blocks)?;
         let names = self.names(alloc, counts.names)?;
         Ok(names)
     }
 
-    #[tactic(auto, unfolding(flat_code::specs::Image::front), using(crate::proofs::RunLemmas::run_chain))]
+    #[tactic(auto, unfolding(flat_code::specs::Image::front, flat_code::specs::Image::front_rows), using(crate::proofs::RunLemmas::run_seen, crate::proofs::RunLemmas::run_chain))]
     fn front(&mut self) -> Result<FrontRead, Ended>
         requires { self.old.at ≡ 0 }
         ensures read { seen front_values result self.new
@@ -79,13 +80,13 @@ impl Reader<'_> {
     {
         let magic = self.magic()?;
         let version = self.version()?;
-        let reserved = self.reserved_u16()?;
-        let total = self.plain_u32()?;
+        let profile = self.profile(version)?;
+        let total_length = self.plain_u32()?;
         Ok(FrontRead {
             magic,
             version,
-            reserved,
-            total,
+            profile,
+            total_length,
         })
     }
 
@@ -93,45 +94,47 @@ impl Reader<'_> {
     fn rest_of_image(
         &mut self,
         alloc: Global,
+        stamp: Stamp,
         size: usize,
         total: u32,
-    ) -> Result<Vec<NameRead>, Stop>
+    ) -> Result<FoundRead, Stop>
         requires place { self.old.at ≡ 12 }
         requires all { 12 + length self.old.rest.now ≡ size }
         requires low { 20 ≤ total }
         requires there { total ≤ size }
         requires high { total ≤ 8388608 }
-        ensures { SeesImage (λ v. v.items) result self.new (ran_read (cut true size total
+        ensures { SeesImage result self.new (ran_read (cut true stamp size total
             (place_of self.old)) (log_of self.old)) }
     {
         self.note_if(size != total as usize, total, 10);
         self.rest = up_to(self.rest, total as usize - 12);
         let names = self.records(alloc)?;
         self.note_if(!self.rest.is_empty(), self.at, 10);
-        Ok(names)
+        Ok(FoundRead { stamp, names })
     }
 
-    /// An image. The names are answered, the blocks are kept.
-    pub(crate) fn image(&mut self, alloc: Global) -> Result<Vec<NameRead>, Stop>
+    /// An image. Its stamp and its names are answered, the blocks are kept.
+    pub(crate) fn image(&mut self, alloc: Global) -> Result<FoundRead, Stop>
         requires { self.old.at ≡ 0 }
-        ensures { SeesImage (λ v. v.items) result self.new (ran_read
+        ensures { SeesImage result self.new (ran_read
             (read_image self.old.rest.now) (log_of self.old)) }
     {
         let size = self.rest.len();
         let front = self.front()?;
-        if front.total < 20 {
+        if front.total_length < 20 {
             self.note_if(true, 8, 3);
             return Err(Stop::AtFault);
         }
-        if size < front.total as usize {
+        if size < front.total_length as usize {
             self.note_if(true, 8, 3);
             return Err(Stop::AtFault);
         }
-        if front.total > 8_388_608 {
+        if front.total_length > 8_388_608 {
             self.note_if(true, 8, 4);
             return Err(Stop::AtFault);
         }
-        self.rest_of_image(alloc, size, front.total)
+        let stamp = Stamp::of(front.version, front.profile);
+        self.rest_of_image(alloc, stamp, size, front.total_length)
     }
 
     /// Notes a fault where there is one.

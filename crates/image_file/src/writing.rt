@@ -1,14 +1,17 @@
 //! The image of a program: its records one behind the other, and the header in front of them.
 ghost use Rattle.std.specs.Prelude.{◌≡◌, ◌++◌, ◌+◌, ◌≤◌, ◌<◌, false, [], map, length, All, IfOk, OnOk};
 ghost use Rattle.flat_code.specs.Codes.{code_bytes};
-ghost use Rattle.flat_code.specs.Image.{raw_of_block, head as head_layout, counts, front, front_of, raw_of_records, records_of, record_of_block, record_of_param, name_of_entry, number_of_instance, front_size, parameter, same_state, line_field, line_after, code_block, after_block, data_block, after_data, name_record, after_name, body, image};
+ghost use Rattle.flat_code.specs.Image.{head_of_block, head as head_layout, counts, counts_of, front, front_of, records_of, record_of_block, record_of_param, name_of_entry, number_of_instance, front_size, parameter, same_state, line_field, line_after, code_block, after_block, data_block, after_data, name_record, after_name, body, image};
 ghost use Rattle.flat_code.specs.Layout.{spell_many};
+ghost use Rattle.flat_code.specs.declared.stamps.Stamp.TheVariants as stamps;
 ghost use Rattle.image_file.specs.Running.{head_values};
 ghost use Rattle.image_file.specs.Writing.{BlockFits, DataFits, NameFits, ProgramFits};
 
 use crate::records::HeadRead;
-use flat_code::{CodeBlock, DataBlock, NameEntry, Op, Param, Program, area_number, encode_op};
-use plc_base::NoMemory;
+use flat_code::{
+    CodeBlock, DataBlock, NameEntry, Op, Param, Program, Stamp, area_number, encode_op,
+};
+use plc_base::{NoMemory, Profile};
 use std::alloc::Global;
 
 /// The number of the function block of an instance plus 1, or 0.
@@ -34,7 +37,7 @@ pub(crate) fn code_len(ops: &[Op]) -> u32
     len
 }
 
-#[tactic(auto, unfolding(flat_code::specs::Image::parameter, flat_code::specs::Image::raw_parameter, flat_code::specs::Image::section_field, flat_code::specs::Image::width_field, flat_code::specs::Image::parameter_byte, flat_code::specs::Image::parameter_bit, flat_code::specs::Image::zero_u8))]
+#[tactic(auto, unfolding(flat_code::specs::Image::parameter, flat_code::specs::Image::parameter_rows, flat_code::specs::Image::section_field, flat_code::specs::Image::width_field, flat_code::specs::Image::parameter_byte, flat_code::specs::Image::parameter_bit, flat_code::specs::Image::zero_u8))]
 fn put_parameter(out: &mut Vec<u8>, param: &Param) -> Result<(), NoMemory>
     ensures { OnOk result (out.new.items
         ≡ out.old.items ++ (parameter 0 0).spell (record_of_param param.now)) }
@@ -76,34 +79,34 @@ fn put_lines(out: &mut Vec<u8>, lines: &[u32]) -> Result<(), NoMemory>
 /// The head of a code block.
 fn head_of(block: &CodeBlock) -> HeadRead
     requires { BlockFits block.now }
-    ensures { head_values result ≡ (raw_of_block (record_of_block block.now)).0 }
+    ensures { head_values result ≡ head_of_block (record_of_block block.now) }
 {
     HeadRead {
         kind: block.id.kind.number(),
-        params: block.params.as_slice().len() as u8,
+        parameter_count: block.params.as_slice().len() as u8,
         number: block.id.number,
-        locals: block.local_len,
-        instance: block.instance_len,
-        statements: block.lines.len() as u16,
+        local_bytes: block.local_len,
+        instance_bytes: block.instance_len,
+        statement_count: block.lines.len() as u16,
         reserved: 0,
-        size: code_len(block.code.as_slice()),
+        code_length: code_len(block.code.as_slice()),
     }
 }
 
-#[tactic(auto, unfolding(flat_code::specs::Image::head, flat_code::specs::Image::kind_field, flat_code::specs::Image::parameter_count, flat_code::specs::Image::block_number, flat_code::specs::Image::local_bytes, flat_code::specs::Image::instance_bytes, flat_code::specs::Image::plain_u16, flat_code::specs::Image::zero_u16, flat_code::specs::Image::plain_u32))]
+#[tactic(auto, unfolding(flat_code::specs::Image::head, flat_code::specs::Image::head_rows, flat_code::specs::Image::kind_field, flat_code::specs::Image::parameter_count, flat_code::specs::Image::block_number, flat_code::specs::Image::local_bytes, flat_code::specs::Image::instance_bytes, flat_code::specs::Image::plain_u16, flat_code::specs::Image::zero_u16, flat_code::specs::Image::plain_u32))]
 fn put_head(out: &mut Vec<u8>, head: &HeadRead) -> Result<(), NoMemory>
     ensures { OnOk result (out.new.items
         ≡ out.old.items ++ (head_layout (0, 0)).spell (head_values head.now)) }
 {
     let [a, b] = head.number.to_be_bytes();
-    let [c, d] = head.locals.to_be_bytes();
-    let [e, f] = head.instance.to_be_bytes();
-    let [g, h] = head.statements.to_be_bytes();
+    let [c, d] = head.local_bytes.to_be_bytes();
+    let [e, f] = head.instance_bytes.to_be_bytes();
+    let [g, h] = head.statement_count.to_be_bytes();
     let [i, j] = head.reserved.to_be_bytes();
-    let [k, l, m, n] = head.size.to_be_bytes();
+    let [k, l, m, n] = head.code_length.to_be_bytes();
     out.extend_from_slice(&[
         head.kind,
-        head.params,
+        head.parameter_count,
         a,
         b,
         c,
@@ -145,7 +148,7 @@ fn put_code_blocks(out: &mut Vec<u8>, blocks: &[CodeBlock]) -> Result<(), NoMemo
     Ok(())
 }
 
-#[tactic(auto, unfolding(flat_code::specs::Image::data_block, flat_code::specs::Image::raw_data, flat_code::specs::Image::data_number, flat_code::specs::Image::instance_field, flat_code::specs::Image::data_len, flat_code::specs::Image::zero_u16, flat_code::specs::Image::contents))]
+#[tactic(auto, unfolding(flat_code::specs::Image::data_block, flat_code::specs::Image::data_rows, flat_code::specs::Image::data_number, flat_code::specs::Image::instance_field, flat_code::specs::Image::data_len, flat_code::specs::Image::zero_u16, flat_code::specs::Image::contents))]
 fn put_data_block(out: &mut Vec<u8>, block: &DataBlock) -> Result<(), NoMemory>
     requires { DataFits block.now }
     ensures { OnOk result (out.new.items
@@ -169,7 +172,7 @@ fn put_data_blocks(out: &mut Vec<u8>, blocks: &[DataBlock]) -> Result<(), NoMemo
     Ok(())
 }
 
-#[tactic(auto, unfolding(flat_code::specs::Image::name_record, flat_code::specs::Image::raw_name, flat_code::specs::Image::name_len, flat_code::specs::Image::name_bytes, flat_code::specs::Image::name_area, flat_code::specs::Image::width_field, flat_code::specs::Image::plain_u16, flat_code::specs::Image::name_bit))]
+#[tactic(auto, unfolding(flat_code::specs::Image::name_record, flat_code::specs::Image::name_rows, flat_code::specs::Image::name_len, flat_code::specs::Image::name_bytes, flat_code::specs::Image::name_area, flat_code::specs::Image::width_field, flat_code::specs::Image::plain_u16, flat_code::specs::Image::name_bit))]
 fn put_name(out: &mut Vec<u8>, entry: &NameEntry) -> Result<(), NoMemory>
     requires { NameFits entry.now }
     ensures { OnOk result (out.new.items
@@ -200,11 +203,11 @@ fn put_names(out: &mut Vec<u8>, entries: &[NameEntry]) -> Result<(), NoMemory>
 }
 
 /// How many records of each kind there are.
-#[tactic(auto, unfolding(flat_code::specs::Image::counts, flat_code::specs::Image::plain_u16, flat_code::specs::Image::data_count, flat_code::specs::Image::zero_u16))]
+#[tactic(auto, unfolding(flat_code::specs::Image::counts, flat_code::specs::Image::count_rows, flat_code::specs::Image::plain_u16, flat_code::specs::Image::data_count, flat_code::specs::Image::zero_u16))]
 fn put_counts(out: &mut Vec<u8>, program: &Program) -> Result<(), NoMemory>
     requires { ProgramFits program.now }
     ensures { OnOk result (out.new.items
-        ≡ out.old.items ++ counts.spell (raw_of_records (records_of program.now)).0) }
+        ≡ out.old.items ++ counts.spell (counts_of (records_of program.now))) }
 {
     let [a, b] = (program.code_blocks.len() as u16).to_be_bytes();
     let [c, d] = (program.data_blocks.len() as u16).to_be_bytes();
@@ -227,27 +230,52 @@ fn put_body(out: &mut Vec<u8>, program: &Program) -> Result<(), NoMemory>
 }
 
 /// The header up to the total length.
-#[tactic(auto, unfolding(flat_code::specs::Image::front, flat_code::specs::Image::magic_field, flat_code::specs::Image::version_field, flat_code::specs::Image::zero_u16, flat_code::specs::Image::plain_u32))]
-fn put_front(out: &mut Vec<u8>, total: u32) -> Result<(), NoMemory>
-    ensures { OnOk result (out.new.items ≡ out.old.items ++ front.spell (front_of total)) }
+#[tactic(auto, unfolding(flat_code::specs::Image::front, flat_code::specs::Image::front_rows, flat_code::specs::Image::magic_field, flat_code::specs::Image::version_field, flat_code::specs::Image::profile_field, flat_code::specs::Image::plain_u32))]
+fn put_front(out: &mut Vec<u8>, stamp: Stamp, total: u32) -> Result<(), NoMemory>
+    ensures { OnOk result (out.new.items ≡ out.old.items ++ front.spell (front_of stamp total)) }
 {
+    let [e, f] = stamp.version().to_be_bytes();
+    let [g, h] = stamp.profile_field().to_be_bytes();
     let [a, b, c, d] = total.to_be_bytes();
-    out.extend_from_slice(&[0x53, 0x37, 0x46, 0x42, 0, 1, 0, 0, a, b, c, d])
+    out.extend_from_slice(&[0x53, 0x37, 0x46, 0x42, e, f, g, h, a, b, c, d])
 }
 
-/// The image of a program, whether it verifies or not.
-///
-/// # Errors
-///
-/// `NoMemory` where memory is wanting.
+/// The image of a program, of a version and profile.
 #[tactic(auto, unfolding(flat_code::specs::Image::image))]
-pub fn write_image(alloc: Global, program: &Program) -> Result<Vec<u8>, NoMemory>
-    ensures { IfOk result (λ v. v.items ≡ image program.now) }
+pub(crate) fn write_stamped(
+    alloc: Global,
+    program: &Program,
+    stamp: Stamp,
+) -> Result<Vec<u8>, NoMemory>
+    ensures { IfOk result (λ v. v.items ≡ image stamp program.now) }
 {
     let mut body = Vec::new(alloc);
     put_body(&mut body, program)?;
     let mut image = Vec::new(alloc);
-    put_front(&mut image, 12 + body.len() as u32)?;
+    put_front(&mut image, stamp, 12 + body.len() as u32)?;
     image.extend_from_slice(body.as_slice())?;
     Ok(image)
+}
+
+/// The image of version 1 of a program, whether it verifies or not.
+///
+/// # Errors
+///
+/// `NoMemory` where memory is wanting.
+pub fn write_image(alloc: Global, program: &Program) -> Result<Vec<u8>, NoMemory>
+    ensures { IfOk result (λ v. v.items ≡ image stamps.One program.now) }
+{
+    write_stamped(alloc, program, Stamp::One)
+}
+
+/// The image of version 2 of a program, whether it verifies or not, with the profile with which it is
+/// to be run.
+///
+/// # Errors
+///
+/// `NoMemory` where memory is wanting.
+pub fn write_image2(alloc: Global, program: &Program, profile: Profile) -> Result<Vec<u8>, NoMemory>
+    ensures { IfOk result (λ v. v.items ≡ image (stamps.Two profile) program.now) }
+{
+    write_stamped(alloc, program, Stamp::Two(profile))
 }

@@ -36,7 +36,7 @@ use Rattle.machine.proofs.Keeping.{KeepsScene, local_kept, same_scene}
 use Rattle.machine.proofs.Moving.{some_there, stands_of, fits_of}
 use Rattle.machine.proofs.Returned.{put_kept}
 use Rattle.machine.proofs.Sizes.{changed, same_sizes, region_sizes, same_parts}
-use Rattle.machine.proofs.Standing.{entry_stood, opens_there, statement_there}
+use Rattle.machine.proofs.Standing.{nothing_open, entry_stood, opens_there, statement_there}
 
 -- ---- an organization block begins
 
@@ -67,8 +67,8 @@ ob_begins l profile p m class ob h verifies memory found =
       fits = fits_of (code_of p) (open_codes p) m (begun profile class ob f) (record {
         left = refl;
         frame = record {
-          statement = let s = statement_there l p block 0 [] entry in some_there ((code_of p).fetch block 0) _ s.fetched;
-          open_brackets = opens_there p block 0 [] entry;
+          statement = let s = statement_there l p block 0 nothing_open entry in some_there ((code_of p).fetch block 0) _ s.fetched;
+          open_brackets = opens_there p block 0 nothing_open entry;
           block = rw found (record { local_len = refl; bindings = no_params h.params m params; instance = tt });
           db = tt;
           di = tt;

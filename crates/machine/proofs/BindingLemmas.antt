@@ -21,6 +21,7 @@ use Rattle.flat_code.specs.declared.operands.Passed.{Passed}
 use Rattle.flat_code.specs.declared.operands.Passed.TheVariants as passed
 use Rattle.flat_code.specs.declared.programs.Param.{Param}
 use Rattle.flat_code.specs.Instr.{Passing}
+use Rattle.flat_code.specs.Records.{section_in}
 use Rattle.machine.specs.declared.places.Access.{Access}
 use Rattle.machine.specs.declared.places.Bound.{Bound}
 use Rattle.machine.specs.Bindings.{access_of, bound_if, bound_place, bound_actual, bound_params, unsupplied, bindings_of}
@@ -125,11 +126,11 @@ placed_width access area byte bit width s = by (is_peripheral area && is_bit wid
 -- what is passed fits a parameter: its width, a literal that an IN parameter holds; a parameter that
 -- is passed on is one of the own function, and an IN parameter goes to an IN parameter alone
 abbrev pub FitsActual : BlockKind → List Param → (q : Param) → Passed → Type 0
-FitsActual kind own q (passed.Literal value) = (q.section ≡ 1) × (value < 2 ^ bit_count q.width)
+FitsActual kind own q (passed.Literal value) = (q.section ≡ section_in) × (value < 2 ^ bit_count q.width)
 FitsActual kind own q (passed.Direct area width byte bit) = width ≡ q.width
 FitsActual kind own q (passed.Parameter index width) =
     (kind ≡ kinds.Fc) × (p : Param) × (slice_get own index ≡ Some p) × (p.width ≡ q.width)
-    × (p.section ≡ 1 → q.section ≡ 1)
+    × (p.section ≡ section_in → q.section ≡ section_in)
 FitsActual kind own q (passed.InBlock number area width byte bit) = width ≡ q.width
 
 -- of one binding for each parameter, that of an index
@@ -145,7 +146,7 @@ bound_of kind (q ∷ ps) below m [] i p all found = absurd all
 
 passed_bound :
     (p q : Param) (g : Frame) (below : List Frame) (m : Areas) (b : Binding) → p.width ≡ q.width
-    → (p.section ≡ 1 → q.section ≡ 1) → IsBound kinds.Fc p below m b → IsBound kinds.Fc q (g ∷ below) m b
+    → (p.section ≡ section_in → q.section ≡ section_in) → IsBound kinds.Fc p below m b → IsBound kinds.Fc q (g ∷ below) m b
 passed_bound p q g below m (binding.Bound at width frame) wide input is =
     (is.0 ∙ wide, exists_more at.area (record { place = at; width = width; frame = frame }) g below m is.1)
 passed_bound p q g below m (binding.Constant value) wide input is =

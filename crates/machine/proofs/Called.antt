@@ -1,5 +1,5 @@
 -- A call of a block or system function leaves an activation that fits.
-use Rattle.std.proofs.Common.{◌≡◌, inl, inr, ℕ, true, IsSome, List, [], ◌∷◌, slice_get, Option, Some, None, Result, Ok, Err, refl, ap}
+use Rattle.std.proofs.Common.{◌≡◌, inl, inr, ℕ, true, IsSome, List, ◌∷◌, slice_get, Option, Some, None, Result, Ok, Err, refl, ap}
 use Rattle.std.specs.FinMap as finmap
 use Rattle.plc_base.specs.declared.BlockId.{BlockId}
 use Rattle.plc_base.specs.declared.blocks.BlockKind.{BlockKind}
@@ -21,7 +21,7 @@ use Rattle.image_file.specs.Readers.{block_of}
 use Rattle.machine.specs.Bindings.{bindings_of}
 use Rattle.machine.specs.Code.{Head}
 use Rattle.machine.specs.Entering.{Stops, call, called_with, caller_at, di_of, entered_if, fresh as fresh_frame, going_on, supplied}
-use Rattle.machine.specs.Fitting.{IsOpen, IsLong, AreBound, HasInstance, FrameFits, codes_of}
+use Rattle.machine.specs.Fitting.{IsOpen, IsLong, AreBound, HasInstance, FrameFits, open_of}
 use Rattle.machine.specs.Flat.{code_of, head_of}
 use Rattle.machine.specs.ImageLaws.{ImageLaws}
 use Rattle.machine.specs.Lasting.{FitsProgram, Lasts}
@@ -32,17 +32,17 @@ use Rattle.machine.proofs.BindingLemmas.{Bindings, PassingsFit, is_among, all_su
 use Rattle.machine.proofs.Errors.{IfTold}
 use Rattle.machine.proofs.FrameBytes.{locals_moved, locals_opened}
 use Rattle.machine.proofs.Keeping.{IfDone, KeepsScene, open_after}
-use Rattle.machine.proofs.Moving.{some_there, stands_of, fits_of, frames_are, frame_follows, activation_follows}
+use Rattle.machine.proofs.Moving.{some_there, stands_of, fits_of, frames_are, frame_open, frame_follows, activation_follows}
 use Rattle.machine.proofs.Returned.{params_in_kept}
 use Rattle.machine.proofs.Sizes.{same_sizes}
-use Rattle.machine.proofs.Standing.{Stood, stood_there, entry_stood, opens_there, statement_there}
+use Rattle.machine.proofs.Standing.{Stood, stood_there, nothing_open, entry_stood, opens_there, statement_there}
 
 -- ---- the innermost frame goes on
 
 -- at a position, with other registers
 pub going_fits :
     (l : ImageLaws) (p : Program) (m : Areas) (a : Activation) (next : ℕ) (r : Regs) → FitsProgram p m a
-    → Stood p a.running.frame.block next (codes_of a.running.frame.brackets) → FitsProgram p m (going_on next r a)
+    → Stood p a.running.frame.block next (frame_open a.running.frame) → FitsProgram p m (going_on next r a)
 going_fits l p m a next r h stood =
     let was = stands_of (code_of p) (open_codes p) m a h.fits in
     activation_follows l p m m a (record a.running { regs = r; frame = record a.running.frame { at = next } }) (same_sizes m) h
@@ -53,7 +53,7 @@ going_fits l p m a next r h stood =
       instance = refl;
       db = was.frame.db;
       di = was.frame.di;
-      codes = codes_of a.running.frame.brackets;
+      held = frame_open a.running.frame;
       stood = stood;
       same = refl;
     }) refl refl
@@ -73,9 +73,9 @@ scene_fits l p m a c verifies h kept =
       instance = ap (λ (i : FrameData). i.instance) kept.inner;
       db = open_after f.db c.own.inner.db m c.memory (ap (λ (i : FrameData). i.db) kept.inner) kept.memory was.frame.db;
       di = open_after f.di c.own.inner.di m c.memory (ap (λ (i : FrameData). i.di) kept.inner) kept.memory was.frame.di;
-      codes = codes_of f.brackets;
-      stood = stood_there p f.block f.at (codes_of f.brackets) verifies was.frame.open_brackets;
-      same = ap (λ (i : FrameData). codes_of i.brackets) kept.inner;
+      held = frame_open f;
+      stood = stood_there p f.block f.at (frame_open f) verifies was.frame.open_brackets;
+      same = ap (λ (i : FrameData). open_of i.brackets i.relay) kept.inner;
     }) kept.starts kept.len
 
 -- ---- a block is entered
@@ -106,7 +106,7 @@ head_there p block b found = rw found refl
 pub record Caller (p : Program) (m : Areas) (a : Activation) (next : ℕ) : Type 0 where
   pub fits : FitsProgram p m a
   pub verifies : Verifies p
-  pub stood : Stood p a.running.frame.block next (codes_of a.running.frame.brackets)
+  pub stood : Stood p a.running.frame.block next (frame_open a.running.frame)
 
 -- the caller's frame behind the call
 abbrev pub caller : Activation → ℕ → Frame
@@ -132,13 +132,13 @@ entered_fits l p m a next block b o bs h found bound instance =
       instance = refl;
       db = was.frame.db;
       di = was.frame.di;
-      codes = codes_of f.brackets;
+      held = frame_open f;
       stood = h.stood;
       same = refl;
     }) was.frame in
     let top : FrameFits c brackets m (g ∷ a.below) new = record {
-      statement = let s = statement_there l p block 0 [] entry in some_there (c.fetch block 0) _ s.fetched;
-      open_brackets = opens_there p block 0 [] entry;
+      statement = let s = statement_there l p block 0 nothing_open entry in some_there (c.fetch block 0) _ s.fetched;
+      open_brackets = opens_there p block 0 nothing_open entry;
       block = rw (head_there p block b found) (record { local_len = refl; bindings = bound; instance = instance });
       db = was.frame.db;
       di = open_di o f.di m was.frame.di (instance_open block.kind (head_of b) m o instance);

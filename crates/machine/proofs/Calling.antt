@@ -9,7 +9,7 @@ use Rattle.flat_code.specs.declared.programs.Param.{Param}
 use Rattle.machine.specs.Parts.{Own, own_of}
 use Rattle.machine.specs.Bindings.{bindings_of, bound_params, unsupplied}
 use Rattle.machine.specs.Entering.{call, called_with, Callee, Fails}
-use Rattle.flat_code.specs.declared.kinds.JumpWord.{JumpWord}
+use Rattle.flat_code.specs.declared.kinds.JumpOperation.{JumpOperation}
 use Rattle.machine.specs.Code.{Code}
 use Rattle.machine.specs.Flat.{most_ops, is_jl, jump_instr}
 use Rattle.machine.specs.Statement.{World, performed, jumped}
@@ -63,7 +63,7 @@ system_bound params passings s m ops at bindings p e =
 
 -- a jump that isn't JL
 pub jumps_plainly :
-    (word : JumpWord) (target next : ℕ) (ops : List OpData) (c : Code) (a : Activation) (w : World)
-    → is_jl word ≡ false
-    → performed c (jump_instr word target next ops) next a w ≡ jumped word target next a w
-jumps_plainly word target next ops c a w h = rw h refl
+    (operation : JumpOperation) (target next : ℕ) (ops : List OpData) (c : Code) (a : Activation) (w : World)
+    → is_jl operation ≡ false
+    → performed c (jump_instr operation target next ops) next a w ≡ jumped operation target next a w
+jumps_plainly operation target next ops c a w h = rw h refl

@@ -7,7 +7,7 @@ use Rattle.flat_code.specs.Instr.{Jumps, JumpsByList}
 use Rattle.flat_code.specs.Ops.{OpData}
 use Rattle.flat_code.specs.Placed.{line_placed}
 use Rattle.flat_code.specs.Programs.{CodeBlock}
-use Rattle.flat_code.specs.declared.kinds.JumpWord.{JumpWord}
+use Rattle.flat_code.specs.declared.kinds.JumpOperation.{JumpOperation}
 use Rattle.machine.specs.Code.{Code}
 use Rattle.machine.specs.Flat.{Run, run_at, most_ops, most_listed, list_of, passings_of, fetched_of, statement_at, jump_instr, is_jl}
 use Rattle.machine.specs.There.{is_there, is_complete}
@@ -15,16 +15,16 @@ use Rattle.machine.specs.Walking.{Walk, walk_with, TellsThere}
 use Rattle.machine.proofs.Fetching.{none_some}
 
 either_jump :
-    (b : Bool) (c : Code) (own : BlockId) (word : JumpWord) (list : List ℕ) (target : ℕ)
-    → is_there c (if b then JumpsByList list target else Jumps word target) own ≡ true
-either_jump true c own word list target = refl
-either_jump false c own word list target = refl
+    (b : Bool) (c : Code) (own : BlockId) (operation : JumpOperation) (list : List ℕ) (target : ℕ)
+    → is_there c (if b then JumpsByList list target else Jumps operation target) own ≡ true
+either_jump true c own operation list target = refl
+either_jump false c own operation list target = refl
 
 pub jump_is_there :
-    (c : Code) (own : BlockId) (word : JumpWord) (target next : ℕ) (ops : List OpData)
-    → is_there c (jump_instr word target next ops) own ≡ true
-jump_is_there c own word target next ops =
-    either_jump (is_jl word) c own word (list_of most_listed ops target next) target
+    (c : Code) (own : BlockId) (operation : JumpOperation) (target next : ℕ) (ops : List OpData)
+    → is_there c (jump_instr operation target next ops) own ≡ true
+jump_is_there c own operation target next ops =
+    either_jump (is_jl operation) c own operation (list_of most_listed ops target next) target
 
 tells_moved :
     (c : Code) (own : BlockId) (walk other : Walk) (ops : List OpData) (answer : Bool) → walk ≡ other

@@ -1,5 +1,5 @@
 -- No error of an activation that fits has the code of an operand that the instruction doesn't take.
-use Rattle.std.proofs.Common.{◌≡◌, ◌⊎◌, inl, inr, ◌+◌, ◌/◌, ◌%◌, ◌^◌, ◌==◌, ℕ, Bool, true, false, cond, ◌&&◌, ◌||◌, List, [], ◌∷◌, length, slice_get, Option, Some, None, Result, Ok, Err, ok_or, refl}
+use Rattle.std.proofs.Common.{◌≡◌, ◌⊎◌, inl, inr, ◌+◌, ◌/◌, ◌%◌, ◌^◌, ◌==◌, ℕ, Bool, true, false, cond, ◌&&◌, ◌||◌, List, [], ◌∷◌, length, slice_get, Option, Some, None, Result, Ok, Err, ok_or, if◌then◌else◌, refl}
 use Rattle.std.proofs.lemmas.Bool.{eqb-true}
 use Rattle.plc_base.specs.declared.Area.{Area}
 use Rattle.plc_base.specs.declared.Area.TheVariants as areas
@@ -14,20 +14,24 @@ use Rattle.timers_counters.specs.Timer.{Timer}
 use Rattle.timers_counters.specs.Counter.{Counter}
 use Rattle.timers_counters.specs.declared.faults.TimerFault.{TimerFault}
 use Rattle.timers_counters.specs.declared.faults.TimerFault.TheVariants.{NoNumber, BadBcd}
+use Rattle.frames.specs.declared.relay.Relay.{Relay}
 use Rattle.frames.specs.declared.bindings.Binding.{Binding}
 use Rattle.frames.specs.declared.bindings.Binding.TheVariants as binding
 use Rattle.flat_code.specs.declared.operands.Operand.{Operand}
 use Rattle.flat_code.specs.declared.operands.Operand.TheVariants as operand
 use Rattle.flat_code.specs.declared.table.Takes.{Takes}
 use Rattle.flat_code.specs.declared.table.Takes.TheVariants as takes
-use Rattle.flat_code.specs.declared.words.Number.{Number}
-use Rattle.flat_code.specs.declared.words.Number.TheVariants as number_word
-use Rattle.flat_code.specs.declared.words.PointerWord.{PointerWord}
-use Rattle.flat_code.specs.declared.words.PointerWord.TheVariants as pointers
+use Rattle.flat_code.specs.declared.operations.Number.{Number}
+use Rattle.flat_code.specs.declared.operations.Number.TheVariants as number_word
+use Rattle.flat_code.specs.declared.operations.PointerOperation.{PointerOperation}
+use Rattle.flat_code.specs.declared.operations.PointerOperation.TheVariants as pointers
 use Rattle.plc_base.specs.declared.TimerKind.{TimerKind}
-use Rattle.flat_code.specs.declared.words.Word.{Word}
-use Rattle.flat_code.specs.declared.words.Word.TheVariants as word
-use Rattle.flat_code.specs.Table.{admits, takes_of_word, takes_timer, takes_counter}
+use Rattle.flat_code.specs.declared.operations.RelayOperation.{RelayOperation}
+use Rattle.flat_code.specs.declared.operations.RelayOperation.TheVariants as relay
+use Rattle.flat_code.specs.declared.operations.Operation.{Operation}
+use Rattle.flat_code.specs.declared.operations.Operation.TheVariants as operation
+use Rattle.flat_code.specs.Placed.{is_empty, most_zones}
+use Rattle.flat_code.specs.Table.{admits, takes_of_operation, takes_timer, takes_counter}
 use Rattle.machine.specs.declared.places.Access.{Access}
 use Rattle.machine.specs.declared.places.Access.TheVariants.{Reading, Writing}
 use Rattle.machine.specs.declared.places.Bound.{Bound}
@@ -37,6 +41,7 @@ use Rattle.machine.specs.Does.{on_regs, on_own, on_scene, on_timers, on_counters
 use Rattle.machine.specs.Lasting.{is_error_code}
 use Rattle.machine.specs.Loads.{loading, loading_bcd, transferred}
 use Rattle.machine.specs.Nesting.{with_brackets, nesting, unnesting, unnested}
+use Rattle.machine.specs.Relay.{closed, opening_zone, ending_zone, relayed}
 use Rattle.status_word.specs.Brackets.{entry_of, begun}
 use Rattle.machine.specs.Numbers.{from_bcd, counted}
 use Rattle.machine.specs.Parts.{Own, Scene, Parts, then_ok}
@@ -446,7 +451,7 @@ address_transferred_told n (operand.Numbered kind number) s m h = absurd (kind_n
 address_transferred_told n (operand.NumberedBy kind from byte) s m h = absurd (kind_none kind takes.PointerPlace refl refl h)
 address_transferred_told n _ s m h = absurd cc
 
-pointed_told : (what : PointerWord) (o : Operand) (s : Own) (m : Areas) → admits (takes_of_word (word.Pointer what)) o ≡ true → IfTold (pointed what o s m)
+pointed_told : (what : PointerOperation) (o : Operand) (s : Own) (m : Areas) → admits (takes_of_operation (operation.Pointer what)) o ≡ true → IfTold (pointed what o s m)
 unfolding pointed
 pointed_told pointers.Lar1 o s m h = then_told (address_loaded o s m) _ (address_told o s m h) (λ n. tt)
 pointed_told pointers.Lar2 o s m h = then_told (address_loaded o s m) _ (address_told o s m h) (λ n. tt)
@@ -488,35 +493,37 @@ open_fact_told _ s m h = absurd cc
 
 -- ---- all
 
--- the words that write their operand
-abbrev pub is_writing : Word → Bool
-is_writing word.Transfer = true
-is_writing word.Assign = true
-is_writing word.Set = true
-is_writing word.Reset = true
-is_writing (word.Edge rising) = true
+-- the operations that write their operand
+abbrev pub is_writing : Operation → Bool
+is_writing operation.Transfer = true
+is_writing operation.Assign = true
+is_writing operation.Set = true
+is_writing operation.Reset = true
+is_writing (operation.Edge rising) = true
 is_writing _ = false
 
 -- jumps, calls and ends, which go by the statement
-abbrev pub goes_by_statement : Word → Operand → Bool
-goes_by_statement word.Jump (operand.Jump kind target) = true
-goes_by_statement (word.Call how) (operand.Called kind number instance) = true
-goes_by_statement (word.End how) o = true
+abbrev pub goes_by_statement : Operation → Operand → Bool
+goes_by_statement operation.Jump (operand.Jump kind target) = true
+goes_by_statement (operation.Call how) (operand.Called kind number instance) = true
+goes_by_statement (operation.End how) o = true
 goes_by_statement _ o = false
 
--- a bracket that opens has room, one that closes is there; what prepares ends no statement
-abbrev pub HasRoom : Word → List Bracket → Type 0
-HasRoom (word.Nest with) brackets = length brackets ≡ 7 → ⊥
-HasRoom word.Unnest brackets = brackets ≡ [] → ⊥
-HasRoom word.UseDb brackets = ⊥
-HasRoom word.Pass brackets = ⊥
-HasRoom _ brackets = Unit {0}
+-- a bracket or zone that opens has room, one that ends is there; what prepares ends no statement
+abbrev pub HasRoom : Operation → List Bracket → Relay → Type 0
+HasRoom (operation.Nest with) brackets r = length brackets ≡ 7 → ⊥
+HasRoom operation.Unnest brackets r = brackets ≡ [] → ⊥
+HasRoom (operation.Relay relay.Open) brackets r = length r.zones ≡ most_zones → ⊥
+HasRoom (operation.Relay relay.Close) brackets r = r.zones ≡ [] → ⊥
+HasRoom operation.UseDb brackets r = ⊥
+HasRoom operation.Pass brackets r = ⊥
+HasRoom _ brackets r = Unit {0}
 
-pub record Suits (v : Word) (o : Operand) (p : Parts) : Type 0 where
-  pub admitted : admits (takes_of_word v) o ≡ true
+pub record Suits (v : Operation) (o : Operand) (p : Parts) : Type 0 where
+  pub admitted : admits (takes_of_operation v) o ≡ true
   pub has : ParamHas p.own (is_writing v) o
   pub other : goes_by_statement v o ≡ false
-  pub room : HasRoom v p.own.inner.brackets
+  pub room : HasRoom v p.own.inner.brackets p.own.inner.relay
 
 nest_done : (p : Parts) (with : _) → (length p.own.inner.brackets ≡ 7 → ⊥) → IfTold (nesting with p.own)
 unfolding nesting
@@ -534,14 +541,32 @@ unnesting_done : (s : Own) → (s.inner.brackets ≡ [] → ⊥) → IfTold (unn
 unfolding unnesting
 unnesting_done s room = unnest_done s s.inner.brackets room
 
-no_jump : (o : Operand) → admits takes.Jump o ≡ true → goes_by_statement word.Jump o ≡ false → ⊥
+pub zone_room : (s : Own) → (length s.inner.relay.zones ≡ most_zones → ⊥) → (length s.inner.relay.zones == most_zones) ≡ false
+zone_room s room = by (length s.inner.relay.zones == most_zones) refl
+  where
+    by : (t : Bool) → (length s.inner.relay.zones == most_zones) ≡ t → t ≡ false
+    by true e = absurd (room (eqb-true (length s.inner.relay.zones) most_zones e))
+    by false e = refl
+
+pub zone_there : (zones : List Bool) → (zones ≡ [] → ⊥) → is_empty zones ≡ false
+zone_there [] room = absurd (room refl)
+zone_there (value ∷ around) room = refl
+
+relayed_done : (which : RelayOperation) (s : Own) → HasRoom (operation.Relay which) s.inner.brackets s.inner.relay → IfTold (relayed which s)
+unfolding opening_zone ending_zone
+relayed_done relay.Activate s room = tt
+relayed_done relay.Deactivate s room = tt
+relayed_done relay.Open s room = rw (zone_room s room) tt
+relayed_done relay.Close s room = rw (zone_there s.inner.relay.zones room) tt
+
+no_jump : (o : Operand) → admits takes.Jump o ≡ true → goes_by_statement operation.Jump o ≡ false → ⊥
 unfolding admits
 no_jump (operand.Jump kind target) h other = cc
 no_jump (operand.Numbered kind number) h other = kind_none kind takes.Jump refl refl h
 no_jump (operand.NumberedBy kind from byte) h other = kind_none kind takes.Jump refl refl h
 no_jump _ h other = cc
 
-no_call : (how : _) (o : Operand) → admits takes.Call o ≡ true → goes_by_statement (word.Call how) o ≡ false → ⊥
+no_call : (how : _) (o : Operand) → admits takes.Call o ≡ true → goes_by_statement (operation.Call how) o ≡ false → ⊥
 unfolding admits
 no_call how (operand.Called kind number instance) h other = cc
 no_call how (operand.Numbered kind number) h other = kind_none kind takes.Call refl refl h
@@ -554,47 +579,48 @@ no_code (operand.Numbered kind number) h = kind_none kind takes.NoCode refl refl
 no_code (operand.NumberedBy kind from byte) h = kind_none kind takes.NoCode refl refl h
 no_code _ h = cc
 
-pub does_told : (v : Word) (o : Operand) (p : Parts) → Suits v o p → IfTold (does v o p)
+pub does_told : (v : Operation) (o : Operand) (p : Parts) → Suits v o p → IfTold (does v o p)
 unfolding does
-does_told word.Nop o p s = tt
-does_told word.Bld o p s = tt
-does_told (word.Check with) o p s = registers_told p _ (checking_told o p with s.admitted s.has)
-does_told word.OrBare o p s = tt
-does_told (word.Nest with) o p s = own_told p _ (nest_done p with s.room)
-does_told word.Unnest o p s = own_told p _ (unnesting_done p.own s.room)
-does_told word.Load o p s = registers_told p _ (loading_told o p s.admitted s.has)
-does_told word.Transfer o p s =
-    scene_told p _ (transferred_told p.own.regs.a1 o p.own p.memory (written_place o takes.Transfer p.own (inl refl) s.admitted s.has))
-does_told word.Assign o p s =
+does_told operation.Nop o p s = tt
+does_told operation.Bld o p s = tt
+does_told (operation.Check with) o p s = registers_told p _ (checking_told o p with s.admitted s.has)
+does_told operation.OrBare o p s = tt
+does_told (operation.Nest with) o p s = own_told p _ (nest_done p with s.room)
+does_told operation.Unnest o p s = own_told p _ (unnesting_done p.own s.room)
+does_told (operation.Relay which) o p s = own_told p _ (relayed_done which p.own s.room)
+does_told operation.Load o p s = registers_told p _ (loading_told o p s.admitted s.has)
+does_told operation.Transfer o p s =
+    scene_told p _ (transferred_told (if closed p.own then 0 else p.own.regs.a1) o p.own p.memory (written_place o takes.Transfer p.own (inl refl) s.admitted s.has))
+does_told operation.Assign o p s =
     scene_told p _ (assigned_told o p.own p.memory (written_place o takes.Bit p.own (inr refl) s.admitted s.has))
-does_told word.Set o p s = set_told o p s.admitted s.has
-does_told word.Reset o p s = reset_told o p s.admitted s.has
-does_told (word.Edge rising) o p s =
+does_told operation.Set o p s = set_told o p s.admitted s.has
+does_told operation.Reset o p s = reset_told o p s.admitted s.has
+does_told (operation.Edge rising) o p s =
     scene_told p _ (edge_told rising o p.own p.memory (written_place o takes.Bit p.own (inr refl) s.admitted s.has))
-does_told word.SetRlo o p s = tt
-does_told word.ClearRlo o p s = tt
-does_told word.NegateRlo o p s = tt
-does_told word.SaveRlo o p s = tt
-does_told word.LoadBcd o p s = registers_told p _ (loading_bcd_told o p (numbered_by o takes.Numbered (inl refl) s.admitted))
-does_told word.LoadStatus o p s = tt
-does_told word.TransferStatus o p s = tt
-does_told word.LoadOpenBlock o p s = registers_told p _ (open_fact_told o p.own p.memory s.admitted)
-does_told (word.Pointer what) o p s = scene_told p _ (pointed_told what o p.own p.memory s.admitted)
-does_told (word.Number what) o p s = registers_told p _ (counted_told what p.own.regs)
-does_told (word.Add what) o p s = tt
-does_told (word.CompareInt how) o p s = tt
-does_told (word.CompareDint how) o p s = tt
-does_told (word.Logic what) o p s = tt
-does_told (word.Shift what) o p s = tt
-does_told (word.Start how) o p s = timers_told p _ (starting_told how o p.own p.memory p.timers (numbered_by o takes.Timer (inr (inl refl)) s.admitted))
-does_told word.Free o p s = free_told o p (numbered_by o takes.Numbered (inl refl) s.admitted)
-does_told word.CountUp o p s = counters_told p _ (up_told o p.own p.memory p.counters (numbered_by o takes.Counter (inr (inr refl)) s.admitted))
-does_told word.CountDown o p s = counters_told p _ (down_told o p.own p.memory p.counters (numbered_by o takes.Counter (inr (inr refl)) s.admitted))
-does_told word.OpenBlock o p s = own_told p _ (opening_told o p.own p.memory s.admitted)
-does_told word.Exchange o p s = tt
-does_told word.Jump o p s = absurd (no_jump o s.admitted s.other)
-does_told (word.Call how) o p s = absurd (no_call how o s.admitted s.other)
-does_told (word.End how) o p s = absurd (let e = s.other in cc)
-does_told word.UseDb o p s = absurd s.room
-does_told word.Pass o p s = absurd s.room
-does_told word.NoWord o p s = absurd (no_code o s.admitted)
+does_told operation.SetRlo o p s = tt
+does_told operation.ClearRlo o p s = tt
+does_told operation.NegateRlo o p s = tt
+does_told operation.SaveRlo o p s = tt
+does_told operation.LoadBcd o p s = registers_told p _ (loading_bcd_told o p (numbered_by o takes.Numbered (inl refl) s.admitted))
+does_told operation.LoadStatus o p s = tt
+does_told operation.TransferStatus o p s = tt
+does_told operation.LoadOpenBlock o p s = registers_told p _ (open_fact_told o p.own p.memory s.admitted)
+does_told (operation.Pointer what) o p s = scene_told p _ (pointed_told what o p.own p.memory s.admitted)
+does_told (operation.Number what) o p s = registers_told p _ (counted_told what p.own.regs)
+does_told (operation.Add what) o p s = tt
+does_told (operation.CompareInt how) o p s = tt
+does_told (operation.CompareDint how) o p s = tt
+does_told (operation.Logic what) o p s = tt
+does_told (operation.Shift what) o p s = tt
+does_told (operation.Start how) o p s = timers_told p _ (starting_told how o p.own p.memory p.timers (numbered_by o takes.Timer (inr (inl refl)) s.admitted))
+does_told operation.Free o p s = free_told o p (numbered_by o takes.Numbered (inl refl) s.admitted)
+does_told operation.CountUp o p s = counters_told p _ (up_told o p.own p.memory p.counters (numbered_by o takes.Counter (inr (inr refl)) s.admitted))
+does_told operation.CountDown o p s = counters_told p _ (down_told o p.own p.memory p.counters (numbered_by o takes.Counter (inr (inr refl)) s.admitted))
+does_told operation.OpenBlock o p s = own_told p _ (opening_told o p.own p.memory s.admitted)
+does_told operation.Exchange o p s = tt
+does_told operation.Jump o p s = absurd (no_jump o s.admitted s.other)
+does_told (operation.Call how) o p s = absurd (no_call how o s.admitted s.other)
+does_told (operation.End how) o p s = absurd (let e = s.other in cc)
+does_told operation.UseDb o p s = absurd s.room
+does_told operation.Pass o p s = absurd s.room
+does_told operation.NoOperation o p s = absurd (no_code o s.admitted)

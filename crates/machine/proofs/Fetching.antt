@@ -8,7 +8,7 @@ use Rattle.frames.specs.declared.bindings.Binding.{Binding}
 use Rattle.flat_code.specs.Ops.{OpData}
 use Rattle.flat_code.specs.Placed.{op_placed, line_placed}
 use Rattle.flat_code.specs.Programs.{CodeBlock}
-use Rattle.flat_code.specs.Words.{word_of}
+use Rattle.flat_code.specs.Operations.{operation_of}
 use Rattle.flat_code.specs.declared.operands.Operand.{Operand}
 use Rattle.flat_code.specs.declared.operands.Operand.TheVariants as operand
 use Rattle.flat_code.specs.declared.programs.Param.{Param}
@@ -126,7 +126,7 @@ with_line b (Some line) r c a w there = (line, refl)
 -- the statement that a walk finds in a line
 abbrev pub walked : CodeBlock → Walk → List Passing → (line : ℕ) → Fetched
 walked b walk passings line = record {
-  instr = instr_of (word_of walk.last.code) walk.last.operand walk.opens passings walk.next b.code;
+  instr = instr_of (operation_of walk.last.code) walk.last.operand walk.opens passings walk.next b.code;
   next = walk.next;
   line = line;
 }
@@ -170,7 +170,7 @@ pub fetched_walk :
     → Goes (fetched c (statement_at b at) a w)
     → (passings : List Passing) × Passes b.code at passings
     × (fetched c (statement_at b at) a w
-    ≡ performed c (instr_of (word_of walk.last.code) walk.last.operand walk.opens passings walk.next b.code) walk.next a w)
+    ≡ performed c (instr_of (operation_of walk.last.code) walk.last.operand walk.opens passings walk.next b.code) walk.next a w)
 fetched_walk b at walk c a w h there =
     let found = found_walk b at walk c a w h there in
     (found.0, found.1, ap (λ (f : Option Fetched). fetched c f a w) found.3)

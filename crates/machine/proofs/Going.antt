@@ -67,9 +67,9 @@ called_goes c block instance passings next a w false is there =
 pub performed_goes :
     (c : Code) (i : Instr) (next : ℕ) (a : Activation) (w : World)
     → is_there c i a.running.frame.block ≡ true → Goes (performed c i next a w)
-performed_goes c (Does use_db word operand) next a w there =
-    parts_go (does_with use_db word operand (parts_of a.running w.memory w.timers w.counters)) next a
-performed_goes c (Jumps word target) next a w there = tt
+performed_goes c (Does use_db operation operand) next a w there =
+    parts_go (does_with use_db operation operand (parts_of a.running w.memory w.timers w.counters)) next a
+performed_goes c (Jumps operation target) next a w there = tt
 performed_goes c (JumpsByList targets otherwise) next a w there = tt
 performed_goes c (Calls how block instance passings) next a w there =
     either_goes (is_called how a.running.regs.status.rlo) _ _

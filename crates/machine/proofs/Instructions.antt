@@ -4,7 +4,7 @@ use Rattle.std.proofs.lemmas.Bool.{and_parts, eqb-true, ne_eqb}
 use Rattle.std.proofs.lemmas.List.{length-map, length-reverse}
 use Rattle.std.proofs.lemmas.Option.{same_Some}
 use Rattle.std.specs.Option.{option_map}
-use Rattle.plc_base.specs.Kinds.{kind_order}
+use Rattle.plc_base.specs.Kinds.{kind_number, kind_order}
 use Rattle.plc_base.specs.declared.BlockId.{BlockId}
 use Rattle.plc_base.specs.declared.blocks.BlockKind.{BlockKind}
 use Rattle.plc_base.specs.declared.blocks.BlockKind.TheVariants as kinds
@@ -17,45 +17,51 @@ use Rattle.frames.specs.declared.bindings.Binding.{Binding}
 use Rattle.frames.specs.declared.bindings.Binding.TheVariants as binding
 use Rattle.frames.specs.declared.frame.Frame.{Frame}
 use Rattle.flat_code.specs.declared.image_fields.OpenBracket.{OpenBracket}
-use Rattle.flat_code.specs.declared.kinds.JumpWord.{JumpWord}
-use Rattle.flat_code.specs.declared.kinds.JumpWord.TheVariants as jump
+use Rattle.flat_code.specs.declared.kinds.JumpOperation.{JumpOperation}
+use Rattle.flat_code.specs.declared.kinds.JumpOperation.TheVariants as jump
 use Rattle.flat_code.specs.declared.kinds.TheConstants.{JUMPS}
 use Rattle.flat_code.specs.declared.operands.Operand.{Operand}
 use Rattle.flat_code.specs.declared.operands.Operand.TheVariants as operand
 use Rattle.flat_code.specs.declared.programs.Param.{Param}
-use Rattle.flat_code.specs.declared.words.CallWord.{CallWord}
-use Rattle.flat_code.specs.declared.words.EndWord.{EndWord}
-use Rattle.flat_code.specs.declared.words.EndWord.TheVariants as ends
+use Rattle.flat_code.specs.declared.operations.CallOperation.{CallOperation}
+use Rattle.flat_code.specs.declared.operations.EndOperation.{EndOperation}
+use Rattle.flat_code.specs.declared.operations.EndOperation.TheVariants as ends
+use Rattle.flat_code.specs.declared.operations.CallOperation.TheVariants as calls
+use Rattle.flat_code.specs.declared.operations.RelayOperation.{RelayOperation}
+use Rattle.flat_code.specs.declared.operations.RelayOperation.TheVariants as relay
 use Rattle.flat_code.specs.declared.table.Takes.{Takes}
 use Rattle.flat_code.specs.declared.table.Takes.TheVariants as takes
-use Rattle.flat_code.specs.declared.words.TheConstants.{WORDS}
-use Rattle.flat_code.specs.declared.words.Word.{Word}
-use Rattle.flat_code.specs.declared.words.Word.TheVariants as word
+use Rattle.flat_code.specs.declared.operations.TheConstants.{OPERATIONS}
+use Rattle.flat_code.specs.declared.operations.Operation.{Operation}
+use Rattle.flat_code.specs.declared.operations.Operation.TheVariants as operation
 use Rattle.flat_code.specs.Blocks.{Callee, callee, system_params, are_passed, is_bad_instance, is_short, data_len, leads, is_ju, is_in_db, prepares, writes}
 use Rattle.flat_code.specs.Codes.{size}
 use Rattle.flat_code.specs.Instr.{Instr, Does, Jumps, JumpsByList, Calls, Returns}
 use Rattle.flat_code.specs.Kinds.{jump_of}
 use Rattle.flat_code.specs.Loading.{Verifies, lens_of}
 use Rattle.flat_code.specs.declared.image_fields.ParameterRecord.{ParameterRecord}
-use Rattle.flat_code.specs.Forms.{is_callable, payload_fits}
+use Rattle.flat_code.specs.Forms.{kind_of_code, payload_fits}
 use Rattle.flat_code.specs.Image.{param_of, record_of_param}
 use Rattle.flat_code.specs.Ops.{OpData, is_op}
-use Rattle.flat_code.specs.Placed.{op_placed, bracket_codes, last_op, is_empty as nothing}
+use Rattle.flat_code.specs.OpCodes.{code_of as op_code}
+use Rattle.flat_code.specs.Placed.{op_placed, bracket_codes, most_zones, last_op, is_empty as nothing}
 use Rattle.flat_code.specs.Programs.{CodeBlock, Program}
-use Rattle.flat_code.specs.Table.{admits, is_jump, takes_of, takes_of_word}
-use Rattle.flat_code.specs.Words.{word_of}
+use Rattle.flat_code.specs.Records.{section_in}
+use Rattle.flat_code.specs.Table.{admits, is_jump, takes_of, takes_of_operation}
+use Rattle.flat_code.specs.Operations.{operation_of}
 use Rattle.image_file.specs.Readers.{same_id, block_of}
 use Rattle.image_file.specs.Verified.{FitsCall, FitsOperand, FitsPrepared, signatures}
 use Rattle.machine.specs.DataBlocks.{is_loaded}
 use Rattle.machine.specs.Does.{on_own, does, with_db, does_with}
 use Rattle.machine.specs.Entering.{going_on}
-use Rattle.machine.specs.Fitting.{HasInstance, IsBound, IsMemoryOf, codes_of}
-use Rattle.machine.specs.Flat.{call_instr, code_of, head_of, instance_named, kind_called, instr_of, is_jl, jump_instr, list_of, listed_with, most_listed, passings_of, use_db_of, use_db_first}
+use Rattle.machine.specs.Fitting.{HasInstance, IsBound, IsMemoryOf, OpenAt, codes_of}
+use Rattle.machine.specs.Flat.{call_instr, code_of, head_of, instance_named, instr_of, is_jl, jump_instr, list_of, listed_with, most_listed, passings_of, use_db_of, use_db_first}
 use Rattle.machine.specs.Jumps.{after_jump, goes_to, is_taken, listed, rlo_tested}
 use Rattle.machine.specs.ImageLaws.{ImageLaws}
 use Rattle.machine.specs.Lasting.{FitsProgram, Lasts}
 use Rattle.machine.specs.Nesting.{with_brackets, nesting, unnesting, unnested}
-use Rattle.machine.specs.OpenBrackets.{check_named, checks_of, open_codes}
+use Rattle.machine.specs.OpenBrackets.{check_named, checks_of, open_at, open_codes}
+use Rattle.machine.specs.Relay.{opening_zone, ending_zone}
 use Rattle.machine.specs.Parts.{Own, Parts, own_of, parts_of, with_own}
 use Rattle.machine.specs.Places.{no_operand}
 use Rattle.machine.specs.SystemCalls.{system_function}
@@ -63,19 +69,21 @@ use Rattle.machine.specs.Statement.{World, Went, statement, performed, went_on, 
 use Rattle.machine.proofs.BindingLemmas.{PassingsFit, bound_of}
 use Rattle.machine.proofs.Called.{Caller, own_bound, function_lasts, function_block_lasts, going_fits, head_there}
 use Rattle.machine.proofs.Entered.{AreParams, of_blocks, of_functions, passings_fit, all_among, instance_long}
-use Rattle.machine.proofs.Errors.{Told, IfTold, IsSupplied, IsPlace, ParamHas, is_writing, goes_by_statement, HasRoom, Suits, does_told, either_told, kind_none}
-use Rattle.machine.proofs.Keeping.{IfDone, Keeps, codes_after, does_with_keeps}
-use Rattle.machine.proofs.Moving.{stands_of, activation_follows}
+use Rattle.machine.proofs.Errors.{Told, IfTold, IsSupplied, IsPlace, ParamHas, is_writing, goes_by_statement, HasRoom, Suits, does_told, either_told, kind_none, zone_room, zone_there}
+use Rattle.machine.proofs.Keeping.{IfDone, Keeps, Quiet, codes_after, left_open, does_with_keeps}
+use Rattle.machine.proofs.Moving.{stands_of, frame_open, activation_follows}
+use Rattle.machine.proofs.Ready.{IsCallable, callable_kind, kind_callable}
 use Rattle.machine.proofs.Returned.{returned_lasts}
 use Rattle.machine.proofs.Systems.{function_called_lasts}
 use Rattle.machine.proofs.Sizes.{same_sizes}
-use Rattle.machine.proofs.Standing.{Stood, Statement, AllBefore, is_other, nest_opens, opening_word, ends_here, two_or_four, none_before, stood_there, statement_there, next_stood, target_stood, behind_op, next_op, op_here, checks_behind}
+use Rattle.machine.proofs.OpenBehind.{is_other, nest_opens, opening_word, two_or_four, behind_op, left_behind, opening_code, ending_code}
+use Rattle.machine.proofs.Standing.{Stood, Statement, AllBefore, ends_here, none_before, stood_there, statement_there, next_stood, target_stood, next_op, op_here}
 
 -- an activation that fits a program that verifies, and the statement at which it stands
 pub record At (p : Program) (a : Activation) (w : World) : Type 0 where
   pub verifies : Verifies p
   pub fits : FitsProgram p w.memory a
-  pub here : Statement p a.running.frame.block a.running.frame.at (codes_of a.running.frame.brackets)
+  pub here : Statement p a.running.frame.block a.running.frame.at (frame_open a.running.frame)
 
 pub at_of : (l : ImageLaws) (p : Program) (a : Activation) (w : World) → Verifies p → FitsProgram p w.memory a → At p a w
 at_of l p a w verifies h =
@@ -84,36 +92,35 @@ at_of l p a w verifies h =
     record {
       verifies = verifies;
       fits = h;
-      here = statement_there l p f.block f.at (codes_of f.brackets)
-          (stood_there p f.block f.at (codes_of f.brackets) verifies was.frame.open_brackets);
+      here = statement_there l p f.block f.at (frame_open f) (stood_there p f.block f.at (frame_open f) verifies was.frame.open_brackets);
     }
 
--- ---- words that end no block
+-- ---- operations that end no block
 
-abbrev pub is_be : Word → Bool
-is_be (word.End ends.Be) = true
+abbrev pub is_be : Operation → Bool
+is_be (operation.End ends.Be) = true
 is_be _ = false
 
-code_goes_on : (code : ℕ) → is_be (word_of code) ≡ false → code ≡ 0x7B → ⊥
-unfolding word_of
+code_goes_on : (code : ℕ) → is_be (operation_of code) ≡ false → code ≡ op_code (operation.End ends.Be) → ⊥
+unfolding operation_of
 code_goes_on code h is = let e : true ≡ false = rw is at h in cc
 
--- behind a statement that ends no block, and changes no bracket, the next one stands
+-- behind a statement that ends no block, and opens and closes nothing, the next one stands
 next_same :
-    (l : ImageLaws) (p : Program) (a : Activation) (w : World) (at : At p a w) (v : Word)
-    → word_of at.here.run.last.code ≡ v → is_be v ≡ false → ((codes : List Check) → codes_after v codes ≡ codes)
-    → Stood p a.running.frame.block at.here.run.next (codes_of a.running.frame.brackets)
+    (l : ImageLaws) (p : Program) (a : Activation) (w : World) (at : At p a w) (v : Operation)
+    → operation_of at.here.run.last.code ≡ v → is_be v ≡ false → Quiet v
+    → Stood p a.running.frame.block at.here.run.next (frame_open a.running.frame)
 next_same l p a w at v is goes quiet =
     let f = a.running.frame in
-    subst (λ (codes : List Check). Stood p f.block at.here.run.next codes)
-    (ap (λ (z : Word). codes_after z (codes_of f.brackets)) is ∙ quiet (codes_of f.brackets))
-    (next_stood l p f.block f.at (codes_of f.brackets) at.here (code_goes_on at.here.run.last.code (ap is_be is ∙ goes)))
+    subst (λ (held : OpenAt). Stood p f.block at.here.run.next held)
+    (ap (λ (z : Operation). left_open z (frame_open f)) is ∙ quiet (frame_open f))
+    (next_stood l p f.block f.at (frame_open f) at.here (code_goes_on at.here.run.last.code (ap is_be is ∙ goes)))
 
 -- ---- instructions that touch no position
 
 went_fits :
-    (l : ImageLaws) (p : Program) (a : Activation) (w : World) (at : At p a w) (v : Word) (q : Parts)
-    → word_of at.here.run.last.code ≡ v → is_be v ≡ false → Keeps v (parts_of a.running w.memory w.timers w.counters) q
+    (l : ImageLaws) (p : Program) (a : Activation) (w : World) (at : At p a w) (v : Operation) (q : Parts)
+    → operation_of at.here.run.last.code ≡ v → is_be v ≡ false → Keeps v (parts_of a.running w.memory w.timers w.counters) q
     → FitsProgram p q.memory (going_on at.here.run.next q.own.regs (with_parts q a))
 went_fits l p a w at v q is goes kept =
     let f = a.running.frame in
@@ -128,24 +135,24 @@ went_fits l p a w at v q is goes kept =
       instance = kept.instance;
       db = kept.db was.frame.db was.frame.di;
       di = kept.di was.frame.db was.frame.di;
-      codes = codes_after v (codes_of f.brackets);
-      stood = subst (λ (z : Word). Stood p f.block at.here.run.next (codes_after z (codes_of f.brackets))) is
-          (next_stood l p f.block f.at (codes_of f.brackets) at.here (code_goes_on at.here.run.last.code (ap is_be is ∙ goes)));
-      same = kept.brackets;
+      held = left_open v (frame_open f);
+      stood = subst (λ (z : Operation). Stood p f.block at.here.run.next (left_open z (frame_open f))) is
+          (next_stood l p f.block f.at (frame_open f) at.here (code_goes_on at.here.run.last.code (ap is_be is ∙ goes)));
+      same = kept.held;
     }) kept.starts kept.len
 
--- what an error of an instruction says: its code, and that the brackets are as they were
-pub record Erring (v : Word) (code : ℕ) : Type 0 where
-  pub quiet : (codes : List Check) → codes_after v codes ≡ codes
+-- what an error of an instruction says: its code, and that brackets and zones are as they were
+pub record Erring (v : Operation) (code : ℕ) : Type 0 where
+  pub quiet : Quiet v
   pub told : Told code
 
-abbrev pub IfErring : Word → Result Parts ℕ → Type 0
+abbrev pub IfErring : Operation → Result Parts ℕ → Type 0
 IfErring v (Ok q) = Unit {0}
 IfErring v (Err code) = Erring v code
 
 does_lasts :
-    (l : ImageLaws) (p : Program) (a : Activation) (w : World) (at : At p a w) (v : Word) (r : Result Parts ℕ)
-    → word_of at.here.run.last.code ≡ v → is_be v ≡ false
+    (l : ImageLaws) (p : Program) (a : Activation) (w : World) (at : At p a w) (v : Operation) (r : Result Parts ℕ)
+    → operation_of at.here.run.last.code ≡ v → is_be v ≡ false
     → IfDone (Keeps v (parts_of a.running w.memory w.timers w.counters)) r → IfErring v r
     → Lasts p w (went_on r at.here.run.next a)
 does_lasts l p a w at v (Ok q) is goes kept erring = record { sizes = kept.memory; fits = went_fits l p a w at v q is goes kept }
@@ -155,30 +162,30 @@ does_lasts l p a w at v (Err code) is goes kept erring =
 -- ---- jumps
 
 jump_lasts :
-    (l : ImageLaws) (p : Program) (a : Activation) (w : World) (at : At p a w) (how : JumpWord) (kind target : ℕ)
-    → word_of at.here.run.last.code ≡ word.Jump → at.here.run.last.operand ≡ operand.Jump kind target
+    (l : ImageLaws) (p : Program) (a : Activation) (w : World) (at : At p a w) (how : JumpOperation) (kind target : ℕ)
+    → operation_of at.here.run.last.code ≡ operation.Jump → at.here.run.last.operand ≡ operand.Jump kind target
     → Lasts p w (jumped how target at.here.run.next a w)
 jump_lasts l p a w at how kind target is operand_is = record { sizes = same_sizes w.memory; fits = by (is_taken how a.running.regs) }
   where
     by : (taken : Bool) → FitsProgram p w.memory (going_on (goes_to taken target at.here.run.next) (after_jump how a.running.regs) a)
     by true =
         going_fits l p w.memory a target (after_jump how a.running.regs) at.fits
-        (target_stood l p a.running.frame.block a.running.frame.at (codes_of a.running.frame.brackets) at.here kind target operand_is)
+        (target_stood l p a.running.frame.block a.running.frame.at (frame_open a.running.frame) at.here kind target operand_is)
     by false =
         going_fits l p w.memory a at.here.run.next (after_jump how a.running.regs) at.fits
-        (next_same l p a w at word.Jump is refl (λ codes. refl))
+        (next_same l p a w at operation.Jump is refl (λ held. refl))
 
 -- ---- JL
 
 -- only kind 1 is JL
-abbrev only_one : ℕ → List JumpWord → Bool
+abbrev only_one : ℕ → List JumpOperation → Bool
 only_one from [] = true
 only_one from (j ∷ js) = (not (is_jl j) || eqb from 1) && only_one (from + 1) js
 
 jumps_told : only_one 0 JUMPS ≡ true
 jumps_told = refl
 
-jl_at : (from : ℕ) (js : List JumpWord) (i : ℕ) → only_one from js ≡ true → is_jl (get_or js i jump.Ju) ≡ true → from + i ≡ 1
+jl_at : (from : ℕ) (js : List JumpOperation) (i : ℕ) → only_one from js ≡ true → is_jl (get_or js i jump.Ju) ≡ true → from + i ≡ 1
 jl_at from [] i all is = absurd cc
 jl_at from (j ∷ js) zero all is =
     let h = (and_parts (not (is_jl j) || eqb from 1) (only_one (from + 1) js) all).0 in
@@ -193,32 +200,33 @@ jl_kind : (kind : ℕ) → is_jl (jump_of kind) ≡ true → kind ≡ 1
 unfolding jump_of
 jl_kind kind is = let e = jl_at 0 JUMPS kind jumps_told is in omega (arith, e)
 
--- each target of a list is a statement with these brackets open
-abbrev AllStood : Program → BlockId → List Check → List ℕ → Type 0
-AllStood p block codes [] = Unit {0}
-AllStood p block codes (at ∷ rest) = Stood p block at codes × AllStood p block codes rest
+-- each target of a list is a statement with this open before it
+abbrev AllStood : Program → BlockId → OpenAt → List ℕ → Type 0
+AllStood p block held [] = Unit {0}
+AllStood p block held (at ∷ rest) = Stood p block at held × AllStood p block held rest
 
 picked_stood :
-    (p : Program) (block : BlockId) (codes : List Check) (list : List ℕ) (i otherwise : ℕ) → AllStood p block codes list
-    → Stood p block otherwise codes → Stood p block (unwrap_or (slice_get list i) otherwise) codes
-picked_stood p block codes [] i otherwise all other = other
-picked_stood p block codes (at ∷ rest) zero otherwise all other = all.0
-picked_stood p block codes (at ∷ rest) (suc i) otherwise all other = picked_stood p block codes rest i otherwise all.1 other
+    (p : Program) (block : BlockId) (held : OpenAt) (list : List ℕ) (i otherwise : ℕ) → AllStood p block held list
+    → Stood p block otherwise held → Stood p block (unwrap_or (slice_get list i) otherwise) held
+picked_stood p block held [] i otherwise all other = other
+picked_stood p block held (at ∷ rest) zero otherwise all other = all.0
+picked_stood p block held (at ∷ rest) (suc i) otherwise all other = picked_stood p block held rest i otherwise all.1 other
 
--- what takes a jump changes no bracket, and prepares nothing
-jump_quiet : (v : Word) (codes : List Check) → is_jump (takes_of_word v) ≡ true → codes_after v codes ≡ codes
-jump_quiet (word.Nest with) codes h = absurd cc
-jump_quiet word.Unnest codes h = absurd cc
-jump_quiet _ codes h = refl
+-- what takes a jump opens and closes nothing, and prepares nothing
+jump_quiet : (v : Operation) → is_jump (takes_of_operation v) ≡ true → Quiet v
+jump_quiet (operation.Nest with) h held = absurd cc
+jump_quiet operation.Unnest h held = absurd cc
+jump_quiet (operation.Relay which) h held = absurd cc
+jump_quiet _ h held = refl
 
-takes_jump : (code kind target : ℕ) → is_op code (operand.Jump kind target) ≡ true → is_jump (takes_of_word (word_of code)) ≡ true
+takes_jump : (code kind target : ℕ) → is_op code (operand.Jump kind target) ≡ true → is_jump (takes_of_operation (operation_of code)) ≡ true
 unfolding is_op admits takes_of
 takes_jump code kind target right =
-    let taken = and_parts (ltb code 128 && is_jump (takes_of_word (word_of code))) (payload_fits (operand.Jump kind target)) right in
-    (and_parts (ltb code 128) (is_jump (takes_of_word (word_of code))) taken.0).1
+    let taken = and_parts (ltb code 128 && is_jump (takes_of_operation (operation_of code))) (payload_fits (operand.Jump kind target)) right in
+    (and_parts (ltb code 128) (is_jump (takes_of_operation (operation_of code))) taken.0).1
 
-jump_ends : (code : ℕ) (last : Bool) → is_jump (takes_of_word (word_of code)) ≡ true → last ≡ not (prepares code) → last ≡ true
-unfolding word_of
+jump_ends : (code : ℕ) (last : Bool) → is_jump (takes_of_operation (operation_of code)) ≡ true → last ≡ not (prepares code) → last ≡ true
+unfolding operation_of
 jump_ends code last h ended = by (prepares code) refl ended
   where
     none : (code ≡ 2) ⊎ (code ≡ 4) → ⊥
@@ -234,28 +242,28 @@ ju_is (operand.Jump zero target) h = (target, refl)
 ju_is _ h = absurd cc
 
 -- the ops from an offset on, of which the first begins a statement
-abbrev AtRest : Program → BlockId → CodeBlock → List Check → (at : ℕ) → List OpData → Type 0
-AtRest p block b codes at [] = Unit {0}
-AtRest p block b codes at (op ∷ ops) =
-    (s : Stood p block at codes) × (s.b ≡ b) × (s.q.op ≡ op) × (s.q.rest ≡ ops)
+abbrev AtRest : Program → BlockId → CodeBlock → OpenAt → (at : ℕ) → List OpData → Type 0
+AtRest p block b held at [] = Unit {0}
+AtRest p block b held at (op ∷ ops) =
+    (s : Stood p block at held) × (s.b ≡ b) × (s.q.op ≡ op) × (s.q.rest ≡ ops)
 
 op_listed :
-    (p : Program) (block : BlockId) (b : CodeBlock) (at : ℕ) (codes : List Check) (s : Stood p block at codes) (op : OpData)
+    (p : Program) (block : BlockId) (b : CodeBlock) (at : ℕ) (held : OpenAt) (s : Stood p block at held) (op : OpData)
     → s.b ≡ b → s.q.op ≡ op → op_placed 0 b.code at ≡ Some (op, at + size op)
-op_listed p block b at codes s op is same =
+op_listed p block b at held s op is same =
     ap (λ (z : CodeBlock). op_placed 0 z.code at) (sym is)
     ∙ ap (op_placed 0 s.b.code) (sym s.offset)
-    ∙ op_here 0 [] [] s.b.code s.q.at s.q s.op.place
+    ∙ op_here 0 [] [] [] s.b.code s.q.at s.q s.op.place
     ∙ ap (λ (k : ℕ). Some (s.q.op, k + size s.q.op)) s.offset
     ∙ ap (λ (z : OpData). Some (z, at + size z)) same
 
 -- behind a jump the next statement stands
 behind_jump :
-    (l : ImageLaws) (p : Program) (block : BlockId) (b : CodeBlock) (at : ℕ) (codes : List Check) (s : Stood p block at codes)
+    (l : ImageLaws) (p : Program) (block : BlockId) (b : CodeBlock) (at : ℕ) (held : OpenAt) (s : Stood p block at held)
     (kind target : ℕ) (op : OpData) (rest : List OpData) → s.b ≡ b → s.q.op ≡ op → s.q.rest ≡ rest
-    → op.operand ≡ operand.Jump kind target → AtRest p block b codes (at + size op) rest
-behind_jump l p block b at codes s kind target op [] is same split jumps = tt
-behind_jump l p block b at codes s kind target op (n ∷ ops) is same split jumps =
+    → op.operand ≡ operand.Jump kind target → AtRest p block b held (at + size op) rest
+behind_jump l p block b at held s kind target op [] is same split jumps = tt
+behind_jump l p block b at held s kind target op (n ∷ ops) is same split jumps =
     let right : is_op s.q.op.code (operand.Jump kind target) ≡ true =
     subst (λ (z : Operand). is_op s.q.op.code z ≡ true) (ap (λ (z : OpData). z.operand) same ∙ jumps) (l.table p s.b s.q s.op) in
     let taken = takes_jump s.q.op.code kind target right in
@@ -267,8 +275,7 @@ behind_jump l p block b at codes s kind target op (n ∷ ops) is same split jump
         op = next_op l p s.b s.q n ops s.op split;
         offset = ap (λ (k : ℕ). k + size s.q.op) s.offset ∙ ap (λ (z : OpData). at + size z) same;
         begun = rw ended refl;
-        same = checks_behind s.q.at s.q.op.code s.q.brackets
-            ∙ ap (codes_after (word_of s.q.op.code)) s.same ∙ jump_quiet (word_of s.q.op.code) codes taken;
+        same = left_behind s.q n ops ∙ ap (left_open (operation_of s.q.op.code)) s.same ∙ jump_quiet (operation_of s.q.op.code) taken held;
       },
       is,
       refl,
@@ -277,57 +284,57 @@ behind_jump l p block b at codes s kind target op (n ∷ ops) is same split jump
 
 -- each target of a list is the place of a JU
 list_stood :
-    (l : ImageLaws) (p : Program) (block : BlockId) (b : CodeBlock) (codes : List Check) (target most at : ℕ) (rest : List OpData)
-    → leads most target at rest ≡ true → AtRest p block b codes at rest
-    → AllStood p block codes (list_of most b.code target at)
+    (l : ImageLaws) (p : Program) (block : BlockId) (b : CodeBlock) (held : OpenAt) (target most at : ℕ) (rest : List OpData)
+    → leads most target at rest ≡ true → AtRest p block b held at rest
+    → AllStood p block held (list_of most b.code target at)
 unfolding list_of
-list_stood l p block b codes target zero at rest leading s = tt
-list_stood l p block b codes target (suc most) at [] leading s = by (eqb at target) leading
+list_stood l p block b held target zero at rest leading s = tt
+list_stood l p block b held target (suc most) at [] leading s = by (eqb at target) leading
   where
-    by : (t : Bool) → t ≡ true → AllStood p block codes (cond t [] (listed_with (op_placed 0 b.code at) at (λ next. list_of most b.code target next)))
+    by : (t : Bool) → t ≡ true → AllStood p block held (cond t [] (listed_with (op_placed 0 b.code at) at (λ next. list_of most b.code target next)))
     by true e = tt
     by false e = absurd cc
-list_stood l p block b codes target (suc most) at (op ∷ ops) leading s =
-    by (eqb at target) leading (λ rest leads_on. list_stood l p block b codes target most (at + size op) ops leads_on rest)
+list_stood l p block b held target (suc most) at (op ∷ ops) leading s =
+    by (eqb at target) leading (λ rest leads_on. list_stood l p block b held target most (at + size op) ops leads_on rest)
   where
     by : (t : Bool) → (t || (is_ju op.operand && leads most target (at + size op) ops)) ≡ true
-        → (AtRest p block b codes (at + size op) ops → leads most target (at + size op) ops ≡ true → AllStood p block codes (list_of most b.code target (at + size op)))
-        → AllStood p block codes (cond t [] (listed_with (op_placed 0 b.code at) at (λ next. list_of most b.code target next)))
+        → (AtRest p block b held (at + size op) ops → leads most target (at + size op) ops ≡ true → AllStood p block held (list_of most b.code target (at + size op)))
+        → AllStood p block held (cond t [] (listed_with (op_placed 0 b.code at) at (λ next. list_of most b.code target next)))
     by true e more = tt
     by false e more =
         let parts = and_parts (is_ju op.operand) (leads most target (at + size op) ops) e in
         let ju = ju_is op.operand parts.0 in
-        rw (op_listed p block b at codes s.0 op s.1 s.2)
-        (s.0, more (behind_jump l p block b at codes s.0 0 ju.0 op ops s.1 s.2 s.3 ju.1) parts.1)
+        rw (op_listed p block b at held s.0 op s.1 s.2)
+        (s.0, more (behind_jump l p block b at held s.0 0 ju.0 op ops s.1 s.2 s.3 ju.1) parts.1)
 
 jump_list_lasts :
     (l : ImageLaws) (p : Program) (a : Activation) (w : World) (at : At p a w) (target : ℕ)
-    → word_of at.here.run.last.code ≡ word.Jump → at.here.run.last.operand ≡ operand.Jump 1 target
+    → operation_of at.here.run.last.code ≡ operation.Jump → at.here.run.last.operand ≡ operand.Jump 1 target
     → Lasts p w (performed (code_of p) (JumpsByList (list_of most_listed at.here.stood.b.code target at.here.run.next) target) at.here.run.next a w)
 unfolding listed
 jump_list_lasts l p a w at target is operand_is =
     let f = a.running.frame in
-    let codes = codes_of f.brackets in
+    let held = frame_open f in
     let s = at.here in
     let last_is : s.ran.last.op.operand ≡ operand.Jump 1 target = ap (λ (z : OpData). z.operand) s.ran.same ∙ operand_is in
     let next_is : s.run.next ≡ s.ran.last.at + size s.ran.last.op = s.ran.next in
-    let here : Stood p f.block s.run.next codes = next_same l p a w at word.Jump is refl (λ c. refl) in
-    let list = list_stood l p f.block s.stood.b codes target most_listed s.run.next s.ran.last.rest
+    let here : Stood p f.block s.run.next held = next_same l p a w at operation.Jump is refl (λ held. refl) in
+    let list = list_stood l p f.block s.stood.b held target most_listed s.run.next s.ran.last.rest
     (ap (λ (k : ℕ). leads 255 target k s.ran.last.rest) next_is ∙ l.lists p s.stood.b s.ran.last target s.ran.op last_is)
     (behind_last s.ran.last.rest refl) in
     record {
       sizes = same_sizes w.memory;
       fits = going_fits l p w.memory a _ a.running.regs at.fits
-          (picked_stood p f.block codes (list_of most_listed s.stood.b.code target s.run.next) (a.running.regs.a1 % 2 ^ 8) target list
-          (target_stood l p f.block f.at codes s 1 target operand_is));
+          (picked_stood p f.block held (list_of most_listed s.stood.b.code target s.run.next) (a.running.regs.a1 % 2 ^ 8) target list
+          (target_stood l p f.block f.at held s 1 target operand_is));
     }
   where
     behind_last : (rest : List OpData) → at.here.ran.last.rest ≡ rest
-        → AtRest p a.running.frame.block at.here.stood.b (codes_of a.running.frame.brackets) at.here.run.next rest
+        → AtRest p a.running.frame.block at.here.stood.b (frame_open a.running.frame) at.here.run.next rest
     behind_last [] split = tt
     behind_last (n ∷ ops) split = (next_is_op n ops split, refl, refl, refl)
       where
-        next_is_op : (n : OpData) (ops : List OpData) → at.here.ran.last.rest ≡ n ∷ ops → Stood p a.running.frame.block at.here.run.next (codes_of a.running.frame.brackets)
+        next_is_op : (n : OpData) (ops : List OpData) → at.here.ran.last.rest ≡ n ∷ ops → Stood p a.running.frame.block at.here.run.next (frame_open a.running.frame)
         next_is_op n ops split = record {
           b = at.here.stood.b;
           q = behind_op at.here.ran.last n ops;
@@ -335,22 +342,21 @@ jump_list_lasts l p a w at target is operand_is =
           op = next_op l p at.here.stood.b at.here.ran.last n ops at.here.ran.op split;
           offset = sym at.here.ran.next;
           begun = rw at.here.ran.ended refl;
-          same = checks_behind at.here.ran.last.at at.here.ran.last.op.code at.here.ran.last.brackets
-              ∙ ap (λ (z : OpData). codes_after (word_of z.code) (checks_of at.here.ran.last.brackets)) at.here.ran.same
-              ∙ ap (λ (z : Word). codes_after z (checks_of at.here.ran.last.brackets)) is
-              ∙ ap checks_of at.here.ran.brackets ∙ at.here.stood.same;
+          same = left_behind at.here.ran.last n ops
+              ∙ ap (λ (z : OpData). left_open (operation_of z.code) (open_at at.here.ran.last)) at.here.ran.same
+              ∙ ap (λ (z : Operation). left_open z (open_at at.here.ran.last)) is ∙ at.here.ran.held ∙ at.here.stood.same;
         }
 
 -- ---- ends
 
-bec_alone : (how : EndWord) (rlo : Bool) → is_ended how rlo ≡ false → is_be (word.End how) ≡ false
+bec_alone : (how : EndOperation) (rlo : Bool) → is_ended how rlo ≡ false → is_be (operation.End how) ≡ false
 bec_alone ends.Be rlo h = absurd cc
 bec_alone ends.Bec rlo h = refl
 bec_alone ends.Beu rlo h = refl
 
 end_lasts :
-    (l : ImageLaws) (p : Program) (a : Activation) (w : World) (at : At p a w) (how : EndWord)
-    → word_of at.here.run.last.code ≡ word.End how
+    (l : ImageLaws) (p : Program) (a : Activation) (w : World) (at : At p a w) (how : EndOperation)
+    → operation_of at.here.run.last.code ≡ operation.End how
     → Lasts p w (performed (code_of p) (Returns how) at.here.run.next a w)
 end_lasts l p a w at how is = by (is_ended how a.running.regs.status.rlo) refl
   where
@@ -360,7 +366,7 @@ end_lasts l p a w at how is = by (is_ended how a.running.regs.status.rlo) refl
     by false e = record {
       sizes = same_sizes w.memory;
       fits = going_fits l p w.memory a at.here.run.next (rlo_tested a.running.regs) at.fits
-          (next_same l p a w at (word.End how) is (bec_alone how a.running.regs.status.rlo e) (λ codes. refl));
+          (next_same l p a w at (operation.End how) is (bec_alone how a.running.regs.status.rlo e) (λ held. refl));
     }
 
 -- ---- calls
@@ -451,12 +457,12 @@ call_all l p a w at kind number instance is other =
     ap (are_passed 0 fit.called.2) (sym before) ∙ fit.all other
 
 behind_call :
-    (l : ImageLaws) (p : Program) (a : Activation) (w : World) (at : At p a w) (how : CallWord)
-    → word_of at.here.run.last.code ≡ word.Call how → Caller p w.memory a at.here.run.next
+    (l : ImageLaws) (p : Program) (a : Activation) (w : World) (at : At p a w) (how : CallOperation)
+    → operation_of at.here.run.last.code ≡ operation.Call how → Caller p w.memory a at.here.run.next
 behind_call l p a w at how is = record {
   fits = at.fits;
   verifies = at.verifies;
-  stood = next_same l p a w at (word.Call how) is refl (λ codes. refl);
+  stood = next_same l p a w at (operation.Call how) is refl (λ held. refl);
 }
 
 no_instance : (lens : List (ℕ × ℕ)) (called : Callee) (instance : ℕ) → (called.0 ≡ 3 → ⊥) → is_bad_instance lens called instance ≡ false → instance_named instance ≡ None
@@ -484,8 +490,8 @@ has_instance p m b called instance is memory h = by (eqb instance 0) (rw is at h
     by false e = instance_long memory.profile p m instance b.instance_len memory.sizes e
 
 call_function :
-    (l : ImageLaws) (p : Program) (a : Activation) (w : World) (at : At p a w) (how : CallWord) (number instance : ℕ)
-    → word_of at.here.run.last.code ≡ word.Call how → at.here.run.last.operand ≡ operand.Called 2 number instance
+    (l : ImageLaws) (p : Program) (a : Activation) (w : World) (at : At p a w) (how : CallOperation) (number instance : ℕ)
+    → operation_of at.here.run.last.code ≡ operation.Call how → at.here.run.last.operand ≡ operand.Called 2 number instance
     → Lasts p w (called (code_of p) (record { kind = kinds.Fc; number = number }) (instance_named instance) (passings_of at.here.run.before) at.here.run.next a w)
 call_function l p a w at how number instance word_is is =
     let fit = fit_of l p a w at 2 number instance is in
@@ -502,8 +508,8 @@ call_function l p a w at how number instance word_is is =
     (λ i q found. all_among i (map record_of_param b.params) (record_of_param q) at.here.run.before all (get_mapped record_of_param b.params i q found)))
 
 call_function_block :
-    (l : ImageLaws) (p : Program) (a : Activation) (w : World) (at : At p a w) (how : CallWord) (number instance : ℕ)
-    → word_of at.here.run.last.code ≡ word.Call how → at.here.run.last.operand ≡ operand.Called 3 number instance
+    (l : ImageLaws) (p : Program) (a : Activation) (w : World) (at : At p a w) (how : CallOperation) (number instance : ℕ)
+    → operation_of at.here.run.last.code ≡ operation.Call how → at.here.run.last.operand ≡ operand.Called 3 number instance
     → Lasts p w (called (code_of p) (record { kind = kinds.Fb; number = number }) (instance_named instance) (passings_of at.here.run.before) at.here.run.next a w)
 call_function_block l p a w at how number instance word_is is =
     let fit = fit_of l p a w at 3 number instance is in
@@ -534,8 +540,8 @@ function_known : (number : ℕ) (rs : List ParameterRecord) → system_params nu
 function_known number rs is = rw is refl
 
 call_system_function :
-    (l : ImageLaws) (p : Program) (a : Activation) (w : World) (at : At p a w) (how : CallWord) (number instance : ℕ)
-    → word_of at.here.run.last.code ≡ word.Call how → at.here.run.last.operand ≡ operand.Called 5 number instance
+    (l : ImageLaws) (p : Program) (a : Activation) (w : World) (at : At p a w) (how : CallOperation) (number instance : ℕ)
+    → operation_of at.here.run.last.code ≡ operation.Call how → at.here.run.last.operand ≡ operand.Called 5 number instance
     → Lasts p w (called (code_of p) (record { kind = kinds.Sfc; number = number }) (instance_named instance) (passings_of at.here.run.before) at.here.run.next a w)
 call_system_function l p a w at how number instance word_is is =
     let fit = fit_of l p a w at 5 number instance is in
@@ -554,8 +560,8 @@ call_system_function l p a w at how number instance word_is is =
 
 -- where CC doesn't call, the caller goes on
 either_called :
-    (l : ImageLaws) (p : Program) (a : Activation) (w : World) (at : At p a w) (how : CallWord) (block : BlockId) (instance : Option ℕ)
-    → word_of at.here.run.last.code ≡ word.Call how
+    (l : ImageLaws) (p : Program) (a : Activation) (w : World) (at : At p a w) (how : CallOperation) (block : BlockId) (instance : Option ℕ)
+    → operation_of at.here.run.last.code ≡ operation.Call how
     → Lasts p w (called (code_of p) block instance (passings_of at.here.run.before) at.here.run.next a w)
     → Lasts p w (performed (code_of p) (Calls how block instance (passings_of at.here.run.before)) at.here.run.next a w)
 either_called l p a w at how block instance is lasts = by (is_called how a.running.regs.status.rlo)
@@ -567,57 +573,39 @@ either_called l p a w at how block instance is lasts = by (is_called how a.runni
     by false = record {
       sizes = same_sizes w.memory;
       fits = going_fits l p w.memory a at.here.run.next (not_called a.running.regs) at.fits
-          (next_same l p a w at (word.Call how) is refl (λ codes. refl));
+          (next_same l p a w at (operation.Call how) is refl (λ held. refl));
     }
 
-kind_callable : (code kind number instance : ℕ) → is_op code (operand.Called kind number instance) ≡ true → is_callable kind ≡ true
-unfolding is_op
-kind_callable code kind number instance right =
-    let fits = (and_parts (ltb code 128 && admits (takes_of code) (operand.Called kind number instance)) (payload_fits (operand.Called kind number instance)) right).1 in
-    let first = (and_parts (ltb kind 256 && is_callable kind) (ltb number 65536 && ltb instance 65536) fits).0 in
-    (and_parts (ltb kind 256) (is_callable kind) first).1
-
 call_lasts :
-    (l : ImageLaws) (p : Program) (a : Activation) (w : World) (at : At p a w) (how : CallWord) (kind number instance : ℕ) (other : Instr)
-    → word_of at.here.run.last.code ≡ word.Call how → at.here.run.last.operand ≡ operand.Called kind number instance
-    → Lasts p w (performed (code_of p) (call_instr (kind_called kind) how number instance (passings_of at.here.run.before) other) at.here.run.next a w)
+    (l : ImageLaws) (p : Program) (a : Activation) (w : World) (at : At p a w) (how : CallOperation) (kind number instance : ℕ) (other : Instr)
+    → operation_of at.here.run.last.code ≡ operation.Call how → at.here.run.last.operand ≡ operand.Called kind number instance
+    → Lasts p w (performed (code_of p) (call_instr (kind_of_code kind) how number instance (passings_of at.here.run.before) other) at.here.run.next a w)
 call_lasts l p a w at how kind number instance other is operand_is =
-    by_two (eqb kind 2) refl
+    by (callable_kind kind (kind_callable at.here.run.last.code kind number instance right))
   where
-    with_kind : (k : ℕ) → kind ≡ k → at.here.run.last.operand ≡ operand.Called k number instance
-    with_kind k e = operand_is ∙ ap (λ (z : ℕ). operand.Called z number instance) e
-
     right : is_op at.here.run.last.code (operand.Called kind number instance) ≡ true
     right =
         subst (λ (z : OpData). is_op z.code (operand.Called kind number instance) ≡ true) at.here.ran.same
         (subst (λ (z : Operand). is_op at.here.ran.last.op.code z ≡ true) (ap (λ (z : OpData). z.operand) at.here.ran.same ∙ operand_is)
         (l.table p at.here.stood.b at.here.ran.last at.here.ran.op))
 
-    none : eqb kind 2 ≡ false → eqb kind 3 ≡ false → eqb kind 5 ≡ false → ⊥
-    none two three five =
-        let c = kind_callable at.here.run.last.code kind number instance right in
-        let f : false ≡ true = rw (two, three, five) at c in cc
+    with_kind : (k : ℕ) → kind ≡ k → at.here.run.last.operand ≡ operand.Called k number instance
+    with_kind k e = operand_is ∙ ap (λ (z : ℕ). operand.Called z number instance) e
 
-    by_five : (t : Bool) → eqb kind 5 ≡ t → eqb kind 2 ≡ false → eqb kind 3 ≡ false
-        → Lasts p w (performed (code_of p) (call_instr (cond t (Some kinds.Sfc) None) how number instance (passings_of at.here.run.before) other) at.here.run.next a w)
-    by_five true e two three =
-        either_called l p a w at how (record { kind = kinds.Sfc; number = number }) (instance_named instance) is
-        (call_system_function l p a w at how number instance is (with_kind 5 (eqb-true kind 5 e)))
-    by_five false e two three = absurd (none two three e)
-
-    by_three : (t : Bool) → eqb kind 3 ≡ t → eqb kind 2 ≡ false
-        → Lasts p w (performed (code_of p) (call_instr (cond t (Some kinds.Fb) (cond (eqb kind 5) (Some kinds.Sfc) None)) how number instance (passings_of at.here.run.before) other) at.here.run.next a w)
-    by_three true e two =
-        either_called l p a w at how (record { kind = kinds.Fb; number = number }) (instance_named instance) is
-        (call_function_block l p a w at how number instance is (with_kind 3 (eqb-true kind 3 e)))
-    by_three false e two = by_five (eqb kind 5) refl two e
-
-    by_two : (t : Bool) → eqb kind 2 ≡ t
-        → Lasts p w (performed (code_of p) (call_instr (cond t (Some kinds.Fc) (cond (eqb kind 3) (Some kinds.Fb) (cond (eqb kind 5) (Some kinds.Sfc) None))) how number instance (passings_of at.here.run.before) other) at.here.run.next a w)
-    by_two true e =
-        either_called l p a w at how (record { kind = kinds.Fc; number = number }) (instance_named instance) is
-        (call_function l p a w at how number instance is (with_kind 2 (eqb-true kind 2 e)))
-    by_two false e = by_three (eqb kind 3) refl e
+    by : IsCallable kind
+        → Lasts p w (performed (code_of p) (call_instr (kind_of_code kind) how number instance (passings_of at.here.run.before) other) at.here.run.next a w)
+    by (inl e) =
+        rw e
+        (either_called l p a w at how (record { kind = kinds.Fc; number = number }) (instance_named instance) is
+        (call_function l p a w at how number instance is (with_kind (kind_number kinds.Fc) e)))
+    by (inr (inl e)) =
+        rw e
+        (either_called l p a w at how (record { kind = kinds.Fb; number = number }) (instance_named instance) is
+        (call_function_block l p a w at how number instance is (with_kind (kind_number kinds.Fb) e)))
+    by (inr (inr e)) =
+        rw e
+        (either_called l p a w at how (record { kind = kinds.Sfc; number = number }) (instance_named instance) is
+        (call_system_function l p a w at how number instance is (with_kind (kind_number kinds.Sfc) e)))
 
 -- ---- instructions that touch no position: their operands are right
 
@@ -625,21 +613,21 @@ last_right : (l : ImageLaws) (p : Program) (a : Activation) (w : World) (at : At
 last_right l p a w at =
     subst (λ (z : OpData). is_op z.code z.operand ≡ true) at.here.ran.same (l.table p at.here.stood.b at.here.ran.last at.here.ran.op)
 
-admitted : (code : ℕ) (o : Operand) (v : Word) → is_op code o ≡ true → word_of code ≡ v → admits (takes_of_word v) o ≡ true
+admitted : (code : ℕ) (o : Operand) (v : Operation) → is_op code o ≡ true → operation_of code ≡ v → admits (takes_of_operation v) o ≡ true
 unfolding is_op takes_of
 admitted code o v right is =
-    let taken = and_parts (ltb code 128 && admits (takes_of_word (word_of code)) o) (payload_fits o) right in
-    rw (sym is) (and_parts (ltb code 128) (admits (takes_of_word (word_of code)) o) taken.0).1
+    let taken = and_parts (ltb code 128 && admits (takes_of_operation (operation_of code)) o) (payload_fits o) right in
+    rw (sym is) (and_parts (ltb code 128) (admits (takes_of_operation (operation_of code)) o) taken.0).1
 
--- in the table the words that write have codes that write
-abbrev all_writing : ℕ → List Word → Bool
+-- in the table the operations that write have codes that write
+abbrev all_writing : ℕ → List Operation → Bool
 all_writing from [] = true
 all_writing from (v ∷ vs) = (not (is_writing v) || writes from) && all_writing (from + 1) vs
 
-writing_told : all_writing 0 WORDS ≡ true
+writing_told : all_writing 0 OPERATIONS ≡ true
 writing_told = refl
 
-writing_at : (from : ℕ) (vs : List Word) (i : ℕ) → all_writing from vs ≡ true → is_writing (get_or vs i word.NoWord) ≡ true → writes (from + i) ≡ true
+writing_at : (from : ℕ) (vs : List Operation) (i : ℕ) → all_writing from vs ≡ true → is_writing (get_or vs i operation.NoOperation) ≡ true → writes (from + i) ≡ true
 writing_at from [] i all is = absurd cc
 writing_at from (v ∷ vs) zero all is =
     let e : from + 0 ≡ from = omega arith in
@@ -649,11 +637,11 @@ writing_at from (v ∷ vs) (suc i) all is =
     let e : from + suc i ≡ from + 1 + i = omega arith in
     rw e (writing_at (from + 1) vs i (and_parts (not (is_writing v) || writes from) (all_writing (from + 1) vs) all).1 is)
 
-writing_code : (code : ℕ) (v : Word) → word_of code ≡ v → is_writing v ≡ true → writes code ≡ true
-unfolding word_of
+writing_code : (code : ℕ) (v : Operation) → operation_of code ≡ v → is_writing v ≡ true → writes code ≡ true
+unfolding operation_of
 writing_code code v is h =
     let e : 0 + code ≡ code = omega arith in
-    rw e at (writing_at 0 WORDS code writing_told (ap is_writing is ∙ h))
+    rw e at (writing_at 0 OPERATIONS code writing_told (ap is_writing is ∙ h))
 
 -- a parameter stands for something
 bound_has : (q : Param) (below : List Frame) (m : Areas) (b : Binding) → IsBound kinds.Fc q below m b → IsSupplied b
@@ -661,14 +649,14 @@ bound_has q below m (binding.Bound at width frame) is = tt
 bound_has q below m (binding.Constant value) is = tt
 bound_has q below m binding.Unsupplied is = is
 
-bound_place_is : (q : Param) (below : List Frame) (m : Areas) (b : Binding) → (q.section ≡ 1 → ⊥) → IsBound kinds.Fc q below m b → IsPlace b
+bound_place_is : (q : Param) (below : List Frame) (m : Areas) (b : Binding) → (q.section ≡ section_in → ⊥) → IsBound kinds.Fc q below m b → IsPlace b
 bound_place_is q below m (binding.Bound at width frame) other is = tt
 bound_place_is q below m (binding.Constant value) other is = absurd (other is.0)
 bound_place_is q below m binding.Unsupplied other is = absurd is
 
 param_has :
-    (l : ImageLaws) (p : Program) (a : Activation) (w : World) (at : At p a w) (v : Word) (o : Operand)
-    → word_of at.here.run.last.code ≡ v → at.here.run.last.operand ≡ o
+    (l : ImageLaws) (p : Program) (a : Activation) (w : World) (at : At p a w) (v : Operation) (o : Operand)
+    → operation_of at.here.run.last.code ≡ v → at.here.run.last.operand ≡ o
     → ParamHas (own_of a.running) (is_writing v) o
 param_has l p a w at v (operand.Parameter index width) is o_is =
     let b = at.here.stood.b in
@@ -681,7 +669,7 @@ param_has l p a w at v (operand.Parameter index width) is o_is =
     let one = bound_of a.running.frame.block.kind b.params a.below w.memory a.running.frame.bindings index q bound has.there in
     let fc : a.running.frame.block.kind ≡ kinds.Fc = sym (kind_found p.code_blocks a.running.frame.block b at.here.stood.found) ∙ has.kind in
     let bound_fc : IsBound kinds.Fc q a.below w.memory one.0 = subst (λ (k : BlockKind). IsBound k q a.below w.memory one.0) fc one.2 in
-    let last_code : word_of last.op.code ≡ v = ap (λ (z : OpData). word_of z.code) at.here.ran.same ∙ is in (
+    let last_code : operation_of last.op.code ≡ v = ap (λ (z : OpData). operation_of z.code) at.here.ran.same ∙ is in (
       one.0,
       one.1,
       bound_has q a.below w.memory one.0 bound_fc,
@@ -689,7 +677,7 @@ param_has l p a w at v (operand.Parameter index width) is o_is =
     )
 param_has l p a w at v _ is o_is = tt
 
--- brackets
+-- brackets and zones
 length_codes : (bs : List OpenBracket) → length (bracket_codes bs) ≡ length bs
 length_codes [] = refl
 length_codes (b ∷ bs) = ap suc (length_codes bs)
@@ -698,44 +686,68 @@ as_many : (l : ImageLaws) (p : Program) (a : Activation) (w : World) (at : At p 
 as_many l p a w at =
     let bs = at.here.ran.last.brackets in
     let own = a.running.frame.brackets in
-    let same : checks_of bs ≡ codes_of own = ap checks_of at.here.ran.brackets ∙ at.here.stood.same in
+    let same : checks_of bs ≡ codes_of own = ap (λ (z : OpenAt). z.codes) (at.here.ran.held ∙ at.here.stood.same) in
     sym (length_codes bs) ∙ sym (length-map (bracket_codes bs) check_named) ∙ sym (length-reverse (map check_named (bracket_codes bs)))
     ∙ ap length same ∙ length-map own (λ (b : Bracket). b.code)
 
 nest_room :
     (l : ImageLaws) (p : Program) (a : Activation) (w : World) (at : At p a w) (with : Check)
-    → word_of at.here.run.last.code ≡ word.Nest with → length a.running.frame.brackets ≡ 7 → ⊥
-unfolding word_of
+    → operation_of at.here.run.last.code ≡ operation.Nest with → length a.running.frame.brackets ≡ 7 → ⊥
+unfolding operation_of
 nest_room l p a w at with is full =
     let last = at.here.ran.last in
-    let last_is : word_of last.op.code ≡ word.Nest with = ap (λ (z : OpData). word_of z.code) at.here.ran.same ∙ is in
+    let last_is : operation_of last.op.code ≡ operation.Nest with = ap (λ (z : OpData). operation_of z.code) at.here.ran.same ∙ is in
     let room = (l.brackets p at.here.stood.b last at.here.ran.op).room
-    (nest_opens last.op.code (ap is_other last_is) (λ e. other last.op.code last_is (eqb-true last.op.code 0x1E e))) in
+    (nest_opens last.op.code (ap is_other last_is) (λ e. other last.op.code last_is (eqb-true last.op.code (op_code operation.Unnest) e))) in
     let many = as_many l p a w at in
     omega (arith, room, many, full)
   where
-    other : (code : ℕ) → word_of code ≡ word.Nest with → code ≡ 0x1E → ⊥
-    other code e f = let g : word.Unnest ≡ word.Nest with = rw f at e in cc
+    other : (code : ℕ) → operation_of code ≡ operation.Nest with → code ≡ op_code operation.Unnest → ⊥
+    other code e f = let g : operation.Unnest ≡ operation.Nest with = rw f at e in cc
 
-unnest_code : (code : ℕ) → word_of code ≡ word.Unnest → code ≡ 0x1E
-unnest_code code is = by (eqb code 0x1E) refl
+unnest_code : (code : ℕ) → operation_of code ≡ operation.Unnest → code ≡ op_code operation.Unnest
+unnest_code code is = by (eqb code (op_code operation.Unnest)) refl
   where
-    by : (t : Bool) → eqb code 0x1E ≡ t → code ≡ 0x1E
-    by true e = eqb-true code 0x1E e
+    by : (t : Bool) → eqb code (op_code operation.Unnest) ≡ t → code ≡ op_code operation.Unnest
+    by true e = eqb-true code (op_code operation.Unnest) e
     by false e =
         let opens = nest_opens code (ap is_other is) (λ f. let g : true ≡ false = sym f ∙ e in cc) in
-        let one : codes_after word.Unnest [] ≡ check_named code ∷ [] = ap (λ (v : Word). codes_after v []) (sym is) ∙ opening_word code [] opens in
+        let one : codes_after operation.Unnest [] ≡ check_named code ∷ [] = ap (λ (v : Operation). codes_after v []) (sym is) ∙ opening_word code [] opens in
         absurd cc
 
 unnest_room :
     (l : ImageLaws) (p : Program) (a : Activation) (w : World) (at : At p a w)
-    → word_of at.here.run.last.code ≡ word.Unnest → a.running.frame.brackets ≡ [] → ⊥
+    → operation_of at.here.run.last.code ≡ operation.Unnest → a.running.frame.brackets ≡ [] → ⊥
 unnest_room l p a w at is none =
     let last = at.here.ran.last in
-    let last_is : word_of last.op.code ≡ word.Unnest = ap (λ (z : OpData). word_of z.code) at.here.ran.same ∙ is in
+    let last_is : operation_of last.op.code ≡ operation.Unnest = ap (λ (z : OpData). operation_of z.code) at.here.ran.same ∙ is in
     let there = (l.brackets p at.here.stood.b last at.here.ran.op).there (unnest_code last.op.code last_is) in
     let many = as_many l p a w at in
     let zero : length a.running.frame.brackets ≡ 0 = ap length none in
+    omega (arith, there, many, zero)
+
+zones_as_many : (l : ImageLaws) (p : Program) (a : Activation) (w : World) (at : At p a w) → length at.here.ran.last.zones ≡ length a.running.frame.relay.zones
+zones_as_many l p a w at = ap (λ (z : OpenAt). z.zones) (at.here.ran.held ∙ at.here.stood.same)
+
+zone_has_room :
+    (l : ImageLaws) (p : Program) (a : Activation) (w : World) (at : At p a w)
+    → operation_of at.here.run.last.code ≡ operation.Relay relay.Open → length a.running.frame.relay.zones ≡ most_zones → ⊥
+zone_has_room l p a w at is full =
+    let last = at.here.ran.last in
+    let last_is : operation_of last.op.code ≡ operation.Relay relay.Open = ap (λ (z : OpData). operation_of z.code) at.here.ran.same ∙ is in
+    let room = (l.zones p at.here.stood.b last at.here.ran.op).room (opening_code last.op.code last_is) in
+    let many = zones_as_many l p a w at in
+    omega (arith, room, many, full)
+
+zone_is_there :
+    (l : ImageLaws) (p : Program) (a : Activation) (w : World) (at : At p a w)
+    → operation_of at.here.run.last.code ≡ operation.Relay relay.Close → a.running.frame.relay.zones ≡ [] → ⊥
+zone_is_there l p a w at is none =
+    let last = at.here.ran.last in
+    let last_is : operation_of last.op.code ≡ operation.Relay relay.Close = ap (λ (z : OpData). operation_of z.code) at.here.ran.same ∙ is in
+    let there = (l.zones p at.here.stood.b last at.here.ran.op).there (ending_code last.op.code last_is) in
+    let many = zones_as_many l p a w at in
+    let zero : length a.running.frame.relay.zones ≡ 0 = ap length none in
     omega (arith, there, many, zero)
 
 -- what prepares ends no statement
@@ -764,32 +776,36 @@ no_use_db_last l p a w at _ is h = cc
 
 no_pass_last :
     (l : ImageLaws) (p : Program) (a : Activation) (w : World) (at : At p a w) (o : Operand) → at.here.run.last.operand ≡ o
-    → word_of at.here.run.last.code ≡ word.Pass → admits takes.Pass o ≡ true → ⊥
-unfolding admits word_of
+    → operation_of at.here.run.last.code ≡ operation.Pass → admits takes.Pass o ≡ true → ⊥
+unfolding admits operation_of
 no_pass_last l p a w at (operand.Pass index actual) is word_is h =
     let fits = last_prepared l p a w at (operand.Pass index actual) is in
-    let code : at.here.run.last.code ≡ 0x78 = ap (λ (z : OpData). z.code) (sym (last_is_last p a w at)) ∙ fits.0 in
+    let code : at.here.run.last.code ≡ op_code (operation.Call calls.Call) = ap (λ (z : OpData). z.code) (sym (last_is_last p a w at)) ∙ fits.0 in
     other at.here.run.last.code word_is code
   where
-    other : (code : ℕ) → word_of code ≡ word.Pass → code ≡ 0x78 → ⊥
-    other code e f = let g : word_of 0x78 ≡ word.Pass = rw f at e in cc
+    other : (code : ℕ) → operation_of code ≡ operation.Pass → code ≡ op_code (operation.Call calls.Call) → ⊥
+    other code e f = let g : operation_of 0x78 ≡ operation.Pass = rw f at e in cc
 no_pass_last l p a w at (operand.Numbered kind number) is word_is h = kind_none kind takes.Pass refl refl h
 no_pass_last l p a w at (operand.NumberedBy kind from byte) is word_is h = kind_none kind takes.Pass refl refl h
 no_pass_last l p a w at _ is word_is h = cc
 
 has_room :
-    (l : ImageLaws) (p : Program) (a : Activation) (w : World) (at : At p a w) (v : Word) (o : Operand)
-    → word_of at.here.run.last.code ≡ v → at.here.run.last.operand ≡ o → admits (takes_of_word v) o ≡ true
-    → HasRoom v a.running.frame.brackets
-has_room l p a w at (word.Nest with) o is o_is h = nest_room l p a w at with is
-has_room l p a w at word.Unnest o is o_is h = unnest_room l p a w at is
-has_room l p a w at word.UseDb o is o_is h = no_use_db_last l p a w at o o_is h
-has_room l p a w at word.Pass o is o_is h = no_pass_last l p a w at o o_is is h
+    (l : ImageLaws) (p : Program) (a : Activation) (w : World) (at : At p a w) (v : Operation) (o : Operand)
+    → operation_of at.here.run.last.code ≡ v → at.here.run.last.operand ≡ o → admits (takes_of_operation v) o ≡ true
+    → HasRoom v a.running.frame.brackets a.running.frame.relay
+has_room l p a w at (operation.Nest with) o is o_is h = nest_room l p a w at with is
+has_room l p a w at operation.Unnest o is o_is h = unnest_room l p a w at is
+has_room l p a w at (operation.Relay relay.Open) o is o_is h = zone_has_room l p a w at is
+has_room l p a w at (operation.Relay relay.Close) o is o_is h = zone_is_there l p a w at is
+has_room l p a w at (operation.Relay relay.Activate) o is o_is h = tt
+has_room l p a w at (operation.Relay relay.Deactivate) o is o_is h = tt
+has_room l p a w at operation.UseDb o is o_is h = no_use_db_last l p a w at o o_is h
+has_room l p a w at operation.Pass o is o_is h = no_pass_last l p a w at o o_is is h
 has_room l p a w at _ o is o_is h = tt
 
 suits_here :
-    (l : ImageLaws) (p : Program) (a : Activation) (w : World) (at : At p a w) (v : Word) (o : Operand)
-    → word_of at.here.run.last.code ≡ v → at.here.run.last.operand ≡ o → goes_by_statement v o ≡ false
+    (l : ImageLaws) (p : Program) (a : Activation) (w : World) (at : At p a w) (v : Operation) (o : Operand)
+    → operation_of at.here.run.last.code ≡ v → at.here.run.last.operand ≡ o → goes_by_statement v o ≡ false
     → Suits v o (parts_of a.running w.memory w.timers w.counters)
 suits_here l p a w at v o is o_is other =
     let right : is_op at.here.run.last.code o ≡ true = subst (λ (z : Operand). is_op at.here.run.last.code z ≡ true) o_is (last_right l p a w at) in
@@ -807,7 +823,7 @@ param_moved : (s t : Own) (written : Bool) (o : Operand) → t.inner.bindings �
 param_moved s t written (operand.Parameter index width) same has = (has.0, ap (λ (z : List Binding). slice_get z index) same ∙ has.1, has.2, has.3)
 param_moved s t written _ same has = tt
 
-with_told : (u : Option ℕ) (v : Word) (o : Operand) (q : Parts) → Suits v o q → IfTold (does_with u v o q)
+with_told : (u : Option ℕ) (v : Operation) (o : Operand) (q : Parts) → Suits v o q → IfTold (does_with u v o q)
 unfolding does_with
 with_told None v o q s = does_told v o q s
 with_told (Some number) v o q s =
@@ -819,32 +835,49 @@ with_told (Some number) v o q s =
       room = s.room;
     })) refl
 
-quiet_erring : (v : Word) (r : Result Parts ℕ) → ((codes : List Check) → codes_after v codes ≡ codes) → IfTold r → IfErring v r
+quiet_erring : (v : Operation) (r : Result Parts ℕ) → Quiet v → IfTold r → IfErring v r
 quiet_erring v (Ok q) quiet told = tt
 quiet_erring v (Err code) quiet told = record { quiet = quiet; told = told }
 
-nest_erring : (with : Check) (o : Operand) (q : Parts) → (length q.own.inner.brackets ≡ 7 → ⊥) → IfErring (word.Nest with) (does (word.Nest with) o q)
+nest_erring : (with : Check) (o : Operand) (q : Parts) → (length q.own.inner.brackets ≡ 7 → ⊥) → IfErring (operation.Nest with) (does (operation.Nest with) o q)
 unfolding does nesting
 nest_erring with o q room = by (eqb (length q.own.inner.brackets) 7) refl
   where
     by : (t : Bool) → eqb (length q.own.inner.brackets) 7 ≡ t
-        → IfErring (word.Nest with) (on_own q (cond t (Err no_operand) (Ok (with_brackets (entry_of with q.own.regs ∷ q.own.inner.brackets) (record q.own { regs = begun q.own.regs })))))
+        → IfErring (operation.Nest with) (on_own q (cond t (Err no_operand) (Ok (with_brackets (entry_of with q.own.regs ∷ q.own.inner.brackets) (record q.own { regs = begun q.own.regs })))))
     by true e = absurd (room (eqb-true (length q.own.inner.brackets) 7 e))
     by false e = tt
 
-unnest_erring : (o : Operand) (q : Parts) → (q.own.inner.brackets ≡ [] → ⊥) → IfErring word.Unnest (does word.Unnest o q)
+unnest_erring : (o : Operand) (q : Parts) → (q.own.inner.brackets ≡ [] → ⊥) → IfErring operation.Unnest (does operation.Unnest o q)
 unfolding does unnesting
 unnest_erring o q room = by q.own.inner.brackets room
   where
-    by : (brackets : List Bracket) → (brackets ≡ [] → ⊥) → IfErring word.Unnest (on_own q (unnested brackets q.own))
+    by : (brackets : List Bracket) → (brackets ≡ [] → ⊥) → IfErring operation.Unnest (on_own q (unnested brackets q.own))
     by [] room = absurd (room refl)
     by (b ∷ rest) room = tt
 
-erring : (u : Option ℕ) (v : Word) (o : Operand) (q : Parts) → Suits v o q → (is_other v ≡ false → u ≡ None) → IfErring v (does_with u v o q)
+relay_erring :
+    (which : RelayOperation) (o : Operand) (q : Parts) → HasRoom (operation.Relay which) q.own.inner.brackets q.own.inner.relay
+    → IfErring (operation.Relay which) (does (operation.Relay which) o q)
+unfolding does opening_zone ending_zone
+relay_erring relay.Activate o q room = tt
+relay_erring relay.Deactivate o q room = tt
+relay_erring relay.Open o q room = rw (zone_room q.own room) tt
+relay_erring relay.Close o q room = rw (zone_there q.own.inner.relay.zones room) tt
+
+-- it opens or ends a bracket or a zone
+abbrev is_opening : Operation → Bool
+is_opening (operation.Nest with) = true
+is_opening operation.Unnest = true
+is_opening (operation.Relay which) = true
+is_opening _ = false
+
+erring : (u : Option ℕ) (v : Operation) (o : Operand) (q : Parts) → Suits v o q → (is_opening v ≡ true → u ≡ None) → IfErring v (does_with u v o q)
 unfolding does_with
-erring u (word.Nest with) o q s none = rw (none refl) (nest_erring with o q s.room)
-erring u word.Unnest o q s none = rw (none refl) (unnest_erring o q s.room)
-erring u v o q s none = quiet_erring v (does_with u v o q) (λ codes. refl) (with_told u v o q s)
+erring u (operation.Nest with) o q s none = rw (none refl) (nest_erring with o q s.room)
+erring u operation.Unnest o q s none = rw (none refl) (unnest_erring o q s.room)
+erring u (operation.Relay which) o q s none = rw (none refl) (relay_erring which o q s.room)
+erring u v o q s none = quiet_erring v (does_with u v o q) (λ held. refl) (with_told u v o q s)
 
 nothing_in_db : (o : Operand) → admits takes.Nothing o ≡ true → is_in_db o ≡ false
 unfolding admits
@@ -862,30 +895,31 @@ no_use_db l p b last (op ∷ ops) none all = by op.operand (ap (λ (z : OpData).
         absurd cc
     by _ is more = more
 
-bracket_takes : (v : Word) → is_other v ≡ false → takes_of_word v ≡ takes.Nothing
-bracket_takes (word.Nest with) h = refl
-bracket_takes word.Unnest h = refl
-bracket_takes _ h = absurd cc
+opening_takes : (v : Operation) → is_opening v ≡ true → takes_of_operation v ≡ takes.Nothing
+opening_takes (operation.Nest with) h = refl
+opening_takes operation.Unnest h = refl
+opening_takes (operation.Relay which) h = refl
+opening_takes _ h = absurd cc
 
 plain_lasts :
-    (l : ImageLaws) (p : Program) (a : Activation) (w : World) (at : At p a w) (v : Word) (o : Operand)
-    → word_of at.here.run.last.code ≡ v → at.here.run.last.operand ≡ o → is_be v ≡ false → goes_by_statement v o ≡ false
+    (l : ImageLaws) (p : Program) (a : Activation) (w : World) (at : At p a w) (v : Operation) (o : Operand)
+    → operation_of at.here.run.last.code ≡ v → at.here.run.last.operand ≡ o → is_be v ≡ false → goes_by_statement v o ≡ false
     → Lasts p w (performed (code_of p) (Does (use_db_of at.here.run.before) v o) at.here.run.next a w)
 plain_lasts l p a w at v o is o_is goes other =
     let u = use_db_of at.here.run.before in
     let parts = parts_of a.running w.memory w.timers w.counters in
     let s = suits_here l p a w at v o is o_is other in
     does_lasts l p a w at v (does_with u v o parts) is goes (does_with_keeps u v o parts)
-    (erring u v o parts s (λ bracket.
+    (erring u v o parts s (λ opening.
     let none : is_in_db at.here.run.last.operand ≡ false =
-    ap is_in_db o_is ∙ nothing_in_db o (ap (λ (t : Takes). admits t o) (sym (bracket_takes v bracket)) ∙ s.admitted) in
+    ap is_in_db o_is ∙ nothing_in_db o (ap (λ (t : Takes). admits t o) (sym (opening_takes v opening)) ∙ s.admitted) in
     no_use_db l p at.here.stood.b at.here.run.last at.here.run.before none at.here.ran.passes))
 
 -- ---- all
 
 jump_or_list_lasts :
     (l : ImageLaws) (p : Program) (a : Activation) (w : World) (at : At p a w) (kind target : ℕ)
-    → word_of at.here.run.last.code ≡ word.Jump → at.here.run.last.operand ≡ operand.Jump kind target
+    → operation_of at.here.run.last.code ≡ operation.Jump → at.here.run.last.operand ≡ operand.Jump kind target
     → Lasts p w (performed (code_of p) (jump_instr (jump_of kind) target at.here.run.next at.here.stood.b.code) at.here.run.next a w)
 jump_or_list_lasts l p a w at kind target is o_is = by (is_jl (jump_of kind)) refl
   where
@@ -895,12 +929,12 @@ jump_or_list_lasts l p a w at kind target is o_is = by (is_jl (jump_of kind)) re
     by false e = jump_lasts l p a w at (jump_of kind) kind target is o_is
 
 instruction_lasts :
-    (l : ImageLaws) (p : Program) (a : Activation) (w : World) (at : At p a w) (v : Word) (o : Operand)
-    → word_of at.here.run.last.code ≡ v → at.here.run.last.operand ≡ o
+    (l : ImageLaws) (p : Program) (a : Activation) (w : World) (at : At p a w) (v : Operation) (o : Operand)
+    → operation_of at.here.run.last.code ≡ v → at.here.run.last.operand ≡ o
     → Lasts p w (performed (code_of p) (instr_of v o (use_db_of at.here.run.before) (passings_of at.here.run.before) at.here.run.next at.here.stood.b.code) at.here.run.next a w)
-instruction_lasts l p a w at word.Jump (operand.Jump kind target) is o_is = jump_or_list_lasts l p a w at kind target is o_is
-instruction_lasts l p a w at (word.Call how) (operand.Called kind number instance) is o_is = call_lasts l p a w at how kind number instance _ is o_is
-instruction_lasts l p a w at (word.End how) o is o_is = end_lasts l p a w at how is
+instruction_lasts l p a w at operation.Jump (operand.Jump kind target) is o_is = jump_or_list_lasts l p a w at kind target is o_is
+instruction_lasts l p a w at (operation.Call how) (operand.Called kind number instance) is o_is = call_lasts l p a w at how kind number instance _ is o_is
+instruction_lasts l p a w at (operation.End how) o is o_is = end_lasts l p a w at how is
 instruction_lasts l p a w at v o is o_is = plain_lasts l p a w at v o is o_is refl refl
 
 pub statement_lasts :
@@ -909,4 +943,4 @@ pub statement_lasts :
 unfolding statement
 statement_lasts l p a w verifies h =
     let at = at_of l p a w verifies h in
-    rw at.here.fetched (instruction_lasts l p a w at (word_of at.here.run.last.code) at.here.run.last.operand refl refl)
+    rw at.here.fetched (instruction_lasts l p a w at (operation_of at.here.run.last.code) at.here.run.last.operand refl refl)

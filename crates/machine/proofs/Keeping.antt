@@ -1,25 +1,32 @@
 -- What an instruction that touches no position keeps: the sizes of memory and of local bytes, the
--- instance and the bindings; opened data blocks are loaded; brackets come and go by its word alone.
-use Rattle.std.proofs.Common.{◌≡◌, ◌∙◌, ℕ, Bool, true, false, cond, ◌==◌, if◌then◌else◌, List, [], ◌∷◌, length, Option, Some, None, Result, Ok, Err, ok_or, refl, sym, ap}
+-- instance and the bindings; opened data blocks are loaded; brackets and zones come and go by the
+-- operation alone.
+use Rattle.std.proofs.Common.{◌≡◌, ◌∙◌, ℕ, suc, ◌-◌, Bool, true, false, cond, ◌==◌, if◌then◌else◌, List, [], ◌∷◌, length, Option, Some, None, Result, Ok, Err, ok_or, refl, sym, ap, arith}
 use Rattle.std.specs.Option.{option_map}
 use Rattle.plc_base.specs.declared.Width.TheVariants as widths
 use Rattle.plc_mem.specs.Areas.{Areas}
 use Rattle.plc_mem.specs.Writing.{put, written}
 use Rattle.plc_mem.proofs.Runs.{length-put, mapped, chained}
 use Rattle.status_word.specs.Brackets.{entry_of, begun}
+use Rattle.status_word.specs.Store.{stored}
 use Rattle.status_word.specs.declared.Bracket.{Bracket}
 use Rattle.plc_base.specs.declared.Check.{Check}
 use Rattle.status_word.specs.declared.Regs.{Regs}
 use Rattle.timers_counters.specs.Timer.{Timer}
 use Rattle.timers_counters.specs.Counter.{Counter}
 use Rattle.frames.specs.FrameData.{FrameData}
+use Rattle.frames.specs.Relay.{outer_zones, zone_opened, zone_ended}
+use Rattle.frames.specs.declared.relay.Relay.{Relay}
 use Rattle.frames.specs.Locals.{LocalData, local_written, lies_within}
+use Rattle.flat_code.specs.Placed.{is_empty, most_zones}
 use Rattle.flat_code.specs.declared.operands.Operand.{Operand}
 use Rattle.flat_code.specs.declared.operands.Operand.TheVariants as operand
-use Rattle.flat_code.specs.declared.words.PointerWord.{PointerWord}
-use Rattle.flat_code.specs.declared.words.PointerWord.TheVariants as pointers
-use Rattle.flat_code.specs.declared.words.Word.{Word}
-use Rattle.flat_code.specs.declared.words.Word.TheVariants as word
+use Rattle.flat_code.specs.declared.operations.PointerOperation.{PointerOperation}
+use Rattle.flat_code.specs.declared.operations.PointerOperation.TheVariants as pointers
+use Rattle.flat_code.specs.declared.operations.RelayOperation.{RelayOperation}
+use Rattle.flat_code.specs.declared.operations.RelayOperation.TheVariants as relay
+use Rattle.flat_code.specs.declared.operations.Operation.{Operation}
+use Rattle.flat_code.specs.declared.operations.Operation.TheVariants as operation
 use Rattle.machine.specs.declared.places.Access.TheVariants.{Writing}
 use Rattle.machine.specs.declared.places.Bound.{Bound}
 use Rattle.machine.specs.Parts.{Own, Scene, Parts, then_ok}
@@ -27,12 +34,13 @@ use Rattle.machine.specs.Places.{located, absent, is_local, pointer, no_operand}
 use Rattle.machine.specs.Values.{is_timer, with_locals, stored_at, write}
 use Rattle.machine.specs.BitLogic.{put_bit, bit_number, with_regs, bit_before, assigned, assigned_at, bit_set, set_at, edge, edge_at}
 use Rattle.machine.specs.Nesting.{with_brackets, nesting, unnesting, unnested}
+use Rattle.machine.specs.Relay.{closed, with_relay, with_zones, opening_zone, ending_zone, relayed}
 use Rattle.machine.specs.Loads.{transferred, transferring}
 use Rattle.machine.specs.Timing.{timer_reset, counter_reset, timer_freed, counter_freed}
 use Rattle.machine.specs.Pointers.{pointed, address_loaded, address_transferred, regs_set}
 use Rattle.machine.specs.DataBlocks.{is_loaded, opened_if, opening, exchanged}
 use Rattle.machine.specs.Does.{on_regs, on_own, on_scene, on_timers, on_counters, kind_named, set_of, reset_of, free_of, does, with_db, does_with}
-use Rattle.machine.specs.Fitting.{codes_of, IsOpen, SameSizes}
+use Rattle.machine.specs.Fitting.{OpenAt, codes_of, open_of, IsOpen, SameSizes}
 use Rattle.machine.proofs.Sizes.{same_sizes, writing_sizes}
 use Rattle.machine.proofs.Staying.{open_still}
 
@@ -164,7 +172,7 @@ address_keeps n (operand.OpenBlock register number) s m = transferred_keeps n (o
 address_keeps n (operand.OpenBy register from byte) s m = transferred_keeps n (operand.OpenBy register from byte) s m
 
 pointed_keeps :
-    (what : PointerWord) (o : Operand) (s : Own) (m : Areas) → IfDone (KeepsScene s m) (pointed what o s m)
+    (what : PointerOperation) (o : Operand) (s : Own) (m : Areas) → IfDone (KeepsScene s m) (pointed what o s m)
 unfolding pointed
 pointed_keeps pointers.Lar1 o s m = then_done (KeepsScene s m) (address_loaded o s m) _ (λ n. regs_keep _ s m)
 pointed_keeps pointers.Lar2 o s m = then_done (KeepsScene s m) (address_loaded o s m) _ (λ n. regs_keep _ s m)
@@ -179,13 +187,23 @@ pointed_keeps pointers.AddAr2 o s m = regs_keep _ s m
 -- ---- parts
 
 -- the open brackets after an instruction
-abbrev pub codes_after : Word → List Check → List Check
-codes_after (word.Nest with) codes = with ∷ codes
-codes_after word.Unnest [] = []
-codes_after word.Unnest (code ∷ codes) = codes
+abbrev pub codes_after : Operation → List Check → List Check
+codes_after (operation.Nest with) codes = with ∷ codes
+codes_after operation.Unnest [] = []
+codes_after operation.Unnest (code ∷ codes) = codes
 codes_after _ codes = codes
 
-pub record Keeps (w : Word) (p q : Parts) : Type 0 where
+-- how many zones are open after an instruction
+abbrev pub zones_after : Operation → ℕ → ℕ
+zones_after (operation.Relay relay.Open) zones = suc zones
+zones_after (operation.Relay relay.Close) zones = zones - 1
+zones_after _ zones = zones
+
+-- what is open after an instruction
+abbrev pub left_open : Operation → OpenAt → OpenAt
+left_open w held = record { codes = codes_after w held.codes; zones = zones_after w held.zones }
+
+pub record Keeps (w : Operation) (p q : Parts) : Type 0 where
   pub memory : SameSizes p.memory q.memory
   pub starts : q.own.locals.starts ≡ p.own.locals.starts
   pub len : length q.own.locals.bytes ≡ length p.own.locals.bytes
@@ -193,12 +211,13 @@ pub record Keeps (w : Word) (p q : Parts) : Type 0 where
   pub bindings : q.own.inner.bindings ≡ p.own.inner.bindings
   pub db : IsOpen p.own.inner.db p.memory → IsOpen p.own.inner.di p.memory → IsOpen q.own.inner.db q.memory
   pub di : IsOpen p.own.inner.db p.memory → IsOpen p.own.inner.di p.memory → IsOpen q.own.inner.di q.memory
-  pub brackets : codes_of q.own.inner.brackets ≡ codes_after w (codes_of p.own.inner.brackets)
+  pub held : open_of q.own.inner.brackets q.own.inner.relay ≡ left_open w (open_of p.own.inner.brackets p.own.inner.relay)
 
-abbrev Quiet : Word → Type 0
-Quiet w = (codes : List Check) → codes_after w codes ≡ codes
+-- after it the same is open as before
+abbrev pub Quiet : Operation → Type 0
+Quiet w = (held : OpenAt) → left_open w held ≡ held
 
-pub same_keeps : (w : Word) (p : Parts) → Quiet w → Keeps w p p
+pub same_keeps : (w : Operation) (p : Parts) → Quiet w → Keeps w p p
 same_keeps w p quiet = record {
   memory = same_sizes p.memory;
   starts = refl;
@@ -207,11 +226,11 @@ same_keeps w p quiet = record {
   bindings = refl;
   db = λ db di. db;
   di = λ db di. di;
-  brackets = sym (quiet (codes_of p.own.inner.brackets));
+  held = sym (quiet (open_of p.own.inner.brackets p.own.inner.relay));
 }
 
 -- other registers, timers or counters
-regs_kept : (w : Word) (p : Parts) (r : Result Regs ℕ) → Quiet w → IfDone (Keeps w p) (on_regs p r)
+regs_kept : (w : Operation) (p : Parts) (r : Result Regs ℕ) → Quiet w → IfDone (Keeps w p) (on_regs p r)
 regs_kept w p (Ok r) quiet = record {
   memory = same_sizes p.memory;
   starts = refl;
@@ -220,11 +239,11 @@ regs_kept w p (Ok r) quiet = record {
   bindings = refl;
   db = λ db di. db;
   di = λ db di. di;
-  brackets = sym (quiet (codes_of p.own.inner.brackets));
+  held = sym (quiet (open_of p.own.inner.brackets p.own.inner.relay));
 }
 regs_kept w p (Err e) quiet = tt
 
-timers_kept : (w : Word) (p : Parts) (t : Result (List Timer) ℕ) → Quiet w → IfDone (Keeps w p) (on_timers p t)
+timers_kept : (w : Operation) (p : Parts) (t : Result (List Timer) ℕ) → Quiet w → IfDone (Keeps w p) (on_timers p t)
 timers_kept w p (Ok t) quiet = record {
   memory = same_sizes p.memory;
   starts = refl;
@@ -233,12 +252,12 @@ timers_kept w p (Ok t) quiet = record {
   bindings = refl;
   db = λ db di. db;
   di = λ db di. di;
-  brackets = sym (quiet (codes_of p.own.inner.brackets));
+  held = sym (quiet (open_of p.own.inner.brackets p.own.inner.relay));
 }
 timers_kept w p (Err e) quiet = tt
 
 counters_kept :
-    (w : Word) (p : Parts) (n : Result (List Counter) ℕ) → Quiet w → IfDone (Keeps w p) (on_counters p n)
+    (w : Operation) (p : Parts) (n : Result (List Counter) ℕ) → Quiet w → IfDone (Keeps w p) (on_counters p n)
 counters_kept w p (Ok n) quiet = record {
   memory = same_sizes p.memory;
   starts = refl;
@@ -247,7 +266,7 @@ counters_kept w p (Ok n) quiet = record {
   bindings = refl;
   db = λ db di. db;
   di = λ db di. di;
-  brackets = sym (quiet (codes_of p.own.inner.brackets));
+  held = sym (quiet (open_of p.own.inner.brackets p.own.inner.relay));
 }
 counters_kept w p (Err e) quiet = tt
 
@@ -257,7 +276,7 @@ open_after o r m n same sizes is = rw same (open_still o m n sizes is)
 
 -- bytes written
 scene_kept :
-    (w : Word) (p : Parts) (c : Result Scene ℕ) → Quiet w → IfDone (KeepsScene p.own p.memory) c
+    (w : Operation) (p : Parts) (c : Result Scene ℕ) → Quiet w → IfDone (KeepsScene p.own p.memory) c
     → IfDone (Keeps w p) (on_scene p c)
 scene_kept w p (Ok c) quiet kept = record {
   memory = kept.memory;
@@ -267,19 +286,19 @@ scene_kept w p (Ok c) quiet kept = record {
   bindings = ap (λ (i : FrameData). i.bindings) kept.inner;
   db = λ db di. open_after p.own.inner.db c.own.inner.db p.memory c.memory (ap (λ (i : FrameData). i.db) kept.inner) kept.memory db;
   di = λ db di. open_after p.own.inner.di c.own.inner.di p.memory c.memory (ap (λ (i : FrameData). i.di) kept.inner) kept.memory di;
-  brackets = ap (λ (i : FrameData). codes_of i.brackets) kept.inner ∙ sym (quiet (codes_of p.own.inner.brackets));
+  held = ap (λ (i : FrameData). open_of i.brackets i.relay) kept.inner ∙ sym (quiet (open_of p.own.inner.brackets p.own.inner.relay));
 }
 scene_kept w p (Err e) quiet kept = tt
 
 -- ---- brackets
 
 nesting_keeps :
-    (with : Check) (p : Parts) → IfDone (Keeps (word.Nest with) p) (on_own p (nesting with p.own))
+    (with : Check) (p : Parts) → IfDone (Keeps (operation.Nest with) p) (on_own p (nesting with p.own))
 unfolding nesting
 nesting_keeps with p = by (length p.own.inner.brackets == 7)
   where
     by : (full : Bool)
-        → IfDone (Keeps (word.Nest with) p) (on_own p (if full then Err no_operand
+        → IfDone (Keeps (operation.Nest with) p) (on_own p (if full then Err no_operand
         else Ok (with_brackets (entry_of with p.own.regs ∷ p.own.inner.brackets) (record p.own { regs = begun p.own.regs }))))
     by true = tt
     by false = record {
@@ -290,12 +309,12 @@ nesting_keeps with p = by (length p.own.inner.brackets == 7)
       bindings = refl;
       db = λ db di. db;
       di = λ db di. di;
-      brackets = refl;
+      held = refl;
     }
 
 unnested_keeps :
     (p : Parts) (brackets : List Bracket) → p.own.inner.brackets ≡ brackets
-    → IfDone (Keeps word.Unnest p) (on_own p (unnested brackets p.own))
+    → IfDone (Keeps operation.Unnest p) (on_own p (unnested brackets p.own))
 unnested_keeps p [] is = tt
 unnested_keeps p (bracket ∷ rest) is = record {
   memory = same_sizes p.memory;
@@ -305,17 +324,68 @@ unnested_keeps p (bracket ∷ rest) is = record {
   bindings = refl;
   db = λ db di. db;
   di = λ db di. di;
-  brackets = rw is refl;
+  held = rw is refl;
 }
 
-unnesting_keeps : (p : Parts) → IfDone (Keeps word.Unnest p) (on_own p (unnesting p.own))
+unnesting_keeps : (p : Parts) → IfDone (Keeps operation.Unnest p) (on_own p (unnesting p.own))
 unfolding unnesting
 unnesting_keeps p = unnested_keeps p p.own.inner.brackets refl
+
+-- ---- the relay
+
+relay_keeps :
+    (w : Operation) (r : Relay) (regs : Regs) (p : Parts)
+    → open_of p.own.inner.brackets r ≡ left_open w (open_of p.own.inner.brackets p.own.inner.relay)
+    → Keeps w p (record p { own = with_relay r (record p.own { regs = regs }) })
+relay_keeps w r regs p is = record {
+  memory = same_sizes p.memory;
+  starts = refl;
+  len = refl;
+  instance = refl;
+  bindings = refl;
+  db = λ db di. db;
+  di = λ db di. di;
+  held = is;
+}
+
+opening_zone_keeps : (p : Parts) → IfDone (Keeps (operation.Relay relay.Open) p) (on_own p (opening_zone p.own))
+unfolding opening_zone
+opening_zone_keeps p = by (length p.own.inner.relay.zones == most_zones)
+  where
+    by : (full : Bool)
+        → IfDone (Keeps (operation.Relay relay.Open) p) (on_own p (if full then Err no_operand
+        else Ok (with_zones (zone_opened p.own.regs.status.rlo p.own.inner.relay) p.own)))
+    by true = tt
+    by false = relay_keeps (operation.Relay relay.Open) (zone_opened p.own.regs.status.rlo p.own.inner.relay) (stored true p.own.regs) p refl
+
+outer_count : (zones : List Bool) → length (outer_zones zones) ≡ length zones - 1
+outer_count [] = refl
+outer_count (value ∷ around) = omega arith
+
+ending_zone_keeps : (p : Parts) → IfDone (Keeps (operation.Relay relay.Close) p) (on_own p (ending_zone p.own))
+unfolding ending_zone
+ending_zone_keeps p = by (is_empty p.own.inner.relay.zones)
+  where
+    by : (none : Bool)
+        → IfDone (Keeps (operation.Relay relay.Close) p) (on_own p (if none then Err no_operand
+        else Ok (with_zones (zone_ended p.own.inner.relay) p.own)))
+    by true = tt
+    by false = relay_keeps (operation.Relay relay.Close) (zone_ended p.own.inner.relay) (stored true p.own.regs) p
+        (ap (λ (n : ℕ). let r : OpenAt = record { codes = codes_of p.own.inner.brackets; zones = n } in r) (outer_count p.own.inner.relay.zones))
+
+relayed_keeps :
+    (which : RelayOperation) (p : Parts) → IfDone (Keeps (operation.Relay which) p) (on_own p (relayed which p.own))
+relayed_keeps relay.Activate p =
+    relay_keeps (operation.Relay relay.Activate) (record p.own.inner.relay { active = true }) p.own.regs p refl
+relayed_keeps relay.Deactivate p =
+    relay_keeps (operation.Relay relay.Deactivate) (record p.own.inner.relay { active = false }) p.own.regs p refl
+relayed_keeps relay.Open p = opening_zone_keeps p
+relayed_keeps relay.Close p = ending_zone_keeps p
 
 -- ---- data blocks
 
 opened_at :
-    (w : Word) (number : ℕ) (p : Parts) (first : Bool) → Quiet w → is_loaded number p.memory ≡ true
+    (w : Operation) (number : ℕ) (p : Parts) (first : Bool) → Quiet w → is_loaded number p.memory ≡ true
     → Keeps w p (record p {
       own = if first then record p.own { inner = record p.own.inner { db = Some number } }
           else record p.own { inner = record p.own.inner { di = Some number } };
@@ -328,7 +398,7 @@ opened_at w number p true quiet loaded = record {
   bindings = refl;
   db = λ db di. loaded;
   di = λ db di. di;
-  brackets = sym (quiet (codes_of p.own.inner.brackets));
+  held = sym (quiet (open_of p.own.inner.brackets p.own.inner.relay));
 }
 opened_at w number p false quiet loaded = record {
   memory = same_sizes p.memory;
@@ -338,23 +408,23 @@ opened_at w number p false quiet loaded = record {
   bindings = refl;
   db = λ db di. db;
   di = λ db di. loaded;
-  brackets = sym (quiet (codes_of p.own.inner.brackets));
+  held = sym (quiet (open_of p.own.inner.brackets p.own.inner.relay));
 }
 
 opened_keeps :
-    (w : Word) (register number : ℕ) (p : Parts) (loaded : Bool) → Quiet w → is_loaded number p.memory ≡ loaded
+    (w : Operation) (register number : ℕ) (p : Parts) (loaded : Bool) → Quiet w → is_loaded number p.memory ≡ loaded
     → IfDone (Keeps w p) (on_own p (opened_if loaded register number p.own))
 opened_keeps w register number p true quiet is = opened_at w number p (register == 1) quiet is
 opened_keeps w register number p false quiet is = tt
 
 by_pointer_keeps :
-    (w : Word) (register : ℕ) (p : Parts) (found : Result ℕ ℕ) → Quiet w
+    (w : Operation) (register : ℕ) (p : Parts) (found : Result ℕ ℕ) → Quiet w
     → IfDone (Keeps w p) (on_own p (then_ok found (λ number. opened_if (is_loaded number p.memory) register number p.own)))
 by_pointer_keeps w register p (Ok number) quiet = opened_keeps w register number p (is_loaded number p.memory) quiet refl
 by_pointer_keeps w register p (Err e) quiet = tt
 
 opening_keeps :
-    (w : Word) (o : Operand) (p : Parts) → Quiet w → IfDone (Keeps w p) (on_own p (opening o p.own p.memory))
+    (w : Operation) (o : Operand) (p : Parts) → Quiet w → IfDone (Keeps w p) (on_own p (opening o p.own p.memory))
 unfolding opening
 opening_keeps w (operand.OpenBlock register number) p quiet =
     opened_keeps w register number p (is_loaded number p.memory) quiet refl
@@ -362,7 +432,7 @@ opening_keeps w (operand.OpenBy register from byte) p quiet =
     by_pointer_keeps w register p (pointer from byte widths.Word p.own p.memory) quiet
 opening_keeps w _ p quiet = tt
 
-exchanged_keeps : (w : Word) (p : Parts) → Quiet w → Keeps w p (record p { own = exchanged p.own })
+exchanged_keeps : (w : Operation) (p : Parts) → Quiet w → Keeps w p (record p { own = exchanged p.own })
 unfolding exchanged
 exchanged_keeps w p quiet = record {
   memory = same_sizes p.memory;
@@ -372,18 +442,18 @@ exchanged_keeps w p quiet = record {
   bindings = refl;
   db = λ db di. di;
   di = λ db di. db;
-  brackets = sym (quiet (codes_of p.own.inner.brackets));
+  held = sym (quiet (open_of p.own.inner.brackets p.own.inner.relay));
 }
 
 -- ---- by kind of operand
 
 set_of_keeps :
-    (w : Word) (kind : Option ℕ) (o : Operand) (p : Parts) → Quiet w → IfDone (Keeps w p) (set_of kind o p)
+    (w : Operation) (kind : Option ℕ) (o : Operand) (p : Parts) → Quiet w → IfDone (Keeps w p) (set_of kind o p)
 set_of_keeps w None o p quiet = scene_kept w p (bit_set true o p.own p.memory) quiet (set_keeps true o p.own p.memory)
 set_of_keeps w (Some kind) o p quiet = counters_kept w p _ quiet
 
 reset_of_keeps :
-    (w : Word) (kind : Option ℕ) (o : Operand) (p : Parts) → Quiet w → IfDone (Keeps w p) (reset_of kind o p)
+    (w : Operation) (kind : Option ℕ) (o : Operand) (p : Parts) → Quiet w → IfDone (Keeps w p) (reset_of kind o p)
 reset_of_keeps w None o p quiet = scene_kept w p (bit_set false o p.own p.memory) quiet (set_keeps false o p.own p.memory)
 reset_of_keeps w (Some kind) o p quiet = by (is_timer kind)
   where
@@ -393,7 +463,7 @@ reset_of_keeps w (Some kind) o p quiet = by (is_timer kind)
     by false = counters_kept w p _ quiet
 
 free_of_keeps :
-    (w : Word) (kind : Option ℕ) (o : Operand) (p : Parts) → Quiet w → IfDone (Keeps w p) (free_of kind o p)
+    (w : Operation) (kind : Option ℕ) (o : Operand) (p : Parts) → Quiet w → IfDone (Keeps w p) (free_of kind o p)
 free_of_keeps w None o p quiet = tt
 free_of_keeps w (Some kind) o p quiet = by (is_timer kind)
   where
@@ -404,54 +474,55 @@ free_of_keeps w (Some kind) o p quiet = by (is_timer kind)
 
 -- ---- all
 
-pub does_keeps : (w : Word) (o : Operand) (p : Parts) → IfDone (Keeps w p) (does w o p)
+pub does_keeps : (w : Operation) (o : Operand) (p : Parts) → IfDone (Keeps w p) (does w o p)
 unfolding does
-does_keeps word.Nop o p = same_keeps word.Nop p (λ codes. refl)
-does_keeps word.Bld o p = same_keeps word.Bld p (λ codes. refl)
-does_keeps (word.Check with) o p = regs_kept (word.Check with) p _ (λ codes. refl)
-does_keeps word.OrBare o p = regs_kept word.OrBare p (Ok _) (λ codes. refl)
-does_keeps (word.Nest with) o p = nesting_keeps with p
-does_keeps word.Unnest o p = unnesting_keeps p
-does_keeps word.Load o p = regs_kept word.Load p _ (λ codes. refl)
-does_keeps word.Transfer o p =
-    scene_kept word.Transfer p (transferring o p.own p.memory) (λ codes. refl) (transferred_keeps p.own.regs.a1 o p.own p.memory)
-does_keeps word.Assign o p =
-    scene_kept word.Assign p (assigned o p.own p.memory) (λ codes. refl) (assigned_keeps o p.own p.memory)
-does_keeps word.Set o p = set_of_keeps word.Set (kind_named o) o p (λ codes. refl)
-does_keeps word.Reset o p = reset_of_keeps word.Reset (kind_named o) o p (λ codes. refl)
-does_keeps (word.Edge rising) o p =
-    scene_kept (word.Edge rising) p (edge rising o p.own p.memory) (λ codes. refl) (edge_keeps rising o p.own p.memory)
-does_keeps word.SetRlo o p = regs_kept word.SetRlo p (Ok _) (λ codes. refl)
-does_keeps word.ClearRlo o p = regs_kept word.ClearRlo p (Ok _) (λ codes. refl)
-does_keeps word.NegateRlo o p = regs_kept word.NegateRlo p (Ok _) (λ codes. refl)
-does_keeps word.SaveRlo o p = regs_kept word.SaveRlo p (Ok _) (λ codes. refl)
-does_keeps word.LoadBcd o p = regs_kept word.LoadBcd p _ (λ codes. refl)
-does_keeps word.LoadStatus o p = regs_kept word.LoadStatus p (Ok _) (λ codes. refl)
-does_keeps word.TransferStatus o p = regs_kept word.TransferStatus p (Ok _) (λ codes. refl)
-does_keeps word.LoadOpenBlock o p = regs_kept word.LoadOpenBlock p _ (λ codes. refl)
-does_keeps (word.Pointer what) o p =
-    scene_kept (word.Pointer what) p (pointed what o p.own p.memory) (λ codes. refl) (pointed_keeps what o p.own p.memory)
-does_keeps (word.Number what) o p = regs_kept (word.Number what) p _ (λ codes. refl)
-does_keeps (word.Add what) o p = regs_kept (word.Add what) p (Ok _) (λ codes. refl)
-does_keeps (word.CompareInt how) o p = regs_kept (word.CompareInt how) p (Ok _) (λ codes. refl)
-does_keeps (word.CompareDint how) o p = regs_kept (word.CompareDint how) p (Ok _) (λ codes. refl)
-does_keeps (word.Logic what) o p = regs_kept (word.Logic what) p (Ok _) (λ codes. refl)
-does_keeps (word.Shift what) o p = regs_kept (word.Shift what) p (Ok _) (λ codes. refl)
-does_keeps (word.Start how) o p = timers_kept (word.Start how) p _ (λ codes. refl)
-does_keeps word.Free o p = free_of_keeps word.Free (kind_named o) o p (λ codes. refl)
-does_keeps word.CountUp o p = counters_kept word.CountUp p _ (λ codes. refl)
-does_keeps word.CountDown o p = counters_kept word.CountDown p _ (λ codes. refl)
-does_keeps word.OpenBlock o p = opening_keeps word.OpenBlock o p (λ codes. refl)
-does_keeps word.Exchange o p = exchanged_keeps word.Exchange p (λ codes. refl)
-does_keeps word.Jump o p = tt
-does_keeps (word.Call how) o p = tt
-does_keeps (word.End how) o p = tt
-does_keeps word.UseDb o p = tt
-does_keeps word.Pass o p = tt
-does_keeps word.NoWord o p = tt
+does_keeps operation.Nop o p = same_keeps operation.Nop p (λ held. refl)
+does_keeps operation.Bld o p = same_keeps operation.Bld p (λ held. refl)
+does_keeps (operation.Check with) o p = regs_kept (operation.Check with) p _ (λ held. refl)
+does_keeps operation.OrBare o p = regs_kept operation.OrBare p (Ok _) (λ held. refl)
+does_keeps (operation.Nest with) o p = nesting_keeps with p
+does_keeps operation.Unnest o p = unnesting_keeps p
+does_keeps (operation.Relay which) o p = relayed_keeps which p
+does_keeps operation.Load o p = regs_kept operation.Load p _ (λ held. refl)
+does_keeps operation.Transfer o p =
+    scene_kept operation.Transfer p (transferring o p.own p.memory) (λ held. refl) (transferred_keeps (if closed p.own then 0 else p.own.regs.a1) o p.own p.memory)
+does_keeps operation.Assign o p =
+    scene_kept operation.Assign p (assigned o p.own p.memory) (λ held. refl) (assigned_keeps o p.own p.memory)
+does_keeps operation.Set o p = set_of_keeps operation.Set (kind_named o) o p (λ held. refl)
+does_keeps operation.Reset o p = reset_of_keeps operation.Reset (kind_named o) o p (λ held. refl)
+does_keeps (operation.Edge rising) o p =
+    scene_kept (operation.Edge rising) p (edge rising o p.own p.memory) (λ held. refl) (edge_keeps rising o p.own p.memory)
+does_keeps operation.SetRlo o p = regs_kept operation.SetRlo p (Ok _) (λ held. refl)
+does_keeps operation.ClearRlo o p = regs_kept operation.ClearRlo p (Ok _) (λ held. refl)
+does_keeps operation.NegateRlo o p = regs_kept operation.NegateRlo p (Ok _) (λ held. refl)
+does_keeps operation.SaveRlo o p = regs_kept operation.SaveRlo p (Ok _) (λ held. refl)
+does_keeps operation.LoadBcd o p = regs_kept operation.LoadBcd p _ (λ held. refl)
+does_keeps operation.LoadStatus o p = regs_kept operation.LoadStatus p (Ok _) (λ held. refl)
+does_keeps operation.TransferStatus o p = regs_kept operation.TransferStatus p (Ok _) (λ held. refl)
+does_keeps operation.LoadOpenBlock o p = regs_kept operation.LoadOpenBlock p _ (λ held. refl)
+does_keeps (operation.Pointer what) o p =
+    scene_kept (operation.Pointer what) p (pointed what o p.own p.memory) (λ held. refl) (pointed_keeps what o p.own p.memory)
+does_keeps (operation.Number what) o p = regs_kept (operation.Number what) p _ (λ held. refl)
+does_keeps (operation.Add what) o p = regs_kept (operation.Add what) p (Ok _) (λ held. refl)
+does_keeps (operation.CompareInt how) o p = regs_kept (operation.CompareInt how) p (Ok _) (λ held. refl)
+does_keeps (operation.CompareDint how) o p = regs_kept (operation.CompareDint how) p (Ok _) (λ held. refl)
+does_keeps (operation.Logic what) o p = regs_kept (operation.Logic what) p (Ok _) (λ held. refl)
+does_keeps (operation.Shift what) o p = regs_kept (operation.Shift what) p (Ok _) (λ held. refl)
+does_keeps (operation.Start how) o p = timers_kept (operation.Start how) p _ (λ held. refl)
+does_keeps operation.Free o p = free_of_keeps operation.Free (kind_named o) o p (λ held. refl)
+does_keeps operation.CountUp o p = counters_kept operation.CountUp p _ (λ held. refl)
+does_keeps operation.CountDown o p = counters_kept operation.CountDown p _ (λ held. refl)
+does_keeps operation.OpenBlock o p = opening_keeps operation.OpenBlock o p (λ held. refl)
+does_keeps operation.Exchange o p = exchanged_keeps operation.Exchange p (λ held. refl)
+does_keeps operation.Jump o p = tt
+does_keeps (operation.Call how) o p = tt
+does_keeps (operation.End how) o p = tt
+does_keeps operation.UseDb o p = tt
+does_keeps operation.Pass o p = tt
+does_keeps operation.NoOperation o p = tt
 
 opened_first :
-    (w : Word) (number : ℕ) (p q : Parts) → is_loaded number p.memory ≡ true → Keeps w (with_db number p) q
+    (w : Operation) (number : ℕ) (p q : Parts) → is_loaded number p.memory ≡ true → Keeps w (with_db number p) q
     → Keeps w p q
 opened_first w number p q loaded kept = record {
   memory = kept.memory;
@@ -461,7 +532,7 @@ opened_first w number p q loaded kept = record {
   bindings = kept.bindings;
   db = λ db di. kept.db loaded di;
   di = λ db di. kept.di loaded di;
-  brackets = kept.brackets;
+  held = kept.held;
 }
 
 done_more : {A : Type 0} (P Q : A → Type 0) (x : Result A ℕ) → ((y : A) → P y → Q y) → IfDone P x → IfDone Q x
@@ -469,7 +540,7 @@ done_more P Q (Ok y) f h = f y h
 done_more P Q (Err e) f h = tt
 
 pub does_with_keeps :
-    (use_db : Option ℕ) (w : Word) (o : Operand) (p : Parts) → IfDone (Keeps w p) (does_with use_db w o p)
+    (use_db : Option ℕ) (w : Operation) (o : Operand) (p : Parts) → IfDone (Keeps w p) (does_with use_db w o p)
 unfolding does_with
 does_with_keeps None w o p = does_keeps w o p
 does_with_keeps (Some number) w o p = by (is_loaded number p.memory) refl

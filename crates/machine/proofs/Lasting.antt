@@ -21,7 +21,7 @@ pub ready_is : (l : ImageLaws) (p : Program) (m : Areas) (a : Activation) → Ve
 ready_is l p m a verifies h = record {
   stands = h.fits.stands;
   depth = depth_is (frames_of a) a.running.locals h.fits.locals;
-  there = λ w. fits_goes p (open_codes p) m a w verifies l.placed l.calls l.called h.fits;
+  there = λ w. fits_goes p (open_codes p) m a w verifies l.placed l.table l.calls l.called h.fits;
 }
 
 -- the same memory

@@ -10,12 +10,14 @@ pub mod Sizes
 pub mod Staying
 pub mod FrameBytes
 pub mod Keeping
+pub mod OpenBehind
 pub mod Standing
 pub mod Moving
 pub mod Returned
 pub mod BindingLemmas
 pub mod Entered
 pub mod Called
+pub mod FunctionLemmas
 pub mod Systems
 pub mod Instructions
 pub mod Errors

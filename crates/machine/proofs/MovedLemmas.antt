@@ -6,7 +6,7 @@ use Rattle.plc_base.specs.declared.blocks.BlockId.{BlockId}
 use Rattle.plc_mem.specs.Areas.{Areas}
 use Rattle.status_word.specs.declared.registers.Regs.{Regs}
 use Rattle.flat_code.specs.Instr.{Instr, Passing, Does, Jumps, JumpsByList, Calls, Returns}
-use Rattle.flat_code.specs.declared.kinds.JumpWord.{JumpWord}
+use Rattle.flat_code.specs.declared.kinds.JumpOperation.{JumpOperation}
 use Rattle.flat_code.specs.declared.programs.Param.{Param}
 use Rattle.frames.specs.Activations.{frames_of, refused, entered}
 use Rattle.frames.specs.declared.Activation.{Activation}
@@ -36,7 +36,7 @@ goes_to_moves g true target next = refl
 goes_to_moves g false target next = refl
 
 jumped_moves :
-    (f : BlockId → ℕ → ℕ) (how : JumpWord) (target next : ℕ) (a : Activation) (w : World)
+    (f : BlockId → ℕ → ℕ) (how : JumpOperation) (target next : ℕ) (a : Activation) (w : World)
     → jumped how (f a.running.frame.block target) (f a.running.frame.block next) (moved f a) w
     ≡ moved_step f (jumped how target next a w)
 jumped_moves f how target next a w =
@@ -196,8 +196,8 @@ performed_moves :
     (f : BlockId → ℕ → ℕ) (c d : Code) (i : Instr) (next : ℕ) (a : Activation) (w : World) → Follows f c d
     → performed d (aimed_instr (f a.running.frame.block) i) (f a.running.frame.block next) (moved f a) w
     ≡ moved_step f (performed c i next a w)
-performed_moves f c d (Does use_db word operand) next a w follows =
-    went_on_moves f (does_with use_db word operand (parts_of a.running w.memory w.timers w.counters)) next a
+performed_moves f c d (Does use_db operation operand) next a w follows =
+    went_on_moves f (does_with use_db operation operand (parts_of a.running w.memory w.timers w.counters)) next a
 performed_moves f c d (Jumps how target) next a w follows = jumped_moves f how target next a w
 performed_moves f c d (JumpsByList targets otherwise) next a w follows =
     ap (λ (at : ℕ). Went (moved_on at (moved f a)) w) (listed_moves (f a.running.frame.block) targets otherwise a.running.regs)

@@ -2,7 +2,6 @@
 use Rattle.std.proofs.Common.{◌≡◌, ◌∙◌, ℕ, Bool, true, false, if◌then◌else◌, IsSome, List, [], ◌∷◌, length, Option, Some, None, refl, sym, ap, subst}
 use Rattle.plc_base.specs.declared.BlockId.{BlockId}
 use Rattle.plc_mem.specs.Areas.{Areas}
-use Rattle.status_word.specs.declared.Check.{Check}
 use Rattle.frames.specs.Activations.{frames_of}
 use Rattle.frames.specs.declared.Activation.{Activation}
 use Rattle.frames.specs.declared.bindings.Binding.{Binding}
@@ -10,7 +9,7 @@ use Rattle.frames.specs.declared.frame.Frame.{Frame}
 use Rattle.frames.specs.declared.running.Running.{Running}
 use Rattle.flat_code.specs.Programs.{Program}
 use Rattle.machine.specs.Code.{Code, Head}
-use Rattle.machine.specs.Fitting.{OpenCodes, IsOpen, AreBound, HasInstance, FitsBlock, FrameFits, FramesFit, LocalsFit, Fits, SameSizes, codes_of}
+use Rattle.machine.specs.Fitting.{OpenAt, OpenCodes, IsOpen, AreBound, HasInstance, FitsBlock, FrameFits, FramesFit, LocalsFit, Fits, SameSizes, open_of}
 use Rattle.machine.specs.Flat.{code_of}
 use Rattle.machine.specs.ImageLaws.{ImageLaws}
 use Rattle.machine.specs.Lasting.{FitsProgram}
@@ -59,6 +58,10 @@ fits_of c brackets m a s = record {
 pub frames_are : (a : Activation) → a.left ≡ false → frames_of a ≡ a.running.frame ∷ a.below
 frames_are a is = rw is refl
 
+-- what is open in a frame
+abbrev pub frame_open : Frame → OpenAt
+frame_open f = open_of f.brackets f.relay
+
 -- ---- a frame that goes on
 
 pub record Follows (p : Program) (n : Areas) (f g : Frame) : Type 0 where
@@ -68,9 +71,9 @@ pub record Follows (p : Program) (n : Areas) (f g : Frame) : Type 0 where
   pub instance : g.instance ≡ f.instance
   pub db : IsOpen g.db n
   pub di : IsOpen g.di n
-  pub codes : List Check
-  pub stood : Stood p g.block g.at codes
-  pub same : codes_of g.brackets ≡ codes
+  pub held : OpenAt
+  pub stood : Stood p g.block g.at held
+  pub same : frame_open g ≡ held
 
 same_block :
     (c : Code) (f g : Frame) (below : List Frame) (n : Areas) → g.block ≡ f.block → g.local_len ≡ f.local_len
@@ -96,8 +99,8 @@ pub frame_follows :
     (l : ImageLaws) (p : Program) (n : Areas) (below : List Frame) (f g : Frame) → Follows p n f g
     → FrameFits (code_of p) (open_codes p) n below f → FrameFits (code_of p) (open_codes p) n below g
 frame_follows l p n below f g h fits = record {
-  statement = let s = statement_there l p g.block g.at h.codes h.stood in some_there ((code_of p).fetch g.block g.at) _ s.fetched;
-  open_brackets = opens_there p g.block g.at h.codes h.stood ∙ ap (λ (z : List Check). Some z) (sym h.same);
+  statement = let s = statement_there l p g.block g.at h.held h.stood in some_there ((code_of p).fetch g.block g.at) _ s.fetched;
+  open_brackets = opens_there p g.block g.at h.held h.stood ∙ ap (λ (z : OpenAt). Some z) (sym h.same);
   block = same_block (code_of p) f g below n h.block h.local_len h.bindings h.instance fits.block;
   db = h.db;
   di = h.di;

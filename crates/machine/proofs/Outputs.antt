@@ -24,10 +24,10 @@ use Rattle.frames.specs.declared.bindings.Binding.TheVariants as binding
 use Rattle.flat_code.specs.declared.operands.Operand.{Operand}
 use Rattle.flat_code.specs.declared.operands.Operand.TheVariants as operand
 use Rattle.flat_code.specs.declared.programs.Param.{Param}
-use Rattle.flat_code.specs.declared.words.PointerWord.{PointerWord}
-use Rattle.flat_code.specs.declared.words.PointerWord.TheVariants as pointers
-use Rattle.flat_code.specs.declared.words.Word.{Word}
-use Rattle.flat_code.specs.declared.words.Word.TheVariants as word
+use Rattle.flat_code.specs.declared.operations.PointerOperation.{PointerOperation}
+use Rattle.flat_code.specs.declared.operations.PointerOperation.TheVariants as pointers
+use Rattle.flat_code.specs.declared.operations.Operation.{Operation}
+use Rattle.flat_code.specs.declared.operations.Operation.TheVariants as operation
 use Rattle.machine.specs.declared.places.Access.{Access}
 use Rattle.machine.specs.declared.places.Access.TheVariants.{Writing}
 use Rattle.machine.specs.declared.places.Bound.{Bound}
@@ -36,6 +36,7 @@ use Rattle.machine.specs.Places.{absent, address, at_pointer, by_pointer, error_
 use Rattle.machine.specs.Values.{is_timer, with_locals, stored_at, write}
 use Rattle.machine.specs.BitLogic.{put_bit, bit_number, with_regs, bit_before, assigned, assigned_at, bit_set, set_at, edge, edge_at}
 use Rattle.machine.specs.Copies.{comes_in, in_instance, scene_or, put, copied, passed_to, param_in, params_in}
+use Rattle.machine.specs.Relay.{closed, relayed}
 use Rattle.machine.specs.Loads.{transferred, transferring}
 use Rattle.machine.specs.Timing.{timer_reset, counter_reset, timer_freed, counter_freed}
 use Rattle.machine.specs.Pointers.{pointed, address_loaded, address_transferred}
@@ -278,7 +279,7 @@ address_stays n (operand.OpenBlock register number) s m h = transferred_stays n 
 address_stays n (operand.OpenBy register from byte) s m h = transferred_stays n (operand.OpenBy register from byte) s m h
 
 pointed_stays :
-    (what : PointerWord) (o : Operand) (s : Own) (m : Areas) → has_place_inside o s.inner.bindings ≡ true
+    (what : PointerOperation) (o : Operand) (s : Own) (m : Areas) → has_place_inside o s.inner.bindings ≡ true
     → IfDone (SceneStays m) (pointed what o s m)
 unfolding pointed
 pointed_stays pointers.Lar1 o s m h = then_done (SceneStays m) (address_loaded o s m) _ (λ n. refl)
@@ -343,51 +344,52 @@ free_of_stays (Some kind) o p = by (is_timer kind)
     by false = counters_stay p _
 
 does_stays :
-    (w : Word) (o : Operand) (p : Parts) → keeps_outputs w o p.own.inner.bindings ≡ true
+    (w : Operation) (o : Operand) (p : Parts) → keeps_outputs w o p.own.inner.bindings ≡ true
     → IfDone (PartsStay p) (does w o p)
 unfolding does
-does_stays word.Nop o p h = refl
-does_stays word.Bld o p h = refl
-does_stays (word.Check with) o p h = regs_stay p _
-does_stays word.OrBare o p h = refl
-does_stays (word.Nest with) o p h = own_stays p _
-does_stays word.Unnest o p h = own_stays p _
-does_stays word.Load o p h = regs_stay p _
-does_stays word.Transfer o p h = scene_stays p (transferring o p.own p.memory) (transferred_stays p.own.regs.a1 o p.own p.memory h)
-does_stays word.Assign o p h = scene_stays p (assigned o p.own p.memory) (assigned_stays o p.own p.memory h)
-does_stays word.Set o p h = set_of_stays (kind_named o) o p h
-does_stays word.Reset o p h = reset_of_stays (kind_named o) o p h
-does_stays (word.Edge rising) o p h = scene_stays p (edge rising o p.own p.memory) (edge_stays rising o p.own p.memory h)
-does_stays word.SetRlo o p h = refl
-does_stays word.ClearRlo o p h = refl
-does_stays word.NegateRlo o p h = refl
-does_stays word.SaveRlo o p h = refl
-does_stays word.LoadBcd o p h = regs_stay p _
-does_stays word.LoadStatus o p h = refl
-does_stays word.TransferStatus o p h = refl
-does_stays word.LoadOpenBlock o p h = regs_stay p _
-does_stays (word.Pointer what) o p h = scene_stays p (pointed what o p.own p.memory) (pointed_stays what o p.own p.memory h)
-does_stays (word.Number what) o p h = regs_stay p _
-does_stays (word.Add what) o p h = refl
-does_stays (word.CompareInt how) o p h = refl
-does_stays (word.CompareDint how) o p h = refl
-does_stays (word.Logic what) o p h = refl
-does_stays (word.Shift what) o p h = refl
-does_stays (word.Start how) o p h = timers_stay p _
-does_stays word.Free o p h = free_of_stays (kind_named o) o p
-does_stays word.CountUp o p h = counters_stay p _
-does_stays word.CountDown o p h = counters_stay p _
-does_stays word.OpenBlock o p h = own_stays p _
-does_stays word.Exchange o p h = refl
-does_stays word.Jump o p h = tt
-does_stays (word.Call how) o p h = tt
-does_stays (word.End how) o p h = tt
-does_stays word.UseDb o p h = tt
-does_stays word.Pass o p h = tt
-does_stays word.NoWord o p h = tt
+does_stays operation.Nop o p h = refl
+does_stays operation.Bld o p h = refl
+does_stays (operation.Check with) o p h = regs_stay p _
+does_stays operation.OrBare o p h = refl
+does_stays (operation.Nest with) o p h = own_stays p _
+does_stays operation.Unnest o p h = own_stays p _
+does_stays (operation.Relay which) o p h = own_stays p (relayed which p.own)
+does_stays operation.Load o p h = regs_stay p _
+does_stays operation.Transfer o p h = scene_stays p (transferring o p.own p.memory) (transferred_stays (if closed p.own then 0 else p.own.regs.a1) o p.own p.memory h)
+does_stays operation.Assign o p h = scene_stays p (assigned o p.own p.memory) (assigned_stays o p.own p.memory h)
+does_stays operation.Set o p h = set_of_stays (kind_named o) o p h
+does_stays operation.Reset o p h = reset_of_stays (kind_named o) o p h
+does_stays (operation.Edge rising) o p h = scene_stays p (edge rising o p.own p.memory) (edge_stays rising o p.own p.memory h)
+does_stays operation.SetRlo o p h = refl
+does_stays operation.ClearRlo o p h = refl
+does_stays operation.NegateRlo o p h = refl
+does_stays operation.SaveRlo o p h = refl
+does_stays operation.LoadBcd o p h = regs_stay p _
+does_stays operation.LoadStatus o p h = refl
+does_stays operation.TransferStatus o p h = refl
+does_stays operation.LoadOpenBlock o p h = regs_stay p _
+does_stays (operation.Pointer what) o p h = scene_stays p (pointed what o p.own p.memory) (pointed_stays what o p.own p.memory h)
+does_stays (operation.Number what) o p h = regs_stay p _
+does_stays (operation.Add what) o p h = refl
+does_stays (operation.CompareInt how) o p h = refl
+does_stays (operation.CompareDint how) o p h = refl
+does_stays (operation.Logic what) o p h = refl
+does_stays (operation.Shift what) o p h = refl
+does_stays (operation.Start how) o p h = timers_stay p _
+does_stays operation.Free o p h = free_of_stays (kind_named o) o p
+does_stays operation.CountUp o p h = counters_stay p _
+does_stays operation.CountDown o p h = counters_stay p _
+does_stays operation.OpenBlock o p h = own_stays p _
+does_stays operation.Exchange o p h = refl
+does_stays operation.Jump o p h = tt
+does_stays (operation.Call how) o p h = tt
+does_stays (operation.End how) o p h = tt
+does_stays operation.UseDb o p h = tt
+does_stays operation.Pass o p h = tt
+does_stays operation.NoOperation o p h = tt
 
 pub does_with_stays :
-    (use_db : Option ℕ) (w : Word) (o : Operand) (p : Parts) → keeps_outputs w o p.own.inner.bindings ≡ true
+    (use_db : Option ℕ) (w : Operation) (o : Operand) (p : Parts) → keeps_outputs w o p.own.inner.bindings ≡ true
     → IfDone (PartsStay p) (does_with use_db w o p)
 unfolding does_with
 does_with_stays None w o p h = does_stays w o p h

@@ -15,25 +15,26 @@ use Rattle.frames.specs.declared.running.Running.{Running}
 use Rattle.flat_code.specs.Instr.{Instr, Does, Passing}
 use Rattle.flat_code.specs.Ops.{OpData}
 use Rattle.flat_code.specs.Programs.{CodeBlock, Program}
-use Rattle.flat_code.specs.Words.{word_of}
+use Rattle.flat_code.specs.Operations.{operation_of}
 use Rattle.flat_code.specs.declared.operands.Operand.{Operand}
 use Rattle.flat_code.specs.declared.operands.Operand.TheVariants as operand
-use Rattle.flat_code.specs.declared.words.CallWord.{CallWord}
-use Rattle.flat_code.specs.declared.words.Word.{Word}
-use Rattle.flat_code.specs.declared.words.Word.TheVariants as word
+use Rattle.flat_code.specs.declared.operations.CallOperation.{CallOperation}
+use Rattle.flat_code.specs.declared.operations.Operation.{Operation}
+use Rattle.flat_code.specs.declared.operations.Operation.TheVariants as operation
 use Rattle.flat_code.specs.declared.programs.Param.{Param}
 use Rattle.image_file.specs.Readers.{block_of}
 use Rattle.machine.specs.declared.outcomes.Outcome.TheVariants as outcome
 use Rattle.machine.specs.Code.{Code, Fetched}
 use Rattle.machine.specs.Entering.{Call, Fails, Stops, Enters, Callee, Calls, called_with, entered_if, supplied}
-use Rattle.machine.specs.Flat.{call_instr, code_of, instr_of, kind_called, most_ops, run_at, statement_at}
+use Rattle.flat_code.specs.Forms.{kind_of_code}
+use Rattle.machine.specs.Flat.{call_instr, code_of, instr_of, most_ops, run_at, statement_at}
 use Rattle.machine.specs.Outcomes.{Meets}
 use Rattle.machine.specs.Parts.{Parts, scene_of}
 use Rattle.machine.specs.Quiet.{GoesQuietly, GoesOrStays, RunsQuietly, StaysReady, goes_as, goes_on, has_caller as has_caller_of, is_of, is_quiet, is_quiet_across, is_quiet_inside}
 use Rattle.machine.specs.Returning.{Return, Returns, GoesOn, Ends, given_back, left, returning}
 use Rattle.machine.specs.Statement.{Comes, Goes, Step, Went, Ended, SyncError, SysCall, Stop, Stuck, World, after_call, after_return, fetched, performed, statement, went_on, world}
 use Rattle.machine.specs.Walking.{Passes, Walk, walk_with}
-use Rattle.machine.proofs.Fetching.{fetched_nowhere, found_walk, walked}
+use Rattle.machine.proofs.Fetching.{fetched_nowhere, found_walk}
 use Rattle.machine.proofs.Keeping.{IfDone}
 use Rattle.machine.proofs.Outputs.{Stay, params_in_stay}
 use Rattle.machine.proofs.Steps.{call_comes, moved_to, return_comes, went_comes}
@@ -81,22 +82,22 @@ statement_in p b a w is = rw is refl
 
 -- what the machine finds along the ops is the statement there
 pub found_there :
-    (b : CodeBlock) (at : ℕ) (walk : Walk) (word : Word) (operand : Operand) (opens : Option ℕ) (next : ℕ) (c : Code)
+    (b : CodeBlock) (at : ℕ) (walk : Walk) (what : Operation) (operand : Operand) (opens : Option ℕ) (next : ℕ) (c : Code)
     (kind : Instr → Activation → Bool) (a after : Activation) (w v : World) (answer : Bool)
-    → word ≡ word_of walk.last.code → operand ≡ walk.last.operand → opens ≡ walk.opens → next ≡ walk.next
+    → what ≡ operation_of walk.last.code → operand ≡ walk.last.operand → opens ≡ walk.opens → next ≡ walk.next
     → Some walk ≡ option_map (walk_with None) (run_at most_ops b.code at) → Goes (fetched c (statement_at b at) a w)
     → ((passings : List Passing) → Passes b.code at passings
-    → GoesOrStays (performed c (instr_of word operand opens passings next b.code) next a w)
-    (kind (instr_of word operand opens passings next b.code) a) a after w v answer)
+    → GoesOrStays (performed c (instr_of what operand opens passings next b.code) next a w)
+    (kind (instr_of what operand opens passings next b.code) a) a after w v answer)
     → GoesOrStays (fetched c (statement_at b at) a w) (is_of kind (statement_at b at) a) a after w v answer
-found_there b at walk word operand opens next c kind a after w v answer words operands opened behind h there goes =
+found_there b at walk what operand opens next c kind a after w v answer words operands opened behind h there goes =
     let found = found_walk b at walk c a w h there in
     subst (λ (f : Option Fetched). GoesOrStays (fetched c f a w) (is_of kind f a) a after w v answer) (sym found.3)
     (at_walk found.0 found.1)
   where
     at_walk : (passings : List Passing) → Passes b.code at passings
-        → GoesOrStays (performed c (instr_of (word_of walk.last.code) walk.last.operand walk.opens passings walk.next b.code) walk.next a w)
-        (kind (instr_of (word_of walk.last.code) walk.last.operand walk.opens passings walk.next b.code) a) a after w v answer
+        → GoesOrStays (performed c (instr_of (operation_of walk.last.code) walk.last.operand walk.opens passings walk.next b.code) walk.next a w)
+        (kind (instr_of (operation_of walk.last.code) walk.last.operand walk.opens passings walk.next b.code) a) a after w v answer
     at_walk passings pass = rw (sym words, sym operands, sym opened, sym behind) (goes passings pass)
 
 -- and where it finds none, no statement is there
@@ -108,13 +109,13 @@ found_nowhere b at c kind a w h there = absurd (fetched_nowhere b at c a w h the
 
 -- a call or a return is none of the instructions that stay in their block
 pub calls_leave :
-    (how : CallWord) (operand : Operand) (opens : Option ℕ) (passings : List Passing) (next : ℕ) (ops : List OpData) (a : Activation)
-    → is_quiet_inside (instr_of (word.Call how) operand opens passings next ops) a ≡ false
-calls_leave how (operand.Called kind number instance) opens passings next ops a = by (kind_called kind)
+    (how : CallOperation) (operand : Operand) (opens : Option ℕ) (passings : List Passing) (next : ℕ) (ops : List OpData) (a : Activation)
+    → is_quiet_inside (instr_of (operation.Call how) operand opens passings next ops) a ≡ false
+calls_leave how (operand.Called kind number instance) opens passings next ops a = by (kind_of_code kind)
   where
     by : (found : Option BlockKind)
         → is_quiet_inside (call_instr found how number instance passings
-        (Does opens (word.Call how) (operand.Called kind number instance))) a ≡ false
+        (Does opens (operation.Call how) (operand.Called kind number instance))) a ≡ false
     by None = refl
     by (Some found) = refl
 calls_leave how _ opens passings next ops a = refl

@@ -1,8 +1,10 @@
 -- An activation that fits is ready: what its statement needs is in a program that verifies.
-use Rattle.std.proofs.Common.{◌≡◌, ◌∙◌, inl, inr, [], ◌∷◌, ℕ, zero, suc, Bool, true, false, ◌==◌, is_some, if◌then◌else◌, List, map, Option, Some, None, refl, sym, ap}
-use Rattle.std.proofs.lemmas.Bool.{eqb-true, true≢false}
+use Rattle.std.proofs.Common.{◌≡◌, ◌∙◌, ◌⊎◌, inl, inr, arith, ltb, ◌&&◌, subst, [], ◌∷◌, ℕ, zero, suc, Bool, true, false, is_some, if◌then◌else◌, List, map, Option, Some, None, refl, sym, ap}
+use Rattle.std.proofs.lemmas.Bool.{and_parts, true≢false}
+use Rattle.std.proofs.lemmas.Bool.Decides.{nat_tests}
 use Rattle.std.specs.Option.{option_map, option_and_then}
 use Rattle.std.proofs.lemmas.Option.{same_Some}
+use Rattle.plc_base.specs.Kinds.{kind_number}
 use Rattle.plc_base.specs.declared.BlockId.{BlockId}
 use Rattle.plc_base.specs.declared.blocks.BlockKind.{BlockKind}
 use Rattle.plc_base.specs.declared.blocks.BlockKind.TheVariants as kinds
@@ -14,20 +16,22 @@ use Rattle.flat_code.specs.Image.{param_of, kind_of_number}
 use Rattle.flat_code.specs.Instr.{Does, Passing}
 use Rattle.flat_code.specs.Kinds.{jump_of}
 use Rattle.flat_code.specs.Loading.{Verifies}
-use Rattle.flat_code.specs.Ops.{OpData}
+use Rattle.flat_code.specs.Ops.{OpData, is_op}
+use Rattle.flat_code.specs.Table.{admits, takes_of}
 use Rattle.flat_code.specs.Placed.{op_placed, line_placed, places}
 use Rattle.flat_code.specs.Programs.{CodeBlock, Program}
-use Rattle.flat_code.specs.Words.{word_of}
+use Rattle.flat_code.specs.Operations.{operation_of}
 use Rattle.flat_code.specs.declared.operands.Operand.{Operand}
 use Rattle.flat_code.specs.declared.operands.Operand.TheVariants as operand
-use Rattle.flat_code.specs.declared.words.CallWord.{CallWord}
-use Rattle.flat_code.specs.declared.words.Word.{Word}
-use Rattle.flat_code.specs.declared.words.Word.TheVariants as word
+use Rattle.flat_code.specs.declared.operations.CallOperation.{CallOperation}
+use Rattle.flat_code.specs.declared.operations.Operation.{Operation}
+use Rattle.flat_code.specs.declared.operations.Operation.TheVariants as operation
 use Rattle.image_file.specs.Readers.{block_of}
-use Rattle.image_file.specs.Verified.{place_at, IsOp, IsRead, OpsArePlaced, FitsCall, CallsFit, IsCalled, CalledAreThere, signatures}
+use Rattle.image_file.specs.Verified.{place_at, IsOp, IsRead, OpsArePlaced, OpsAreOfTable, FitsCall, CallsFit, IsCalled, CalledAreThere, signatures}
 use Rattle.machine.specs.Code.{Code, Head}
 use Rattle.machine.specs.Fitting.{OpenCodes, FrameFits, FramesFit, FitsBlock, Fits}
-use Rattle.machine.specs.Flat.{Run, run_at, run_with, with_op, most_ops, code_of, head_of, kind_called, call_instr, instr_of, fetched_of, use_db_of, passings_of, statement_at}
+use Rattle.flat_code.specs.Forms.{is_callable, kind_of_code, payload_fits}
+use Rattle.machine.specs.Flat.{Run, run_at, run_with, with_op, most_ops, code_of, head_of, call_instr, instr_of, fetched_of, use_db_of, passings_of, statement_at}
 use Rattle.machine.specs.Statement.{World, statement, Goes}
 use Rattle.machine.specs.There.{is_callee, is_there, is_complete}
 use Rattle.machine.proofs.Completing.{jump_is_there}
@@ -109,120 +113,133 @@ unfolding callee
 sfc_there p kind number called e h =
     some_below (system_params number) (λ params. (5, 0, params)) (map param_of) called (rw e at h)
 
-by_tests :
-    (p : Program) (kind number : ℕ) (called : Callee) (k : BlockKind) (two three five : Bool) → CalledAreThere
-    → callee (signatures p) kind number ≡ Some called
-    → (kind == 2) ≡ two → (kind == 3) ≡ three → (kind == 5) ≡ five
-    → (if two then Some kinds.Fc else if three then Some kinds.Fb else if five then Some kinds.Sfc else None) ≡ Some k
-    → There p number k
-by_tests p kind number called k true three five law h e2 e3 e5 is =
-    rw (sym (same_Some kinds.Fc k is)) (fc_there p kind number called law (eqb-true kind 2 e2) h)
-by_tests p kind number called k false true five law h e2 e3 e5 is =
-    rw (sym (same_Some kinds.Fb k is)) (fb_there p kind number called law (eqb-true kind 3 e3) h)
-by_tests p kind number called k false false true law h e2 e3 e5 is =
-    rw (sym (same_Some kinds.Sfc k is)) (sfc_there p kind number called (eqb-true kind 5 e5) h)
-by_tests p kind number called k false false false law h e2 e3 e5 is = absurd (none_some k (sym is))
+pub kind_callable : (code kind number instance : ℕ) → is_op code (operand.Called kind number instance) ≡ true → is_callable kind ≡ true
+unfolding is_op
+kind_callable code kind number instance right =
+    let fits = (and_parts (ltb code 128 && admits (takes_of code) (operand.Called kind number instance)) (payload_fits (operand.Called kind number instance)) right).1 in
+    let first = (and_parts (ltb kind 256 && is_callable kind) (ltb number 65536 && ltb instance 65536) fits).0 in
+    (and_parts (ltb kind 256) (is_callable kind) first).1
+
+-- only functions, function blocks and system functions are called
+abbrev pub IsCallable : ℕ → Type 0
+IsCallable kind = (kind ≡ kind_number kinds.Fc) ⊎ ((kind ≡ kind_number kinds.Fb) ⊎ (kind ≡ kind_number kinds.Sfc))
+
+pub callable_kind : (kind : ℕ) → is_callable kind ≡ true → IsCallable kind
+callable_kind kind h = grind (arith, nat_tests, h)
+
+called_there :
+    (p : Program) (kind number : ℕ) (called : Callee) (k : BlockKind) → IsCallable kind → CalledAreThere
+    → callee (signatures p) kind number ≡ Some called → kind_of_code kind ≡ Some k → There p number k
+called_there p kind number called k (inl e) law h is =
+    rw (sym (same_Some kinds.Fc k (sym (ap kind_of_code e) ∙ is))) (fc_there p kind number called law e h)
+called_there p kind number called k (inr (inl e)) law h is =
+    rw (sym (same_Some kinds.Fb k (sym (ap kind_of_code e) ∙ is))) (fb_there p kind number called law e h)
+called_there p kind number called k (inr (inr e)) law h is =
+    rw (sym (same_Some kinds.Sfc k (sym (ap kind_of_code e) ∙ is))) (sfc_there p kind number called e h)
 
 abbrev CallsThere : Program → CodeBlock → Operand → Type 0
 CallsThere p b o =
     (kind number instance : ℕ) (k : BlockKind) → o ≡ operand.Called kind number instance
-    → kind_called kind ≡ Some k → There p number k
+    → kind_of_code kind ≡ Some k → There p number k
 
 last_calls :
-    (p : Program) (own : BlockId) (b : CodeBlock) (from next : ℕ) (op : OpData) → Verifies p → OpsArePlaced → CallsFit
+    (p : Program) (own : BlockId) (b : CodeBlock) (from next : ℕ) (op : OpData) → Verifies p → OpsArePlaced → OpsAreOfTable → CallsFit
     → CalledAreThere → block_of own p.code_blocks ≡ Some b → op_placed 0 b.code from ≡ Some (op, next)
     → CallsThere p b op.operand
-last_calls p own b from next op verifies placed_law calls_law called_law block placed kind number instance k o is =
+last_calls p own b from next op verifies placed_law table_law calls_law called_law block placed kind number instance k o is =
     let read : IsRead b.code from op next = placed_law b.code from op next placed
     in let there : place_at read.here.at (places b.code) ≡ Some read.here = ap (λ z. place_at z (places b.code)) read.offset ∙ read.place
     in let isop : IsOp p b read.here = record { verifies = verifies; id = own; block = block; place = there }
     in let fit : FitsCall p read.here kind number instance =
     calls_law p b read.here kind number instance isop (ap (λ (z : OpData). z.operand) read.op_is ∙ o)
-    in by_tests p kind number fit.called k (kind == 2) (kind == 3) (kind == 5) called_law fit.there refl refl refl is
+    in let right : is_op read.here.op.code (operand.Called kind number instance) ≡ true =
+    subst (λ (z : Operand). is_op read.here.op.code z ≡ true) (ap (λ (z : OpData). z.operand) read.op_is ∙ o) (table_law p b read.here isop)
+    in called_there p kind number fit.called k (callable_kind kind (kind_callable read.here.op.code kind number instance right)) called_law fit.there is
 
 -- what the instruction of an op needs is there
 call_by :
-    (p : Program) (own : BlockId) (how : CallWord) (k : Option BlockKind) (number instance : ℕ) (passings : List Passing)
-    (use_db : Option ℕ) (w : Word) (o : Operand)
+    (p : Program) (own : BlockId) (how : CallOperation) (k : Option BlockKind) (number instance : ℕ) (passings : List Passing)
+    (use_db : Option ℕ) (w : Operation) (o : Operand)
     → ((kind : BlockKind) → k ≡ Some kind → There p number kind)
     → is_there (code_of p) (call_instr k how number instance passings (Does use_db w o)) own ≡ true
 call_by p own how None number instance passings use_db w o needs = refl
 call_by p own how (Some kind) number instance passings use_db w o needs = needs kind refl
 
 op_there :
-    (p : Program) (b : CodeBlock) (own : BlockId) (w : Word) (o : Operand) (use_db : Option ℕ) (passings : List Passing)
+    (p : Program) (b : CodeBlock) (own : BlockId) (w : Operation) (o : Operand) (use_db : Option ℕ) (passings : List Passing)
     (next : ℕ) (ops : List OpData) → CallsThere p b o → is_some ((code_of p).head own) ≡ true
     → is_there (code_of p) (instr_of w o use_db passings next ops) own ≡ true
-op_there p b own word.NoWord o use_db passings next ops calls head = refl
-op_there p b own word.Nop o use_db passings next ops calls head = refl
-op_there p b own word.Bld o use_db passings next ops calls head = refl
-op_there p b own word.UseDb o use_db passings next ops calls head = refl
-op_there p b own word.Pass o use_db passings next ops calls head = refl
-op_there p b own (word.Check with) o use_db passings next ops calls head = refl
-op_there p b own word.OrBare o use_db passings next ops calls head = refl
-op_there p b own (word.Nest with) o use_db passings next ops calls head = refl
-op_there p b own word.Unnest o use_db passings next ops calls head = refl
-op_there p b own word.Load o use_db passings next ops calls head = refl
-op_there p b own word.Transfer o use_db passings next ops calls head = refl
-op_there p b own word.Assign o use_db passings next ops calls head = refl
-op_there p b own word.Set o use_db passings next ops calls head = refl
-op_there p b own word.Reset o use_db passings next ops calls head = refl
-op_there p b own (word.Edge rising) o use_db passings next ops calls head = refl
-op_there p b own word.SetRlo o use_db passings next ops calls head = refl
-op_there p b own word.ClearRlo o use_db passings next ops calls head = refl
-op_there p b own word.NegateRlo o use_db passings next ops calls head = refl
-op_there p b own word.SaveRlo o use_db passings next ops calls head = refl
-op_there p b own word.LoadBcd o use_db passings next ops calls head = refl
-op_there p b own word.LoadStatus o use_db passings next ops calls head = refl
-op_there p b own word.TransferStatus o use_db passings next ops calls head = refl
-op_there p b own word.LoadOpenBlock o use_db passings next ops calls head = refl
-op_there p b own (word.Pointer what) o use_db passings next ops calls head = refl
-op_there p b own (word.Number what) o use_db passings next ops calls head = refl
-op_there p b own (word.Add what) o use_db passings next ops calls head = refl
-op_there p b own (word.CompareInt how) o use_db passings next ops calls head = refl
-op_there p b own (word.CompareDint how) o use_db passings next ops calls head = refl
-op_there p b own (word.Logic what) o use_db passings next ops calls head = refl
-op_there p b own (word.Shift what) o use_db passings next ops calls head = refl
-op_there p b own (word.Start how) o use_db passings next ops calls head = refl
-op_there p b own word.Free o use_db passings next ops calls head = refl
-op_there p b own word.CountUp o use_db passings next ops calls head = refl
-op_there p b own word.CountDown o use_db passings next ops calls head = refl
-op_there p b own word.OpenBlock o use_db passings next ops calls head = refl
-op_there p b own word.Exchange o use_db passings next ops calls head = refl
-op_there p b own word.Jump operand.Nothing use_db passings next ops calls head = refl
-op_there p b own word.Jump (operand.Literal value) use_db passings next ops calls head = refl
-op_there p b own word.Jump (operand.Direct area width byte bit) use_db passings next ops calls head = refl
-op_there p b own word.Jump (operand.ByMemory area width from byte) use_db passings next ops calls head = refl
-op_there p b own word.Jump (operand.ByRegister area width register bits) use_db passings next ops calls head = refl
-op_there p b own word.Jump (operand.Parameter index width) use_db passings next ops calls head = refl
-op_there p b own word.Jump (operand.Numbered kind number) use_db passings next ops calls head = refl
-op_there p b own word.Jump (operand.NumberedBy kind from byte) use_db passings next ops calls head = refl
-op_there p b own word.Jump (operand.Jump kind target) use_db passings next ops calls head =
+op_there p b own operation.NoOperation o use_db passings next ops calls head = refl
+op_there p b own operation.Nop o use_db passings next ops calls head = refl
+op_there p b own operation.Bld o use_db passings next ops calls head = refl
+op_there p b own operation.UseDb o use_db passings next ops calls head = refl
+op_there p b own operation.Pass o use_db passings next ops calls head = refl
+op_there p b own (operation.Check with) o use_db passings next ops calls head = refl
+op_there p b own operation.OrBare o use_db passings next ops calls head = refl
+op_there p b own (operation.Nest with) o use_db passings next ops calls head = refl
+op_there p b own operation.Unnest o use_db passings next ops calls head = refl
+op_there p b own (operation.Relay which) o use_db passings next ops calls head = refl
+op_there p b own operation.Load o use_db passings next ops calls head = refl
+op_there p b own operation.Transfer o use_db passings next ops calls head = refl
+op_there p b own operation.Assign o use_db passings next ops calls head = refl
+op_there p b own operation.Set o use_db passings next ops calls head = refl
+op_there p b own operation.Reset o use_db passings next ops calls head = refl
+op_there p b own (operation.Edge rising) o use_db passings next ops calls head = refl
+op_there p b own operation.SetRlo o use_db passings next ops calls head = refl
+op_there p b own operation.ClearRlo o use_db passings next ops calls head = refl
+op_there p b own operation.NegateRlo o use_db passings next ops calls head = refl
+op_there p b own operation.SaveRlo o use_db passings next ops calls head = refl
+op_there p b own operation.LoadBcd o use_db passings next ops calls head = refl
+op_there p b own operation.LoadStatus o use_db passings next ops calls head = refl
+op_there p b own operation.TransferStatus o use_db passings next ops calls head = refl
+op_there p b own operation.LoadOpenBlock o use_db passings next ops calls head = refl
+op_there p b own (operation.Pointer what) o use_db passings next ops calls head = refl
+op_there p b own (operation.Number what) o use_db passings next ops calls head = refl
+op_there p b own (operation.Add what) o use_db passings next ops calls head = refl
+op_there p b own (operation.CompareInt how) o use_db passings next ops calls head = refl
+op_there p b own (operation.CompareDint how) o use_db passings next ops calls head = refl
+op_there p b own (operation.Logic what) o use_db passings next ops calls head = refl
+op_there p b own (operation.Shift what) o use_db passings next ops calls head = refl
+op_there p b own (operation.Start how) o use_db passings next ops calls head = refl
+op_there p b own operation.Free o use_db passings next ops calls head = refl
+op_there p b own operation.CountUp o use_db passings next ops calls head = refl
+op_there p b own operation.CountDown o use_db passings next ops calls head = refl
+op_there p b own operation.OpenBlock o use_db passings next ops calls head = refl
+op_there p b own operation.Exchange o use_db passings next ops calls head = refl
+op_there p b own operation.Jump operand.Nothing use_db passings next ops calls head = refl
+op_there p b own operation.Jump (operand.Literal value) use_db passings next ops calls head = refl
+op_there p b own operation.Jump (operand.Direct area width byte bit) use_db passings next ops calls head = refl
+op_there p b own operation.Jump (operand.ByMemory area width from byte) use_db passings next ops calls head = refl
+op_there p b own operation.Jump (operand.ByRegister area width register bits) use_db passings next ops calls head = refl
+op_there p b own operation.Jump (operand.Parameter index width) use_db passings next ops calls head = refl
+op_there p b own operation.Jump (operand.Numbered kind number) use_db passings next ops calls head = refl
+op_there p b own operation.Jump (operand.NumberedBy kind from byte) use_db passings next ops calls head = refl
+op_there p b own operation.Jump (operand.Jump kind target) use_db passings next ops calls head =
     jump_is_there (code_of p) own (jump_of kind) target next ops
-op_there p b own word.Jump (operand.OfStatus condition) use_db passings next ops calls head = refl
-op_there p b own word.Jump (operand.UseDb number) use_db passings next ops calls head = refl
-op_there p b own word.Jump (operand.Pass index actual) use_db passings next ops calls head = refl
-op_there p b own word.Jump (operand.Called kind number instance) use_db passings next ops calls head = refl
-op_there p b own word.Jump (operand.OpenBlock register number) use_db passings next ops calls head = refl
-op_there p b own word.Jump (operand.OpenBy register from byte) use_db passings next ops calls head = refl
-op_there p b own (word.Call how) operand.Nothing use_db passings next ops calls head = refl
-op_there p b own (word.Call how) (operand.Literal value) use_db passings next ops calls head = refl
-op_there p b own (word.Call how) (operand.Direct area width byte bit) use_db passings next ops calls head = refl
-op_there p b own (word.Call how) (operand.ByMemory area width from byte) use_db passings next ops calls head = refl
-op_there p b own (word.Call how) (operand.ByRegister area width register bits) use_db passings next ops calls head = refl
-op_there p b own (word.Call how) (operand.Parameter index width) use_db passings next ops calls head = refl
-op_there p b own (word.Call how) (operand.Numbered kind number) use_db passings next ops calls head = refl
-op_there p b own (word.Call how) (operand.NumberedBy kind from byte) use_db passings next ops calls head = refl
-op_there p b own (word.Call how) (operand.Jump kind target) use_db passings next ops calls head = refl
-op_there p b own (word.Call how) (operand.OfStatus condition) use_db passings next ops calls head = refl
-op_there p b own (word.Call how) (operand.UseDb number) use_db passings next ops calls head = refl
-op_there p b own (word.Call how) (operand.Pass index actual) use_db passings next ops calls head = refl
-op_there p b own (word.Call how) (operand.Called kind number instance) use_db passings next ops calls head =
-    call_by p own how (kind_called kind) number instance passings use_db (word.Call how) (operand.Called kind number instance)
+op_there p b own operation.Jump (operand.OfStatus condition) use_db passings next ops calls head = refl
+op_there p b own operation.Jump (operand.UseDb number) use_db passings next ops calls head = refl
+op_there p b own operation.Jump (operand.Pass index actual) use_db passings next ops calls head = refl
+op_there p b own operation.Jump (operand.Called kind number instance) use_db passings next ops calls head = refl
+op_there p b own operation.Jump (operand.OpenBlock register number) use_db passings next ops calls head = refl
+op_there p b own operation.Jump (operand.OpenBy register from byte) use_db passings next ops calls head = refl
+op_there p b own (operation.Call how) operand.Nothing use_db passings next ops calls head = refl
+op_there p b own (operation.Call how) (operand.Literal value) use_db passings next ops calls head = refl
+op_there p b own (operation.Call how) (operand.Direct area width byte bit) use_db passings next ops calls head = refl
+op_there p b own (operation.Call how) (operand.ByMemory area width from byte) use_db passings next ops calls head = refl
+op_there p b own (operation.Call how) (operand.ByRegister area width register bits) use_db passings next ops calls head = refl
+op_there p b own (operation.Call how) (operand.Parameter index width) use_db passings next ops calls head = refl
+op_there p b own (operation.Call how) (operand.Numbered kind number) use_db passings next ops calls head = refl
+op_there p b own (operation.Call how) (operand.NumberedBy kind from byte) use_db passings next ops calls head = refl
+op_there p b own (operation.Call how) (operand.Jump kind target) use_db passings next ops calls head = refl
+op_there p b own (operation.Call how) (operand.OfStatus condition) use_db passings next ops calls head = refl
+op_there p b own (operation.Call how) (operand.UseDb number) use_db passings next ops calls head = refl
+op_there p b own (operation.Call how) (operand.Pass index actual) use_db passings next ops calls head = refl
+op_there p b own (operation.Call how) (operand.Called kind number instance) use_db passings next ops calls head =
+    call_by p own how (kind_of_code kind) number instance passings use_db (operation.Call how) (operand.Called kind number instance)
     (λ k is. calls kind number instance k refl is)
-op_there p b own (word.Call how) (operand.OpenBlock register number) use_db passings next ops calls head = refl
-op_there p b own (word.Call how) (operand.OpenBy register from byte) use_db passings next ops calls head = refl
-op_there p b own (word.End how) o use_db passings next ops calls head = head
+op_there p b own (operation.Call how) (operand.OpenBlock register number) use_db passings next ops calls head = refl
+op_there p b own (operation.Call how) (operand.OpenBy register from byte) use_db passings next ops calls head = refl
+op_there p b own (operation.End how) o use_db passings next ops calls head = head
 
 -- a statement that begins there has what it needs
 with_line :
@@ -233,21 +250,21 @@ with_line :
 with_line p b own None found calls head there = there
 with_line p b own (Some line) None calls head there = there
 with_line p b own (Some line) (Some r) calls head there =
-    op_there p b own (word_of r.last.code) r.last.operand (use_db_of r.before) (passings_of r.before) r.next b.code
+    op_there p b own (operation_of r.last.code) r.last.operand (use_db_of r.before) (passings_of r.before) r.next b.code
     (calls r refl) head
 
 at_block :
-    (p : Program) (own : BlockId) (at : ℕ) (found : Option CodeBlock) → Verifies p → OpsArePlaced → CallsFit
+    (p : Program) (own : BlockId) (at : ℕ) (found : Option CodeBlock) → Verifies p → OpsArePlaced → OpsAreOfTable → CallsFit
     → CalledAreThere → block_of own p.code_blocks ≡ found
     → is_some (option_map head_of found) ≡ true
     → is_some (option_and_then (λ b. statement_at b at) found) ≡ true
     → is_complete (code_of p) (option_and_then (λ b. statement_at b at) found) own ≡ true
 unfolding statement_at
-at_block p own at None verifies placed_law calls_law called_law block head there = there
-at_block p own at (Some b) verifies placed_law calls_law called_law block head there =
+at_block p own at None verifies placed_law table_law calls_law called_law block head there = there
+at_block p own at (Some b) verifies placed_law table_law calls_law called_law block head there =
     with_line p b own (line_placed 0 true b.code b.lines at) (run_at most_ops b.code at)
     (λ r is. let last : HasLast b.code r = last_placed most_ops b.code at r is
-    in last_calls p own b last.0 r.next r.last verifies placed_law calls_law called_law block last.1)
+    in last_calls p own b last.0 r.next r.last verifies placed_law table_law calls_law called_law block last.1)
     (rw block head) there
 
 block_there :
@@ -257,15 +274,15 @@ block_there None f below m fits = absurd fits
 
 frame_goes :
     (p : Program) (brackets : OpenCodes) (m : Areas) (a : Activation) (w : World) → Verifies p
-    → OpsArePlaced → CallsFit → CalledAreThere
+    → OpsArePlaced → OpsAreOfTable → CallsFit → CalledAreThere
     → FrameFits (code_of p) brackets m a.below a.running.frame
     → Goes (statement (code_of p) a w)
 unfolding statement
-frame_goes p brackets m a w verifies placed_law calls_law called_law fits =
+frame_goes p brackets m a w verifies placed_law table_law calls_law called_law fits =
     let own : BlockId = a.running.frame.block
     in let at : ℕ = a.running.frame.at
     in fetched_goes (code_of p) ((code_of p).fetch own at) a w
-    (at_block p own at (block_of own p.code_blocks) verifies placed_law calls_law called_law refl
+    (at_block p own at (block_of own p.code_blocks) verifies placed_law table_law calls_law called_law refl
     (block_there ((code_of p).head own) a.running.frame a.below m fits.block) fits.statement)
 
 innermost_fits :
@@ -277,8 +294,8 @@ innermost_fits c brackets m a false is e fits = fits.0
 
 pub fits_goes :
     (p : Program) (brackets : OpenCodes) (m : Areas) (a : Activation) (w : World) → Verifies p
-    → OpsArePlaced → CallsFit → CalledAreThere → Fits (code_of p) brackets m a
+    → OpsArePlaced → OpsAreOfTable → CallsFit → CalledAreThere → Fits (code_of p) brackets m a
     → Goes (statement (code_of p) a w)
-fits_goes p brackets m a w verifies placed_law calls_law called_law fits =
-    frame_goes p brackets m a w verifies placed_law calls_law called_law
+fits_goes p brackets m a w verifies placed_law table_law calls_law called_law fits =
+    frame_goes p brackets m a w verifies placed_law table_law calls_law called_law
     (innermost_fits (code_of p) brackets m a a.left refl fits.stands fits.frames)

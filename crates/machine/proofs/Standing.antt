@@ -1,203 +1,48 @@
 -- Where a frame stands in the code of an image: the run of its statement, the statement behind it,
--- and the brackets that stand open there.
-use Rattle.std.proofs.Common.{◌≡◌, ◌∙◌, ◌⊎◌, inl, inr, ◌+◌, ◌-◌, ℕ, zero, suc, Bool, true, false, cond, eqb, leb, not, ◌&&◌, ◌||◌, IsSome, List, [], ◌∷◌, ◌++◌, length, map, take, reverse, get_or, append_assoc, length-append, Option, Some, None, refl, sym, ap, subst, arith}
-use Rattle.std.proofs.lemmas.Bool.{and_parts, eqb-true, leb-true, true≢false}
-use Rattle.std.proofs.lemmas.Bool.Decides.{nat_tests}
-use Rattle.std.proofs.lemmas.List.{reverse-append, map_push}
+-- and the brackets and zones that stand open there.
+use Rattle.std.proofs.Common.{◌≡◌, ◌∙◌, ◌+◌, ℕ, zero, suc, Bool, true, false, cond, eqb, not, IsSome, List, [], ◌∷◌, ◌++◌, length, map, reverse, append_assoc, length-append, Option, Some, None, refl, sym, ap, subst, arith}
+use Rattle.std.proofs.lemmas.Bool.{eqb-true, true≢false}
 use Rattle.std.proofs.lemmas.Option.{same_Some}
-use Rattle.std.proofs.Math.Seq.{take-append_seam}
 use Rattle.std.specs.Option.{option_map, option_and_then}
 use Rattle.plc_base.specs.declared.BlockId.{BlockId}
-use Rattle.status_word.specs.declared.Check.{Check}
 use Rattle.flat_code.specs.declared.image_fields.OpenBracket.{OpenBracket}
-use Rattle.flat_code.specs.declared.words.Word.{Word}
-use Rattle.flat_code.specs.declared.words.Word.TheVariants as word
-use Rattle.flat_code.specs.declared.words.TheConstants.{WORDS}
+use Rattle.flat_code.specs.declared.operations.EndOperation.TheVariants as ends
+use Rattle.flat_code.specs.declared.operations.Operation.TheVariants as operation
 use Rattle.flat_code.specs.Blocks.{prepares}
 use Rattle.flat_code.specs.Codes.{size}
 use Rattle.flat_code.specs.Loading.{Verifies}
+use Rattle.flat_code.specs.OpCodes.{code_of as op_code}
 use Rattle.flat_code.specs.Ops.{OpData}
 use Rattle.flat_code.specs.declared.operands.Operand.TheVariants as operand
-use Rattle.flat_code.specs.Placed.{Placed, placed, places, op_placed, line_placed, begins, is_empty, bracket_codes, opens, opened, inner, before_next, ending, last_op}
+use Rattle.flat_code.specs.Placed.{Placed, placed, places, op_placed, line_placed, begins, is_empty, opened, zones_behind, before_next, ending, last_op}
 use Rattle.flat_code.specs.Programs.{CodeBlock, Program}
-use Rattle.flat_code.specs.Words.{word_of}
+use Rattle.flat_code.specs.Operations.{operation_of}
 use Rattle.image_file.specs.Readers.{block_of}
 use Rattle.image_file.specs.Verified.{place_at, IsOp, Next}
 use Rattle.machine.specs.Flat.{Run, run_at, with_op, most_ops, fetched_of, statement_at, code_of}
 use Rattle.machine.specs.ImageLaws.{ImageLaws}
-use Rattle.machine.specs.OpenBrackets.{check_named, checks_of, open_before, open_in, open_codes}
-use Rattle.machine.proofs.Keeping.{codes_after}
-
--- ---- the brackets behind an op
-
-abbrev pub is_other : Word → Bool
-is_other (word.Nest with) = false
-is_other word.Unnest = false
-is_other _ = true
-
-other_same : (w : Word) (codes : List Check) → is_other w ≡ true → codes_after w codes ≡ codes
-other_same (word.Nest with) codes h = absurd cc
-other_same word.Unnest codes h = absurd cc
-other_same _ codes h = refl
-
--- in the table only 18 to 1D open a bracket, and only 1E closes one
-abbrev is_told : ℕ → Word → Bool
-is_told code w = is_other w || (opens code || eqb code 0x1E)
-
-abbrev all_told : ℕ → List Word → Bool
-all_told from [] = true
-all_told from (w ∷ ws) = is_told from w && all_told (from + 1) ws
-
-table_told : all_told 0 WORDS ≡ true
-table_told = refl
-
-told : (from : ℕ) (ws : List Word) (i : ℕ) → all_told from ws ≡ true → opens (from + i) ≡ false → eqb (from + i) 0x1E ≡ false → is_other (get_or ws i word.NoWord) ≡ true
-told from [] i all o c = refl
-told from (w ∷ ws) zero all o c =
-    let e : from + 0 ≡ from = omega arith in
-    let h = (and_parts (is_told from w) (all_told (from + 1) ws) all).0 in
-    quiet (is_other w) (opens from) (eqb from 0x1E) h (rw e at o) (rw e at c)
-  where
-    quiet : (x y z : Bool) → (x || (y || z)) ≡ true → y ≡ false → z ≡ false → x ≡ true
-    quiet true y z h a b = refl
-    quiet false true z h a b = absurd cc
-    quiet false false true h a b = absurd cc
-    quiet false false false h a b = absurd cc
-told from (w ∷ ws) (suc i) all o c =
-    let e : from + suc i ≡ from + 1 + i = omega arith in
-    told (from + 1) ws i (and_parts (is_told from w) (all_told (from + 1) ws) all).1 (rw e at o) (rw e at c)
-
-quiet_word : (code : ℕ) (codes : List Check) → opens code ≡ false → eqb code 0x1E ≡ false → codes_after (word_of code) codes ≡ codes
-unfolding word_of
-quiet_word code codes o c =
-    let e : 0 + code ≡ code = omega arith in
-    other_same (get_or WORDS code word.NoWord) codes (told 0 WORDS code table_told (rw (sym e) at o) (rw (sym e) at c))
-
--- a word that opens a bracket has such a code, and the one that closes has 1E
-pub nest_opens : (code : ℕ) → is_other (word_of code) ≡ false → (eqb code 0x1E ≡ true → ⊥) → opens code ≡ true
-unfolding word_of
-nest_opens code told_by other = by (opens code) refl
-  where
-    by : (o : Bool) → opens code ≡ o → o ≡ true
-    by true o = refl
-    by false o =
-        let e : 0 + code ≡ code = omega arith in
-        let c : eqb code 0x1E ≡ false = not_true (eqb code 0x1E) other in
-        let is : is_other (get_or WORDS code word.NoWord) ≡ true = told 0 WORDS code table_told (rw (sym e) at o) (rw (sym e) at c) in
-        absurd (let f : false ≡ true = sym told_by ∙ is in cc)
-      where
-        not_true : (x : Bool) → (x ≡ true → ⊥) → x ≡ false
-        not_true true h = absurd (h refl)
-        not_true false h = refl
-
-one_of_six : (code : ℕ) → opens code ≡ true → (code ≡ 0x18) ⊎ ((code ≡ 0x19) ⊎ ((code ≡ 0x1A) ⊎ ((code ≡ 0x1B) ⊎ ((code ≡ 0x1C) ⊎ (code ≡ 0x1D)))))
-one_of_six code h =
-    let parts = and_parts (leb 0x18 code) (leb code 0x1D) h in
-    let low = leb-true 0x18 code parts.0 in
-    let high = leb-true code 0x1D parts.1 in
-    grind (arith, low, high)
-
-pub opening_word : (code : ℕ) (codes : List Check) → opens code ≡ true → codes_after (word_of code) codes ≡ check_named code ∷ codes
-unfolding word_of
-opening_word code codes h = by (one_of_six code h)
-  where
-    by : (code ≡ 0x18) ⊎ ((code ≡ 0x19) ⊎ ((code ≡ 0x1A) ⊎ ((code ≡ 0x1B) ⊎ ((code ≡ 0x1C) ⊎ (code ≡ 0x1D)))))
-        → codes_after (get_or WORDS code word.NoWord) codes ≡ check_named code ∷ codes
-    by (inl e) = rw e refl
-    by (inr (inl e)) = rw e refl
-    by (inr (inr (inl e))) = rw e refl
-    by (inr (inr (inr (inl e)))) = rw e refl
-    by (inr (inr (inr (inr (inl e))))) = rw e refl
-    by (inr (inr (inr (inr (inr e))))) = rw e refl
-
-closing_word : (code : ℕ) (codes : List Check) → eqb code 0x1E ≡ true → codes_after (word_of code) codes ≡ codes_after word.Unnest codes
-unfolding word_of
-closing_word code codes h = let e : code ≡ 0x1E = eqb-true code 0x1E h in rw e refl
-
-codes_push : (bs : List OpenBracket) (b : OpenBracket) → bracket_codes (bs ++ b ∷ []) ≡ bracket_codes bs ++ b.code ∷ []
-codes_push [] b = refl
-codes_push (c ∷ bs) b = ap (λ (z : List ℕ). c.code ∷ z) (codes_push bs b)
-
-checks_push : (bs : List OpenBracket) (b : OpenBracket) → checks_of (bs ++ b ∷ []) ≡ check_named b.code ∷ checks_of bs
-checks_push bs b =
-    ap (λ (z : List ℕ). reverse (map check_named z)) (codes_push bs b)
-    ∙ ap reverse (map_push check_named (bracket_codes bs) b.code)
-    ∙ reverse-append (map check_named (bracket_codes bs)) (check_named b.code ∷ [])
-
--- the innermost bracket
-record Last (bs : List OpenBracket) : Type 0 where
-  front : List OpenBracket
-  one : OpenBracket
-  is : bs ≡ front ++ one ∷ []
-
-last_of : (b : OpenBracket) (bs : List OpenBracket) → Last (b ∷ bs)
-last_of b [] = record { front = []; one = b; is = refl }
-last_of b (c ∷ bs) =
-    let more = last_of c bs in
-    record { front = b ∷ more.front; one = more.one; is = ap (λ (z : List OpenBracket). b ∷ z) more.is }
-
-inner_push : (bs : List OpenBracket) (b : OpenBracket) → inner (bs ++ b ∷ []) ≡ bs
-inner_push bs b =
-    let e = length-append bs (b ∷ []) in
-    let n : length (bs ++ b ∷ []) - 1 ≡ length bs = omega (arith, e) in
-    ap (λ (k : ℕ). take k (bs ++ b ∷ [])) n ∙ take-append_seam bs (b ∷ [])
-
-checks_inner : (bs : List OpenBracket) → checks_of (inner bs) ≡ codes_after word.Unnest (checks_of bs)
-checks_inner [] = refl
-checks_inner (b ∷ bs) =
-    let l = last_of b bs in
-    ap (λ (z : List OpenBracket). checks_of (inner z)) l.is
-    ∙ ap checks_of (inner_push l.front l.one)
-    ∙ sym (ap (λ (z : List OpenBracket). codes_after word.Unnest (checks_of z)) l.is
-    ∙ ap (codes_after word.Unnest) (checks_push l.front l.one))
-
-pub checks_behind : (at code : ℕ) (bs : List OpenBracket) → checks_of (opened at code bs) ≡ codes_after (word_of code) (checks_of bs)
-checks_behind at code bs = by (opens code) refl
-  where
-    closes : (c : Bool) → opens code ≡ false → eqb code 0x1E ≡ c → checks_of (cond c (inner bs) bs) ≡ codes_after (word_of code) (checks_of bs)
-    closes true o e = checks_inner bs ∙ sym (closing_word code (checks_of bs) e)
-    closes false o e = sym (quiet_word code (checks_of bs) o e)
-
-    by : (o : Bool) → opens code ≡ o → checks_of (cond o (bs ++ record { at = at; code = code } ∷ []) (cond (eqb code 0x1E) (inner bs) bs)) ≡ codes_after (word_of code) (checks_of bs)
-    by true o = checks_push bs (record { at = at; code = code }) ∙ sym (opening_word code (checks_of bs) o)
-    by false o = closes (eqb code 0x1E) o refl
-
--- ops that prepare leave the brackets
-pub two_or_four : (code : ℕ) → prepares code ≡ true → (code ≡ 2) ⊎ (code ≡ 4)
-two_or_four code h = grind (arith, nat_tests, h)
-
-prepared_same : (at code : ℕ) (bs : List OpenBracket) → prepares code ≡ true → opened at code bs ≡ bs
-prepared_same at code bs h = by (two_or_four code h)
-  where
-    by : (code ≡ 2) ⊎ (code ≡ 4) → opened at code bs ≡ bs
-    by (inl e) = rw e refl
-    by (inr e) = rw e refl
+use Rattle.machine.specs.Fitting.{OpenAt}
+use Rattle.machine.specs.OpenBrackets.{check_named, checks_of, open_at, open_before, open_in, open_codes}
+use Rattle.machine.proofs.Keeping.{left_open}
+use Rattle.machine.proofs.OpenBehind.{same_open, prepared_same, prepared_zones, left_behind, behind_op}
 
 -- ---- ops in their places
 
-pub op_here : (from : ℕ) (brackets : List OpenBracket) (before ops : List OpData) (at : ℕ) (q : Placed) → place_at at (placed from brackets before ops) ≡ Some q → op_placed from ops at ≡ Some (q.op, q.at + size q.op)
-op_here from brackets before [] at q found = absurd cc
-op_here from brackets before (o ∷ ops) at q found = by (eqb from at) found (λ e. op_here (from + size o) (opened from o.code brackets) (before_next o before) ops at q e)
+pub op_here : (from : ℕ) (brackets : List OpenBracket) (zones : List ℕ) (before ops : List OpData) (at : ℕ) (q : Placed) → place_at at (placed from brackets zones before ops) ≡ Some q → op_placed from ops at ≡ Some (q.op, q.at + size q.op)
+op_here from brackets zones before [] at q found = absurd cc
+op_here from brackets zones before (o ∷ ops) at q found =
+    by (eqb from at) found
+    (λ e. op_here (from + size o) (opened from o.code brackets) (zones_behind from o.code zones) (before_next o before) ops at q e)
   where
     here : Placed
-    here = record { at = from; brackets = brackets; before = before; op = o; rest = ops }
+    here = record { at = from; brackets = brackets; zones = zones; before = before; op = o; rest = ops }
 
     behind : Option Placed
-    behind = place_at at (placed (from + size o) (opened from o.code brackets) (before_next o before) ops)
+    behind = place_at at (placed (from + size o) (opened from o.code brackets) (zones_behind from o.code zones) (before_next o before) ops)
 
     by : (t : Bool) → cond t (Some here) behind ≡ Some q → (behind ≡ Some q → op_placed (from + size o) ops at ≡ Some (q.op, q.at + size q.op)) → cond t (Some (o, from + size o)) (op_placed (from + size o) ops at) ≡ Some (q.op, q.at + size q.op)
     by true e more = ap (λ (z : Placed). Some (z.op, z.at + size z.op)) (same_Some here q e)
     by false e more = more e
-
--- the place behind an op
-abbrev pub behind_op : Placed → OpData → List OpData → Placed
-behind_op q op rest = record {
-  at = q.at + size q.op;
-  brackets = opened q.at q.op.code q.brackets;
-  before = before_next q.op q.before;
-  op = op;
-  rest = rest;
-}
 
 pub next_op : (l : ImageLaws) (p : Program) (b : CodeBlock) (q : Placed) (op : OpData) (rest : List OpData) → IsOp p b q → q.rest ≡ op ∷ rest → IsOp p b (behind_op q op rest)
 next_op l p b q op rest h is = record {
@@ -207,7 +52,7 @@ next_op l p b q op rest h is = record {
   place = subst (λ (z : List OpData). Next b q z) is (l.goes_on p b q h);
 }
 
-pub last_ends : (l : ImageLaws) (p : Program) (b : CodeBlock) (q : Placed) → IsOp p b q → q.rest ≡ [] → (q.op.code ≡ 0x7B) × (q.op.last ≡ true)
+pub last_ends : (l : ImageLaws) (p : Program) (b : CodeBlock) (q : Placed) → IsOp p b q → q.rest ≡ [] → (q.op.code ≡ op_code (operation.End ends.Be)) × (q.op.last ≡ true)
 last_ends l p b q h is = let e = subst (λ (z : List OpData). Next b q z) is (l.goes_on p b q h) in (e.0, e.1)
 
 -- ---- the run of a statement is there
@@ -216,7 +61,7 @@ run_there : (l : ImageLaws) (p : Program) (b : CodeBlock) (most : ℕ) (q : Plac
 unfolding run_at
 run_there l p b zero q h e = let few = (l.statements p b q h).few in absurd (omega (arith, e, few))
 run_there l p b (suc most) q h e =
-    rw (op_here 0 [] [] b.code q.at q h.place)
+    rw (op_here 0 [] [] [] b.code q.at q h.place)
     (by q.op.last refl q.rest refl (λ op rest is. run_there l p b most (behind_op q op rest) (next_op l p b q op rest h is)))
   where
     longer : q.op.last ≡ false → most + length (before_next q.op q.before) ≡ 64
@@ -251,7 +96,7 @@ pub record Ran (p : Program) (b : CodeBlock) (q : Placed) (r : Run) : Type 0 whe
   pub same : last.op ≡ r.last
   pub next : r.next ≡ last.at + size last.op
   pub ended : last.op.last ≡ true
-  pub brackets : last.brackets ≡ q.brackets
+  pub held : open_at last ≡ open_at q
   pub before : last.before ≡ q.before ++ r.before
   pub ends : last_op q ≡ r.last
   pub passes : AllBefore p b r.last r.before
@@ -268,7 +113,7 @@ pub run_is : (l : ImageLaws) (p : Program) (b : CodeBlock) (most : ℕ) (q : Pla
 unfolding run_at
 run_is l p b zero q r h e = absurd cc
 run_is l p b (suc most) q r h e =
-    by q.op.last refl q.rest refl (rw (op_here 0 [] [] b.code q.at q h.place) at e)
+    by q.op.last refl q.rest refl (rw (op_here 0 [] [] [] b.code q.at q h.place) at e)
     (λ op rest is s. run_is l p b most (behind_op q op rest) s (next_op l p b q op rest h is))
   where
     only : q.op.last ≡ true → Ran p b q (record { before = []; last = q.op; next = q.at + size q.op })
@@ -278,7 +123,7 @@ run_is l p b (suc most) q r h e =
       same = refl;
       next = refl;
       ended = is;
-      brackets = refl;
+      held = refl;
       before = append_nil q.before;
       ends = ends_here q.op q.rest is;
       passes = tt;
@@ -303,7 +148,10 @@ run_is l p b (suc most) q r h e =
           same = ran.same;
           next = ran.next;
           ended = ran.ended;
-          brackets = ran.brackets ∙ prepared_same q.at q.op.code q.brackets (prepared is);
+          held = ran.held
+              ∙ same_open (checks_of (opened q.at q.op.code q.brackets)) (checks_of q.brackets) (length (zones_behind q.at q.op.code q.zones)) (length q.zones)
+              (ap checks_of (prepared_same q.at q.op.code q.brackets (prepared is)))
+              (ap length (prepared_zones q.at q.op.code q.zones (prepared is)));
           before = ran.before ∙ ap (λ (z : List OpData). z ++ s.before) (more_before is) ∙ append_assoc q.before (q.op ∷ []) s.before;
           ends = ends;
           passes = ((q, h, refl, ends), ran.passes);
@@ -324,23 +172,23 @@ run_is l p b (suc most) q r h e =
 
 -- ---- a statement begins
 
--- a statement of a block begins at an offset, behind open brackets of these codes
-pub record Stood (p : Program) (block : BlockId) (at : ℕ) (codes : List Check) : Type 0 where
+-- a statement of a block begins at an offset, and this is open before it
+pub record Stood (p : Program) (block : BlockId) (at : ℕ) (held : OpenAt) : Type 0 where
   pub b : CodeBlock
   pub q : Placed
   pub found : block_of block p.code_blocks ≡ Some b
   pub op : IsOp p b q
   pub offset : q.at ≡ at
   pub begun : begins q ≡ true
-  pub same : checks_of q.brackets ≡ codes
+  pub same : open_at q ≡ held
 
 pub none_before : (before : List OpData) → is_empty before ≡ true → before ≡ []
 none_before [] e = refl
 none_before (op ∷ before) e = absurd cc
 
 -- its ops
-pub record Statement (p : Program) (block : BlockId) (at : ℕ) (codes : List Check) : Type 0 where
-  pub stood : Stood p block at codes
+pub record Statement (p : Program) (block : BlockId) (at : ℕ) (held : OpenAt) : Type 0 where
+  pub stood : Stood p block at held
   pub line : ℕ
   pub run : Run
   pub fetched : (code_of p).fetch block at ≡ Some (fetched_of stood.b.code line run)
@@ -357,9 +205,9 @@ unfolding statement_at
 fetched_there b at line r has run = rw (has, run) refl
 
 pub statement_there :
-    (l : ImageLaws) (p : Program) (block : BlockId) (at : ℕ) (codes : List Check) → Stood p block at codes
-    → Statement p block at codes
-statement_there l p block at codes s =
+    (l : ImageLaws) (p : Program) (block : BlockId) (at : ℕ) (held : OpenAt) → Stood p block at held
+    → Statement p block at held
+statement_there l p block at held s =
     let few : most_ops + length s.q.before ≡ 64 = ap (λ (z : List OpData). 64 + length z) (none_before s.q.before s.begun) in
     let r = run_found (run_at most_ops s.b.code s.q.at) (run_there l p s.b most_ops s.q s.op few) in
     let line = l.lines p s.b s.q s.op s.begun in
@@ -374,11 +222,11 @@ statement_there l p block at codes s =
     }
 
 pub opens_there :
-    (p : Program) (block : BlockId) (at : ℕ) (codes : List Check) → Stood p block at codes
-    → open_codes p block at ≡ Some codes
-opens_there p block at codes s =
+    (p : Program) (block : BlockId) (at : ℕ) (held : OpenAt) → Stood p block at held
+    → open_codes p block at ≡ Some held
+opens_there p block at held s =
     let place : place_at at (places s.b.code) ≡ Some s.q = ap (λ (k : ℕ). place_at k (places s.b.code)) (sym s.offset) ∙ s.op.place in
-    rw (s.found, place, s.begun) (ap (λ (z : List Check). Some z) s.same)
+    rw (s.found, place, s.begun) (ap (λ (z : OpenAt). Some z) s.same)
 
 place_offset : (qs : List Placed) (at : ℕ) (q : Placed) → place_at at qs ≡ Some q → q.at ≡ at
 place_offset [] at q found = absurd cc
@@ -389,12 +237,12 @@ place_offset (p ∷ qs) at q found = by (eqb p.at at) refl found (λ e. place_of
     by false is e more = more e
 
 pub stood_there :
-    (p : Program) (block : BlockId) (at : ℕ) (codes : List Check) → Verifies p → open_codes p block at ≡ Some codes
-    → Stood p block at codes
-stood_there p block at codes verifies h = by_block (block_of block p.code_blocks) refl h
+    (p : Program) (block : BlockId) (at : ℕ) (held : OpenAt) → Verifies p → open_codes p block at ≡ Some held
+    → Stood p block at held
+stood_there p block at held verifies h = by_block (block_of block p.code_blocks) refl h
   where
     begun : (b : CodeBlock) (q : Placed) (t : Bool) → block_of block p.code_blocks ≡ Some b → place_at at (places b.code) ≡ Some q → begins q ≡ t
-        → cond t (Some (checks_of q.brackets)) None ≡ Some codes → Stood p block at codes
+        → cond t (Some (open_at q)) None ≡ Some held → Stood p block at held
     begun b q true found place is e =
         let offset = place_offset (places b.code) at q place in
         record {
@@ -409,26 +257,26 @@ stood_there p block at codes verifies h = by_block (block_of block p.code_blocks
           };
           offset = offset;
           begun = is;
-          same = same_Some (checks_of q.brackets) codes e;
+          same = same_Some (open_at q) held e;
         }
     begun b q false found place is e = absurd cc
 
-    by_place : (b : CodeBlock) (o : Option Placed) → block_of block p.code_blocks ≡ Some b → place_at at (places b.code) ≡ o → open_before o ≡ Some codes → Stood p block at codes
+    by_place : (b : CodeBlock) (o : Option Placed) → block_of block p.code_blocks ≡ Some b → place_at at (places b.code) ≡ o → open_before o ≡ Some held → Stood p block at held
     by_place b None found place e = absurd cc
     by_place b (Some q) found place e = begun b q (begins q) found place refl e
 
-    by_block : (o : Option CodeBlock) → block_of block p.code_blocks ≡ o → option_and_then (λ b. open_in b at) o ≡ Some codes → Stood p block at codes
+    by_block : (o : Option CodeBlock) → block_of block p.code_blocks ≡ o → option_and_then (λ b. open_in b at) o ≡ Some held → Stood p block at held
     by_block None found e = absurd cc
     by_block (Some b) found e = by_place b (place_at at (places b.code)) found refl e
 
 -- ---- where a statement leads
 
 pub next_stood :
-    (l : ImageLaws) (p : Program) (block : BlockId) (at : ℕ) (codes : List Check) (s : Statement p block at codes)
-    → (s.run.last.code ≡ 0x7B → ⊥) → Stood p block s.run.next (codes_after (word_of s.run.last.code) codes)
-next_stood l p block at codes s more = by s.ran.last.rest refl
+    (l : ImageLaws) (p : Program) (block : BlockId) (at : ℕ) (held : OpenAt) (s : Statement p block at held)
+    → (s.run.last.code ≡ op_code (operation.End ends.Be) → ⊥) → Stood p block s.run.next (left_open (operation_of s.run.last.code) held)
+next_stood l p block at held s more = by s.ran.last.rest refl
   where
-    by : (rest : List OpData) → s.ran.last.rest ≡ rest → Stood p block s.run.next (codes_after (word_of s.run.last.code) codes)
+    by : (rest : List OpData) → s.ran.last.rest ≡ rest → Stood p block s.run.next (left_open (operation_of s.run.last.code) held)
     by [] is = absurd (more (ap (λ (z : OpData). z.code) (sym s.ran.same) ∙ (last_ends l p s.stood.b s.ran.last s.ran.op is).0))
     by (op ∷ rest) is = record {
       b = s.stood.b;
@@ -437,16 +285,15 @@ next_stood l p block at codes s more = by s.ran.last.rest refl
       op = next_op l p s.stood.b s.ran.last op rest s.ran.op is;
       offset = sym s.ran.next;
       begun = rw s.ran.ended refl;
-      same = checks_behind s.ran.last.at s.ran.last.op.code s.ran.last.brackets
-          ∙ ap (λ (z : OpData). codes_after (word_of z.code) (checks_of s.ran.last.brackets)) s.ran.same
-          ∙ ap (λ (z : List OpenBracket). codes_after (word_of s.run.last.code) (checks_of z)) s.ran.brackets
-          ∙ ap (codes_after (word_of s.run.last.code)) s.stood.same;
+      same = left_behind s.ran.last op rest
+          ∙ ap (λ (z : OpData). left_open (operation_of z.code) (open_at s.ran.last)) s.ran.same
+          ∙ ap (left_open (operation_of s.run.last.code)) (s.ran.held ∙ s.stood.same);
     }
 
 pub target_stood :
-    (l : ImageLaws) (p : Program) (block : BlockId) (at : ℕ) (codes : List Check) (s : Statement p block at codes)
-    (kind target : ℕ) → s.run.last.operand ≡ operand.Jump kind target → Stood p block target codes
-target_stood l p block at codes s kind target is =
+    (l : ImageLaws) (p : Program) (block : BlockId) (at : ℕ) (held : OpenAt) (s : Statement p block at held)
+    (kind target : ℕ) → s.run.last.operand ≡ operand.Jump kind target → Stood p block target held
+target_stood l p block at held s kind target is =
     let lands = l.targets p s.stood.b s.ran.last kind target s.ran.op (ap (λ (z : OpData). z.operand) s.ran.same ∙ is) in
     record {
       b = s.stood.b;
@@ -460,12 +307,18 @@ target_stood l p block at codes s kind target is =
       };
       offset = lands.offset;
       begun = lands.statement;
-      same = ap (λ (z : List ℕ). reverse (map check_named z)) (sym lands.same) ∙ ap checks_of s.ran.brackets ∙ s.stood.same;
+      same = same_open (checks_of lands.there.brackets) (checks_of s.ran.last.brackets) (length lands.there.zones) (length s.ran.last.zones)
+          (ap (λ (z : List ℕ). reverse (map check_named z)) (sym lands.same)) (sym lands.same_zones)
+          ∙ s.ran.held ∙ s.stood.same;
     }
+
+-- where a block begins nothing is open
+abbrev pub nothing_open : OpenAt
+nothing_open = record { codes = []; zones = 0 }
 
 pub entry_stood :
     (l : ImageLaws) (p : Program) (block : BlockId) (b : CodeBlock) → Verifies p → block_of block p.code_blocks ≡ Some b
-    → Stood p block 0 []
+    → Stood p block 0 nothing_open
 entry_stood l p block b verifies found =
     let begun = (l.blocks p b block verifies found).begins in
     record {
@@ -480,5 +333,5 @@ entry_stood l p block b verifies found =
       };
       offset = begun.offset;
       begun = begun.statement;
-      same = ap checks_of begun.closed;
+      same = same_open (checks_of begun.first.brackets) [] (length begun.first.zones) 0 (ap checks_of begun.closed) (ap length begun.no_zones);
     }

@@ -1,6 +1,6 @@
 -- The steps along the ops of a statement.
 use Rattle.std.proofs.lemmas.Bool.{eq-eqb, ne_eqb}
-use Rattle.std.proofs.Common.{◌≡◌, [], ◌∷◌, ℕ, unwrap_or, slice_get, if◌then◌else◌, suc, zero, ◌+◌, ◌-◌, ◌<◌, Bool, true, false, ◌==◌, List, Option, Some, None, Ok, Err, refl, sym, ap, arith}
+use Rattle.std.proofs.Common.{◌≡◌, ◌∙◌, [], ◌∷◌, ℕ, unwrap_or, slice_get, if◌then◌else◌, suc, zero, ◌+◌, ◌-◌, ◌<◌, Bool, true, false, ◌==◌, List, Option, Some, None, Ok, Err, refl, sym, ap, arith}
 use Rattle.std.specs.Option.{option_map}
 use Rattle.plc_mem.specs.Areas.{Areas}
 use Rattle.frames.specs.declared.bindings.Binding.{Binding}
@@ -75,10 +75,13 @@ pub walk_nowhere :
 walk_nowhere most ops at opens h = rw (run_nowhere most ops at h) refl
 
 -- no op is left
+none_left : (most k : ℕ) → k ≡ most → most - k ≡ 0
+none_left most k h = omega (arith, h)
+
 pub walk_stops :
-    (k : ℕ) (ops : List OpData) (at : ℕ) (opens : Option ℕ) → k ≡ 64
-    → None ≡ option_map (walk_with opens) (run_at (64 - k) ops at)
-walk_stops k ops at opens h = rw h (rw (run_none ops at) refl)
+    (most k : ℕ) (ops : List OpData) (at : ℕ) (opens : Option ℕ) → k ≡ most
+    → None ≡ option_map (walk_with opens) (run_at (most - k) ops at)
+walk_stops most k ops at opens h = rw (none_left most k h) (rw (run_none ops at) refl)
 
 -- the last op
 run_last :
@@ -88,12 +91,12 @@ run_last :
 run_last most ops at next op h last = rw (run_next most ops at) (rw (sym h) (rw last refl))
 
 pub walk_ends :
-    (k : ℕ) (ops : List OpData) (at next : ℕ) (op : OpData) (opens : Option ℕ) → k < 64
+    (most k : ℕ) (ops : List OpData) (at next : ℕ) (op : OpData) (opens : Option ℕ) → k < most
     → Some (op, next) ≡ op_placed 0 ops at → op.last ≡ true
     → Some (record { opens = opens; last = op; next = next })
-    ≡ option_map (walk_with opens) (run_at (64 - k) ops at)
-walk_ends k ops at next op opens less h last =
-    rw (one_less k 64 less) (rw (run_last (64 - suc k) ops at next op h last)
+    ≡ option_map (walk_with opens) (run_at (most - k) ops at)
+walk_ends most k ops at next op opens less h last =
+    rw (one_less k most less) (rw (run_last (most - suc k) ops at next op h last)
     (rw (first_alone opens) refl))
 
 -- an op before it
@@ -118,13 +121,25 @@ walks_with_op op opens None = refl
 walks_with_op op opens (Some r) = ap (λ z. Some z) (walk_with_op op opens r)
 
 pub walk_goes_on :
-    (k : ℕ) (ops : List OpData) (at next : ℕ) (op : OpData) (opens : Option ℕ) → k < 64
+    (most k : ℕ) (ops : List OpData) (at next : ℕ) (op : OpData) (opens : Option ℕ) → k < most
     → Some (op, next) ≡ op_placed 0 ops at → op.last ≡ false
-    → option_map (walk_with opens) (run_at (64 - k) ops at)
-    ≡ option_map (walk_with (opens_after opens op.operand)) (run_at (64 - (k + 1)) ops next)
-walk_goes_on k ops at next op opens less h more =
-    rw (one_more k) (rw (one_less k 64 less) (rw (run_more (64 - suc k) ops at next op h more)
-    (walks_with_op op opens (run_at (64 - suc k) ops next))))
+    → option_map (walk_with opens) (run_at (most - k) ops at)
+    ≡ option_map (walk_with (opens_after opens op.operand)) (run_at (most - (k + 1)) ops next)
+walk_goes_on most k ops at next op opens less h more =
+    rw (one_more k) (rw (one_less k most less) (rw (run_more (most - suc k) ops at next op h more)
+    (walks_with_op op opens (run_at (most - suc k) ops next))))
+
+-- the first op of a statement, which is its last one in most
+pub first_ends :
+    (ops : List OpData) (at next : ℕ) (op : OpData) → Some (op, next) ≡ op_placed 0 ops at → op.last ≡ true
+    → Some (record { opens = None; last = op; next = next }) ≡ option_map (walk_with None) (run_at 64 ops at)
+first_ends ops at next op h last = walk_ends 64 0 ops at next op None (omega arith) h last
+
+pub first_goes_on :
+    (ops : List OpData) (at next : ℕ) (op : OpData) (walk : Option Walk) → Some (op, next) ≡ op_placed 0 ops at → op.last ≡ false
+    → walk ≡ option_map (walk_with (opens_after None op.operand)) (run_at 63 ops next)
+    → walk ≡ option_map (walk_with None) (run_at 64 ops at)
+first_goes_on ops at next op walk h more is = is ∙ sym (walk_goes_on 64 0 ops at next op None (omega arith) h more)
 
 -- the bindings along the ops
 bound_none :

@@ -10,6 +10,7 @@ use Rattle.flat_code.specs.declared.operands.Passed.{Passed}
 use Rattle.flat_code.specs.declared.operands.Passed.TheVariants as passed
 use Rattle.flat_code.specs.declared.programs.Param.{Param}
 use Rattle.flat_code.specs.Instr.{Passing}
+use Rattle.flat_code.specs.Records.{section_out}
 use Rattle.machine.specs.declared.places.Access.{Access}
 use Rattle.machine.specs.declared.places.Access.TheVariants.{Reading, Writing}
 use Rattle.machine.specs.declared.places.Bound.{Bound}
@@ -17,9 +18,9 @@ use Rattle.machine.specs.Parts.{Own, then_ok}
 use Rattle.machine.specs.Places.{bound_at, placed, number_in, absent, no_operand}
 use Rattle.machine.specs.DataBlocks.{is_loaded}
 
--- sections of a declaration: 1 IN, 2 OUT, 3 IN_OUT. OUT alone is tested as a place that is written
+-- of the sections of a declaration OUT alone is tested as a place that is written
 abbrev pub access_of : Param → Access
-access_of p = if p.section == 2 then Writing else Reading
+access_of p = if p.section == section_out then Writing else Reading
 
 -- a place is bound if it exists
 abbrev pub bound_if : Access → Bound → Option ℕ → Result Binding ℕ

@@ -15,6 +15,7 @@ use Rattle.machine.specs.declared.places.Bound.{Bound}
 use Rattle.machine.specs.Parts.{Own, Scene, then_ok}
 use Rattle.machine.specs.Places.{located, number_in, absent}
 use Rattle.machine.specs.Values.{tested, write}
+use Rattle.machine.specs.Relay.{power_flow}
 
 -- A AN O ON X XN
 unfoldable pub checking : Check → Operand → Own → Areas → List Timer → List Counter → Result Regs ℕ
@@ -38,25 +39,25 @@ unfoldable pub bit_before : Bound → Own → Areas → Result Bool ℕ
 bit_before at s m =
     then_ok (ok_or (number_in at s.locals m) (absent Writing at.place.area)) (λ n. Ok (n == 1))
 
--- =
+-- =: RLO, and 0 while the relay is closed, to the bit and to STA
 abbrev pub assigned_at : Bound → Own → Areas → Result Scene ℕ
-assigned_at at s m = put_bit at s.regs.status.rlo (stored s.regs.status.rlo s.regs) s m
+assigned_at at s m = put_bit at (power_flow s) (stored (power_flow s) s.regs) s m
 
--- the place of its operand is sought as one that is written, with RLO 0 too
+-- the place of its operand is sought as one that is written, whatever is written
 unfoldable pub assigned : Operand → Own → Areas → Result Scene ℕ
 assigned o s m = then_ok (located Writing o s m) (λ at. assigned_at at s m)
 
--- the bit after S (value 1) and R (value 0): with RLO 0 it stays
-abbrev pub bit_after : (rlo value before : Bool) → Bool
-bit_after rlo value before = if rlo then value else before
+-- the bit after S (value 1) and R (value 0): with RLO 0, and while the relay is closed, it stays
+abbrev pub bit_after : (flow value before : Bool) → Bool
+bit_after flow value before = if flow then value else before
 
 -- S and R of a bit
 abbrev pub set_at : (value : Bool) → Bound → (before : Bool) → Own → Areas → Result Scene ℕ
 set_at value at before s m =
-    put_bit at (bit_after s.regs.status.rlo value before)
-    (stored (bit_after s.regs.status.rlo value before) s.regs) s m
+    put_bit at (bit_after (power_flow s) value before)
+    (stored (bit_after (power_flow s) value before) s.regs) s m
 
--- S (true) and R (false) of an operand: with RLO 0, too, its place is tested as one that is written
+-- S (true) and R (false) of an operand: its place is tested as one that is written, where the bit stays too
 unfoldable pub bit_set : (value : Bool) → Operand → Own → Areas → Result Scene ℕ
 bit_set value o s m =
     then_ok (located Writing o s m) (λ at.

@@ -6,6 +6,7 @@ use Rattle.plc_base.specs.Widths.{bit_count}
 use Rattle.frames.specs.declared.bindings.Binding.{Binding}
 use Rattle.frames.specs.declared.bindings.Binding.TheVariants as binding
 use Rattle.flat_code.specs.declared.programs.Param.{Param}
+use Rattle.flat_code.specs.Records.{section_in, section_in_out, section_out}
 use Rattle.machine.specs.declared.places.Bound.{Bound}
 use Rattle.machine.specs.Parts.{Scene}
 use Rattle.machine.specs.Places.{bound_at, number_in}
@@ -13,11 +14,11 @@ use Rattle.machine.specs.Values.{write}
 
 -- IN and IN_OUT come in, OUT and IN_OUT go out
 abbrev pub comes_in : Param → Bool
-comes_in p = p.section == 1 || p.section == 3
+comes_in p = p.section == section_in || p.section == section_in_out
 
--- sections 2 OUT and 3 IN_OUT: copied out of the instance by the return
+-- OUT and IN_OUT: copied out of the instance by the return
 abbrev pub goes_out : Param → Bool
-goes_out p = p.section == 2 || p.section == 3
+goes_out p = p.section == section_out || p.section == section_in_out
 
 -- the place of a parameter in an instance
 abbrev pub in_instance : Param → (instance : ℕ) → Bound

@@ -23,14 +23,21 @@ use Rattle.frames.specs.declared.Activation.{Activation}
 use Rattle.frames.specs.declared.bindings.Binding.{Binding}
 use Rattle.frames.specs.declared.bindings.Binding.TheVariants as binding
 use Rattle.frames.specs.declared.frame.Frame.{Frame}
+use Rattle.frames.specs.declared.relay.Relay.{Relay}
 use Rattle.flat_code.specs.declared.programs.Param.{Param}
+use Rattle.flat_code.specs.Records.{section_in}
 use Rattle.machine.specs.declared.places.Bound.{Bound}
 use Rattle.machine.specs.Code.{Code, Head}
 
--- the function codes of the brackets that stand open in the text before a statement, the innermost
--- first; none where no statement of the block begins there
+-- what stands open in the text: the function codes of the brackets, the innermost first, and how many
+-- zones of the master control relay
+pub record OpenAt : Type 0 where
+  pub codes : List Check
+  pub zones : ℕ
+
+-- the same before a statement; none where no statement of the block begins there
 abbrev pub OpenCodes : Type 0
-OpenCodes = BlockId → ℕ → Option (List Check)
+OpenCodes = BlockId → ℕ → Option OpenAt
 
 -- the local bytes of the frame at a place of those below, the outermost one's being 0
 abbrev pub local_len_at : (below : List Frame) → (place : ℕ) → Option ℕ
@@ -59,7 +66,7 @@ IsBound kind p below m (binding.Bound at width frame) =
     (width ≡ p.width)
     × ExistsIn at.area (record { place = at; width = width; frame = frame }) below m
 IsBound kind p below m (binding.Constant value) =
-    (p.section ≡ 1) × (value < 2 ^ bit_count p.width)
+    (p.section ≡ section_in) × (value < 2 ^ bit_count p.width)
 IsBound kinds.Fb p below m binding.Unsupplied = Unit {0}
 IsBound kind p below m binding.Unsupplied = ⊥
 
@@ -102,12 +109,17 @@ FitsBlock (Some h) f below m = FitsHead h f below m
 abbrev pub codes_of : List Bracket → List Check
 codes_of brackets = map (λ (b : Bracket). b.code) brackets
 
--- a frame stands at a statement of a block that is there, with the brackets that are open before it
+-- what is open in a frame with these brackets and this relay
+abbrev pub open_of : List Bracket → Relay → OpenAt
+open_of brackets relay = record { codes = codes_of brackets; zones = length relay.zones }
+
+-- a frame stands at a statement of a block that is there, with the brackets and zones that are open
+-- before it
 pub record FrameFits
     (code : Code) (brackets : OpenCodes) (m : Areas) (below : List Frame) (f : Frame)
     : Type 0 where
   pub statement : IsSome (code.fetch f.block f.at)
-  pub open_brackets : brackets f.block f.at ≡ Some (codes_of f.brackets)
+  pub open_brackets : brackets f.block f.at ≡ Some (open_of f.brackets f.relay)
   pub block : FitsBlock (code.head f.block) f below m
   pub db : IsOpen f.db m
   pub di : IsOpen f.di m

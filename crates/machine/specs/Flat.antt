@@ -3,20 +3,20 @@
 use Rattle.std.specs.Prelude.{ℕ, zero, suc, ◌==◌, Bool, true, false, List, [], ◌∷◌, Option, Some, None, if◌then◌else◌}
 use Rattle.std.specs.Option.{option_map, option_and_then}
 use Rattle.plc_base.specs.declared.blocks.BlockKind.{BlockKind}
-use Rattle.plc_base.specs.declared.blocks.BlockKind.TheVariants as kinds
 use Rattle.flat_code.specs.Instr.{Instr, Does, Jumps, JumpsByList, Calls, Returns, Passing}
+use Rattle.flat_code.specs.Forms.{kind_of_code}
 use Rattle.flat_code.specs.Kinds.{jump_of}
 use Rattle.flat_code.specs.Ops.{OpData}
 use Rattle.flat_code.specs.Placed.{op_placed, line_placed}
 use Rattle.flat_code.specs.Programs.{CodeBlock, DataBlock, Program}
-use Rattle.flat_code.specs.Words.{word_of}
-use Rattle.flat_code.specs.declared.kinds.JumpWord.{JumpWord}
-use Rattle.flat_code.specs.declared.kinds.JumpWord.TheVariants as jump
+use Rattle.flat_code.specs.Operations.{operation_of}
+use Rattle.flat_code.specs.declared.kinds.JumpOperation.{JumpOperation}
+use Rattle.flat_code.specs.declared.kinds.JumpOperation.TheVariants as jump
 use Rattle.flat_code.specs.declared.operands.Operand.{Operand}
 use Rattle.flat_code.specs.declared.operands.Operand.TheVariants as operand
-use Rattle.flat_code.specs.declared.words.CallWord.{CallWord}
-use Rattle.flat_code.specs.declared.words.Word.{Word}
-use Rattle.flat_code.specs.declared.words.Word.TheVariants as word
+use Rattle.flat_code.specs.declared.operations.CallOperation.{CallOperation}
+use Rattle.flat_code.specs.declared.operations.Operation.{Operation}
+use Rattle.flat_code.specs.declared.operations.Operation.TheVariants as operation
 use Rattle.image_file.specs.Readers.{block_of}
 use Rattle.machine.specs.Code.{Code, Fetched, Head}
 
@@ -84,31 +84,23 @@ abbrev pub most_listed : ℕ
 most_listed = 255
 
 -- JL alone jumps by a list; every other jump, LOOP too, has one target
-abbrev pub is_jl : JumpWord → Bool
+abbrev pub is_jl : JumpOperation → Bool
 is_jl jump.Jl = true
 is_jl _ = false
 
 -- the list of a JL stands between the offset behind it and its target, where it else goes on
-abbrev pub jump_instr : JumpWord → (target next : ℕ) → List OpData → Instr
-jump_instr word target next ops =
-    if is_jl word then JumpsByList (list_of most_listed ops target next) target
-    else Jumps word target
-
--- kinds of called blocks: 2 FC, 3 FB, 5 SFC
-abbrev pub kind_called : ℕ → Option BlockKind
-kind_called kind =
-    if kind == 2 then Some kinds.Fc
-    else if kind == 3 then Some kinds.Fb
-    else if kind == 5 then Some kinds.Sfc
-    else None
+abbrev pub jump_instr : JumpOperation → (target next : ℕ) → List OpData → Instr
+jump_instr operation target next ops =
+    if is_jl operation then JumpsByList (list_of most_listed ops target next) target
+    else Jumps operation target
 
 -- no instance is 0
 abbrev pub instance_named : ℕ → Option ℕ
 instance_named number = if number == 0 then None else Some number
 
--- a call of a block; no other kind is called in a program
+-- a call of a block by the number of its kind; a number that names none is called in no program
 abbrev pub call_instr :
-    Option BlockKind → CallWord → (number instance : ℕ) → List Passing → (other : Instr) → Instr
+    Option BlockKind → CallOperation → (number instance : ℕ) → List Passing → (other : Instr) → Instr
 call_instr None how number instance passings other = other
 call_instr (Some kind) how number instance passings other =
     Calls how (record { kind = kind; number = number }) (instance_named instance) passings
@@ -116,19 +108,19 @@ call_instr (Some kind) how number instance passings other =
 -- the instruction of a statement: that of its last op, with what the ops before it prepare. `next`
 -- is the offset behind it
 abbrev pub instr_of :
-    Word → Operand → (use_db : Option ℕ) → List Passing → (next : ℕ) → List OpData → Instr
-instr_of word.Jump (operand.Jump kind target) use_db passings next ops =
+    Operation → Operand → (use_db : Option ℕ) → List Passing → (next : ℕ) → List OpData → Instr
+instr_of operation.Jump (operand.Jump kind target) use_db passings next ops =
     jump_instr (jump_of kind) target next ops
-instr_of (word.Call how) (operand.Called kind number instance) use_db passings next ops =
-    call_instr (kind_called kind) how number instance passings
-    (Does use_db (word.Call how) (operand.Called kind number instance))
-instr_of (word.End how) o use_db passings next ops = Returns how
+instr_of (operation.Call how) (operand.Called kind number instance) use_db passings next ops =
+    call_instr (kind_of_code kind) how number instance passings
+    (Does use_db (operation.Call how) (operand.Called kind number instance))
+instr_of (operation.End how) o use_db passings next ops = Returns how
 instr_of w o use_db passings next ops = Does use_db w o
 
 -- the statement that a run of ops is; the ops of the whole block give the list of a JL
 abbrev pub fetched_of : List OpData → (line : ℕ) → Run → Fetched
 fetched_of ops line r = record {
-  instr = instr_of (word_of r.last.code) r.last.operand (use_db_of r.before) (passings_of r.before)
+  instr = instr_of (operation_of r.last.code) r.last.operand (use_db_of r.before) (passings_of r.before)
       r.next ops;
   next = r.next;
   line = line;

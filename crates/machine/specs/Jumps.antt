@@ -5,15 +5,15 @@ use Rattle.plc_base.specs.declared.flags.Flag.TheVariants as flag
 use Rattle.status_word.specs.declared.Regs.{Regs}
 use Rattle.status_word.specs.Flags.{flag_value}
 use Rattle.alu.specs.Accumulators.{increased}
-use Rattle.flat_code.specs.declared.kinds.JumpWord.{JumpWord}
-use Rattle.flat_code.specs.declared.kinds.JumpWord.TheVariants as jump
+use Rattle.flat_code.specs.declared.kinds.JumpOperation.{JumpOperation}
+use Rattle.flat_code.specs.declared.kinds.JumpOperation.TheVariants as jump
 
 -- LOOP takes 1 from ACCU 1-L, modulo 65,536
 abbrev pub counted_down : Regs → Regs
 counted_down r = increased 16 65535 r
 
 -- by the registers as they stand before the jump; LOOP tests what it leaves in ACCU 1-L
-unfoldable pub is_taken : JumpWord → Regs → Bool
+unfoldable pub is_taken : JumpOperation → Regs → Bool
 is_taken jump.Ju r = true
 is_taken jump.Jc r = r.status.rlo
 is_taken jump.Jcn r = not r.status.rlo
@@ -52,7 +52,7 @@ abbrev pub os_reset : Regs → Regs
 os_reset r = record r { status = record r.status { os = false } }
 
 -- the jumps that change registers do so whether they are taken or not; the others change none
-unfoldable pub after_jump : JumpWord → Regs → Regs
+unfoldable pub after_jump : JumpOperation → Regs → Regs
 after_jump jump.Jc r = rlo_tested r
 after_jump jump.Jcn r = rlo_tested r
 after_jump jump.Jcb r = rlo_tested (rlo_saved r)

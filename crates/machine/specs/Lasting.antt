@@ -14,6 +14,7 @@ use Rattle.frames.specs.declared.bindings.Binding.TheVariants as binding
 use Rattle.frames.specs.declared.frame.Frame.{Frame}
 use Rattle.flat_code.specs.declared.programs.Param.{Param}
 use Rattle.flat_code.specs.Programs.{Program}
+use Rattle.flat_code.specs.Records.{section_in}
 use Rattle.machine.specs.Parts.{own_of}
 use Rattle.machine.specs.declared.outcomes.Outcome.{Outcome}
 use Rattle.machine.specs.declared.outcomes.Outcome.TheVariants as outcome
@@ -62,7 +63,7 @@ TakesResult (Some result) a m = ⊥
 abbrev pub input_widths : List Param → List Width
 input_widths [] = []
 input_widths (p ∷ rest) =
-    if p.section == 1 then p.width ∷ input_widths rest else input_widths rest
+    if p.section == section_in then p.width ∷ input_widths rest else input_widths rest
 
 -- one number for each width, which it fits
 abbrev pub FitWidths : List Width → List ℕ → Type 0

@@ -4,6 +4,7 @@ pub mod Places
 pub mod Values
 pub mod BitLogic
 pub mod Nesting
+pub mod Relay
 pub mod Loads
 pub mod Numbers
 pub mod Timing

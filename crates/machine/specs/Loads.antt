@@ -1,6 +1,6 @@
 -- L, T and LC with their operands, L STW and T STW.
 -- Siemens, Statement List (STL): Load and Transfer Instructions.
-use Rattle.std.specs.Prelude.{ℕ, ◌%◌, ◌^◌, List, Result, Ok}
+use Rattle.std.specs.Prelude.{ℕ, ◌%◌, ◌^◌, if◌then◌else◌, List, Result, Ok}
 use Rattle.plc_base.specs.Widths.{bit_count}
 use Rattle.plc_mem.specs.Areas.{Areas}
 use Rattle.status_word.specs.declared.Regs.{Regs}
@@ -12,6 +12,7 @@ use Rattle.machine.specs.declared.places.Access.TheVariants.{Writing}
 use Rattle.machine.specs.Parts.{Own, Scene, then_ok}
 use Rattle.machine.specs.Places.{located}
 use Rattle.machine.specs.Values.{loaded, bcd_loaded, write}
+use Rattle.machine.specs.Relay.{closed}
 
 -- accumulator 1 goes to accumulator 2, and the number to accumulator 1
 abbrev pub with_loaded : ℕ → Regs → Regs
@@ -30,9 +31,9 @@ unfoldable pub transferred : ℕ → Operand → Own → Areas → Result Scene 
 transferred n o s m =
     then_ok (located Writing o s m) (λ at. write at (n % 2 ^ bit_count at.width) s m)
 
--- T
+-- T: accumulator 1, and 0 while the relay is closed
 abbrev pub transferring : Operand → Own → Areas → Result Scene ℕ
-transferring o s m = transferred s.regs.a1 o s m
+transferring o s m = transferred (if closed s then 0 else s.regs.a1) o s m
 
 -- L STW: /FC, STA and OR read as 0
 unfoldable pub status_loaded : Regs → Regs

@@ -5,14 +5,14 @@ use Rattle.plc_base.specs.ErrorCodes as errors
 use Rattle.status_word.specs.declared.Regs.{Regs}
 use Rattle.flat_code.specs.declared.operands.Operand.{Operand}
 use Rattle.flat_code.specs.declared.operands.Operand.TheVariants as operand
-use Rattle.flat_code.specs.declared.words.Number.{Number}
-use Rattle.flat_code.specs.declared.words.Number.TheVariants as number
-use Rattle.flat_code.specs.declared.words.Adding.{Adding}
-use Rattle.flat_code.specs.declared.words.Adding.TheVariants as adding
-use Rattle.flat_code.specs.declared.words.Logic.{Logic}
-use Rattle.flat_code.specs.declared.words.Logic.TheVariants as logic
-use Rattle.flat_code.specs.declared.words.Shift.{Shift}
-use Rattle.flat_code.specs.declared.words.Shift.TheVariants as shift
+use Rattle.flat_code.specs.declared.operations.Number.{Number}
+use Rattle.flat_code.specs.declared.operations.Number.TheVariants as number
+use Rattle.flat_code.specs.declared.operations.Adding.{Adding}
+use Rattle.flat_code.specs.declared.operations.Adding.TheVariants as adding
+use Rattle.flat_code.specs.declared.operations.Logic.{Logic}
+use Rattle.flat_code.specs.declared.operations.Logic.TheVariants as logic
+use Rattle.flat_code.specs.declared.operations.Shift.{Shift}
+use Rattle.flat_code.specs.declared.operations.Shift.TheVariants as shift
 use Rattle.alu.specs.Accumulators.{toggled, pushed, popped, with_word_reversed, with_bytes_reversed, increased, decreased}
 use Rattle.alu.specs.Sums.{added, subtracted, negated}
 use Rattle.alu.specs.Products.{multiplied}

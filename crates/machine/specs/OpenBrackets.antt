@@ -1,36 +1,42 @@
--- The brackets that stand open before each statement of an image.
-use Rattle.std.specs.Prelude.{ℕ, ◌==◌, List, map, reverse, Option, Some, None, if◌then◌else◌}
+-- The brackets and zones that stand open before each statement of an image.
+use Rattle.std.specs.Prelude.{ℕ, ◌==◌, List, length, map, reverse, Option, Some, None, if◌then◌else◌}
 use Rattle.std.specs.Option.{option_and_then}
 use Rattle.status_word.specs.declared.Check.{Check}
 use Rattle.status_word.specs.declared.Check.TheVariants as check
 use Rattle.flat_code.specs.declared.image_fields.OpenBracket.{OpenBracket}
+use Rattle.flat_code.specs.OpCodes.{code_of}
+use Rattle.flat_code.specs.declared.operations.Operation.TheVariants as operation
 use Rattle.flat_code.specs.Placed.{Placed, places, begins, bracket_codes}
 use Rattle.flat_code.specs.Programs.{CodeBlock, Program}
 use Rattle.image_file.specs.Readers.{block_of}
 use Rattle.image_file.specs.Verified.{place_at}
-use Rattle.machine.specs.Fitting.{OpenCodes}
+use Rattle.machine.specs.Fitting.{OpenAt, OpenCodes}
 
--- the function code of a bracket: 18 A( 19 AN( 1A O( 1B ON( 1C X( 1D XN(
+-- the function code of a bracket by the op that opens it
 abbrev pub check_named : (code : ℕ) → Check
 check_named code =
-    if code == 0x18 then check.A
-    else if code == 0x19 then check.An
-    else if code == 0x1A then check.O
-    else if code == 0x1B then check.On
-    else if code == 0x1C then check.X
+    if code == code_of (operation.Nest check.A) then check.A
+    else if code == code_of (operation.Nest check.An) then check.An
+    else if code == code_of (operation.Nest check.O) then check.O
+    else if code == code_of (operation.Nest check.On) then check.On
+    else if code == code_of (operation.Nest check.X) then check.X
     else check.Xn
 
 -- those of open brackets, the innermost first
 abbrev pub checks_of : List OpenBracket → List Check
 checks_of brackets = reverse (map check_named (bracket_codes brackets))
 
+-- what stands open before an op
+abbrev pub open_at : Placed → OpenAt
+open_at q = record { codes = checks_of q.brackets; zones = length q.zones }
+
 -- before an op that begins a statement
-abbrev pub open_before : Option Placed → Option (List Check)
+abbrev pub open_before : Option Placed → Option OpenAt
 open_before None = None
-open_before (Some q) = if begins q then Some (checks_of q.brackets) else None
+open_before (Some q) = if begins q then Some (open_at q) else None
 
 -- before the statement of a block that begins at an offset
-abbrev pub open_in : CodeBlock → (at : ℕ) → Option (List Check)
+abbrev pub open_in : CodeBlock → (at : ℕ) → Option OpenAt
 open_in b at = open_before (place_at at (places b.code))
 
 -- the same of the blocks of a program

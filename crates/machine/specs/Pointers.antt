@@ -7,8 +7,8 @@ use Rattle.status_word.specs.declared.Regs.{Regs}
 use Rattle.alu.specs.Accumulators.{with_low}
 use Rattle.flat_code.specs.declared.operands.Operand.{Operand}
 use Rattle.flat_code.specs.declared.operands.Operand.TheVariants as operand
-use Rattle.flat_code.specs.declared.words.PointerWord.{PointerWord}
-use Rattle.flat_code.specs.declared.words.PointerWord.TheVariants as word
+use Rattle.flat_code.specs.declared.operations.PointerOperation.{PointerOperation}
+use Rattle.flat_code.specs.declared.operations.PointerOperation.TheVariants as word
 use Rattle.machine.specs.Parts.{Own, Scene, then_ok}
 use Rattle.machine.specs.Values.{number}
 use Rattle.machine.specs.Loads.{with_loaded, transferred}
@@ -41,8 +41,8 @@ offset_added _ r = sign_extended (r.a1 % 2 ^ 16)
 unfoldable pub address_after : (address offset : ℕ) → ℕ
 address_after address offset = with_low 24 address ((address + offset) % 2 ^ 24)
 
--- each by its word; of them only TAR1 and TAR2 without operand change the accumulators
-unfoldable pub pointed : PointerWord → Operand → Own → Areas → Result Scene ℕ
+-- each by its operation; of them only TAR1 and TAR2 without operand change the accumulators
+unfoldable pub pointed : PointerOperation → Operand → Own → Areas → Result Scene ℕ
 pointed word.Lar1 o s m =
     then_ok (address_loaded o s m) (λ n. Ok (regs_set (record s.regs { ar1 = n }) s m))
 pointed word.Lar2 o s m =

@@ -11,8 +11,8 @@ use Rattle.flat_code.specs.Instr.{Instr, Does, Jumps, Calls, Returns}
 use Rattle.flat_code.specs.Programs.{Program}
 use Rattle.flat_code.specs.declared.operands.Operand.{Operand}
 use Rattle.flat_code.specs.declared.operands.Operand.TheVariants as operand
-use Rattle.flat_code.specs.declared.words.Word.{Word}
-use Rattle.flat_code.specs.declared.words.Word.TheVariants as word
+use Rattle.flat_code.specs.declared.operations.Operation.{Operation}
+use Rattle.flat_code.specs.declared.operations.Operation.TheVariants as operation
 use Rattle.machine.specs.Code.{Code, Fetched}
 use Rattle.machine.specs.Flat.{code_of}
 use Rattle.machine.specs.Lasting.{IsReady}
@@ -38,13 +38,13 @@ StaysReady p a w =
     → RunsQuietly (code_of p) count a b w after → IsReady p b
 
 -- the instructions that write to the place of their operand
-abbrev pub may_write : Word → Bool
-may_write word.Transfer = true
-may_write word.Assign = true
-may_write word.Set = true
-may_write word.Reset = true
-may_write (word.Edge rising) = true
-may_write (word.Pointer what) = true
+abbrev pub may_write : Operation → Bool
+may_write operation.Transfer = true
+may_write operation.Assign = true
+may_write operation.Set = true
+may_write operation.Reset = true
+may_write (operation.Edge rising) = true
+may_write (operation.Pointer what) = true
 may_write _ = false
 
 -- an area that is not the peripheral one
@@ -72,7 +72,7 @@ has_place_inside (operand.Parameter index width) bindings =
 has_place_inside _ bindings = true
 
 -- an instruction that surely leaves the peripheral outputs as they are
-abbrev pub keeps_outputs : Word → Operand → List Binding → Bool
+abbrev pub keeps_outputs : Operation → Operand → List Binding → Bool
 keeps_outputs w o bindings = not (may_write w) || has_place_inside o bindings
 
 -- ---- before which statements it stops
@@ -83,10 +83,10 @@ goes_on (Went a w) = true
 goes_on _ = false
 
 -- an instruction that jumps, calls or returns
-abbrev pub moves : Word → Bool
-moves word.Jump = true
-moves (word.Call how) = true
-moves (word.End how) = true
+abbrev pub moves : Operation → Bool
+moves operation.Jump = true
+moves (operation.Call how) = true
+moves (operation.End how) = true
 moves _ = false
 
 -- an instruction that stays in its block and surely leaves the peripheral outputs as they are; a JL

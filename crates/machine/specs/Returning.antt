@@ -30,7 +30,7 @@ given_back None params a m = record { activation = a; memory = m }
 given_back (Some instance) params a m =
     on_stage a (params_out params 0 a.running.frame.bindings instance (scene_of a.running m))
 
--- the frame below is the innermost one: its own data blocks and brackets are as it left them
+-- the frame below is the innermost one: its own data blocks, brackets and relay are as it left them
 abbrev pub left_to : (caller : Frame) (rest : List Frame) → Activation → Activation
 left_to caller rest a =
     record a {
@@ -48,6 +48,7 @@ pub record HasEnded (old new : Activation) (regs : Regs) : Type 0 where
   pub regs_are : new.running.regs ≡ regs
   pub class : new.class ≡ old.class
   pub ob : new.ob ≡ old.ob
+  pub profile : new.profile ≡ old.profile
 
 -- a return: the caller goes on, or the outermost block has ended
 pub data Return : Type 0 where

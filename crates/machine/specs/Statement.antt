@@ -1,5 +1,5 @@
 -- One statement of an activation: what comes of it. This is the only place where positions move.
-use Rattle.std.specs.Prelude.{◌≡◌, ℕ, Bool, true, false, List, Option, Some, None, Result, Ok, Err, if◌then◌else◌}
+use Rattle.std.specs.Prelude.{◌≡◌, ℕ, Bool, true, List, Option, Some, None, Result, Ok, Err, if◌then◌else◌}
 use Rattle.plc_base.specs.Kinds.{is_system_function}
 use Rattle.plc_base.specs.StopCauses as causes
 use Rattle.plc_base.specs.declared.BlockId.{BlockId}
@@ -11,11 +11,11 @@ use Rattle.frames.specs.declared.Activation.{Activation}
 use Rattle.frames.specs.declared.FrameFault.{FrameFault}
 use Rattle.frames.specs.declared.FrameFault.TheVariants.{Depth, LocalFull}
 use Rattle.flat_code.specs.Instr.{Instr, Does, Jumps, JumpsByList, Calls, Returns, Passing}
-use Rattle.flat_code.specs.declared.kinds.JumpWord.{JumpWord}
-use Rattle.flat_code.specs.declared.words.CallWord.{CallWord}
-use Rattle.flat_code.specs.declared.words.CallWord.TheVariants as calls
-use Rattle.flat_code.specs.declared.words.EndWord.{EndWord}
-use Rattle.flat_code.specs.declared.words.EndWord.TheVariants as ends
+use Rattle.flat_code.specs.declared.kinds.JumpOperation.{JumpOperation}
+use Rattle.flat_code.specs.declared.operations.CallOperation.{CallOperation}
+use Rattle.flat_code.specs.declared.operations.CallOperation.TheVariants as calls
+use Rattle.flat_code.specs.declared.operations.EndOperation.{EndOperation}
+use Rattle.flat_code.specs.declared.operations.EndOperation.TheVariants as ends
 use Rattle.flat_code.specs.declared.programs.Param.{Param}
 use Rattle.machine.specs.Parts.{Parts, own_of, parts_of, with_own}
 use Rattle.machine.specs.Does.{does_with}
@@ -79,10 +79,10 @@ went_on (Ok p) next a = Went (moved_on next (with_parts p a)) (world_of p)
 went_on (Err code) next a = SyncError code (moved_on next a)
 
 -- a jump but JL goes on at its target where it is taken, else at the next statement
-abbrev pub jumped : JumpWord → (target next : ℕ) → Activation → World → Step
-jumped word target next a w =
-    Went (going_on (goes_to (is_taken word a.running.regs) target next)
-    (after_jump word a.running.regs) a) w
+abbrev pub jumped : JumpOperation → (target next : ℕ) → Activation → World → Step
+jumped operation target next a w =
+    Went (going_on (goes_to (is_taken operation a.running.regs) target next)
+    (after_jump operation a.running.regs) a) w
 
 -- a call of a function or function block
 abbrev pub after_call : Call → (next : ℕ) → Activation → World → Step
@@ -128,7 +128,7 @@ called code block instance passings next a w =
     else block_called (code.head block) block instance passings next a w
 
 -- CC calls where RLO is 1; else it sets the four bits, and RLO 1
-abbrev pub is_called : CallWord → (rlo : Bool) → Bool
+abbrev pub is_called : CallOperation → (rlo : Bool) → Bool
 is_called calls.Cc rlo = rlo
 is_called _ rlo = true
 
@@ -147,15 +147,15 @@ returned None a w = Stuck
 returned (Some h) a w = after_return (returning h.params a w.memory) w
 
 -- BEC returns where RLO is 1; else RLO 1, OR 0, STA 1, /FC 0, and the block goes on
-abbrev pub is_ended : EndWord → (rlo : Bool) → Bool
+abbrev pub is_ended : EndOperation → (rlo : Bool) → Bool
 is_ended ends.Bec rlo = rlo
 is_ended _ rlo = true
 
 -- what comes of an instruction; `next` is the position behind its statement
 abbrev pub performed : Code → Instr → (next : ℕ) → Activation → World → Step
-performed code (Does use_db word operand) next a w =
-    went_on (does_with use_db word operand (parts_of a.running w.memory w.timers w.counters)) next a
-performed code (Jumps word target) next a w = jumped word target next a w
+performed code (Does use_db operation operand) next a w =
+    went_on (does_with use_db operation operand (parts_of a.running w.memory w.timers w.counters)) next a
+performed code (Jumps operation target) next a w = jumped operation target next a w
 performed code (JumpsByList targets otherwise) next a w =
     Went (moved_on (listed targets otherwise a.running.regs) a) w
 performed code (Calls how block instance passings) next a w =

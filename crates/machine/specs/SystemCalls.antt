@@ -10,6 +10,7 @@ use Rattle.flat_code.specs.declared.programs.Param.{Param}
 use Rattle.flat_code.specs.Blocks.{system_params}
 use Rattle.flat_code.specs.Image.{param_of}
 use Rattle.flat_code.specs.Instr.{Passing}
+use Rattle.flat_code.specs.Records.{section_in, section_out}
 use Rattle.machine.specs.Parts.{Own, own_of, then_ok}
 use Rattle.machine.specs.Places.{number_in}
 use Rattle.machine.specs.Bindings.{bindings_of}
@@ -34,13 +35,13 @@ input_of _ s m = 0
 -- how many of the parameters are IN
 abbrev pub count_inputs : List Param → ℕ
 count_inputs [] = 0
-count_inputs (p ∷ rest) = (if p.section == 1 then 1 else 0) + count_inputs rest
+count_inputs (p ∷ rest) = (if p.section == section_in then 1 else 0) + count_inputs rest
 
 -- the numbers of the IN parameters from an index on, in their order
 abbrev pub inputs_from : List Param → (index : ℕ) → List Binding → Own → Areas → List ℕ
 inputs_from [] index bindings s m = []
 inputs_from (p ∷ rest) index bindings s m =
-    if p.section == 1
+    if p.section == section_in
     then input_of (slice_get bindings index) s m ∷ inputs_from rest (index + 1) bindings s m
     else inputs_from rest (index + 1) bindings s m
 
@@ -48,7 +49,7 @@ inputs_from (p ∷ rest) index bindings s m =
 abbrev pub result_from : List Param → (index : ℕ) → List Binding → Option Binding
 result_from [] index bindings = None
 result_from (p ∷ rest) index bindings =
-    if p.section == 2 then slice_get bindings index else result_from rest (index + 1) bindings
+    if p.section == section_out then slice_get bindings index else result_from rest (index + 1) bindings
 
 -- a call gives the numbers of the IN parameters as they are now, and what RET_VAL stands for
 abbrev pub given_by : List Param → List Binding → Own → Areas → Given

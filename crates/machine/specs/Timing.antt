@@ -19,14 +19,14 @@ abbrev pub string_ended : Regs → Regs
 string_ended r = record r { status = record r.status { or = false; fc = false } }
 
 -- the word that a start instruction and S take: the low word of accumulator 1
-abbrev pub word_of : Own → ℕ
-word_of s = s.regs.a1 % 2 ^ 16
+abbrev pub operation_of : Own → ℕ
+operation_of s = s.regs.a1 % 2 ^ 16
 
 -- SP SE SD SS SF: the timers afterwards; 26 where there is none of the number, 21 for a bad digit
 unfoldable pub starting : TimerKind → Operand → Own → Areas → List Timer → Result (List Timer) ℕ
 starting how o s m t =
     then_ok (number_named o s m) (λ number.
-    faulty errors.no_timer (change (started how s.regs.status.rlo (word_of s)) t number))
+    faulty errors.no_timer (change (started how s.regs.status.rlo (operation_of s)) t number))
 
 -- R of a timer
 unfoldable pub timer_reset : Operand → Own → Areas → List Timer → Result (List Timer) ℕ
@@ -56,7 +56,7 @@ counting_down o s m n =
 unfoldable pub counter_set : Operand → Own → Areas → List Counter → Result (List Counter) ℕ
 counter_set o s m n =
     then_ok (number_named o s m) (λ number.
-    faulty errors.no_counter (change (set_to s.regs.status.rlo (word_of s)) n number))
+    faulty errors.no_counter (change (set_to s.regs.status.rlo (operation_of s)) n number))
 
 -- R of a counter
 unfoldable pub counter_reset : Operand → Own → Areas → List Counter → Result (List Counter) ℕ

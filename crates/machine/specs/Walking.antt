@@ -10,7 +10,7 @@ use Rattle.flat_code.specs.declared.operands.Operand.TheVariants as operand
 use Rattle.flat_code.specs.declared.programs.Param.{Param}
 use Rattle.flat_code.specs.Instr.{Passing}
 use Rattle.plc_base.specs.declared.BlockId.{BlockId}
-use Rattle.flat_code.specs.Words.{word_of}
+use Rattle.flat_code.specs.Operations.{operation_of}
 use Rattle.machine.specs.Code.{Code}
 use Rattle.machine.specs.There.{is_there}
 use Rattle.machine.specs.Parts.{Own, then_ok}
@@ -80,4 +80,4 @@ abbrev pub TellsThere : Code → BlockId → Walk → List OpData → (answer : 
 TellsThere c own walk ops answer =
     (passings : List Passing)
     → answer ≡ is_there c
-    (instr_of (word_of walk.last.code) walk.last.operand walk.opens passings walk.next ops) own
+    (instr_of (operation_of walk.last.code) walk.last.operand walk.opens passings walk.next ops) own

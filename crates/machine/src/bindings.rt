@@ -5,7 +5,7 @@ ghost use Rattle.machine.specs.Bindings.{access_of as access_of_param, bound_pla
 
 use crate::data_blocks::is_loaded;
 use crate::places::{Access, Bound, number_at, placed};
-use flat_code::{Param, Passed};
+use flat_code::{Param, Passed, SECTION_OUT};
 use frames::{Binding, Bindings, Running};
 use plc_base::{Area, Place, error_codes};
 use plc_mem::Memory;
@@ -13,7 +13,7 @@ use plc_mem::Memory;
 fn access_of(param: &Param) -> Access
     ensures { result ≡ access_of_param param.now }
 {
-    if param.section == 2 {
+    if param.section == SECTION_OUT {
         Access::Writing
     } else {
         Access::Reading

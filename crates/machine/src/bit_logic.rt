@@ -5,6 +5,7 @@ ghost use Rattle.machine.specs.Outcomes.{Acts, Checks};
 ghost use Rattle.machine.specs.BitLogic.{checking, put_bit as put_bit_of, bit_before as bit_before_of, bit_after as bit_after_of, bit_number as number_of_bit, assigned, assigned_at, set_at as set_at_of, bit_set as bit_set_of, edge as edge_of};
 
 use crate::places::{Access, Bound, located, number_at, placed};
+use crate::relay::power_flow;
 use crate::values::{tested, write};
 use flat_code::Operand;
 use frames::Running;
@@ -69,7 +70,7 @@ fn put_bit(at: &Bound, bit: bool, regs: Regs, s: &mut Running, m: &mut Memory) -
 fn assign_at(at: &Bound, s: &mut Running, m: &mut Memory) -> Result<(), u8>
     ensures { Acts (assigned_at at.now (own_of s.old) m.old) s.old s.new m.old m.new result }
 {
-    let value = s.regs.status.rlo;
+    let value = power_flow(s);
     write(at, bit_number(value), s, m)?;
     s.regs.store(value);
     Ok(())
@@ -129,10 +130,10 @@ pub(crate) fn assign(operand: &Operand, s: &mut Running, m: &mut Memory) -> Resu
     }
 }
 
-fn bit_after(rlo: bool, value: bool, before: bool) -> bool
-    ensures { result ≡ bit_after_of rlo value before }
+fn bit_after(flow: bool, value: bool, before: bool) -> bool
+    ensures { result ≡ bit_after_of flow value before }
 {
-    if rlo { value } else { before }
+    if flow { value } else { before }
 }
 
 // S and R of a bit at a place.
@@ -145,7 +146,7 @@ fn set_at(value: bool, at: &Bound, s: &mut Running, m: &mut Memory) -> Result<()
 {
     let before = bit_before(at, s, m)?;
     let mut regs = s.regs;
-    let bit = bit_after(regs.status.rlo, value, before);
+    let bit = bit_after(power_flow(s), value, before);
     regs.store(bit);
     put_bit(at, bit, regs, s, m)
 }

@@ -7,7 +7,7 @@ ghost use Rattle.machine.specs.Copies.{comes_in as comes_in_of, goes_out as goes
 use crate::loads::low;
 use crate::places::{Bound, number_at};
 use crate::values::write;
-use flat_code::Param;
+use flat_code::{Param, SECTION_IN, SECTION_IN_OUT, SECTION_OUT};
 use frames::{Binding, Bindings, Running};
 use plc_base::{Area, Place};
 use plc_mem::Memory;
@@ -16,14 +16,14 @@ use plc_mem::Memory;
 fn comes_in(param: &Param) -> bool
     ensures { result ≡ comes_in_of param.now }
 {
-    param.section == 1 || param.section == 3
+    param.section == SECTION_IN || param.section == SECTION_IN_OUT
 }
 
 // OUT and IN_OUT.
 fn goes_out(param: &Param) -> bool
     ensures { result ≡ goes_out_of param.now }
 {
-    param.section == 2 || param.section == 3
+    param.section == SECTION_OUT || param.section == SECTION_IN_OUT
 }
 
 fn in_instance(param: &Param, instance: u16) -> Bound

@@ -2,7 +2,7 @@
 ghost use Rattle.std.specs.Prelude.{◌≡◌};
 ghost use Rattle.machine.specs.Jumps.{counted_down, is_taken as is_taken_of, after_jump as after_jump_of, rlo_tested, rlo_saved, br_tested, goes_to as goes_to_of};
 
-use flat_code::JumpWord;
+use flat_code::JumpOperation;
 use plc_base::Flag;
 use status_word::Regs;
 
@@ -14,7 +14,7 @@ fn count_down(r: &mut Regs)
 
 #[tactic(auto, unfolding(crate::specs::Jumps::is_taken))]
 fn still_counts(r: &Regs) -> bool
-    ensures { result ≡ is_taken_of JumpWord.Loop r.now }
+    ensures { result ≡ is_taken_of JumpOperation.Loop r.now }
 {
     let mut after = *r;
     count_down(&mut after);
@@ -24,26 +24,26 @@ fn still_counts(r: &Regs) -> bool
 /// Whether a jump is taken, by the registers before it.
 #[tactic(auto, unfolding(crate::specs::Jumps::is_taken))]
 #[inline(never)]
-pub(crate) fn is_taken(word: JumpWord, r: &Regs) -> bool
-    ensures { result ≡ is_taken_of word r.now }
+pub(crate) fn is_taken(operation: JumpOperation, r: &Regs) -> bool
+    ensures { result ≡ is_taken_of operation r.now }
 {
-    match word {
-        JumpWord::Ju => true,
-        JumpWord::Jl => false,
-        JumpWord::Jc | JumpWord::Jcb => r.status.rlo,
-        JumpWord::Jcn | JumpWord::Jnb => !r.status.rlo,
-        JumpWord::Jbi => r.status.br,
-        JumpWord::Jnbi => !r.status.br,
-        JumpWord::Jo => r.status.ov,
-        JumpWord::Jos => r.status.os,
-        JumpWord::Jz => r.flag(Flag::EqZero),
-        JumpWord::Jn => r.flag(Flag::NeZero),
-        JumpWord::Jp => r.flag(Flag::GtZero),
-        JumpWord::Jm => r.flag(Flag::LtZero),
-        JumpWord::Jpz => r.flag(Flag::GeZero),
-        JumpWord::Jmz => r.flag(Flag::LeZero),
-        JumpWord::Juo => r.flag(Flag::Uo),
-        JumpWord::Loop => still_counts(r),
+    match operation {
+        JumpOperation::Ju => true,
+        JumpOperation::Jl => false,
+        JumpOperation::Jc | JumpOperation::Jcb => r.status.rlo,
+        JumpOperation::Jcn | JumpOperation::Jnb => !r.status.rlo,
+        JumpOperation::Jbi => r.status.br,
+        JumpOperation::Jnbi => !r.status.br,
+        JumpOperation::Jo => r.status.ov,
+        JumpOperation::Jos => r.status.os,
+        JumpOperation::Jz => r.flag(Flag::EqZero),
+        JumpOperation::Jn => r.flag(Flag::NeZero),
+        JumpOperation::Jp => r.flag(Flag::GtZero),
+        JumpOperation::Jm => r.flag(Flag::LtZero),
+        JumpOperation::Jpz => r.flag(Flag::GeZero),
+        JumpOperation::Jmz => r.flag(Flag::LeZero),
+        JumpOperation::Juo => r.flag(Flag::Uo),
+        JumpOperation::Loop => still_counts(r),
     }
 }
 
@@ -74,18 +74,18 @@ fn test_br(r: &mut Regs)
 /// What a jump leaves of the registers, taken or not.
 #[tactic(auto, unfolding(crate::specs::Jumps::after_jump))]
 #[inline(never)]
-pub(crate) fn put_jump(word: JumpWord, r: &mut Regs)
-    ensures { r.new ≡ after_jump_of word r.old }
+pub(crate) fn put_jump(operation: JumpOperation, r: &mut Regs)
+    ensures { r.new ≡ after_jump_of operation r.old }
 {
-    match word {
-        JumpWord::Jc | JumpWord::Jcn => test_rlo(r),
-        JumpWord::Jcb | JumpWord::Jnb => {
+    match operation {
+        JumpOperation::Jc | JumpOperation::Jcn => test_rlo(r),
+        JumpOperation::Jcb | JumpOperation::Jnb => {
             save_rlo(r);
             test_rlo(r);
         }
-        JumpWord::Jbi | JumpWord::Jnbi => test_br(r),
-        JumpWord::Jos => r.status.os = false,
-        JumpWord::Loop => count_down(r),
+        JumpOperation::Jbi | JumpOperation::Jnbi => test_br(r),
+        JumpOperation::Jos => r.status.os = false,
+        JumpOperation::Loop => count_down(r),
         _ => {}
     }
 }

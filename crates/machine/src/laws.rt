@@ -45,6 +45,7 @@ fn what_verifying_gives()
     image_file::laws::statements_are_right();
     image_file::laws::statements_have_lines();
     image_file::laws::brackets_fit();
+    image_file::laws::zones_fit();
     image_file::laws::jumps_land();
     image_file::laws::operands_fit();
     image_file::laws::prepared_fit();

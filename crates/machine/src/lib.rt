@@ -17,6 +17,7 @@ mod places;
 mod pointers;
 mod quiet;
 mod readiness;
+mod relay;
 mod results;
 mod returning;
 mod statements;

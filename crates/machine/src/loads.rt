@@ -105,20 +105,25 @@ fn put_direct(
     write(&at, low(at.width, number), s, m)
 }
 
-/// T.
+/// T: accumulator 1, or 0 while the relay is closed.
 #[inline(always)]
 pub(crate) fn transfer(operand: &Operand, s: &mut Running, m: &mut Memory) -> Result<(), u8>
     ensures { Acts (transferring operand.now (own_of s.old) m.old)
         s.old s.new m.old m.new result }
 {
+    let number = if s.frame.relay.is_closed() {
+        0
+    } else {
+        s.regs.a1
+    };
     match *operand {
         Operand::Direct {
             area,
             width,
             byte,
             bit,
-        } => put_direct(s.regs.a1, area, width, byte, bit, s, m),
-        _ => put_number(s.regs.a1, operand, s, m),
+        } => put_direct(number, area, width, byte, bit, s, m),
+        _ => put_number(number, operand, s, m),
     }
 }
 

@@ -17,7 +17,7 @@ use crate::outcomes::Outcome;
 use crate::returning::return_from_block;
 use crate::system_calls::{inputs_of, result_of};
 use crate::whole::does_with;
-use flat_code::{JumpWord, Operand, Param, Word};
+use flat_code::{JumpOperation, Operand, Operation, Param};
 use frames::{Activation, Bindings, FrameFault};
 use plc_base::stop_causes;
 use plc_mem::Memory;
@@ -36,7 +36,7 @@ pub(crate) fn fail(code: u8, next: u32, a: &mut Activation) -> Outcome
 #[inline(always)]
 pub(crate) fn perform(
     opens: Option<u16>,
-    word: Word,
+    operation: Operation,
     operand: &Operand,
     next: u32,
     a: &mut Activation,
@@ -44,11 +44,11 @@ pub(crate) fn perform(
     t: &mut Timers,
     n: &mut Counters,
 ) -> Outcome
-    ensures { Comes (went_on (does_with_of opens word operand.now
+    ensures { Comes (went_on (does_with_of opens operation operand.now
         (parts_of a.old.running m.old t.old n.old)) next a.old)
         a.old a.new (world m.old t.old n.old) (world m.new t.new n.new) result }
 {
-    match does_with(opens, word, operand, &mut a.running, m, t, n) {
+    match does_with(opens, operation, operand, &mut a.running, m, t, n) {
         Ok(()) => {
             a.running.frame.at = next;
             Outcome::Went
@@ -61,20 +61,20 @@ pub(crate) fn perform(
 }
 
 /// Where the block goes on after a jump, JL apart.
-pub(crate) fn jump_to(word: JumpWord, target: u32, next: u32, a: &mut Activation)
-    ensures { a.new ≡ going_on (goes_to_of (is_taken_of word a.old.running.regs) target next)
-        (after_jump word a.old.running.regs) a.old }
+pub(crate) fn jump_to(operation: JumpOperation, target: u32, next: u32, a: &mut Activation)
+    ensures { a.new ≡ going_on (goes_to_of (is_taken_of operation a.old.running.regs) target next)
+        (after_jump operation a.old.running.regs) a.old }
 {
-    let taken = is_taken(word, &a.running.regs);
-    put_jump(word, &mut a.running.regs);
+    let taken = is_taken(operation, &a.running.regs);
+    put_jump(operation, &mut a.running.regs);
     a.running.frame.at = goes_to(taken, target, next);
 }
 
 /// A jump, JL apart.
-pub(crate) fn jump(word: JumpWord, target: u32, next: u32, a: &mut Activation) -> Outcome
-    ensures { (w : World) → Comes (jumped word target next a.old w) a.old a.new w w result }
+pub(crate) fn jump(operation: JumpOperation, target: u32, next: u32, a: &mut Activation) -> Outcome
+    ensures { (w : World) → Comes (jumped operation target next a.old w) a.old a.new w w result }
 {
-    jump_to(word, target, next, a);
+    jump_to(operation, target, next, a);
     Outcome::Went
 }
 

@@ -6,7 +6,7 @@ ghost use Rattle.machine.specs.Pointers.{address_loaded, address_transferred, of
 
 use crate::loads::{put_loaded, put_number};
 use crate::values::number;
-use flat_code::{Operand, PointerWord};
+use flat_code::{Operand, PointerOperation};
 use frames::Running;
 use plc_mem::Memory;
 use status_word::Regs;
@@ -71,7 +71,7 @@ fn address_after(address: u32, offset: u32) -> u32
 #[tactic(auto, unfolding(crate::specs::Pointers::pointed))]
 #[inline(never)]
 pub(crate) fn point(
-    what: PointerWord,
+    what: PointerOperation,
     operand: &Operand,
     s: &mut Running,
     m: &mut Memory,
@@ -79,35 +79,35 @@ pub(crate) fn point(
     ensures { Acts (pointed what operand.now (own_of s.old) m.old) s.old s.new m.old m.new result }
 {
     match what {
-        PointerWord::Lar1 => {
+        PointerOperation::Lar1 => {
             s.regs.ar1 = load_address(operand, s, m)?;
             Ok(())
         }
-        PointerWord::Lar2 => {
+        PointerOperation::Lar2 => {
             s.regs.ar2 = load_address(operand, s, m)?;
             Ok(())
         }
-        PointerWord::Tar1 => transfer_address(s.regs.ar1, operand, s, m),
-        PointerWord::Tar2 => transfer_address(s.regs.ar2, operand, s, m),
-        PointerWord::Lar1Ar2 => {
+        PointerOperation::Tar1 => transfer_address(s.regs.ar1, operand, s, m),
+        PointerOperation::Tar2 => transfer_address(s.regs.ar2, operand, s, m),
+        PointerOperation::Lar1Ar2 => {
             s.regs.ar1 = s.regs.ar2;
             Ok(())
         }
-        PointerWord::Tar1Ar2 => {
+        PointerOperation::Tar1Ar2 => {
             s.regs.ar2 = s.regs.ar1;
             Ok(())
         }
-        PointerWord::Car => {
+        PointerOperation::Car => {
             let first = s.regs.ar1;
             s.regs.ar1 = s.regs.ar2;
             s.regs.ar2 = first;
             Ok(())
         }
-        PointerWord::AddAr1 => {
+        PointerOperation::AddAr1 => {
             s.regs.ar1 = address_after(s.regs.ar1, offset_added(operand, &s.regs));
             Ok(())
         }
-        PointerWord::AddAr2 => {
+        PointerOperation::AddAr2 => {
             s.regs.ar2 = address_after(s.regs.ar2, offset_added(operand, &s.regs));
             Ok(())
         }

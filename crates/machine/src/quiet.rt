@@ -18,10 +18,10 @@ ghost use Rattle.machine.specs.Walking.{Passes};
 use crate::entering::{Callee, enter_if_room};
 use crate::performing::jump_to;
 use crate::returning::return_from_block;
-use crate::statements::{instance_named, is_called, is_ended, is_jl, kind_called};
+use crate::statements::{instance_named, is_called, is_ended, is_jl};
 use crate::walking::{bind_all, jump_of, walk_from};
 use crate::whole::does_with;
-use flat_code::{CallWord, EndWord, JumpWord, Operand, Word};
+use flat_code::{CallOperation, EndOperation, JumpOperation, Operand, Operation, kind_of_code};
 use frames::{Activation, Binding, Bindings, Running};
 use image_file::{Loaded, LoadedCode};
 use plc_base::{Area, BlockId};
@@ -29,17 +29,17 @@ use plc_mem::Memory;
 use timers_counters::{Counters, Timers};
 
 // Whether an instruction may write to the place of its operand.
-fn may_write(word: Word) -> bool
-    ensures { result ≡ may_write_of word }
+fn may_write(operation: Operation) -> bool
+    ensures { result ≡ may_write_of operation }
 {
     matches!(
-        word,
-        Word::Transfer
-            | Word::Assign
-            | Word::Set
-            | Word::Reset
-            | Word::Edge { .. }
-            | Word::Pointer(_)
+        operation,
+        Operation::Transfer
+            | Operation::Assign
+            | Operation::Set
+            | Operation::Reset
+            | Operation::Edge { .. }
+            | Operation::Pointer(_)
     )
 }
 
@@ -81,17 +81,17 @@ fn has_place_inside(operand: &Operand, s: &Running) -> bool
 }
 
 #[inline(always)]
-fn keeps_outputs(word: Word, operand: &Operand, s: &Running) -> bool
-    ensures { result ≡ keeps_outputs_of word operand.now s.now.frame.bindings }
+fn keeps_outputs(operation: Operation, operand: &Operand, s: &Running) -> bool
+    ensures { result ≡ keeps_outputs_of operation operand.now s.now.frame.bindings }
 {
-    !may_write(word) || has_place_inside(operand, s)
+    !may_write(operation) || has_place_inside(operand, s)
 }
 
 // An instruction that touches no position, unless it may write peripheral outputs or fails.
 #[inline(always)]
 fn perform_quietly(
     opens: Option<u16>,
-    word: Word,
+    operation: Operation,
     operand: &Operand,
     next: u32,
     a: &mut Activation,
@@ -99,16 +99,16 @@ fn perform_quietly(
     t: &mut Timers,
     n: &mut Counters,
 ) -> bool
-    ensures goes { GoesOrStays (went_on (does_with_of opens word operand.now
+    ensures goes { GoesOrStays (went_on (does_with_of opens operation operand.now
         (parts_of a.old.running m.old t.old n.old)) next a.old)
-        (keeps_outputs_of word operand.now a.old.running.frame.bindings)
+        (keeps_outputs_of operation operand.now a.old.running.frame.bindings)
         a.old a.new (world m.old t.old n.old) (world m.new t.new n.new) result }
     ensures block { a.new.running.frame.block ≡ a.old.running.frame.block }
 {
-    if !keeps_outputs(word, operand, &a.running) {
+    if !keeps_outputs(operation, operand, &a.running) {
         return false;
     }
-    match does_with(opens, word, operand, &mut a.running, m, t, n) {
+    match does_with(opens, operation, operand, &mut a.running, m, t, n) {
         Ok(()) => {
             a.running.frame.at = next;
             true
@@ -118,17 +118,17 @@ fn perform_quietly(
 }
 
 // A jump, unless it goes by a list.
-fn jump_quietly(word: JumpWord, target: u32, next: u32, a: &mut Activation) -> bool
+fn jump_quietly(operation: JumpOperation, target: u32, next: u32, a: &mut Activation) -> bool
     ensures goes { (c : Code) (ops : List OpData) (w : World)
-        → GoesOrStays (performed c (jump_instr word target next ops) next a.old w)
-        (is_quiet_inside (jump_instr word target next ops) a.old)
+        → GoesOrStays (performed c (jump_instr operation target next ops) next a.old w)
+        (is_quiet_inside (jump_instr operation target next ops) a.old)
         a.old a.new w w result }
     ensures block { a.new.running.frame.block ≡ a.old.running.frame.block }
 {
-    if is_jl(word) {
+    if is_jl(operation) {
         return false;
     }
-    jump_to(word, target, next, a);
+    jump_to(operation, target, next, a);
     true
 }
 
@@ -136,7 +136,7 @@ fn jump_quietly(word: JumpWord, target: u32, next: u32, a: &mut Activation) -> b
 #[inline(always)]
 fn pass_op(
     opens: Option<u16>,
-    word: Word,
+    operation: Operation,
     operand: &Operand,
     next: u32,
     a: &mut Activation,
@@ -145,19 +145,19 @@ fn pass_op(
     n: &mut Counters,
 ) -> bool
     ensures goes { (c : Code) (passings : List Passing) (ops : List OpData)
-        → GoesOrStays (performed c (instr_of word operand.now opens passings next ops) next a.old
+        → GoesOrStays (performed c (instr_of operation operand.now opens passings next ops) next a.old
         (world m.old t.old n.old))
-        (is_quiet_inside (instr_of word operand.now opens passings next ops) a.old)
+        (is_quiet_inside (instr_of operation operand.now opens passings next ops) a.old)
         a.old a.new (world m.old t.old n.old) (world m.new t.new n.new) result }
     ensures block { a.new.running.frame.block ≡ a.old.running.frame.block }
 {
-    match word {
-        Word::Jump => match *operand {
+    match operation {
+        Operation::Jump => match *operand {
             Operand::Jump { kind, target } => jump_quietly(jump_of(kind), target, next, a),
             _ => false,
         },
-        Word::Call(_) | Word::End(_) => false,
-        _ => perform_quietly(opens, word, operand, next, a, m, t, n),
+        Operation::Call(_) | Operation::End(_) => false,
+        _ => perform_quietly(opens, operation, operand, next, a, m, t, n),
     }
 }
 
@@ -181,10 +181,10 @@ fn pass_statement(
 {
     match walk_from(code, a.running.frame.at) {
         Some(walk) => {
-            let last = walk.last;
+            let last = &walk.last;
             pass_op(
                 walk.opens,
-                last.word(),
+                last.operation(),
                 &last.operand,
                 walk.next,
                 a,
@@ -214,7 +214,7 @@ fn run_inside(
         → goes_as is_quiet_inside (code_of c.now.program) a.new (world m.new t.new n.new)
         ≡ false }
 {
-    let Some(code) = c.code(a.running.frame.block) else {
+    let Some(code) = c.block(a.running.frame.block) else {
         return 0;
     };
     let mut done = 0;
@@ -282,7 +282,7 @@ fn call_quietly(
     c: &Loaded,
     code: &LoadedCode<'_>,
     at: u32,
-    how: CallWord,
+    how: CallOperation,
     block: BlockId,
     instance: Option<u16>,
     next: u32,
@@ -302,14 +302,19 @@ fn call_quietly(
     if block.kind.is_system_function() {
         return false;
     }
-    match c.code(block) {
+    match c.block(block) {
         Some(callee) => enter_loaded(&callee, code, at, block, instance, next, a, m),
         None => false,
     }
 }
 
 // BE, BEU and BEC, where they return from a block without an instance to its caller.
-fn return_quietly(code: &LoadedCode<'_>, how: EndWord, a: &mut Activation, m: &mut Memory) -> bool
+fn return_quietly(
+    code: &LoadedCode<'_>,
+    how: EndOperation,
+    a: &mut Activation,
+    m: &mut Memory,
+) -> bool
     requires { a.old.left ≡ false }
     ensures { (c : Code) (next : ℕ) (t : List Timer) (n : List Counter)
         → c.head a.old.running.frame.block ≡ Some (head_of code.now)
@@ -331,7 +336,7 @@ fn cross_op(
     c: &Loaded,
     code: &LoadedCode<'_>,
     at: u32,
-    word: Word,
+    operation: Operation,
     operand: &Operand,
     next: u32,
     a: &mut Activation,
@@ -344,17 +349,17 @@ fn cross_op(
     ensures { (opens : Option ℕ) (passings : List Passing) (t : List Timer) (n : List Counter)
         → Passes code.now.code at passings
         → GoesOrStays (performed (code_of c.now.program)
-        (instr_of word operand.now opens passings next code.now.code) next a.old (world m.old t n))
-        (is_quiet_across (instr_of word operand.now opens passings next code.now.code) a.old)
+        (instr_of operation operand.now opens passings next code.now.code) next a.old (world m.old t n))
+        (is_quiet_across (instr_of operation operand.now opens passings next code.now.code) a.old)
         a.old a.new (world m.old t n) (world m.new t n) result }
 {
-    match word {
-        Word::Call(how) => match *operand {
+    match operation {
+        Operation::Call(how) => match *operand {
             Operand::Called {
                 kind,
                 number,
                 instance,
-            } => match kind_called(kind) {
+            } => match kind_of_code(kind) {
                 Some(kind) => {
                     let block = BlockId { kind, number };
                     let instance = instance_named(instance);
@@ -364,7 +369,7 @@ fn cross_op(
             },
             _ => false,
         },
-        Word::End(how) => return_quietly(code, how, a, m),
+        Operation::End(how) => return_quietly(code, how, a, m),
         _ => false,
     }
 }
@@ -386,8 +391,17 @@ fn cross_at(c: &Loaded, code: &LoadedCode<'_>, a: &mut Activation, m: &mut Memor
     let at = a.running.frame.at;
     match walk_from(code, at) {
         Some(walk) => {
-            let last = walk.last;
-            cross_op(c, code, at, last.word(), &last.operand, walk.next, a, m)
+            let last = &walk.last;
+            cross_op(
+                c,
+                code,
+                at,
+                last.operation(),
+                &last.operand,
+                walk.next,
+                a,
+                m,
+            )
         }
         None => false,
     }
@@ -402,7 +416,7 @@ fn cross(c: &Loaded, a: &mut Activation, m: &mut Memory) -> bool
         a.old.running.frame.at) a.old)
         a.old a.new (world m.old t n) (world m.new t n) result }
 {
-    match c.code(a.running.frame.block) {
+    match c.block(a.running.frame.block) {
         Some(code) => cross_at(c, &code, a, m),
         None => false,
     }

@@ -9,10 +9,9 @@ ghost use Rattle.machine.specs.There.{is_callee as is_callee_of, is_there, is_co
 ghost use Rattle.machine.specs.Walking.{TellsThere};
 ghost use Rattle.flat_code.specs.Placed.{line_placed};
 
-use crate::statements::kind_called;
 use crate::system_calls::system_function;
 use crate::walking::{Walk, walk_from};
-use flat_code::{Operand, Word};
+use flat_code::{Operand, Operation, kind_of_code};
 use frames::Activation;
 use image_file::{Loaded, LoadedCode};
 use plc_base::BlockId;
@@ -24,20 +23,20 @@ fn is_callee(c: &Loaded, block: BlockId) -> bool
     if block.kind.is_system_function() {
         system_function(block.number).is_some()
     } else {
-        c.code(block).is_some()
+        c.block(block).is_some()
     }
 }
 
 // Whether what an instruction needs is there.
-fn is_op_there(c: &Loaded, own: BlockId, word: Word, operand: &Operand) -> bool
+fn is_op_there(c: &Loaded, own: BlockId, operation: Operation, operand: &Operand) -> bool
     ensures { (use_db : Option ℕ) (passings : List Passing) (next : ℕ) (ops : List OpData)
         → is_some ((code_of c.now.program).head own) ≡ true
         → result ≡ is_there (code_of c.now.program)
-        (instr_of word operand.now use_db passings next ops) own }
+        (instr_of operation operand.now use_db passings next ops) own }
 {
-    match word {
-        Word::Call(_) => match *operand {
-            Operand::Called { kind, number, .. } => match kind_called(kind) {
+    match operation {
+        Operation::Call(_) => match *operand {
+            Operand::Called { kind, number, .. } => match kind_of_code(kind) {
                 Some(kind) => is_callee(c, BlockId { kind, number }),
                 None => true,
             },
@@ -48,12 +47,12 @@ fn is_op_there(c: &Loaded, own: BlockId, word: Word, operand: &Operand) -> bool
 }
 
 // Whether what the statement needs is there, whatever it passes.
-fn is_walk_there(c: &Loaded, own: BlockId, walk: &Walk<'_>) -> bool
+fn is_walk_there(c: &Loaded, own: BlockId, walk: &Walk) -> bool
     ensures { is_some ((code_of c.now.program).head own) ≡ true
         → (ops : List OpData) → TellsThere (code_of c.now.program) own walk.now ops result }
 {
-    let last = walk.last;
-    is_op_there(c, own, last.word(), &last.operand)
+    let last = &walk.last;
+    is_op_there(c, own, last.operation(), &last.operand)
 }
 
 fn has_line(code: &LoadedCode<'_>, at: u32) -> bool
@@ -90,7 +89,7 @@ pub fn is_ready(c: &Loaded, a: &Activation) -> bool
     if a.left || a.running.locals.depth() != a.depth() {
         return false;
     }
-    match c.code(a.running.frame.block) {
+    match c.block(a.running.frame.block) {
         Some(code) => is_complete_at(c, &code, a.running.frame.block, a.running.frame.at),
         None => false,
     }

@@ -8,7 +8,7 @@ ghost use Rattle.machine.specs.Code.{Code};
 ghost use Rattle.machine.specs.Entering.{call};
 ghost use Rattle.machine.specs.Does.{does_with as does_with_of};
 ghost use Rattle.machine.specs.Parts.{own_of, parts_of};
-ghost use Rattle.machine.specs.Flat.{code_of, jump_instr, is_jl as is_jl_of, kind_called as kind_called_of, instance_named as instance_named_of, instr_of, statement_at, head_of};
+ghost use Rattle.machine.specs.Flat.{code_of, jump_instr, is_jl as is_jl_of, instance_named as instance_named_of, instr_of, statement_at, head_of};
 ghost use Rattle.machine.specs.Statement.{World, world, went_on, returned, after_call, after_system_call, callee_of, statement as statement_of, fetched, performed, called, block_called, system_called, is_called as is_called_of, is_ended as is_ended_of, Goes, Comes};
 ghost use Rattle.machine.specs.SystemCalls.{system_function as system_function_of, system_call, count_inputs};
 ghost use Rattle.machine.specs.Walking.{Passes};
@@ -20,10 +20,12 @@ use crate::performing::{
 };
 use crate::system_calls::system_function;
 use crate::walking::{bind_all, jump_of, pick, walk_from};
-use flat_code::{CallWord, EndWord, JumpWord, Operand, Param, Word};
+use flat_code::{
+    CallOperation, EndOperation, JumpOperation, Operand, Operation, Param, kind_of_code,
+};
 use frames::{Activation, Bindings};
 use image_file::{Loaded, LoadedCode};
-use plc_base::{BlockId, BlockKind};
+use plc_base::BlockId;
 use plc_mem::Memory;
 use timers_counters::{Counters, Timers};
 
@@ -32,60 +34,49 @@ fn missing() -> Outcome {
     Outcome::Stop { cause: 0 }
 }
 
-pub(crate) fn is_jl(word: JumpWord) -> bool
-    ensures { result ≡ is_jl_of word }
+pub(crate) fn is_jl(operation: JumpOperation) -> bool
+    ensures { result ≡ is_jl_of operation }
 {
-    matches!(word, JumpWord::Jl)
+    matches!(operation, JumpOperation::Jl)
 }
 
 // A jump, JL among them.
 #[inline(never)]
 fn jump_or_list(
     code: &LoadedCode<'_>,
-    word: JumpWord,
+    operation: JumpOperation,
     target: u32,
     next: u32,
     a: &mut Activation,
 ) -> Outcome
     ensures { (c : Code) (w : World) →
-        Comes (performed c (jump_instr word target next code.now.code) next a.old w)
+        Comes (performed c (jump_instr operation target next code.now.code) next a.old w)
         a.old a.new w w result }
 {
-    if is_jl(word) {
+    if is_jl(operation) {
         let at = pick(code, target, next, &a.running.regs);
         a.running.frame.at = at;
         Outcome::Went
     } else {
-        jump(word, target, next, a)
+        jump(operation, target, next, a)
     }
 }
 
-pub(crate) fn is_called(how: CallWord, rlo: bool) -> bool
+pub(crate) fn is_called(how: CallOperation, rlo: bool) -> bool
     ensures { result ≡ is_called_of how rlo }
 {
     match how {
-        CallWord::Cc => rlo,
+        CallOperation::Cc => rlo,
         _ => true,
     }
 }
 
-pub(crate) fn is_ended(how: EndWord, rlo: bool) -> bool
+pub(crate) fn is_ended(how: EndOperation, rlo: bool) -> bool
     ensures { result ≡ is_ended_of how rlo }
 {
     match how {
-        EndWord::Bec => rlo,
+        EndOperation::Bec => rlo,
         _ => true,
-    }
-}
-
-pub(crate) fn kind_called(kind: u8) -> Option<BlockKind>
-    ensures { result ≡ kind_called_of kind }
-{
-    match kind {
-        2 => Some(BlockKind::Fc),
-        3 => Some(BlockKind::Fb),
-        5 => Some(BlockKind::Sfc),
-        _ => None,
     }
 }
 
@@ -164,7 +155,7 @@ fn call_code(
         → Comes (block_called ((code_of c.now.program).head block) block instance passings next
         a.old (world m.old t n)) a.old a.new (world m.old t n) (world m.new t n) result }
 {
-    match c.code(block) {
+    match c.block(block) {
         Some(callee) => call_loaded(&callee, code, at, block, instance, next, a, m),
         None => missing(),
     }
@@ -211,7 +202,7 @@ fn call_function(
         (world m.now t n)) a.old a.new (world m.now t n) (world m.now t n) result }
 {
     match system_function(number) {
-        Some(params) => call_system_with(number, params, code, at, next, a, m),
+        Some(params) => call_system_with(number, params.as_slice(), code, at, next, a, m),
         None => missing(),
     }
 }
@@ -222,7 +213,7 @@ fn call_op(
     c: &Loaded,
     code: &LoadedCode<'_>,
     at: u32,
-    how: CallWord,
+    how: CallOperation,
     block: BlockId,
     instance: Option<u16>,
     next: u32,
@@ -274,7 +265,7 @@ fn call_any(
 #[inline(never)]
 fn end_op(
     code: &LoadedCode<'_>,
-    how: EndWord,
+    how: EndOperation,
     next: u32,
     a: &mut Activation,
     m: &mut Memory,
@@ -305,7 +296,7 @@ fn end_loaded(code: &LoadedCode<'_>, a: &mut Activation, m: &mut Memory) -> Outc
 #[inline(never)]
 fn perform_other(
     opens: Option<u16>,
-    word: Word,
+    operation: Operation,
     operand: &Operand,
     next: u32,
     a: &mut Activation,
@@ -313,11 +304,11 @@ fn perform_other(
     t: &mut Timers,
     n: &mut Counters,
 ) -> Outcome
-    ensures { Comes (went_on (does_with_of opens word operand.now
+    ensures { Comes (went_on (does_with_of opens operation operand.now
         (parts_of a.old.running m.old t.old n.old)) next a.old)
         a.old a.new (world m.old t.old n.old) (world m.new t.new n.new) result }
 {
-    perform(opens, word, operand, next, a, m, t, n)
+    perform(opens, operation, operand, next, a, m, t, n)
 }
 
 // The last op of a statement, which begins at `at`, with the data block that the statement opens.
@@ -327,7 +318,7 @@ fn perform_op(
     code: &LoadedCode<'_>,
     at: u32,
     opens: Option<u16>,
-    word: Word,
+    operation: Operation,
     operand: &Operand,
     next: u32,
     a: &mut Activation,
@@ -341,35 +332,35 @@ fn perform_op(
         ≡ Some (head_of code.now) }
     ensures { (passings : List Passing) → Passes code.now.code at passings
         → Goes (performed (code_of c.now.program)
-        (instr_of word operand.now opens passings next code.now.code) next a.old
+        (instr_of operation operand.now opens passings next code.now.code) next a.old
         (world m.old t.old n.old))
         → Comes (performed (code_of c.now.program)
-        (instr_of word operand.now opens passings next code.now.code) next a.old
+        (instr_of operation operand.now opens passings next code.now.code) next a.old
         (world m.old t.old n.old))
         a.old a.new (world m.old t.old n.old) (world m.new t.new n.new) result }
 {
-    match word {
-        Word::Jump => match *operand {
+    match operation {
+        Operation::Jump => match *operand {
             Operand::Jump { kind, target } => { jump_or_list(code, jump_of(kind), target, next, a) }
-            _ => perform_other(opens, word, operand, next, a, m, t, n),
+            _ => perform_other(opens, operation, operand, next, a, m, t, n),
         },
-        Word::Call(how) => match *operand {
+        Operation::Call(how) => match *operand {
             Operand::Called {
                 kind,
                 number,
                 instance,
-            } => match kind_called(kind) {
+            } => match kind_of_code(kind) {
                 Some(kind) => {
                     let block = BlockId { kind, number };
                     let instance = instance_named(instance);
                     call_op(c, code, at, how, block, instance, next, a, m)
                 }
-                None => perform_other(opens, word, operand, next, a, m, t, n),
+                None => perform_other(opens, operation, operand, next, a, m, t, n),
             },
-            _ => perform_other(opens, word, operand, next, a, m, t, n),
+            _ => perform_other(opens, operation, operand, next, a, m, t, n),
         },
-        Word::End(how) => end_op(code, how, next, a, m),
-        _ => perform(opens, word, operand, next, a, m, t, n),
+        Operation::End(how) => end_op(code, how, next, a, m),
+        _ => perform(opens, operation, operand, next, a, m, t, n),
     }
 }
 
@@ -397,13 +388,13 @@ fn perform_at(
     let at = a.running.frame.at;
     match walk_from(code, at) {
         Some(walk) => {
-            let last = walk.last;
+            let last = &walk.last;
             perform_op(
                 c,
                 code,
                 at,
                 walk.opens,
-                last.word(),
+                last.operation(),
                 &last.operand,
                 walk.next,
                 a,
@@ -434,7 +425,7 @@ pub fn statement(
     ensures { Comes (statement_of (code_of c.now.program) a.old (world m.old t.old n.old))
         a.old a.new (world m.old t.old n.old) (world m.new t.new n.new) result }
 {
-    let Some(code) = c.code(a.running.frame.block) else {
+    let Some(code) = c.block(a.running.frame.block) else {
         return missing();
     };
     perform_at(c, &code, a, m, t, n)

@@ -6,7 +6,7 @@ ghost use Rattle.machine.specs.SystemCalls.{system_function as system_function_o
 
 use crate::places::{Bound, number_at};
 use arrayvec::ArrayVec;
-use flat_code::Param;
+use flat_code::{Param, SECTION_IN, SECTION_OUT, system_function_params};
 use frames::{Binding, Bindings, Running};
 use plc_base::Width;
 use plc_mem::Memory;
@@ -50,103 +50,15 @@ impl Inputs {
     }
 }
 
-/// OB_NR, DTIME, SIGN, RET_VAL (SFC 32).
-static SRT_DINT: [Param; 4] = [
-    Param {
-        section: 1,
-        width: Width::Word,
-        byte: 0,
-        bit: 0,
-    },
-    Param {
-        section: 1,
-        width: Width::Dword,
-        byte: 0,
-        bit: 0,
-    },
-    Param {
-        section: 1,
-        width: Width::Word,
-        byte: 0,
-        bit: 0,
-    },
-    Param {
-        section: 2,
-        width: Width::Word,
-        byte: 0,
-        bit: 0,
-    },
-];
-
-/// OB_NR, RET_VAL (SFC 33).
-static CAN_DINT: [Param; 2] = [
-    Param {
-        section: 1,
-        width: Width::Word,
-        byte: 0,
-        bit: 0,
-    },
-    Param {
-        section: 2,
-        width: Width::Word,
-        byte: 0,
-        bit: 0,
-    },
-];
-
-/// MODE, OB_NR, RET_VAL (SFC 39 and 40).
-static DIS_IRT: [Param; 3] = [
-    Param {
-        section: 1,
-        width: Width::Byte,
-        byte: 0,
-        bit: 0,
-    },
-    Param {
-        section: 1,
-        width: Width::Word,
-        byte: 0,
-        bit: 0,
-    },
-    Param {
-        section: 2,
-        width: Width::Word,
-        byte: 0,
-        bit: 0,
-    },
-];
-
-/// RET_VAL (SFC 41 and 42).
-static DIS_AIRT: [Param; 1] = [Param {
-    section: 2,
-    width: Width::Word,
-    byte: 0,
-    bit: 0,
-}];
-
-/// RET_VAL (SFC 64).
-static TIME_TCK: [Param; 1] = [Param {
-    section: 2,
-    width: Width::Dword,
-    byte: 0,
-    bit: 0,
-}];
-
-/// The parameters of a system function. `None` exactly where there is none of the number.
-pub(crate) fn system_function(number: u16) -> Option<&'static [Param]>
-    ensures params { option_map (λ p. p.now) result ≡ system_function_of number }
-    ensures inputs { IfSome result (λ p. count_inputs p.now ≤ 3) }
-    ensures count { IfSome result (λ p. length p.now ≤ 4) }
+/// The parameters of a system function, three of them IN at most. `None` exactly where there is none
+/// of the number.
+#[tactic(auto, using(crate::proofs::FunctionLemmas::few_inputs))]
+pub(crate) fn system_function(number: u16) -> Option<ArrayVec<Param, 4>>
+    ensures params { option_map (λ p. p.items) result ≡ system_function_of number }
+    ensures inputs { IfSome result (λ p. count_inputs p.items ≤ 3) }
+    ensures count { IfSome result (λ p. length p.items ≤ 4) }
 {
-    match number {
-        32 => Some(&SRT_DINT),
-        33 => Some(&CAN_DINT),
-        39 | 40 => Some(&DIS_IRT),
-        41 | 42 => Some(&DIS_AIRT),
-        43 | 46 => Some(&[]),
-        64 => Some(&TIME_TCK),
-        _ => None,
-    }
+    system_function_params(number)
 }
 
 fn input_of(binding: Option<Binding>, s: &Running, m: &Memory) -> u32
@@ -181,7 +93,7 @@ pub(crate) fn inputs_of(params: &[Param], bindings: &Bindings, s: &Running, m: &
     let mut inputs = Inputs::new();
     let mut index = 0u8;
     for param in params {
-        if param.section == 1 {
+        if param.section == SECTION_IN {
             inputs.push(input_of(bindings.get(index), s, m));
         }
         index += 1;
@@ -196,7 +108,7 @@ pub(crate) fn result_of(params: &[Param], bindings: &Bindings) -> Option<Binding
 {
     let mut index = 0u8;
     for param in params {
-        if param.section == 2 {
+        if param.section == SECTION_OUT {
             return bindings.get(index);
         }
         index += 1;

@@ -1,7 +1,7 @@
 //! Timers and counters: SP SE SD SS SF, CU, CD, S of a counter, R and FR of both.
 ghost use Rattle.std.specs.Prelude.{◌≡◌};
 ghost use Rattle.machine.specs.Parts.{own_of};
-ghost use Rattle.machine.specs.Timing.{word_of as word_of_own, string_ended, starting, timer_reset, timer_freed, counting_up, counting_down, counter_set, counter_reset, counter_freed, Times};
+ghost use Rattle.machine.specs.Timing.{operation_of as word_of_own, string_ended, starting, timer_reset, timer_freed, counting_up, counting_down, counter_set, counter_reset, counter_freed, Times};
 
 use crate::values::{fault_code, number_named};
 use flat_code::Operand;
@@ -19,7 +19,7 @@ fn end_string(r: &mut Regs)
     r.status.fc = false;
 }
 
-fn word_of(s: &Running) -> u16
+fn operation_of(s: &Running) -> u16
     ensures { result ≡ word_of_own (own_of s.now) }
 {
     (s.regs.a1 % 0x1_0000) as u16
@@ -39,7 +39,7 @@ pub(crate) fn start(
         s.old s.new t.old t.new result }
 {
     let number = number_named(operand, s, m)?;
-    match t.start(number, how, s.regs.status.rlo, word_of(s)) {
+    match t.start(number, how, s.regs.status.rlo, operation_of(s)) {
         Ok(()) => {
             end_string(&mut s.regs);
             Ok(())
@@ -144,7 +144,7 @@ pub(crate) fn set_counter(
         s.old s.new n.old n.new result }
 {
     let number = number_named(operand, s, m)?;
-    match n.set(number, s.regs.status.rlo, word_of(s)) {
+    match n.set(number, s.regs.status.rlo, operation_of(s)) {
         Ok(()) => {
             end_string(&mut s.regs);
             Ok(())

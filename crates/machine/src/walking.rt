@@ -10,7 +10,7 @@ ghost use Rattle.machine.specs.Jumps.{listed};
 ghost use Rattle.machine.specs.Walking.{walk_with, opens_after as opens_after_op, bound_by, bound_from};
 
 use crate::bindings::{bind_none, bound_for};
-use flat_code::{JUMPS, JumpWord, Op, Operand, Param};
+use flat_code::{JUMPS, JumpOperation, Op, Operand, Param};
 use frames::{Bindings, Running};
 use image_file::LoadedCode;
 use plc_mem::Memory;
@@ -19,23 +19,25 @@ use std::marker::Model;
 
 /// How many ops a statement has at most.
 const MOST_OPS: usize = 64;
+/// How many of them stand behind the first.
+const MORE_OPS: usize = MOST_OPS - 1;
 /// How many jumps the list of a JL has at most.
 const MOST_LISTED: u32 = 255;
 
 /// A statement: the data block that it opens first, its last op, and the offset behind it.
 #[derive(Drop)]
-pub(crate) struct Walk<'a> {
+pub(crate) struct Walk {
     pub(crate) opens: Option<u16>,
-    pub(crate) last: &'a Op,
+    pub(crate) last: Op,
     pub(crate) next: u32,
 }
 
-impl<'a> Model for Walk<'a> {
+impl Model for Walk {
     ghost use Rattle.machine.specs.Walking.{Walk as WalkData};
 
     ghost Value = { WalkData };
 
-    ghost view = { λ w. record { opens = w.opens; last = w.last.now; next = w.next } };
+    ghost view = { λ w. record { opens = w.opens; last = w.last; next = w.next } };
 }
 
 // What stands open after a further op.
@@ -51,14 +53,33 @@ fn opens_after(opens: Option<u16>, operand: &Operand) -> Option<u16>
     }
 }
 
-/// The statement that begins at an offset.
-#[tactic(auto, using(crate::proofs::Walks::walk_nowhere, crate::proofs::Walks::walk_stops, crate::proofs::Walks::walk_ends, crate::proofs::Walks::walk_goes_on))]
-pub(crate) fn walk_from<'a>(code: &LoadedCode<'a>, at: u32) -> Option<Walk<'a>>
+/// The statement that begins at an offset. Most have one op, which is read here; the others go on
+/// where nothing is inlined.
+#[tactic(auto, using(crate::proofs::Walks::walk_nowhere, crate::proofs::Walks::first_ends, crate::proofs::Walks::first_goes_on))]
+#[inline(always)]
+pub(crate) fn walk_from(code: &LoadedCode<'_>, at: u32) -> Option<Walk>
     ensures { result ≡ option_map (walk_with None) (run_at most_ops code.now.code at) }
 {
-    let mut opens = None;
+    let (op, next) = code.op(at)?;
+    if op.last {
+        return Some(Walk {
+            opens: None,
+            last: op,
+            next,
+        });
+    }
+    walk_on(code, next, opens_after(None, &op.operand))
+}
+
+// The rest of a statement, from its second op on, with what stands open.
+#[tactic(auto, using(crate::proofs::Walks::walk_nowhere, crate::proofs::Walks::walk_stops, crate::proofs::Walks::walk_ends, crate::proofs::Walks::walk_goes_on))]
+#[inline(never)]
+fn walk_on(code: &LoadedCode<'_>, at: u32, opens: Option<u16>) -> Option<Walk>
+    ensures { result ≡ option_map (walk_with opens) (run_at 63 code.now.code at) }
+{
+    let mut opens = opens;
     let mut at = at;
-    for _ in 0..MOST_OPS {
+    for _ in 0..MORE_OPS {
         match code.op(at) {
             None => return None,
             Some((op, next)) => {
@@ -119,11 +140,11 @@ pub(crate) fn pick(code: &LoadedCode<'_>, target: u32, next: u32, r: &Regs) -> u
 
 /// The jump of a kind.
 #[tactic(auto, unfolding(flat_code::specs::Kinds::jump_of))]
-pub(crate) fn jump_of(kind: u8) -> JumpWord
+pub(crate) fn jump_of(kind: u8) -> JumpOperation
     ensures { result ≡ jump_of_kind kind }
 {
     let place = usize::from(kind);
-    JUMPS.get(place).copied().unwrap_or(JumpWord::Ju)
+    JUMPS.get(place).copied().unwrap_or(JumpOperation::Ju)
 }
 
 // An op that passes a parameter sets what it stands for.

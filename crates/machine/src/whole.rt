@@ -10,10 +10,11 @@ use crate::loads::{load, load_bcd, load_status, transfer, transfer_status};
 use crate::nesting::{nest, unnest};
 use crate::numbers::{add, combine, number, shift};
 use crate::pointers::point;
+use crate::relay::relay;
 use crate::timing::{
     count_down, count_up, free_counter, free_timer, reset_counter, reset_timer, set_counter, start,
 };
-use flat_code::{Operand, Word};
+use flat_code::{Operand, Operation};
 use frames::Running;
 use plc_base::error_codes;
 use plc_mem::Memory;
@@ -96,91 +97,95 @@ fn free(
 #[tactic(auto, unfolding(crate::specs::Does::does), using(crate::proofs::Lifts::checks_meet, crate::proofs::Lifts::changes_meet, crate::proofs::Lifts::turns_meet, crate::proofs::Lifts::acts_meet, crate::proofs::Lifts::times_meet, crate::proofs::Lifts::counts_meet))]
 #[inline(always)]
 pub(crate) fn does(
-    word: Word,
+    operation: Operation,
     operand: &Operand,
     s: &mut Running,
     m: &mut Memory,
     t: &mut Timers,
     n: &mut Counters,
 ) -> Result<(), u8>
-    ensures { Meets (does_of word operand.now (parts_of s.old m.old t.old n.old))
+    ensures { Meets (does_of operation operand.now (parts_of s.old m.old t.old n.old))
         s.old s.new m.old m.new t.old t.new n.old n.new result }
 {
-    match word {
-        Word::Nop | Word::Bld => Ok(()),
-        Word::Check(with) => check(with, operand, s, m, t, n),
-        Word::OrBare => {
+    match operation {
+        Operation::Nop | Operation::Bld => Ok(()),
+        Operation::Check(with) => check(with, operand, s, m, t, n),
+        Operation::OrBare => {
             s.regs.or_bare();
             Ok(())
         }
-        Word::Nest(with) => nest(with, s),
-        Word::Unnest => unnest(s),
-        Word::Load => load(operand, s, m, t, n),
-        Word::Transfer => transfer(operand, s, m),
-        Word::Assign => assign(operand, s, m),
-        Word::Set => set(operand, s, m, t, n),
-        Word::Reset => reset(operand, s, m, t, n),
-        Word::Edge { rising } => edge(rising, operand, s, m),
-        Word::SetRlo => {
+        Operation::Nest(with) => nest(with, s),
+        Operation::Unnest => unnest(s),
+        Operation::Relay(which) => relay(which, s),
+        Operation::Load => load(operand, s, m, t, n),
+        Operation::Transfer => transfer(operand, s, m),
+        Operation::Assign => assign(operand, s, m),
+        Operation::Set => set(operand, s, m, t, n),
+        Operation::Reset => reset(operand, s, m, t, n),
+        Operation::Edge { rising } => edge(rising, operand, s, m),
+        Operation::SetRlo => {
             s.regs.set();
             Ok(())
         }
-        Word::ClearRlo => {
+        Operation::ClearRlo => {
             s.regs.clr();
             Ok(())
         }
-        Word::NegateRlo => {
+        Operation::NegateRlo => {
             s.regs.not();
             Ok(())
         }
-        Word::SaveRlo => {
+        Operation::SaveRlo => {
             s.regs.save();
             Ok(())
         }
-        Word::LoadBcd => load_bcd(operand, s, m, t, n),
-        Word::LoadStatus => {
+        Operation::LoadBcd => load_bcd(operand, s, m, t, n),
+        Operation::LoadStatus => {
             load_status(&mut s.regs);
             Ok(())
         }
-        Word::TransferStatus => {
+        Operation::TransferStatus => {
             transfer_status(&mut s.regs);
             Ok(())
         }
-        Word::LoadOpenBlock => load_open_block(operand, s, m),
-        Word::Pointer(what) => point(what, operand, s, m),
-        Word::Number(what) => number(what, &mut s.regs),
-        Word::Add(what) => {
+        Operation::LoadOpenBlock => load_open_block(operand, s, m),
+        Operation::Pointer(what) => point(what, operand, s, m),
+        Operation::Number(what) => number(what, &mut s.regs),
+        Operation::Add(what) => {
             add(what, operand, &mut s.regs);
             Ok(())
         }
-        Word::CompareInt(how) => {
+        Operation::CompareInt(how) => {
             alu::compare_i(&mut s.regs, how);
             Ok(())
         }
-        Word::CompareDint(how) => {
+        Operation::CompareDint(how) => {
             alu::compare_d(&mut s.regs, how);
             Ok(())
         }
-        Word::Logic(what) => {
+        Operation::Logic(what) => {
             combine(what, operand, &mut s.regs);
             Ok(())
         }
-        Word::Shift(what) => {
+        Operation::Shift(what) => {
             shift(what, operand, &mut s.regs);
             Ok(())
         }
-        Word::Start(how) => start(how, operand, s, m, t),
-        Word::Free => free(operand, s, m, t, n),
-        Word::CountUp => count_up(operand, s, m, n),
-        Word::CountDown => count_down(operand, s, m, n),
-        Word::OpenBlock => open(operand, s, m),
-        Word::Exchange => {
+        Operation::Start(how) => start(how, operand, s, m, t),
+        Operation::Free => free(operand, s, m, t, n),
+        Operation::CountUp => count_up(operand, s, m, n),
+        Operation::CountDown => count_down(operand, s, m, n),
+        Operation::OpenBlock => open(operand, s, m),
+        Operation::Exchange => {
             exchange(s);
             Ok(())
         }
-        Word::NoWord | Word::UseDb | Word::Pass | Word::Jump | Word::Call(_) | Word::End(_) => {
-            Err(0)
-        }
+        Operation::NoOperation
+        | Operation::UseDb
+        | Operation::Pass
+        | Operation::Jump
+        | Operation::Call(_)
+        | Operation::End(_) => { Err(0) }
     }
 }
 
@@ -188,19 +193,19 @@ pub(crate) fn does(
 #[inline(never)]
 fn does_opened(
     number: u16,
-    word: Word,
+    operation: Operation,
     operand: &Operand,
     s: &mut Running,
     m: &mut Memory,
     t: &mut Timers,
     n: &mut Counters,
 ) -> Result<(), u8>
-    ensures { Meets (does_of word operand.now (with_db number (parts_of s.old m.old t.old n.old)))
+    ensures { Meets (does_of operation operand.now (with_db number (parts_of s.old m.old t.old n.old)))
         s.old s.new m.old m.new t.old t.new n.old n.new result }
 {
     let before = s.frame.db;
     s.frame.db = Some(number);
-    match does(word, operand, s, m, t, n) {
+    match does(operation, operand, s, m, t, n) {
         Ok(()) => Ok(()),
         Err(code) => {
             s.frame.db = before;
@@ -214,23 +219,23 @@ fn does_opened(
 #[inline(always)]
 pub(crate) fn does_with(
     opens: Option<u16>,
-    word: Word,
+    operation: Operation,
     operand: &Operand,
     s: &mut Running,
     m: &mut Memory,
     t: &mut Timers,
     n: &mut Counters,
 ) -> Result<(), u8>
-    ensures { Meets (does_with_of opens word operand.now (parts_of s.old m.old t.old n.old))
+    ensures { Meets (does_with_of opens operation operand.now (parts_of s.old m.old t.old n.old))
         s.old s.new m.old m.new t.old t.new n.old n.new result }
 {
     match opens {
-        None => does(word, operand, s, m, t, n),
+        None => does(operation, operand, s, m, t, n),
         Some(number) => {
             if !is_loaded(number, m) {
                 return Err(error_codes::NO_DATA_BLOCK);
             }
-            does_opened(number, word, operand, s, m, t, n)
+            does_opened(number, operation, operand, s, m, t, n)
         }
     }
 }

@@ -37,6 +37,17 @@ impl Records {
     {
         self.list.as_slice()
     }
+
+    /// The same records once more. It takes no memory.
+    pub fn copied(&self) -> Records
+        ensures { result ≡ self.now }
+    {
+        let mut list = ArrayVec::new();
+        for record in self.list.as_slice() {
+            list.push(*record);
+        }
+        Records { list }
+    }
 }
 
 /// The last 100 records of diagnostics (manual: the diagnostic buffer, a ring buffer). A contract

@@ -1,6 +1,7 @@
 -- What the stages of compiling find, joined.
 use Rattle.std.proofs.Common.{◌≡◌, Bool, true, false, if◌then◌else◌, refl, sym, ap, subst, ◌∙◌, ℕ, suc, ◌<◌, List, [], ◌∷◌, get_or, Option, Some, None, Ok, Err, inl, inr, arith}
 use Rattle.std.specs.Option.{unwrap_or}
+use Rattle.plc_base.specs.declared.Profile.TheVariants.{Large}
 use Rattle.plc_base.specs.declared.refusals.Refusal.{Refusal}
 use Rattle.plc_base.specs.declared.refusals.SourceFault.{SourceFault}
 use Rattle.plc_base.specs.declared.refusals.SourceFault.TheVariants as found
@@ -146,9 +147,9 @@ statements_fault source symbols laid checked found.NoMemory is h = tt
 accepted_runs : ProgramsRun → (source symbols : List ℕ) (laid : LaidSource)
     → AreFiles source symbols → IsLaid source symbols laid
     → least (statement_refusals laid.tree laid.symbols laid.layouts) ≡ None
-    → KeepsSource source symbols (program_in laid.symbols laid.tree)
+    → KeepsSource Large source symbols (program_in laid.symbols laid.tree)
 accepted_runs law source symbols laid are is there =
-    law source symbols laid.symbols is.parsed.0 laid.tree are is.list is.parsed.1 is.parsed.2
+    law Large source symbols laid.symbols is.parsed.0 laid.tree are is.list is.parsed.1 is.parsed.2
     (sound_both laid.symbols laid.tree laid.layouts is.right is.layout there)
 
 pub has_program : ProgramsRun → (source symbols : List ℕ) (laid : LaidSource)
@@ -163,9 +164,9 @@ pub generated_runs : ProgramsRun → (source symbols : List ℕ)
     (laid : LaidSource) (checked : Tree)
     → AreFiles source symbols → IsLaid source symbols laid → checked ≡ laid.tree
     → least (statement_refusals laid.tree laid.symbols laid.layouts) ≡ None
-    → KeepsSource source symbols (program_of checked laid.symbols laid.layouts)
+    → KeepsSource Large source symbols (program_of checked laid.symbols laid.layouts)
 generated_runs law source symbols laid checked are is same there =
-    subst (KeepsSource source symbols) (sym generated)
+    subst (KeepsSource Large source symbols) (sym generated)
     (accepted_runs law source symbols laid are is there)
   where
     generated : program_of checked laid.symbols laid.layouts ≡ program_in laid.symbols laid.tree

@@ -18,5 +18,6 @@ pub mod SaysLemmas
 pub mod StepperLemmas
 pub mod SummaryLemmas
 pub mod TableLemmas
+pub mod UpgradeLemmas
 pub mod WorkingLemmas
 pub mod run

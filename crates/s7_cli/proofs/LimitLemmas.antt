@@ -31,7 +31,8 @@ two-limits : (command first second : List ℕ) (symbols : Option (List ℕ)) →
 two-limits command first second symbols =
     both (bytes_eq command (codes "go")) _ _ KeepsLimits tt
     (both (bytes_eq command (codes "compile")) _ _ KeepsLimits tt
-    (passed (bytes_eq command (codes "run") && not (is_some symbols)) _ KeepsLimits (λ _. tt)))
+    (both (bytes_eq command (codes "run") && not (is_some symbols)) _ _ KeepsLimits tt
+    (passed (bytes_eq command (codes "upgrade") && not (is_some symbols)) _ KeepsLimits (λ _. tt))))
 
 short-limits : (command : List ℕ) (words : List (List ℕ)) (symbols : Option (List ℕ)) → IfSome (short_command command words symbols) KeepsLimits
 short-limits command [] symbols = tt

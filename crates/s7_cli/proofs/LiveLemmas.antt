@@ -5,7 +5,8 @@ use Rattle.plc_base.specs.declared.Refusal.{Refusal}
 use Rattle.plc_io.specs.Contents.{Contents}
 use Rattle.plc_io.specs.Moments.{FilesAt}
 use Rattle.flat_code.specs.Loading.{faults_of}
-use Rattle.flat_code.specs.Programs.{NameEntry, Program}
+use Rattle.flat_code.specs.Programs.{NameEntry}
+use Rattle.image_file.specs.Loaded.{LoadedProgram}
 use Rattle.image_file.specs.Refusing.{IsRefusedBy}
 use Rattle.image_file.specs.declared.refusing.LoadError.{LoadError}
 use Rattle.image_file.specs.declared.refusing.LoadError.TheVariants as loading
@@ -225,13 +226,13 @@ judged-cut names all number rest bytes more lists fault failure so_far first fai
 
 -- ---- what is said of all
 
-said-so : (steps : ℕ) (text : LiveText) (p : Program) (stimuli : Result (List Entry) Refusal) (scripts : Result (List (List Entry)) RefusedScript)
-    (a : Answer) → LoadsAs text.image.items (Ok p) → stimuli_of text.stimuli.items ≡ stimuli → scripts_from p.names 1 (scripts_of text) ≡ scripts
+said-so : (steps : ℕ) (text : LiveText) (p : LoadedProgram) (stimuli : Result (List Entry) Refusal) (scripts : Result (List (List Entry)) RefusedScript)
+    (a : Answer) → LoadsAs text.image.items (Ok p) → stimuli_of text.stimuli.items ≡ stimuli → scripts_from p.program.names 1 (scripts_of text) ≡ scripts
     → LiveAnswer p steps stimuli scripts a → TextSays steps text a
 said-so steps text p stimuli scripts a loads are_stimuli are_scripts answers = (
   Ok p,
   loads,
-  subst (λ (s : Result (List Entry) Refusal). LiveAnswer p steps s (scripts_from p.names 1 (scripts_of text)) a) (sym are_stimuli)
+  subst (λ (s : Result (List Entry) Refusal). LiveAnswer p steps s (scripts_from p.program.names 1 (scripts_of text)) a) (sym are_stimuli)
       (subst (λ (s : Result (List (List Entry)) RefusedScript). LiveAnswer p steps stimuli s a) (sym are_scripts) answers),
 )
 
@@ -243,19 +244,19 @@ live-image-refused V text loading.NoMemory r fails least = λ steps.
     subst (λ (q : Result V Failure). RefusedBy (TextSays steps text) q) (sym fails) tt
 
 -- the stimuli are refused, whatever the scripts are
-stimuli-refuse : (V : Type 0) (steps : ℕ) (text : LiveText) (p : Program) (fault : TextFault) → LoadsAs text.image.items (Ok p)
+stimuli-refuse : (V : Type 0) (steps : ℕ) (text : LiveText) (p : LoadedProgram) (fault : TextFault) → LoadsAs text.image.items (Ok p)
     → IsTextFault (stimuli_of text.stimuli.items) fault → RefusedBy {V = V} (TextSays steps text) (Err (failure_of_text Stimuli fault))
 stimuli-refuse V steps text p (broken.BadLine line rule) loads is =
-    said-so steps text p (Err (record { line = line; rule = rule })) (scripts_from p.names 1 (scripts_of text)) _ loads is refl refl
+    said-so steps text p (Err (record { line = line; rule = rule })) (scripts_from p.program.names 1 (scripts_of text)) _ loads is refl refl
 stimuli-refuse V steps text p broken.NoMemory loads is = tt
 
-pub stimuli-refused : (V : Type 0) (text : LiveText) (p : Program) (fault : TextFault) (r : Result V Failure) → r ≡ Err (failure_of_text Stimuli fault)
+pub stimuli-refused : (V : Type 0) (text : LiveText) (p : LoadedProgram) (fault : TextFault) (r : Result V Failure) → r ≡ Err (failure_of_text Stimuli fault)
     → LoadsAs text.image.items (Ok p) → IsTextFault (stimuli_of text.stimuli.items) fault → (steps : ℕ) → RefusedBy (TextSays steps text) r
 stimuli-refused V text p fault r fails loads is = λ steps.
     subst (λ (q : Result V Failure). RefusedBy (TextSays steps text) q) (sym fails) (stimuli-refuse V steps text p fault loads is)
 
-scripts-refuse : (V : Type 0) (steps : ℕ) (text : LiveText) (p : Program) (stimuli : List Entry) (failure : Failure) → LoadsAs text.image.items (Ok p)
-    → stimuli_of text.stimuli.items ≡ Ok stimuli → TellsScript (scripts_from p.names 1 (scripts_of text)) failure
+scripts-refuse : (V : Type 0) (steps : ℕ) (text : LiveText) (p : LoadedProgram) (stimuli : List Entry) (failure : Failure) → LoadsAs text.image.items (Ok p)
+    → stimuli_of text.stimuli.items ≡ Ok stimuli → TellsScript (scripts_from p.program.names 1 (scripts_of text)) failure
     → RefusedBy {V = V} (TextSays steps text) (Err failure)
 scripts-refuse V steps text p stimuli failure loads are (inl is) =
     subst (λ (f : Failure). RefusedBy {V = V} (TextSays steps text) (Err f)) (sym is) tt
@@ -263,8 +264,8 @@ scripts-refuse V steps text p stimuli failure loads are (inr (script, refuses, i
     subst (λ (f : Failure). RefusedBy {V = V} (TextSays steps text) (Err f)) (sym is)
     (said-so steps text p (Ok stimuli) (Err script) _ loads are refuses refl)
 
-pub scripts-refused : (V : Type 0) (text : LiveText) (p : Program) (stimuli : List Entry) (failure : Failure) (r : Result V Failure) → r ≡ Err failure
-    → LoadsAs text.image.items (Ok p) → stimuli_of text.stimuli.items ≡ Ok stimuli → TellsScript (scripts_from p.names 1 (scripts_of text)) failure
+pub scripts-refused : (V : Type 0) (text : LiveText) (p : LoadedProgram) (stimuli : List Entry) (failure : Failure) (r : Result V Failure) → r ≡ Err failure
+    → LoadsAs text.image.items (Ok p) → stimuli_of text.stimuli.items ≡ Ok stimuli → TellsScript (scripts_from p.program.names 1 (scripts_of text)) failure
     → (steps : ℕ) → RefusedBy (TextSays steps text) r
 scripts-refused V text p stimuli failure r fails loads are tells = λ steps.
     subst (λ (q : Result V Failure). RefusedBy (TextSays steps text) q) (sym fails) (scripts-refuse V steps text p stimuli failure loads are tells)
@@ -285,10 +286,10 @@ refused-on V W says failure r fails told =
     subst (λ (q : Result W Failure). RefusedBy says q) (sym fails) (on V W says failure told)
 
 -- the workers made this history
-pub live-said : (steps : ℕ) (text : LiveText) (p q : Program) (stimuli : List Entry) (scripts : List (List Entry)) (history : List Entry)
-    → q ≡ p → Finds text p stimuli scripts → IsLive p steps stimuli scripts history → history_of p.names (history_text history) ≡ Ok history
+pub live-said : (steps : ℕ) (text : LiveText) (p q : LoadedProgram) (stimuli : List Entry) (scripts : List (List Entry)) (history : List Entry)
+    → q ≡ p → Finds text p stimuli scripts → IsLive p steps stimuli scripts history → history_of p.program.names (history_text history) ≡ Ok history
     → TextSays steps text (done (live_text q history))
 live-said steps text p q stimuli scripts history same finds live back =
-    subst (λ (x : Program). TextSays steps text (done (live_text x history))) (sym same)
+    subst (λ (x : LoadedProgram). TextSays steps text (done (live_text x history))) (sym same)
     (said-so steps text p (Ok stimuli) (Ok scripts) _ finds.loads finds.are_stimuli finds.are_scripts
     (record { history = history; live = live; read_back = back; says = refl }))

@@ -2,10 +2,9 @@
 use Rattle.std.proofs.Common.{◌≡◌, ℕ, suc, ◌+◌, ◌<◌, ◌≤◌, Bool, true, List, [], ◌∷◌, ◌++◌, length, replicate, Result, Ok, Err, sym, refl, ap, ◌∙◌, subst, inl, inr, ⊎_elim, arith, length-append}
 use Rattle.std.proofs.lemmas.List.{length-replicate}
 use Rattle.std.proofs.lemmas.List.Elements.{All-from_recursion}
-use Rattle.plc_base.specs.declared.Profile.TheVariants.{Small}
-use Rattle.flat_code.specs.Programs.{Program}
+use Rattle.image_file.specs.Loaded.{LoadedProgram}
 use Rattle.var_access.specs.declared.Entry.{Entry}
-use Rattle.controller.specs.Recorded.{Recorded}
+use Rattle.controller.specs.Recording.{Recording}
 use Rattle.tracked_lock.specs.Passes.{Passed, Locked, missing, fresh_pass, fresh_passes}
 use Rattle.tracked_lock.specs.Views.{IsMadeOf, Each, times}
 use Rattle.tracked_lock.specs.declared.views.Made.{Made}
@@ -47,10 +46,10 @@ module _ (s : Locked Opening) (steps : ℕ) (stimuli : List Entry) (scripts : Li
       subst (λ k. missing k r.made ≡ 0) (sym passes) (subst (λ ms. missing n ms ≡ 0) (sym h.made)
       (missing_none n all_made (λ k pos le. times_numbered 0 k all_made numbered pos (omega (arith, many, as_many, le)))))
 
-  module _ (begin c : Recorded) (starts : s.origin ≡ record { program = begin.program; profile = begin.profile; first = begin.history } ∷ [])
-      (program : Program) (none_yet : begin ≡ record { program = program; profile = Small; history = []; spare = 0 }) (back : IsGivenBack (the_opening s.origin) c r) where
-    opening : the_opening s.origin ≡ opened_on program
-    opening = ap the_opening starts ∙ ap (λ (b : Recorded). record { program = b.program; profile = b.profile; first = b.history }) none_yet
+  module _ (begin c : Recording) (starts : s.origin ≡ record { program = begin.program; profile = begin.profile; first = begin.history } ∷ [])
+      (loaded : LoadedProgram) (none_yet : begin ≡ record { program = loaded.program; profile = loaded.profile; history = []; spare = 0 }) (back : IsGivenBack (the_opening s.origin) c r) where
+    opening : the_opening s.origin ≡ opened_on loaded
+    opening = ap the_opening starts ∙ ap (λ (b : Recording). record { program = b.program; profile = b.profile; first = b.history }) none_yet
 
     of_all : Each (λ (e : Entry). 0 < times e.who all_made) back.story
     of_all = subst (λ ms. Each (λ (e : Entry). 0 < times e.who ms) back.story) h.made back.all
@@ -69,7 +68,7 @@ module _ (s : Locked Opening) (steps : ℕ) (stimuli : List Entry) (scripts : Li
         absurd (omega (arith, knows, few, story_few, ap (λ (o : Opening). length o.first) opening, ap length back.begins.1, length-append r.seen back.begins.0))
 
     -- the history is a live history
-    pub lived : IsMadeOf (λ e. e.who) r.seen r.made → whole ≡ true → IsLive program steps stimuli scripts c.history
+    pub lived : IsMadeOf (λ e. e.who) r.seen r.made → whole ≡ true → IsLive loaded steps stimuli scripts c.history
     lived agrees ok =
         let o : Opening = the_opening s.origin in
         let story : List Entry = back.story in
@@ -77,7 +76,7 @@ module _ (s : Locked Opening) (steps : ℕ) (stimuli : List Entry) (scripts : Li
         let history : c.history ≡ story = back.history ∙ ap (λ (x : Opening). x.first ++ story) opening in
         let was : entries_of 1 r.seen ≡ replicate h.count (step_by 1) = (subst (IsMadeOf (λ (e : Entry). e.who) r.seen) h.made agrees).0 in
         let none : entries_of 1 later ≡ [] = none_came 1 r.seen later story back.begins.1 (omega (arith, ap length story_made.0, ap length was)) in
-        subst (IsLive program steps stimuli scripts) (sym history) record {
+        subst (IsLive loaded steps stimuli scripts) (sym history) record {
           count = h.count;
           few = h.few;
           stepper = story_made.0;

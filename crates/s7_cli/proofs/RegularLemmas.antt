@@ -5,7 +5,7 @@ use Rattle.std.proofs.lemmas.Bool.Decides.{nat_tests}
 use Rattle.std.proofs.lemmas.List.{length-replicate}
 use Rattle.std.proofs.lemmas.List.Elements.{All-from_recursion, recursion_from_All}
 use Rattle.std.proofs.lemmas.List.Sums.{sum_by-append}
-use Rattle.flat_code.specs.Programs.{Program}
+use Rattle.image_file.specs.Loaded.{LoadedProgram}
 use Rattle.var_access.specs.Runs.{is_step}
 use Rattle.var_access.specs.declared.entries.Entry.{Entry}
 use Rattle.var_access.specs.declared.entries.What.{What}
@@ -54,9 +54,9 @@ of_lists who (x ∷ xs) h stands regular =
 one_step_regular : IsRegular one_step
 one_step_regular = record { worker = refl; range = tt; fields = tt }
 
-pub live_is_regular : (program : Program) (steps : ℕ) (stimuli : List Entry) (scripts : List (List Entry)) (history : List Entry)
-    → IsLive program steps stimuli scripts history → AreRegularBy 2 (stimuli ∷ scripts) → All IsRegular history
-live_is_regular program steps stimuli scripts history live regular =
+pub live_is_regular : (loaded : LoadedProgram) (steps : ℕ) (stimuli : List Entry) (scripts : List (List Entry)) (history : List Entry)
+    → IsLive loaded steps stimuli scripts history → AreRegularBy 2 (stimuli ∷ scripts) → All IsRegular history
+live_is_regular loaded steps stimuli scripts history live regular =
     let Others : Entry → Type 0 = λ e. (2 ≤ e.who) × (e.who < 2 + suc (length scripts)) → IsRegular e in
     let Stepper : Entry → Type 0 = λ e. e.who ≡ 1 → IsRegular e in
     let Worker : Entry → Type 0 = λ e. (1 ≤ e.who) × (e.who ≤ 2 + length scripts) in
@@ -97,10 +97,10 @@ steps_few : (es : List Entry) → AllByRecursion IsRegular es → steps_in es �
 steps_few [] h = omega arith
 steps_few (e ∷ es) h = omega (arith, steps_first e es, counted e es h.0, steps_few es h.1)
 
-pub live_has_steps : (program : Program) (steps : ℕ) (stimuli : List Entry) (scripts : List (List Entry)) (history : List Entry)
-    → IsLive program steps stimuli scripts history → AreRegularBy 2 (stimuli ∷ scripts) → steps_in history ≤ steps
-live_has_steps program steps stimuli scripts history live regular =
-    let all : AllByRecursion IsRegular history = recursion_from_All IsRegular history (live_is_regular program steps stimuli scripts history live regular) in
+pub live_has_steps : (loaded : LoadedProgram) (steps : ℕ) (stimuli : List Entry) (scripts : List (List Entry)) (history : List Entry)
+    → IsLive loaded steps stimuli scripts history → AreRegularBy 2 (stimuli ∷ scripts) → steps_in history ≤ steps
+live_has_steps loaded steps stimuli scripts history live regular =
+    let all : AllByRecursion IsRegular history = recursion_from_All IsRegular history (live_is_regular loaded steps stimuli scripts history live regular) in
     omega (arith, steps_few history all, ap length live.stepper, length-replicate live.count one_step, live.few)
 
 -- one list more, that of the worker behind those of the others

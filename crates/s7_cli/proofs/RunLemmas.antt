@@ -15,12 +15,12 @@ use Rattle.sem_kept.specs.Kept.{IsKept}
 use Rattle.monitor.specs.LineText.{end_text}
 use Rattle.s7_cli.specs.run_text.RunText.{blocks_text, entry_text, lines_from, replied_text, run_text, shown_text}
 
-lines-kept : ContinuesReplay → (profile : Profile) (c d : Code) → IsKept c d → (before : List What) (n : ℕ) (es : List Entry)
+lines-kept : ContinuesReplay → (profile : Profile) (c d : Code) → IsKept profile c d → (before : List What) (n : ℕ) (es : List Entry)
     → lines_from d n (replay profile d before) es ≡ lines_from c n (replay profile c before) es
 lines-kept continues profile c d kept before n [] = refl
 lines-kept continues profile c d kept before n (e ∷ es) =
-    ap (λ (seen : Observed). shown_text (n + 1) seen ++ replied_text (n + 1) e.who e.what now.reply ++ rest) (kept.seen profile before e.what)
-    ∙ ap (λ (reply : Reply). shown_text (n + 1) was.seen ++ replied_text (n + 1) e.who e.what reply ++ rest) (kept.reply profile before e.what)
+    ap (λ (seen : Observed). shown_text (n + 1) seen ++ replied_text (n + 1) e.who e.what now.reply ++ rest) (kept.seen before e.what)
+    ∙ ap (λ (reply : Reply). shown_text (n + 1) was.seen ++ replied_text (n + 1) e.who e.what reply ++ rest) (kept.reply before e.what)
     ∙ ap (λ (s : State). first ++ lines_from d (n + 1) s es) (sym (continues profile d before e.what))
     ∙ ap (λ (t : List ℕ). first ++ t) (lines-kept continues profile c d kept (before ++ e.what ∷ []) (n + 1) es)
     ∙ ap (λ (s : State). first ++ lines_from c (n + 1) s es) (continues profile c before e.what)
@@ -37,13 +37,13 @@ lines-kept continues profile c d kept before n (e ∷ es) =
     first : List ℕ
     first = entry_text (n + 1) e was
 
-pub texts-kept : ContinuesReplay → (profile : Profile) (c d : Code) → IsKept c d → (es : List Entry) → run_text profile d es ≡ run_text profile c es
+pub texts-kept : ContinuesReplay → (profile : Profile) (c d : Code) → IsKept profile c d → (es : List Entry) → run_text profile d es ≡ run_text profile c es
 unfolding run_text replay
 texts-kept continues profile c d kept es =
     ap (λ (lines : List ℕ). lines ++ (end_text (length es) (replay profile d (events es)).mode ++ blocks_text (replay profile d (events es)).world))
     (lines-kept continues profile c d kept [] 0 es)
-    ∙ ap (λ (mode : Mode). lines ++ (end_text (length es) mode ++ blocks_text (replay profile d (events es)).world)) (kept.mode profile (events es))
-    ∙ ap (λ (world : World). lines ++ (end_text (length es) (replay profile c (events es)).mode ++ blocks_text world)) (kept.world profile (events es))
+    ∙ ap (λ (mode : Mode). lines ++ (end_text (length es) mode ++ blocks_text (replay profile d (events es)).world)) (kept.mode (events es))
+    ∙ ap (λ (world : World). lines ++ (end_text (length es) (replay profile c (events es)).mode ++ blocks_text world)) (kept.world (events es))
   where
     lines : List ℕ
     lines = lines_from c 0 (replay profile c []) es

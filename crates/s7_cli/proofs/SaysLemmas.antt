@@ -1,11 +1,13 @@
 -- What commands say of the contents of their files.
 use Rattle.std.proofs.Common.{◌≡◌, ◌≤◌, ◌⊎◌, inl, inr, refl, sym, ◌∙◌, ap, subst, ℕ, List, [], ◌∷◌, ◌++◌, length, Option, Some, None, Ok, Err, Result, arith}
 use Rattle.std.specs.Prelude.{option_to_list, unwrap_or}
-use Rattle.plc_base.specs.declared.Profile.TheVariants.{Small}
+use Rattle.plc_base.specs.declared.Profile.{Profile}
+use Rattle.plc_base.specs.declared.Profile.TheVariants.{Large}
 use Rattle.plc_base.specs.declared.Refusal.{Refusal}
 use Rattle.plc_io.specs.Contents.{Contents}
 use Rattle.flat_code.specs.Loading.{faults_of}
 use Rattle.flat_code.specs.Programs.{NameEntry, Program}
+use Rattle.image_file.specs.Loaded.{LoadedProgram}
 use Rattle.image_file.specs.Refusing.{IsRefusedBy}
 use Rattle.image_file.specs.declared.faults.LoadFault.{LoadFault}
 use Rattle.image_file.specs.declared.refusing.LoadError.{LoadError}
@@ -15,14 +17,14 @@ use Rattle.machine.specs.Code.{Code}
 use Rattle.machine.specs.Flat.{code_of}
 use Rattle.generator.specs.History.{history}
 use Rattle.generator.specs.Source.{source_text}
-use Rattle.sem_kept.specs.Agreement.{ImageKeepsSource, KeepsSource, names_in}
+use Rattle.sem_kept.specs.Agreement.{KeepsSource, names_in}
 use Rattle.sem_kept.specs.Meaning.{IsJudged, IsMeaningUnique, ExcludesRefusal, IsRefusalUnique, Refused, InSymbols, InSource, MeansCode}
 use Rattle.event_text.specs.TextFault.{IsTextFault}
 use Rattle.event_text.specs.Texts.{history_of, stimuli_of}
 use Rattle.event_text.specs.declared.TextFault.{TextFault}
 use Rattle.event_text.specs.declared.TextFault.TheVariants as text
 use Rattle.s7_cli.specs.run_text.RunText.{run_text}
-use Rattle.s7_cli.specs.Compiling.{RefusesBy}
+use Rattle.s7_cli.specs.Compiling.{IsCompiled, RefusesBy}
 use Rattle.s7_cli.specs.declared.faults.CompileFault.{CompileFault}
 use Rattle.s7_cli.specs.declared.faults.CompileFault.TheVariants as compiling
 use Rattle.s7_cli.specs.declared.failures.File.{File}
@@ -30,7 +32,7 @@ use Rattle.s7_cli.specs.declared.failures.File.TheVariants.{Source, Symbols, His
 use Rattle.s7_cli.specs.declared.failures.Failure.{Failure}
 use Rattle.s7_cli.specs.declared.files.ProgramText.{ProgramText}
 use Rattle.s7_cli.specs.Answer.{Answer, done, refused, refused_image}
-use Rattle.s7_cli.specs.Command.{Command, Go, Check, Compile, Run, Gen, Live, symbols_inputs, program_inputs}
+use Rattle.s7_cli.specs.Command.{Command, Go, Check, Compile, Run, Gen, Live, Upgrade, symbols_inputs, program_inputs}
 use Rattle.s7_cli.specs.Faults.{failure_of_compiling, failure_of_history, failure_of_loading}
 use Rattle.s7_cli.specs.GenText.{summary_text}
 use Rattle.s7_cli.specs.Inner.{RefusedBy}
@@ -38,7 +40,7 @@ use Rattle.s7_cli.specs.Lines.{ok_line}
 use Rattle.s7_cli.specs.LiveSays.{LiveAnswer, LiveSays, LoadedLive, RefusedScript, live_text, scripts_from}
 use Rattle.s7_cli.specs.Loads.{LoadsAs}
 use Rattle.s7_cli.specs.Reading.{HoldAll}
-use Rattle.s7_cli.specs.Says.{GoSays, CheckSays, RunSays, GenSays, refused_program, go_answer, check_answer, run_answer, ran, gen_answer, Says, Writes}
+use Rattle.s7_cli.specs.Says.{GoSays, CheckSays, RunSays, GenSays, UpgradeSays, refused_program, go_answer, check_answer, run_answer, ran, gen_answer, upgrade_answer, Says, Writes}
 use Rattle.s7_cli.specs.StatusTable.{HasOneText}
 use Rattle.s7_cli.specs.Texts.{IsWithin, contents_of, symbols_file}
 use Rattle.s7_cli.proofs.LoadLemmas.{loads-one}
@@ -60,7 +62,7 @@ means-one meaning excludes refusal source symbols (Err r) (Err s) p q = ap Err (
 go-one : MeansOne → (source symbols history : List ℕ) (a b : Answer) → GoSays source symbols history a
     → GoSays source symbols history b → a ≡ b
 go-one one source symbols history a b p q =
-    p.2 ∙ ap (λ v. go_answer v (history_of (names_in symbols) history)) (one source symbols p.0 q.0 p.1 q.1) ∙ sym q.2
+    p.2 ∙ ap (λ v. go_answer Large v (history_of (names_in symbols) history)) (one source symbols p.0 q.0 p.1 q.1) ∙ sym q.2
 
 check-one : MeansOne → (source symbols : List ℕ) (a b : Answer) → CheckSays source symbols a → CheckSays source symbols b → a ≡ b
 check-one one source symbols a b p q = p.2 ∙ ap check_answer (one source symbols p.0 q.0 p.1 q.1) ∙ sym q.2
@@ -68,6 +70,9 @@ check-one one source symbols a b p q = p.2 ∙ ap check_answer (one source symbo
 run-one : (image history : List ℕ) (a b : Answer) → RunSays image history a → RunSays image history b → a ≡ b
 run-one image history a b p q =
     p.2 ∙ ap (λ v. run_answer v history) (loads-one image p.0 q.0 p.1 q.1) ∙ sym q.2
+
+upgrade-one : (image : List ℕ) (a b : Answer) → UpgradeSays image a → UpgradeSays image b → a ≡ b
+upgrade-one image a b p q = p.2 ∙ ap upgrade_answer (loads-one image p.0 q.0 p.1 q.1) ∙ sym q.2
 
 gen-one : MeansOne → (number : ℕ) (a b : Answer) → GenSays number a → GenSays number b → a ≡ b
 gen-one one number a b p q = p.2 ∙ ap (gen_answer number) (one (source_text number) [] p.0 q.0 p.1 q.1) ∙ sym q.2
@@ -104,31 +109,35 @@ says-one one (Run _ _) text (x ∷ y ∷ more ∷ rest) a b p q = absurd p
 says-one one (Gen number) text [] a b p q = gen-one one number a b p q
 says-one one (Gen number) text (more ∷ rest) a b p q = absurd p
 says-one one (Live _ _ _ _) text contents a b p q = absurd text
+says-one one (Upgrade _ _) text [] a b p q = absurd p
+says-one one (Upgrade _ _) text (image ∷ []) a b p q = upgrade-one image a b p q
+says-one one (Upgrade _ _) text (x ∷ more ∷ rest) a b p q = absurd p
 
 -- `live` has one outcome
-stimulated-one : (p : Program) (steps : ℕ) (s : Result (List Entry) Refusal) (r : Result (List (List Entry)) RefusedScript) (a b : Answer)
+stimulated-one : (p : LoadedProgram) (steps : ℕ) (s : Result (List Entry) Refusal) (r : Result (List (List Entry)) RefusedScript) (a b : Answer)
     → LiveAnswer p steps s r a → LiveAnswer p steps s r b → a.outcome ≡ b.outcome
 stimulated-one p steps (Err refusal) r a b m n = ap (λ (x : Answer). x.outcome) (m ∙ sym n)
 stimulated-one p steps (Ok stimuli) (Err script) a b m n = ap (λ (x : Answer). x.outcome) (m ∙ sym n)
 stimulated-one p steps (Ok stimuli) (Ok scripts) a b m n = ap (λ (x : Answer). x.outcome) m.says ∙ sym (ap (λ (x : Answer). x.outcome) n.says)
 
-loaded-one : (v : Result Program LoadFault) (steps : ℕ) (stimuli : List ℕ) (scripts : List (List ℕ)) (a b : Answer)
+loaded-one : (v : Result LoadedProgram LoadFault) (steps : ℕ) (stimuli : List ℕ) (scripts : List (List ℕ)) (a b : Answer)
     → LoadedLive v steps stimuli scripts a → LoadedLive v steps stimuli scripts b → a.outcome ≡ b.outcome
 loaded-one (Err fault) steps stimuli scripts a b m n = ap (λ (x : Answer). x.outcome) (m ∙ sym n)
 loaded-one (Ok p) steps stimuli scripts a b m n =
-    stimulated-one p steps (stimuli_of stimuli) (scripts_from p.names 1 scripts) a b m n
+    stimulated-one p steps (stimuli_of stimuli) (scripts_from p.program.names 1 scripts) a b m n
 
 live-one : (steps : ℕ) (image stimuli : List ℕ) (scripts : List (List ℕ)) (a b : Answer) → LiveSays steps image stimuli scripts a
     → LiveSays steps image stimuli scripts b → a.outcome ≡ b.outcome
 live-one steps image stimuli scripts a b p q =
     loaded-one p.0 steps stimuli scripts a b p.2
-    (subst (λ (v : Result Program LoadFault). LoadedLive v steps stimuli scripts b) (loads-one image q.0 p.0 q.1 p.1) q.2)
+    (subst (λ (v : Result LoadedProgram LoadFault). LoadedLive v steps stimuli scripts b) (loads-one image q.0 p.0 q.1 p.1) q.2)
 
 says-outcome : MeansOne → (k : Command) (contents : List (List ℕ)) (a b : Answer) → Says k contents a → Says k contents b → a.outcome ≡ b.outcome
 says-outcome one (Go s y h) contents a b p q = ap (λ (x : Answer). x.outcome) (says-one one (Go s y h) tt contents a b p q)
 says-outcome one (Check s y) contents a b p q = ap (λ (x : Answer). x.outcome) (says-one one (Check s y) tt contents a b p q)
 says-outcome one (Compile s y i) contents a b p q = ap (λ (x : Answer). x.outcome) (says-one one (Compile s y i) tt contents a b p q)
 says-outcome one (Run i h) contents a b p q = ap (λ (x : Answer). x.outcome) (says-one one (Run i h) tt contents a b p q)
+says-outcome one (Upgrade i u) contents a b p q = ap (λ (x : Answer). x.outcome) (says-one one (Upgrade i u) tt contents a b p q)
 says-outcome one (Gen n) contents a b p q = ap (λ (x : Answer). x.outcome) (says-one one (Gen n) tt contents a b p q)
 says-outcome one (Live i s o n) [] a b p q = absurd p
 says-outcome one (Live i s o n) (x ∷ []) a b p q = absurd p
@@ -156,38 +165,42 @@ refused-verdict : (a : Answer) (why : Refused) → a ≡ refused_program why →
 refused-verdict a (InSymbols refusal) gives = inr (inl (Symbols, refusal, gives))
 refused-verdict a (InSource refusal) gives = inr (inl (Source, refusal, gives))
 
-go-verdict : (a : Answer) (v : Result Code Refused) (h : Result (List Entry) Refusal) → a ≡ go_answer v h → IsVerdict a
+go-verdict : (a : Answer) (v : Result Code Refused) (h : Result (List Entry) Refusal) → a ≡ go_answer Large v h → IsVerdict a
 go-verdict a (Err why) h gives = refused-verdict a why gives
 go-verdict a (Ok code) (Err refusal) gives = inr (inl (History, refusal, gives))
-go-verdict a (Ok code) (Ok entries) gives = inl (run_text Small code entries, gives)
+go-verdict a (Ok code) (Ok entries) gives = inl (run_text Large code entries, gives)
 
 check-verdict : (a : Answer) (v : Result Code Refused) → a ≡ check_answer v → IsVerdict a
 check-verdict a (Err why) gives = refused-verdict a why gives
 check-verdict a (Ok code) gives = inl (ok_line, gives)
 
-ran-verdict : (a : Answer) (p : Program) (h : Result (List Entry) Refusal) → a ≡ ran p h → IsVerdict a
-ran-verdict a p (Err refusal) gives = inr (inl (History, refusal, gives))
-ran-verdict a p (Ok entries) gives = inl (run_text Small (code_of p) entries, gives)
+ran-verdict : (a : Answer) (l : LoadedProgram) (h : Result (List Entry) Refusal) → a ≡ ran l h → IsVerdict a
+ran-verdict a l (Err refusal) gives = inr (inl (History, refusal, gives))
+ran-verdict a l (Ok entries) gives = inl (run_text l.profile (code_of l.program) entries, gives)
 
-run-verdict : (a : Answer) (v : Result Program LoadFault) (history : List ℕ) → a ≡ run_answer v history → IsVerdict a
+run-verdict : (a : Answer) (v : Result LoadedProgram LoadFault) (history : List ℕ) → a ≡ run_answer v history → IsVerdict a
 run-verdict a (Err fault) history gives = inr (inr (fault, gives))
-run-verdict a (Ok p) history gives = ran-verdict a p (history_of p.names history) gives
+run-verdict a (Ok l) history gives = ran-verdict a l (history_of l.program.names history) gives
+
+upgrade-verdict : (a : Answer) (v : Result LoadedProgram LoadFault) → a ≡ upgrade_answer v → IsVerdict a
+upgrade-verdict a (Err fault) gives = inr (inr (fault, gives))
+upgrade-verdict a (Ok l) gives = inl (ok_line, gives)
 
 gen-verdict : (a : Answer) (number : ℕ) (v : Result Code Refused) → a ≡ gen_answer number v → IsVerdict a
 gen-verdict a number (Err why) gives = refused-verdict a why gives
-gen-verdict a number (Ok code) gives = inl (summary_text number Small code (history number), gives)
+gen-verdict a number (Ok code) gives = inl (summary_text number Large code (history number), gives)
 
-stimulated-verdict : (p : Program) (steps : ℕ) (s : Result (List Entry) Refusal) (r : Result (List (List Entry)) RefusedScript) (a : Answer)
+stimulated-verdict : (p : LoadedProgram) (steps : ℕ) (s : Result (List Entry) Refusal) (r : Result (List (List Entry)) RefusedScript) (a : Answer)
     → LiveAnswer p steps s r a → IsVerdict a
 stimulated-verdict p steps (Err refusal) r a said = inr (inl (Stimuli, refusal, said))
 stimulated-verdict p steps (Ok stimuli) (Err script) a said = inr (inl (Script script.number, script.refusal, said))
 stimulated-verdict p steps (Ok stimuli) (Ok scripts) a said = inl (live_text p said.history, said.says)
 
-live-verdict : (v : Result Program LoadFault) (steps : ℕ) (stimuli : List ℕ) (scripts : List (List ℕ)) (a : Answer)
+live-verdict : (v : Result LoadedProgram LoadFault) (steps : ℕ) (stimuli : List ℕ) (scripts : List (List ℕ)) (a : Answer)
     → LoadedLive v steps stimuli scripts a → IsVerdict a
 live-verdict (Err fault) steps stimuli scripts a said = inr (inr (fault, said))
 live-verdict (Ok p) steps stimuli scripts a said =
-    stimulated-verdict p steps (stimuli_of stimuli) (scripts_from p.names 1 scripts) a said
+    stimulated-verdict p steps (stimuli_of stimuli) (scripts_from p.program.names 1 scripts) a said
 
 pub says-verdict : (k : Command) (contents : List (List ℕ)) (a : Answer) → Says k contents a → IsVerdict a
 says-verdict (Go _ None _) [] a said = absurd said
@@ -219,6 +232,9 @@ says-verdict (Run _ _) (image ∷ history ∷ []) a said = run-verdict a said.0 
 says-verdict (Run _ _) (x ∷ y ∷ more ∷ rest) a said = absurd said
 says-verdict (Gen number) [] a said = gen-verdict a number said.0 said.2
 says-verdict (Gen number) (more ∷ rest) a said = absurd said
+says-verdict (Upgrade _ _) [] a said = absurd said
+says-verdict (Upgrade _ _) (image ∷ []) a said = upgrade-verdict a said.0 said.2
+says-verdict (Upgrade _ _) (x ∷ more ∷ rest) a said = absurd said
 says-verdict (Live _ _ _ _) [] a said = absurd said
 says-verdict (Live _ _ _ _) (x ∷ []) a said = absurd said
 says-verdict (Live _ _ _ steps) (image ∷ stimuli ∷ scripts) a said = live-verdict said.0 steps stimuli scripts a said.2
@@ -263,7 +279,7 @@ compile-said c src (Some name) img source None a hold said = absurd hold
 compile-said c src (Some name) img source (Some bytes) a hold said = said
 
 pub compile-writes : (c : Contents) (src : List ℕ) (symbols : Option (List ℕ)) (img source : List ℕ) (bytes : Option (List ℕ)) (image : List ℕ)
-    → HoldAll c (symbols_inputs symbols) (option_to_list bytes) → ImageKeepsSource image source (unwrap_or bytes [])
+    → HoldAll c (symbols_inputs symbols) (option_to_list bytes) → IsCompiled image source (unwrap_or bytes [])
     → Writes (Compile src symbols img) (source ∷ option_to_list bytes) img image
 compile-writes c src None img source None image hold keeps = (refl, keeps)
 compile-writes c src None img source (Some bytes) image hold keeps = absurd hold
@@ -309,16 +325,16 @@ history-refuses : (V : Type 0) (source symbols : List ℕ) (code : Code) (histor
     → MeansCode source symbols code → IsTextFault (history_of (names_in symbols) history) fault
     → RefusedBy {V = V} (GoSays source symbols history) (Err (failure_of_history fault))
 history-refuses V source symbols code history (text.BadLine line rule) means is =
-    (Ok code, means, ap (go_answer (Ok code)) (sym is))
+    (Ok code, means, ap (go_answer Large (Ok code)) (sym is))
 history-refuses V source symbols code history text.NoMemory means is = tt
 
 pub history-refused : (V : Type 0) (source source' symbols symbols' : List ℕ) (p : Program) (history : List ℕ)
     (fault : TextFault) (r : Result V Failure) → source' ≡ source → symbols' ≡ symbols → r ≡ Err (failure_of_history fault)
-    → KeepsSource source' symbols' p → IsTextFault (history_of p.names history) fault
+    → KeepsSource Large source' symbols' p → IsTextFault (history_of p.names history) fault
     → RefusedBy (GoSays source symbols history) r
 history-refused V source source' symbols symbols' p history fault r is are fails keeps breaks =
-    let kept : KeepsSource source symbols p =
-    subst (λ (s : List ℕ). KeepsSource s symbols p) is (subst (λ (y : List ℕ). KeepsSource source' y p) are keeps) in
+    let kept : KeepsSource Large source symbols p =
+    subst (λ (s : List ℕ). KeepsSource Large s symbols p) is (subst (λ (y : List ℕ). KeepsSource Large source' y p) are keeps) in
     subst (λ (q : Result V Failure). RefusedBy (GoSays source symbols history) q) (sym fails)
     (history-refuses V source symbols kept.runs.0 history fault kept.runs.1
     (subst (λ (names : List NameEntry). IsTextFault (history_of names history) fault) kept.names breaks))
@@ -332,13 +348,14 @@ image-refused V image history (loading.Fault fault) r fails least =
 image-refused V image history loading.NoMemory r fails least =
     subst (λ (q : Result V Failure). RefusedBy (RunSays image history) q) (sym fails) tt
 
-run-refuses : (V : Type 0) (image : List ℕ) (p : Program) (history : List ℕ) (fault : TextFault) → LoadsAs image (Ok p)
-    → IsTextFault (history_of p.names history) fault → RefusedBy {V = V} (RunSays image history) (Err (failure_of_history fault))
-run-refuses V image p history (text.BadLine line rule) loads is = (Ok p, loads, ap (ran p) (sym is))
-run-refuses V image p history text.NoMemory loads is = tt
+run-refuses : (V : Type 0) (image : List ℕ) (l : LoadedProgram) (history : List ℕ) (fault : TextFault) → LoadsAs image (Ok l)
+    → IsTextFault (history_of l.program.names history) fault
+    → RefusedBy {V = V} (RunSays image history) (Err (failure_of_history fault))
+run-refuses V image l history (text.BadLine line rule) loads is = (Ok l, loads, ap (ran l) (sym is))
+run-refuses V image l history text.NoMemory loads is = tt
 
-pub run-refused : (V : Type 0) (image : List ℕ) (p : Program) (history : List ℕ) (fault : TextFault) (r : Result V Failure)
-    → r ≡ Err (failure_of_history fault) → LoadsAs image (Ok p) → IsTextFault (history_of p.names history) fault
+pub run-refused : (V : Type 0) (image : List ℕ) (l : LoadedProgram) (history : List ℕ) (fault : TextFault) (r : Result V Failure)
+    → r ≡ Err (failure_of_history fault) → LoadsAs image (Ok l) → IsTextFault (history_of l.program.names history) fault
     → RefusedBy (RunSays image history) r
-run-refused V image p history fault r fails loads is =
-    subst (λ (q : Result V Failure). RefusedBy (RunSays image history) q) (sym fails) (run-refuses V image p history fault loads is)
+run-refused V image l history fault r fails loads is =
+    subst (λ (q : Result V Failure). RefusedBy (RunSays image history) q) (sym fails) (run-refuses V image l history fault loads is)

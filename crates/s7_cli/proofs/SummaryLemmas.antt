@@ -91,9 +91,9 @@ sum-on bytes n m = ap sum (take-add n m bytes) ∙ sum-append (take n bytes) (ta
 
 -- ---- the summary is one for programs that no history tells apart
 
-pub summary-kept : (number entries : ℕ) (profile : Profile) (c d : Code) → IsKept c d → (events : List What)
+pub summary-kept : (number entries : ℕ) (profile : Profile) (c d : Code) → IsKept profile c d → (events : List What)
     → summary_of number entries (replay profile d events) ≡ summary_of number entries (replay profile c events)
 unfolding summary_of
 summary-kept number entries profile c d kept events =
-    ap (λ (mode : Mode). summary_of number entries (record (replay profile d events) { mode = mode })) (kept.mode profile events)
-    ∙ ap (λ (world : World). summary_of number entries (record (replay profile c events) { world = world })) (kept.world profile events)
+    ap (λ (mode : Mode). summary_of number entries (record (replay profile d events) { mode = mode })) (kept.mode events)
+    ∙ ap (λ (world : World). summary_of number entries (record (replay profile c events) { world = world })) (kept.world events)

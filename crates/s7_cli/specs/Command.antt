@@ -6,7 +6,8 @@ use Rattle.s7_cli.specs.declared.failures.File.TheVariants.{Source, Symbols, Ima
 -- `go SRC HIST` runs a source along a history, `check SRC` checks a source, `compile SRC IMG` writes
 -- its image; each with a file of symbols where `--symbols FILE` names one. `run IMG HIST` runs an
 -- image along a history, `gen NUMBER` a program and a history that are made of a number.
--- `live IMG STIM OPS.. --steps N` has several workers run an image
+-- `live IMG STIM OPS.. --steps N` has several workers run an image, `upgrade IMG IMG2` writes an image
+-- once more, in version 2
 pub data Command : Type 0 where
   Go : (source : List ℕ) (symbols : Option (List ℕ)) (history : List ℕ) → Command
   Check : (source : List ℕ) (symbols : Option (List ℕ)) → Command
@@ -14,6 +15,7 @@ pub data Command : Type 0 where
   Run : (image history : List ℕ) → Command
   Gen : (number : ℕ) → Command
   Live : (image stimuli : List ℕ) (scripts : List (List ℕ)) (steps : ℕ) → Command
+  Upgrade : (image upgraded : List ℕ) → Command
 
 -- a file that a command reads: what it is read as, and its name
 pub record Input : Type 0 where
@@ -51,6 +53,7 @@ inputs_of (Run image history) =
     record { file = Image; name = image } ∷ record { file = History; name = history } ∷ []
 inputs_of (Gen number) = []
 inputs_of (Live image stimuli scripts steps) = live_inputs image stimuli scripts
+inputs_of (Upgrade image upgraded) = record { file = Image; name = image } ∷ []
 
 -- the files that a command writes
 abbrev pub outputs_of : Command → List (List ℕ)
@@ -60,6 +63,7 @@ outputs_of (Compile source symbols image) = image ∷ []
 outputs_of (Run image history) = []
 outputs_of (Gen number) = []
 outputs_of (Live image stimuli scripts steps) = []
+outputs_of (Upgrade image upgraded) = upgraded ∷ []
 
 -- the most bytes that each file may hold
 abbrev pub limit_of : File → ℕ

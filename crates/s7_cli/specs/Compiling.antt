@@ -1,6 +1,8 @@
 -- What compiling answers, stage by stage.
 use Rattle.std.specs.Prelude.{◌≡◌, ℕ, List, None, Result, Ok, Err}
 use Rattle.flat_code.specs.Programs.{Program}
+use Rattle.flat_code.specs.declared.stamps.Stamp.TheVariants as stamp
+use Rattle.plc_base.specs.declared.profiles.Profile.TheVariants as profile
 use Rattle.plc_base.specs.declared.refusals.Refusal.{Refusal}
 use Rattle.plc_base.specs.declared.refusals.SourceFault.{SourceFault}
 use Rattle.plc_base.specs.declared.refusals.SourceFault.TheVariants as found
@@ -10,7 +12,7 @@ use Rattle.stl_symbols.specs.Symbol.{Symbol}
 use Rattle.block_layout.specs.Layouts.{layouts_of}
 use Rattle.block_layout.specs.Table.{layout_refusals}
 use Rattle.block_layout.specs.declared.blocks.BlockLayout.{BlockLayout}
-use Rattle.sem_kept.specs.Agreement.{KeepsSource}
+use Rattle.sem_kept.specs.Agreement.{ImageKeepsSource, KeepsSource}
 use Rattle.sem_kept.specs.Meaning.{HasSymbols, HasTokens, HasTree, IsSound, InSymbols, InSource, IsRefusedSource}
 use Rattle.sem_kept.specs.Stages.{InTurn}
 use Rattle.s7_cli.specs.declared.compiling.LaidSource.{LaidSource}
@@ -67,6 +69,11 @@ RefusesLaid laid fault =
     (source symbols : List ℕ)
     → IsLaid source symbols laid → RefusesBy source symbols fault
 
--- a source with its symbols has a program that keeps it
+-- a source with its symbols has a program that keeps it, at the large profile
 abbrev pub HasProgram : (source symbols : List ℕ) → Type 0
-HasProgram source symbols = (p : Program) × KeepsSource source symbols p
+HasProgram source symbols = (p : Program) × KeepsSource profile.Large source symbols p
+
+-- bytes are an image of version 2 for the large profile, and keep a source with its symbols
+abbrev pub IsCompiled : (bytes source symbols : List ℕ) → Type 0
+IsCompiled bytes source symbols =
+    (kept : ImageKeepsSource bytes source symbols) × (kept.stamp ≡ stamp.Two profile.Large)

@@ -17,5 +17,6 @@ pub mod run_text
 pub mod Says
 pub mod StatusTable
 pub mod Texts
+pub mod Upgrades
 pub mod Words
 pub mod Working

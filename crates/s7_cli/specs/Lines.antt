@@ -38,7 +38,7 @@ unfoldable pub image_refused_text : LoadFault → List ℕ
 image_refused_text fault =
     codes "image refused: offset " ++ decimal fault.at ++ codes " code " ++ decimal fault.code ++ codes "\n"
 
--- what `check` writes for a source that is accepted, and `compile` where it has written the image
+-- what `check` writes for a source that is accepted, and `compile` and `upgrade` where they have written the image
 unfoldable pub ok_line : List ℕ
 ok_line = codes "OK\n"
 

@@ -1,9 +1,9 @@
 -- What `live` answers for what its files hold.
 use Rattle.std.specs.Prelude.{◌≡◌, ℕ, ◌+◌, List, [], ◌∷◌, ◌++◌, codes, Result, Ok, Err}
 use Rattle.plc_base.specs.declared.Refusal.{Refusal}
-use Rattle.plc_base.specs.declared.Profile.TheVariants.{Small}
 use Rattle.var_access.specs.declared.Entry.{Entry}
-use Rattle.flat_code.specs.Programs.{NameEntry, Program}
+use Rattle.flat_code.specs.Programs.{NameEntry}
+use Rattle.image_file.specs.Loaded.{LoadedProgram}
 use Rattle.image_file.specs.declared.faults.LoadFault.{LoadFault}
 use Rattle.machine.specs.Flat.{code_of}
 use Rattle.event_text.specs.HistoryText.{history_text}
@@ -31,31 +31,32 @@ scripts_from names number [] = Ok []
 scripts_from names number (script ∷ more) =
     script_first number (script_of (number + 2) names script) (scripts_from names (number + 1) more)
 
--- the history as it is written, a line `---`, and the text of its run
-abbrev pub live_text : Program → List Entry → List ℕ
-live_text program history = history_text history ++ (codes "---\n" ++ run_text Small (code_of program) history)
+-- the history as it is written, a line `---`, and the text of its run, at the image's profile
+abbrev pub live_text : LoadedProgram → List Entry → List ℕ
+live_text loaded history =
+    history_text history ++ (codes "---\n" ++ run_text loaded.profile (code_of loaded.program) history)
 
 -- the workers made some live history of these lists, of which the text is told
-pub record RanLive (program : Program) (steps : ℕ) (stimuli : List Entry) (scripts : List (List Entry)) (answer : Answer) : Type 0 where
+pub record RanLive (loaded : LoadedProgram) (steps : ℕ) (stimuli : List Entry) (scripts : List (List Entry)) (answer : Answer) : Type 0 where
   pub history : List Entry
-  pub live : IsLive program steps stimuli scripts history
+  pub live : IsLive loaded steps stimuli scripts history
   -- where it isn't longer than a history may be, `run` gives the written history the same text
-  pub read_back : history_of program.names (history_text history) ≡ Ok history
-  pub says : answer ≡ done (live_text program history)
+  pub read_back : history_of loaded.program.names (history_text history) ≡ Ok history
+  pub says : answer ≡ done (live_text loaded history)
 
 -- the stimuli are checked first, then the scripts in their order
-abbrev pub LiveAnswer : Program → (steps : ℕ) → Result (List Entry) Refusal → Result (List (List Entry)) RefusedScript → Answer → Type 0
-LiveAnswer program steps (Err refusal) scripts answer = answer ≡ refused Stimuli refusal
-LiveAnswer program steps (Ok stimuli) (Err script) answer = answer ≡ refused (Script script.number) script.refusal
-LiveAnswer program steps (Ok stimuli) (Ok scripts) answer = RanLive program steps stimuli scripts answer
+abbrev pub LiveAnswer : LoadedProgram → (steps : ℕ) → Result (List Entry) Refusal → Result (List (List Entry)) RefusedScript → Answer → Type 0
+LiveAnswer loaded steps (Err refusal) scripts answer = answer ≡ refused Stimuli refusal
+LiveAnswer loaded steps (Ok stimuli) (Err script) answer = answer ≡ refused (Script script.number) script.refusal
+LiveAnswer loaded steps (Ok stimuli) (Ok scripts) answer = RanLive loaded steps stimuli scripts answer
 
 -- the image is loaded before
-abbrev pub LoadedLive : Result Program LoadFault → (steps : ℕ) → (stimuli : List ℕ) (scripts : List (List ℕ)) → Answer → Type 0
+abbrev pub LoadedLive : Result LoadedProgram LoadFault → (steps : ℕ) → (stimuli : List ℕ) (scripts : List (List ℕ)) → Answer → Type 0
 LoadedLive (Err fault) steps stimuli scripts answer = answer ≡ refused_image fault
-LoadedLive (Ok program) steps stimuli scripts answer =
-    LiveAnswer program steps (stimuli_of stimuli) (scripts_from program.names 1 scripts) answer
+LoadedLive (Ok loaded) steps stimuli scripts answer =
+    LiveAnswer loaded steps (stimuli_of stimuli) (scripts_from loaded.program.names 1 scripts) answer
 
 -- what `live` answers, over the contents of its files
 abbrev pub LiveSays : (steps : ℕ) (image stimuli : List ℕ) (scripts : List (List ℕ)) → Answer → Type 0
 LiveSays steps image stimuli scripts answer =
-    (loaded : Result Program LoadFault) × LoadsAs image loaded × LoadedLive loaded steps stimuli scripts answer
+    (loaded : Result LoadedProgram LoadFault) × LoadsAs image loaded × LoadedLive loaded steps stimuli scripts answer

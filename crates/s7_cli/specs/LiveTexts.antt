@@ -1,7 +1,7 @@
 -- What was read of the files of a live run, and what was found in it.
 use Rattle.std.specs.Prelude.{◌≡◌, ◌⊎◌, ℕ, ◌+◌, ◌≤◌, List, ◌∷◌, length, map, Result, Ok, Err}
 use Rattle.std.specs.List.{AllByRecursion}
-use Rattle.flat_code.specs.Programs.{Program}
+use Rattle.image_file.specs.Loaded.{LoadedProgram}
 use Rattle.var_access.specs.declared.Entry.{Entry}
 use Rattle.event_text.specs.Texts.{stimuli_of}
 use Rattle.s7_cli.specs.declared.failures.Failure.{Failure}
@@ -44,10 +44,10 @@ TellsScript scripts failure =
     × (failure ≡ Refused (Script script.number) script.refusal))
 
 -- the program and the lists of the workers; an entry has four bytes of its text at least
-pub record Finds (text : LiveText) (program : Program) (stimuli : List Entry) (scripts : List (List Entry)) : Type 0 where
-  pub loads : LoadsAs text.image.items (Ok program)
+pub record Finds (text : LiveText) (loaded : LoadedProgram) (stimuli : List Entry) (scripts : List (List Entry)) : Type 0 where
+  pub loads : LoadsAs text.image.items (Ok loaded)
   pub are_stimuli : stimuli_of text.stimuli.items ≡ Ok stimuli
-  pub are_scripts : scripts_from program.names 1 (scripts_of text) ≡ Ok scripts
+  pub are_scripts : scripts_from loaded.program.names 1 (scripts_of text) ≡ Ok scripts
   pub regular : AreRegularBy 2 (stimuli ∷ scripts)
   pub few : length stimuli + total_length scripts ≤ 2097152
   pub many : length scripts ≡ length text.scripts.items

@@ -1,8 +1,7 @@
 -- Which histories are live histories.
 use Rattle.std.specs.Prelude.{◌≡◌, ◌⊎◌, ℕ, suc, ◌+◌, ◌≤◌, List, [], ◌∷◌, length, replicate, Result, Err}
 use Rattle.std.specs.List.{All}
-use Rattle.plc_base.specs.declared.Profile.TheVariants.{Small}
-use Rattle.flat_code.specs.Programs.{Program}
+use Rattle.image_file.specs.Loaded.{LoadedProgram}
 use Rattle.var_access.specs.declared.Entry.{Entry}
 use Rattle.event_text.specs.Regular.{IsRegularOf}
 use Rattle.event_text.specs.Workers.{one_step}
@@ -26,19 +25,19 @@ abbrev pub StandIn : (who : ℕ) → List (List Entry) → (history : List Entry
 StandIn who [] history = Unit {0}
 StandIn who (x ∷ xs) history = (entries_of who history ≡ x) × StandIn (suc who) xs history
 
--- a station that begins with a program, of the small profile, and no entry
-abbrev pub opened_on : Program → Opening
-opened_on program = record { program = program; profile = Small; first = [] }
+-- a station that begins with a program, at its profile, and no entry
+abbrev pub opened_on : LoadedProgram → Opening
+opened_on loaded = record { program = loaded.program; profile = loaded.profile; first = [] }
 
 -- a live history of stimuli, scripts and a number of steps on a program. Worker 1 made steps alone, at most so many, each but the last of
 -- which leaves another mode than STOP at its place, and fewer only where the last one leaves STOP. The entries of worker 2 are the stimuli,
 -- those of worker k + 2 script k, each list whole and in its order. There are no other workers
-pub record IsLive (program : Program) (steps : ℕ) (stimuli : List Entry) (scripts : List (List Entry)) (history : List Entry) : Type 0 where
+pub record IsLive (loaded : LoadedProgram) (steps : ℕ) (stimuli : List Entry) (scripts : List (List Entry)) (history : List Entry) : Type 0 where
   pub count : ℕ
   pub few : count ≤ steps
   pub stepper : entries_of 1 history ≡ replicate count one_step
-  pub runs : RunsBefore 1 (opened_on program) 1 history
-  pub ends : (count ≡ steps) ⊎ EndsInStop (opened_on program) 1 history
+  pub runs : RunsBefore 1 (opened_on loaded) 1 history
+  pub ends : (count ≡ steps) ⊎ EndsInStop (opened_on loaded) 1 history
   pub others : StandIn 2 (stimuli ∷ scripts) history
   pub workers : All (λ e. (1 ≤ e.who) × (e.who ≤ 2 + length scripts)) history
 

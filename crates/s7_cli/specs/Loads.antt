@@ -1,12 +1,17 @@
 -- What bytes load as.
 use Rattle.std.specs.Prelude.{ℕ, List, Result, Ok, Err}
-use Rattle.flat_code.specs.Loading.{Gives, IsLoadable, faults_of}
-use Rattle.flat_code.specs.Programs.{Program}
+use Rattle.flat_code.specs.Loading.{IsLoadable, faults_of}
+use Rattle.image_file.specs.Images.{IsImageOf}
 use Rattle.image_file.specs.Least.{IsLeast}
+use Rattle.image_file.specs.Loaded.{LoadedProgram}
 use Rattle.image_file.specs.declared.faults.LoadFault.{LoadFault}
 
--- bytes load as a program: they are read without a fault, are its image, and it verifies. Or they are refused by their least fault,
--- by offset, then code
-abbrev pub LoadsAs : List ℕ → Result Program LoadFault → Type 0
-LoadsAs bytes (Ok program) = Gives bytes program × IsLoadable bytes program
+-- bytes are the image of a program in some version, which verifies, and it has the profile that this version has or names
+pub record Loads (bytes : List ℕ) (loaded : LoadedProgram) : Type 0 where
+  pub image : IsImageOf bytes loaded
+  pub loadable : IsLoadable bytes image.stamp loaded.program
+
+-- bytes load as a program with its profile, or are refused by their least fault, by offset, then code
+abbrev pub LoadsAs : List ℕ → Result LoadedProgram LoadFault → Type 0
+LoadsAs bytes (Ok loaded) = Loads bytes loaded
 LoadsAs bytes (Err fault) = IsLeast fault (faults_of bytes)

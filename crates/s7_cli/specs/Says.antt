@@ -1,21 +1,25 @@
 -- What a command answers for what its input files hold, and what it writes to its output files.
 use Rattle.std.specs.Prelude.{◌≡◌, ℕ, List, [], ◌∷◌, Some, None, Result, Ok, Err}
 use Rattle.plc_base.specs.declared.Refusal.{Refusal}
-use Rattle.plc_base.specs.declared.Profile.TheVariants.{Small}
+use Rattle.plc_base.specs.declared.Profile.{Profile}
+use Rattle.plc_base.specs.declared.Profile.TheVariants.{Large}
 use Rattle.var_access.specs.declared.Entry.{Entry}
-use Rattle.flat_code.specs.Programs.{Program}
+use Rattle.flat_code.specs.Image.{image as image_of}
+use Rattle.flat_code.specs.declared.stamps.Stamp.TheVariants.{Two}
+use Rattle.image_file.specs.Loaded.{LoadedProgram}
 use Rattle.image_file.specs.declared.faults.LoadFault.{LoadFault}
 use Rattle.machine.specs.Code.{Code}
 use Rattle.machine.specs.Flat.{code_of}
 use Rattle.generator.specs.History.{history as generated_history}
 use Rattle.generator.specs.Source.{source_text}
-use Rattle.sem_kept.specs.Agreement.{ImageKeepsSource, names_in}
+use Rattle.sem_kept.specs.Agreement.{names_in}
 use Rattle.sem_kept.specs.Meaning.{IsJudged, Refused, InSymbols, InSource}
 use Rattle.event_text.specs.Texts.{history_of}
 use Rattle.s7_cli.specs.run_text.RunText.{run_text}
 use Rattle.s7_cli.specs.declared.failures.File.TheVariants.{Source, Symbols, History}
 use Rattle.s7_cli.specs.Answer.{Answer, done, refused, refused_image}
-use Rattle.s7_cli.specs.Command.{Command, Go, Check, Compile, Run, Gen, Live}
+use Rattle.s7_cli.specs.Command.{Command, Go, Check, Compile, Run, Gen, Live, Upgrade}
+use Rattle.s7_cli.specs.Compiling.{IsCompiled}
 use Rattle.s7_cli.specs.GenText.{summary_text}
 use Rattle.s7_cli.specs.Lines.{ok_line}
 use Rattle.s7_cli.specs.LiveSays.{LiveSays}
@@ -27,11 +31,11 @@ refused_program (InSymbols refusal) = refused Symbols refusal
 refused_program (InSource refusal) = refused Source refusal
 
 -- `go`: the source with its symbols is checked first, then the history; else the text of the run is
--- told
-abbrev pub go_answer : Result Code Refused → Result (List Entry) Refusal → Answer
-go_answer (Err why) history = refused_program why
-go_answer (Ok code) (Err refusal) = refused History refusal
-go_answer (Ok code) (Ok entries) = done (run_text Small code entries)
+-- told, at a profile
+abbrev pub go_answer : Profile → Result Code Refused → Result (List Entry) Refusal → Answer
+go_answer profile (Err why) history = refused_program why
+go_answer profile (Ok code) (Err refusal) = refused History refusal
+go_answer profile (Ok code) (Ok entries) = done (run_text profile code entries)
 
 -- `check` and `compile`: the source with its symbols is checked
 abbrev pub check_answer : Result Code Refused → Answer
@@ -39,31 +43,50 @@ check_answer (Err why) = refused_program why
 check_answer (Ok code) = done ok_line
 
 -- over the contents of its files; a history may name the variables of the symbols
-abbrev pub GoSays : (source symbols history : List ℕ) → Answer → Type 0
-GoSays source symbols history answer =
+abbrev pub SourceSays : Profile → (source symbols history : List ℕ) → Answer → Type 0
+SourceSays profile source symbols history answer =
     (judged : Result Code Refused) × IsJudged source symbols judged
-    × (answer ≡ go_answer judged (history_of (names_in symbols) history))
+    × (answer ≡ go_answer profile judged (history_of (names_in symbols) history))
 
--- `run`: the image is loaded first, and then the history is checked; else the text of the run is told
-abbrev pub ran : Program → Result (List Entry) Refusal → Answer
-ran program (Err refusal) = refused History refusal
-ran program (Ok entries) = done (run_text Small (code_of program) entries)
+-- what `go` answers: it has the sizes of the large profile
+abbrev pub GoSays : (source symbols history : List ℕ) → Answer → Type 0
+GoSays source symbols history answer = SourceSays Large source symbols history answer
+
+-- `run`: the image is loaded first, and then the history is checked; else the text of the run is told, at the image's profile
+abbrev pub ran : LoadedProgram → Result (List Entry) Refusal → Answer
+ran loaded (Err refusal) = refused History refusal
+ran loaded (Ok entries) = done (run_text loaded.profile (code_of loaded.program) entries)
 
 -- a history may name the variables whose names stand in the image
-abbrev pub run_answer : Result Program LoadFault → (history : List ℕ) → Answer
+abbrev pub run_answer : Result LoadedProgram LoadFault → (history : List ℕ) → Answer
 run_answer (Err fault) history = refused_image fault
-run_answer (Ok program) history = ran program (history_of program.names history)
+run_answer (Ok loaded) history = ran loaded (history_of loaded.program.names history)
 
 -- what `run` answers, over the contents of its files
 abbrev pub RunSays : (image history : List ℕ) → Answer → Type 0
 RunSays image history answer =
-    (loaded : Result Program LoadFault) × LoadsAs image loaded
+    (loaded : Result LoadedProgram LoadFault) × LoadsAs image loaded
     × (answer ≡ run_answer loaded history)
+
+-- `upgrade`: the image is loaded
+abbrev pub upgrade_answer : Result LoadedProgram LoadFault → Answer
+upgrade_answer (Err fault) = refused_image fault
+upgrade_answer (Ok loaded) = done ok_line
+
+-- what `upgrade` answers, over the contents of its file
+abbrev pub UpgradeSays : (image : List ℕ) → Answer → Type 0
+UpgradeSays image answer =
+    (loaded : Result LoadedProgram LoadFault) × LoadsAs image loaded × (answer ≡ upgrade_answer loaded)
+
+-- bytes are the image of version 2 of the program, with its names, and of the profile as which an image loads
+abbrev pub IsUpgraded : (bytes image : List ℕ) → Type 0
+IsUpgraded bytes image =
+    (loaded : LoadedProgram) × LoadsAs image (Ok loaded) × (bytes ≡ image_of (Two loaded.profile) loaded.program)
 
 -- `gen`: the source of the number is checked; its run along the history of the number is summed up
 abbrev pub gen_answer : (number : ℕ) → Result Code Refused → Answer
 gen_answer number (Err why) = refused_program why
-gen_answer number (Ok code) = done (summary_text number Small code (generated_history number))
+gen_answer number (Ok code) = done (summary_text number Large code (generated_history number))
 
 -- what `gen` answers; it reads no file
 abbrev pub GenSays : (number : ℕ) → Answer → Type 0
@@ -90,24 +113,20 @@ Says (Run _ _) (image ∷ history ∷ []) answer = RunSays image history answer
 Says (Gen number) [] answer = GenSays number answer
 Says (Live _ _ _ steps) (image ∷ stimuli ∷ scripts) answer =
     LiveSays steps image stimuli scripts answer
+Says (Upgrade _ _) (image ∷ []) answer = UpgradeSays image answer
 Says _ contents answer = ⊥
 
 -- what the command writes to an output file, over the same contents
 abbrev pub Writes : Command → List (List ℕ) → (name bytes : List ℕ) → Type 0
 Writes (Compile _ None image) (source ∷ []) name bytes =
-    (name ≡ image) × ImageKeepsSource bytes source []
+    (name ≡ image) × IsCompiled bytes source []
 Writes (Compile _ (Some _) image) (source ∷ symbols ∷ []) name bytes =
-    (name ≡ image) × ImageKeepsSource bytes source symbols
+    (name ≡ image) × IsCompiled bytes source symbols
 Writes (Compile _ _ _) contents name bytes = ⊥
 Writes (Go _ _ _) contents name bytes = ⊥
 Writes (Check _ _) contents name bytes = ⊥
 Writes (Run _ _) contents name bytes = ⊥
 Writes (Gen _) contents name bytes = ⊥
 Writes (Live _ _ _ _) contents name bytes = ⊥
-
--- where an image keeps a source with its symbols, `run` answers for the image what `go` may answer for the source
-abbrev pub KeptRunsAsSource : Type 0
-KeptRunsAsSource =
-    (image source symbols history : List ℕ) (answer : Answer)
-    → ImageKeepsSource image source symbols
-    → RunSays image history answer → GoSays source symbols history answer
+Writes (Upgrade _ upgraded) (image ∷ []) name bytes = (name ≡ upgraded) × IsUpgraded bytes image
+Writes (Upgrade _ _) contents name bytes = ⊥

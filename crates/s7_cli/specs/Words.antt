@@ -10,7 +10,7 @@ use Rattle.clap.specs.declared.builder.action.ArgAction.TheVariants.{Set, Append
 use Rattle.plc_base.specs.Decimal.{decimal_up_to}
 use Rattle.s7_cli.specs.declared.words.Asked.{Asked}
 use Rattle.s7_cli.specs.declared.words.Asked.TheVariants as asked
-use Rattle.s7_cli.specs.Command.{Command, Go, Check, Compile, Run, Gen, Live}
+use Rattle.s7_cli.specs.Command.{Command, Go, Check, Compile, Run, Gen, Live, Upgrade}
 
 -- COMMAND: a word that has to be there
 abbrev pub command_rule : Rule
@@ -47,13 +47,14 @@ one_word_command command word symbols =
     else (if bytes_eq command (codes "gen") && not (is_some symbols) then option_map Gen (number_up_to 10000 word)
     else None)
 
--- `go SRC HIST` and `compile SRC IMG`, with `--symbols FILE` or without, and `run IMG HIST`
+-- `go SRC HIST` and `compile SRC IMG`, with `--symbols FILE` or without, `run IMG HIST` and `upgrade IMG IMG2`
 abbrev pub two_word_command : (command first second : List ℕ) (symbols : Option (List ℕ)) → Option Command
 two_word_command command first second symbols =
     if bytes_eq command (codes "go") then Some (Go first symbols second)
     else (if bytes_eq command (codes "compile") then Some (Compile first symbols second)
     else (if bytes_eq command (codes "run") && not (is_some symbols) then Some (Run first second)
-    else None))
+    else (if bytes_eq command (codes "upgrade") && not (is_some symbols) then Some (Upgrade first second)
+    else None)))
 
 -- a command with one word or two behind it
 abbrev pub short_command : (command : List ℕ) (words : List (List ℕ)) (symbols : Option (List ℕ)) → Option Command
@@ -97,6 +98,7 @@ command_value (asked.Check source symbols) = Check source.now (option_map (λ s.
 command_value (asked.Compile source symbols image) = Compile source.now (option_map (λ s. s.now) symbols) image.now
 command_value (asked.Run image history) = Run image.now history.now
 command_value (asked.Gen number) = Gen number
+command_value (asked.Upgrade image upgraded) = Upgrade image.now upgraded.now
 command_value (asked.Live image stimuli scripts steps) = Live image.now stimuli.now (map (λ s. s.now) scripts.items) steps
 
 -- a word that can be no option: it doesn't begin with a hyphen (45), or is nothing else

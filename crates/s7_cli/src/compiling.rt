@@ -2,11 +2,13 @@ ghost use Rattle.std.specs.Prelude.{◌≡◌, ◌≤◌, length, IfOk, IfErr};
 ghost use Rattle.stl_ast.specs.Literals.{AreBytes};
 ghost use Rattle.stl_symbols.specs.Symbols.{symbols_limit};
 ghost use Rattle.flat_code.specs.Image.{image};
+ghost use Rattle.flat_code.specs.declared.stamps.Stamp.TheVariants.{Two};
+ghost use Rattle.plc_base.specs.declared.Profile.TheVariants.{Large};
 ghost use Rattle.plc_base.specs.Least.{least};
 ghost use Rattle.stl_lexer.specs.Limits.{source_limit};
 ghost use Rattle.stl_types.specs.Table.{statement_refusals};
 ghost use Rattle.block_layout.specs.Table.{layout_refusals};
-ghost use Rattle.sem_kept.specs.Agreement.{AreFiles, ImageKeepsSource, IsRunnable, KeepsSource};
+ghost use Rattle.sem_kept.specs.Agreement.{AreFiles, IsRunnable, KeepsSource};
 ghost use Rattle.sem_kept.specs.Meaning.{HasSymbols, HasTokens, HasTree, IsSound};
 ghost use Rattle.plc_base.specs.declared.refusals.SourceFault.TheVariants.{NoMemory};
 ghost use Rattle.sem_kept.specs.Stages.{InTurn};
@@ -15,6 +17,7 @@ ghost use Rattle.s7_cli.specs.Compiling.{
   RefusesLaid,
   Finds,
   HasProgram,
+  IsCompiled,
   IsLaid,
   Lays,
 };
@@ -22,8 +25,8 @@ ghost use Rattle.s7_cli.specs.Compiling.{
 use crate::faults::{CompileFault, in_source, in_symbols};
 use block_layout::{Layouts, lay_out, lay_out_sound};
 use flat_code::Program;
-use image_file::{Loaded, VerifyError, verify, write_image};
-use plc_base::{Refusal, SourceFault, lesser};
+use image_file::{Loaded, VerifyError, verify, write_image2};
+use plc_base::{Profile, Refusal, SourceFault, lesser};
 use std::alloc::{AllocError, Global};
 use stl_ast::Tree;
 use stl_codegen::generate;
@@ -149,14 +152,15 @@ fn checked_of<'a>(alloc: Global, laid: &'a LaidSource) -> Result<Checked<'a>, Co
     }
 }
 
-/// A program that runs, verified.
+/// A program that runs, verified, with the large profile.
 fn loaded(alloc: Global, program: Program) -> Result<Loaded, AllocError>
     requires { IsRunnable program }
-    ensures { IfOk result (λ l. l.program ≡ program) }
+    ensures program { IfOk result (λ l. l.program ≡ program) }
+    ensures large { IfOk result (λ l. l.profile ≡ Large) }
 {
     image_file::laws::verified_or_refused();
     match verify(alloc, program) {
-        Ok(loaded) => Ok(loaded),
+        Ok(loaded) => Ok(loaded.with_profile(Profile::Large)),
         Err(VerifyError::Fault { fault: _ }) => unreachable!(),
         Err(VerifyError::NoMemory) => Err(AllocError),
     }
@@ -204,7 +208,7 @@ pub fn judged(alloc: Global, source: &[u8], symbols: &[u8]) -> Result<(), Compil
 fn program_of(alloc: Global, source: &[u8], symbols: &[u8]) -> Result<Program, CompileFault>
     requires source { length source.now ≤ source_limit }
     requires symbols { length symbols.now ≤ symbols_limit }
-    ensures ok { IfOk result (KeepsSource source.now symbols.now) }
+    ensures ok { IfOk result (KeepsSource Large source.now symbols.now) }
     ensures refused { IfErr result
         (RefusesBy source.now symbols.now) }
 {
@@ -218,7 +222,8 @@ fn program_of(alloc: Global, source: &[u8], symbols: &[u8]) -> Result<Program, C
 /// Compiles a source of at most 1,048,576 bytes with its symbols file, which has at most as many (no
 /// file: no bytes), into a loaded program that runs as it means and has the names of its symbols. The
 /// symbols are checked first, then the tokens of the source, its clauses, and its layout together
-/// with its statements. `load` gives this program for the image that `compiled_image` gives.
+/// with its statements. It has the large profile. `load` gives this program, with this profile, for the
+/// image that `compiled_image` gives.
 ///
 /// # Errors
 ///
@@ -227,9 +232,10 @@ fn program_of(alloc: Global, source: &[u8], symbols: &[u8]) -> Result<Program, C
 pub fn compiled(alloc: Global, source: &[u8], symbols: &[u8]) -> Result<Loaded, CompileFault>
     requires source { length source.now ≤ source_limit }
     requires symbols { length symbols.now ≤ symbols_limit }
-    ensures ok { IfOk result (λ l. KeepsSource source.now symbols.now l.program) }
+    ensures ok { IfOk result (λ l. KeepsSource Large source.now symbols.now l.program) }
+    ensures large { IfOk result (λ l. l.profile ≡ Large) }
     ensures image { IfOk result
-        (λ l. ImageKeepsSource (image l.program) source.now symbols.now) }
+        (λ l. IsCompiled (image (Two l.profile) l.program) source.now symbols.now) }
     ensures refused { IfErr result
         (RefusesBy source.now symbols.now) }
 {
@@ -238,7 +244,7 @@ pub fn compiled(alloc: Global, source: &[u8], symbols: &[u8]) -> Result<Loaded, 
 }
 
 /// Compiles a source with its symbols file, by the rules of `compiled`, into the image of its
-/// program.
+/// program: one of version 2 for the large profile.
 ///
 /// # Errors
 ///
@@ -247,10 +253,10 @@ pub fn compiled(alloc: Global, source: &[u8], symbols: &[u8]) -> Result<Loaded, 
 pub fn compiled_image(alloc: Global, source: &[u8], symbols: &[u8]) -> Result<Vec<u8>, CompileFault>
     requires source { length source.now ≤ source_limit }
     requires symbols { length symbols.now ≤ symbols_limit }
-    ensures ok { IfOk result (λ v. ImageKeepsSource v.items source.now symbols.now) }
+    ensures ok { IfOk result (λ v. IsCompiled v.items source.now symbols.now) }
     ensures refused { IfErr result
         (RefusesBy source.now symbols.now) }
 {
     let program = program_of(alloc, source, symbols)?;
-    Ok(write_image(alloc, &program)?)
+    Ok(write_image2(alloc, &program, Profile::Large)?)
 }

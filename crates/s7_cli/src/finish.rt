@@ -12,7 +12,7 @@ use crate::failures::{Failure, Status};
 use crate::texts::failure_line;
 use plc_io::{IoFault, Sink, push_all};
 
-/// What `check` writes for a source that is accepted, and `compile` behind its image.
+/// What `check` writes for a source that is accepted, and `compile` and `upgrade` behind their image.
 pub const OK_LINE: &[u8] = b"OK\n";
 
 /// How a command came out whose text was written so.

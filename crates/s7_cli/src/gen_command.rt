@@ -1,5 +1,5 @@
 ghost use Rattle.std.specs.Prelude.{◌≡◌, [], Some, All, IfOk, IfErr};
-ghost use Rattle.plc_base.specs.declared.Profile.TheVariants.{Small};
+ghost use Rattle.plc_base.specs.declared.Profile.TheVariants.{Large};
 ghost use Rattle.plc_io.specs.Moments.{FilesAt};
 ghost use Rattle.var_access.specs.Entry.{IsValid};
 ghost use Rattle.generator.specs.Source.{source_text};
@@ -27,7 +27,8 @@ use var_access::Entries;
 
 /// The program of a number, compiled.
 fn program_of(alloc: Global, number: u32) -> Result<Loaded, Failure>
-    ensures keeps { IfOk result (λ l. KeepsSource (source_text number) [] l.program) }
+    ensures keeps { IfOk result (λ l. KeepsSource Large (source_text number) [] l.program) }
+    ensures large { IfOk result (λ l. l.profile ≡ Large) }
     ensures refused { RefusedBy (GenSays number) result }
 {
     let source = source_text(alloc, number)?;
@@ -43,7 +44,7 @@ fn controller_behind(
     requires { All IsValid entries.now.entries }
     ensures ok { IfOk result (λ c. c ≡ record {
       program = program.program;
-      profile = Small;
+      profile = program.profile;
       history = entries.now.entries;
       spare = 0;
     }) }

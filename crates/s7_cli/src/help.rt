@@ -30,6 +30,7 @@ Calls:
                       N steps, one feeds the stimuli STIM, and one to four more
                       ask what their scripts OPS say; write the history that
                       came of it, a line ---, and the run
+  s7 upgrade IMG IMG2 write the image IMG in version 2 to the file IMG2, then OK
   s7 --help           write this text (also -h)
   s7 --version        write the version (also -V)
 
@@ -135,13 +136,13 @@ Rules of a history, of stimuli and of a script:
    6  more than 1,000,000 steps so far
 Faults of an image:
    1  it doesn't begin with S7FB
-   2  the version isn't 1
+   2  the version isn't 1 or 2
    3  a field runs past the total length, or that is wrong
    4  a number, count, size or name isn't allowed, or out of its order
    5  no op stands here, or the code doesn't end with BE
    6  a jump leads to no statement, or a jump list isn't right
    7  an operand isn't allowed
-   8  brackets don't match
+   8  brackets or zones don't match
    9  the count of statements or a line isn't right
   10  more bytes than the total length, or than the records
 
@@ -155,7 +156,8 @@ Exit status, and the line that is written in place of a result:
      the stimuli break a rule            stimuli refused: line L rule R
      script k, from 1, breaks a rule     script k refused: line L rule R
   5  a file can't be read                read fault
-  6  standard output failed, or IMG of compile can't be written
+  6  standard output failed, or IMG of compile or IMG2 of upgrade can't be
+     written
   7  memory ran out
   8  a file is too long                  too long: source (1,048,576 bytes)
                                          too long: symbols (1,048,576 bytes)

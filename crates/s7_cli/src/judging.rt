@@ -1,16 +1,19 @@
 ghost use Rattle.std.specs.Prelude.{◌≡◌, ℕ, ◌≤◌, length, map, All, IfOk, IfErr, Ok};
 ghost use Rattle.var_access.specs.Entry.{IsValid};
+ghost use Rattle.flat_code.specs.Image.{image as image_of};
 ghost use Rattle.flat_code.specs.Loading.{faults_of};
+ghost use Rattle.flat_code.specs.declared.stamps.Stamp.TheVariants.{Two};
 ghost use Rattle.image_file.specs.Refusing.{IsRefusedBy};
-ghost use Rattle.sem_kept.specs.Agreement.{ImageKeepsSource, KeepsSource, names_in};
+ghost use Rattle.plc_base.specs.declared.Profile.TheVariants.{Large};
+ghost use Rattle.sem_kept.specs.Agreement.{KeepsSource, names_in};
 ghost use Rattle.event_text.specs.Texts.{history_of};
-ghost use Rattle.s7_cli.specs.Compiling.{HasProgram};
+ghost use Rattle.s7_cli.specs.Compiling.{HasProgram, IsCompiled};
 ghost use Rattle.s7_cli.specs.Inner.{RefusedBy};
 ghost use Rattle.s7_cli.specs.LiveSays.{scripts_from};
 ghost use Rattle.s7_cli.specs.LiveTexts.{AreScriptsWithin, Finds, IsLiveText, TellsScript, TextSays};
 ghost use Rattle.s7_cli.specs.Living.{AreRegularBy, total_length};
 ghost use Rattle.s7_cli.specs.Loads.{LoadsAs};
-ghost use Rattle.s7_cli.specs.Says.{CheckSays, GoSays, RunSays};
+ghost use Rattle.s7_cli.specs.Says.{CheckSays, GoSays, IsUpgraded, RunSays, UpgradeSays};
 ghost use Rattle.s7_cli.specs.Texts.{IsWithin, symbols_of};
 
 use crate::compiling::{compiled, compiled_image, judged};
@@ -19,7 +22,8 @@ use crate::files::{LiveText, ProgramText};
 use crate::lists::add;
 use event_text::{read_history, read_script, read_stimuli};
 use flat_code::Names;
-use image_file::{LoadError, Loaded, load};
+use image_file::{LoadError, Loaded, load, write_image2};
+use plc_base::NoMemory;
 use std::alloc::Global;
 use var_access::{Entries, Entry};
 
@@ -37,7 +41,7 @@ pub fn judge_program(alloc: Global, text: &ProgramText) -> Result<(), Failure>
 pub fn judge_image(alloc: Global, text: &ProgramText) -> Result<Vec<u8>, Failure>
     requires { IsWithin text.now }
     ensures keeps { IfOk result
-        (λ v. ImageKeepsSource v.items text.now.source.items (symbols_of text.now)) }
+        (λ v. IsCompiled v.items text.now.source.items (symbols_of text.now)) }
     ensures refused { RefusedBy (CheckSays text.now.source.items (symbols_of text.now)) result }
 {
     Ok(compiled_image(alloc, &text.source, text.symbols())?)
@@ -52,7 +56,8 @@ pub fn judge(
     requires text { IsWithin text.now }
     requires history { length history.now ≤ 4194304 }
     ensures keeps { IfOk result
-        (λ v. KeepsSource text.now.source.items (symbols_of text.now) v.0.program) }
+        (λ v. KeepsSource Large text.now.source.items (symbols_of text.now) v.0.program) }
+    ensures large { IfOk result (λ v. v.0.profile ≡ Large) }
     ensures spells { IfOk result
         (λ v. history_of (names_in (symbols_of text.now)) history.now ≡ Ok v.1.entries) }
     ensures valid { IfOk result (λ v. All IsValid v.1.entries) }
@@ -64,9 +69,9 @@ pub fn judge(
     Ok((program, entries))
 }
 
-/// The program of an image.
+/// The program of an image, with its profile.
 fn loaded(alloc: Global, image: &[u8]) -> Result<Loaded, LoadError>
-    ensures loads { IfOk result (λ l. LoadsAs image.now (Ok l.program)) }
+    ensures loads { IfOk result (λ l. LoadsAs image.now (Ok l)) }
     ensures refused { IfErr result (λ e. IsRefusedBy e (faults_of image.now)) }
 {
     image_file::laws::gives_exactly_images();
@@ -76,7 +81,7 @@ fn loaded(alloc: Global, image: &[u8]) -> Result<Loaded, LoadError>
 /// Checks an image, and then a history, which may name the variables whose names stand in it.
 pub fn judge_run(alloc: Global, image: &[u8], history: &[u8]) -> Result<(Loaded, Entries), Failure>
     requires { length history.now ≤ 4194304 }
-    ensures loads { IfOk result (λ v. LoadsAs image.now (Ok v.0.program)) }
+    ensures loads { IfOk result (λ v. LoadsAs image.now (Ok v.0)) }
     ensures spells { IfOk result
         (λ v. history_of v.0.program.names history.now ≡ Ok v.1.entries) }
     ensures valid { IfOk result (λ v. All IsValid v.1.entries) }
@@ -85,6 +90,24 @@ pub fn judge_run(alloc: Global, image: &[u8], history: &[u8]) -> Result<(Loaded,
     let program = loaded(alloc, image)?;
     let entries = read_history(alloc, history, program.names())?;
     Ok((program, entries))
+}
+
+/// The image of version 2 of a loaded program and its profile.
+fn image_again(alloc: Global, loaded: &Loaded) -> Result<Vec<u8>, NoMemory>
+    ensures { IfOk result
+        (λ v. v.items ≡ image_of (Two loaded.now.profile) loaded.now.program) }
+{
+    let program = loaded.program(alloc)?;
+    write_image2(alloc, &program, loaded.profile())
+}
+
+/// Checks an image, and makes the image of version 2 of its program, names and profile.
+pub fn judge_upgrade(alloc: Global, image: &[u8]) -> Result<Vec<u8>, Failure>
+    ensures upgrades { IfOk result (λ v. IsUpgraded v.items image.now) }
+    ensures refused { RefusedBy (UpgradeSays image.now) result }
+{
+    let loaded = loaded(alloc, image)?;
+    Ok(image_again(alloc, &loaded)?)
 }
 
 /// A program, and the lists of the workers of a live run.
@@ -126,7 +149,7 @@ fn judge_scripts(
 /// whose names stand in the image.
 pub fn judge_live(alloc: Global, text: &LiveText) -> Result<LiveWork, Failure>
     requires { IsLiveText text.now }
-    ensures finds { IfOk result (λ w. Finds text.now w.program.program w.stimuli.items
+    ensures finds { IfOk result (λ w. Finds text.now w.program w.stimuli.items
         (map (λ x. x.items) w.scripts.items)) }
     ensures refused { (steps : ℕ) → RefusedBy (TextSays steps text.now) result }
 {

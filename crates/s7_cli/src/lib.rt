@@ -22,6 +22,8 @@ mod run_command;
 mod run_text;
 mod summaries;
 mod texts;
+mod upgrade_command;
+mod upgraded_images;
 mod words;
 mod working;
 
@@ -39,5 +41,7 @@ pub use program::s7_main;
 pub use run_command::cmd_run;
 pub use run_text::replay_text;
 pub use texts::failure_line;
+pub use upgrade_command::cmd_upgrade;
+pub use upgraded_images::law_of_upgrades;
 pub use words::law_of_words;
 pub use working::work;

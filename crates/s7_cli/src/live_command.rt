@@ -11,6 +11,7 @@ ghost use Rattle.s7_cli.specs.LiveSays.{live_text};
 ghost use Rattle.s7_cli.specs.LiveTexts.{IsLiveText, TextSays};
 ghost use Rattle.s7_cli.specs.Reading.{disk};
 ghost use Rattle.s7_cli.specs.StatusTable.{StatusTable};
+ghost use Rattle.s7_cli.specs.run_text.Behind.{program_of};
 
 use crate::failures::{Failure, Status};
 use crate::files::{LiveText, read_live};
@@ -38,7 +39,7 @@ fn lived<R: Threads + Wait + Sync, G: Gate + Sync>(
     requires text { IsLiveText text.now }
     requires steps { steps ≤ 1000000 }
     ensures says { IfOk result
-        (λ c. TextSays steps text.now (done (live_text c.program c.history))) }
+        (λ c. TextSays steps text.now (done (live_text (program_of c) c.history))) }
     ensures valid { IfOk result (λ c. All IsValid c.history) }
     ensures refused { RefusedBy (TextSays steps text.now) result }
 {
@@ -68,7 +69,7 @@ fn entries_of(alloc: Global, runs: &[Run]) -> Result<Entries, NoMemory>
 fn write_live<K: Sink>(alloc: Global, controller: Controller, out: &mut K) -> Result<(), IoFault>
     requires { All IsValid controller.history }
     ensures { Wrote (K.shown out.old) (K.shown out.new)
-        (live_text controller.program controller.history) result }
+        (live_text (program_of controller) controller.history) result }
 {
     // a history has fewer than 2^64 entries
     let _len = controller.history_len();

@@ -1,7 +1,6 @@
 //! A live run: from a program and what the workers are to make to a controller with its history.
 ghost use Rattle.std.specs.Prelude.{◌≡◌, ◌+◌, ◌<◌, ◌≤◌, ◌∷◌, true, false, is_ok, length, map, All, IfOk};
-ghost use Rattle.plc_base.specs.declared.Profile.TheVariants.{Small};
-ghost use Rattle.controller.specs.Recorded.{Recorded};
+ghost use Rattle.controller.specs.Recording.{Recording};
 ghost use Rattle.event_text.specs.Regular.{IsRegular};
 ghost use Rattle.event_text.specs.Texts.{steps_in};
 ghost use Rattle.tracked_lock.specs.Passes.{missing};
@@ -9,6 +8,7 @@ ghost use Rattle.station.specs.Closing.{IsGivenBack};
 ghost use Rattle.station.specs.Openings.{the_opening};
 ghost use Rattle.station.specs.declared.shared.TheConstants.{FULL};
 ghost use Rattle.s7_cli.specs.Living.{AreRegularBy, IsFullNever, IsLive, total_length};
+ghost use Rattle.s7_cli.specs.run_text.Behind.{program_of};
 
 use crate::working::work;
 use controller::Controller;
@@ -30,7 +30,7 @@ fn ended(
 ) -> Result<Controller, NoMemory>
     requires station { (pass.lock ≡ station) × (pass.out ≡ false) }
     requires all { missing station.passes pass.made ≡ 0 }
-    requires room { (c : Recorded) → IsGivenBack (the_opening station.origin) c pass
+    requires room { (c : Recording) → IsGivenBack (the_opening station.origin) c pass
         → IsFullNever outcome }
     ensures { IfOk result (λ c. IsGivenBack (the_opening station.origin) c pass
         × (is_ok outcome ≡ true)) }
@@ -64,9 +64,8 @@ pub(crate) fn live_run<R: Threads + Wait + Sync, G: Gate + Sync>(
     requires few { steps + length stimuli.now
         + total_length (map (λ v. v.items) scripts.now) < FULL }
     requires entries { AreRegularBy 2 (stimuli.now ∷ map (λ v. v.items) scripts.now) }
-    ensures program { IfOk result (λ c. c.program ≡ program.program) }
-    ensures profile { IfOk result (λ c. c.profile ≡ Small) }
-    ensures live { IfOk result (λ c. IsLive program.program steps stimuli.now
+    ensures program { IfOk result (λ c. program_of c ≡ program) }
+    ensures live { IfOk result (λ c. IsLive program steps stimuli.now
         (map (λ v. v.items) scripts.now) c.history) }
     ensures regular { IfOk result (λ c. All IsRegular c.history) }
     ensures steps { IfOk result (λ c. steps_in c.history ≤ steps) }

@@ -12,6 +12,7 @@ use crate::gen_command::cmd_gen;
 use crate::going::cmd_go;
 use crate::live_command::cmd_live;
 use crate::run_command::cmd_run;
+use crate::upgrade_command::cmd_upgrade;
 use crate::words::{Asked, read_words};
 use plc_io::{Files, Gate, Sink};
 use std::alloc::Global;
@@ -23,7 +24,8 @@ use std::thread::Threads;
 /// gives each of them a file of symbols. `run IMG HIST` runs an image along a history, `gen NUMBER`
 /// a program and a history that are made of a number. `live IMG STIM OPS.. --steps N` has a stepper, a
 /// feeder and one to four operators run an image beside each other, each of whom passes `gate` before
-/// each entry. The status is that of the text that `out` took:
+/// each entry. `upgrade IMG IMG2` writes the image of version 2 of what an image holds. The status is
+/// that of the text that `out` took:
 ///
 /// | Status | When |
 /// |---|---|
@@ -93,6 +95,9 @@ pub fn s7_main<R: Threads + Wait + Sync, F: Files, K: Sink, G: Gate + Sync>(
             out,
             gate,
         ),
+        Ok(Some(Asked::Upgrade { image, upgraded })) => {
+            cmd_upgrade(alloc, image, upgraded, files, out)
+        }
         Ok(None) => end_command(out, Err(Failure::WordsRefused)),
         Err(_) => end_command(out, Err(Failure::NoMemory)),
     }

@@ -1,7 +1,7 @@
-ghost use Rattle.std.specs.Prelude.{◌≡◌, ◌≤◌, ◌<◌, ◌+◌, ◌^◌, ◌++◌, drop, length, map, sum as sum_of, take};
+ghost use Rattle.std.specs.Prelude.{◌≡◌, ◌≤◌, ◌<◌, ◌+◌, ◌^◌, ◌++◌, length, map, sum as sum_of};
 ghost use Rattle.std.specs.List.{range_with_len};
 ghost use Rattle.controller.specs.Replayed.{replayed};
-ghost use Rattle.s7_cli.specs.GenText.{bit_memory_sum, memory_byte, mode_words, summary_of};
+ghost use Rattle.s7_cli.specs.GenText.{bit_memory_sum, memory_byte, mode_words, sum_of_eight, summary_of};
 
 use controller::Controller;
 use monitor::Line;
@@ -51,7 +51,7 @@ fn sum(numbers: &[u32]) -> u64
 /// What eight bytes of bit memory hold, from this one on, added up.
 fn sum_of_eight(controller: &Controller, first: u16) -> u64
     requires { first ≤ 248 }
-    ensures value { result ≡ sum_of (take 8 (drop first (replayed controller.now).world.memory.bit_memory)) }
+    ensures value { result ≡ sum_of_eight (replayed controller.now) first }
     ensures small { result < 2 ^ 36 }
 {
     controller.law_of_memory();

@@ -55,6 +55,11 @@ pub enum Asked<'a> {
         scripts: ArrayVec<&'a str, MOST_SCRIPTS>,
         steps: u32,
     },
+    /// Write an image once more, in version 2.
+    Upgrade {
+        image: &'a str,
+        upgraded: &'a str,
+    },
 }
 
 /// The word that names the command.
@@ -169,6 +174,10 @@ fn two_word_command<'a>(
             image: first,
             history: second,
         }),
+        "upgrade" if symbols.is_none() => Some(Asked::Upgrade {
+            image: first,
+            upgraded: second,
+        }),
         _ => None,
     }
 }
@@ -259,6 +268,7 @@ fn refusal<'a>(error: &Error) -> Result<Option<Asked<'a>>, AllocError>
 /// | `run IMG HIST` | none |
 /// | `gen NUMBER` | none |
 /// | `live IMG STIM OPS..`, with one script to four | `--steps N` |
+/// | `upgrade IMG IMG2` | none |
 ///
 /// An option may stand anywhere. NUMBER is 1 to 10,000 and N is 1 to 1,000,000, in decimal digits
 /// without a sign; zeros may lead. Any other words are refused, by `None`. Fails where memory is

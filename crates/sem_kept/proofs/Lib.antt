@@ -2,6 +2,7 @@ mod RunLemmas
 mod SourceLemmas
 mod StageLemmas
 mod Suspended
+mod ZoneLemmas
 mod accepted
 mod compiled
 mod kept

@@ -64,13 +64,13 @@ accepted source symbols list tokens tree are has_list has_tokens has_tree sound 
         ∙ sound)
 
 pub programs_run : AcceptedVerifies → VerifiedIsCompilable → ProgramsAreKept → ProgramsRun
-programs_run verifies compilable kept source symbols list tokens tree are has_list has_tokens has_tree sound = record {
+programs_run verifies compilable kept profile source symbols list tokens tree are has_list has_tokens has_tree sound = record {
   runnable = runnable;
   names = ap names_among has_list;
   runs = (
     code_in list tree,
     means source symbols list tokens tree has_list has_tokens has_tree sound,
-    kept (code_blocks_of tree list (layouts_of tree list))
+    kept profile (code_blocks_of tree list (layouts_of tree list))
         (data_blocks_of tree list (layouts_of tree list)) (names_of list)
         (compilable tree list (layouts_of tree list) runnable.verifies),
   );

@@ -15,7 +15,7 @@ pub mod JumpsOperands
 pub mod JumpsProgram
 pub mod JumpsRules
 pub mod JumpsSettled
-pub mod JumpsWords
+pub mod JumpsOperations
 pub mod OperandsCalls
 pub mod OperandsCells
 pub mod OperandsFine
@@ -30,7 +30,7 @@ pub mod OperandsSymbols
 pub mod OperandsTypes
 pub mod OperandsViews
 pub mod OperandsWalks
-pub mod OperandsWords
+pub mod OperandsOperations
 pub mod RecordBlocks
 pub mod RecordData
 pub mod RecordNames

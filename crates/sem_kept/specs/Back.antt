@@ -6,11 +6,11 @@ use Rattle.std.specs.Option.{option_map}
 use Rattle.plc_base.specs.Kinds.{is_callable}
 use Rattle.flat_code.specs.Instr.{Instr, Does, Jumps, JumpsByList, Calls, Returns}
 use Rattle.flat_code.specs.Programs.{CodeBlock}
-use Rattle.flat_code.specs.declared.kinds.JumpWord.TheVariants as jump
+use Rattle.flat_code.specs.declared.kinds.JumpOperation.TheVariants as jump
 use Rattle.flat_code.specs.declared.operands.Operand.{Operand}
 use Rattle.flat_code.specs.declared.operands.Operand.TheVariants as operand
-use Rattle.flat_code.specs.declared.words.Word.{Word}
-use Rattle.flat_code.specs.declared.words.Word.TheVariants as word
+use Rattle.flat_code.specs.declared.operations.Operation.{Operation}
+use Rattle.flat_code.specs.declared.operations.Operation.TheVariants as operation
 use Rattle.machine.specs.Code.{Fetched}
 use Rattle.machine.specs.Flat.{statement_at, is_jl}
 use Rattle.machine.specs.Moved.{aimed_instr}
@@ -22,14 +22,14 @@ abbrev pub aimed_statement : (ℕ → ℕ) → (n : ℕ) → Stated → Fetched
 aimed_statement f n s =
     record { instr = aimed_instr f s.instr; next = f (suc n); line = s.line }
 
--- a word of an instruction that goes on to the next statement
-abbrev pub goes_on : Word → Bool
-goes_on word.Jump = false
-goes_on (word.Call how) = false
-goes_on (word.End how) = false
+-- an operation of an instruction that goes on to the next statement
+abbrev pub goes_on : Operation → Bool
+goes_on operation.Jump = false
+goes_on (operation.Call how) = false
+goes_on (operation.End how) = false
 goes_on _ = true
 
--- an operand with a target, which no such word has
+-- an operand with a target, which no such operation has
 abbrev pub is_target : Operand → Bool
 is_target (operand.Jump kind target) = true
 is_target _ = false

@@ -13,6 +13,7 @@ use Rattle.stl_codegen.specs.Compiled.{code_in}
 use Rattle.stl_codegen.specs.Generated.{code_blocks_of}
 use Rattle.sem_kept.specs.Accepted.{IsAccepted}
 use Rattle.sem_kept.specs.Operands.{AreFine}
+use Rattle.sem_kept.specs.Zones.{LeavesZones}
 
 -- a jump, and nothing else, is checked by the statements of its block
 abbrev pub jump_fault_of : List Spot → Placed → Operand → Option ℕ
@@ -24,10 +25,11 @@ pub record LandsRight (statements : List Spot) (p : Placed) : Type 0 where
   pub jump : jump_fault_of statements p p.op.operand ≡ None
   pub brackets : bracket_fault p.op.code p.brackets ≡ None
 
--- all ops of a block, behind which no bracket is open
+-- all ops of a block, behind which no bracket is open, and none of which is `MCR(` or `)MCR`
 pub record AllLandRight (ops : List OpData) : Type 0 where
   pub each : AllByRecursion (LandsRight (spots ops)) (places ops)
   pub closed : open_behind 0 [] ops ≡ []
+  pub leave : AllByRecursion LeavesZones ops
 
 -- the code of each block of an accepted source
 abbrev pub JumpsLandRight : Type 0

@@ -10,24 +10,24 @@ use Rattle.controller.specs.Replay.{happens, replay}
 use Rattle.stl_codegen.specs.Compiled.{StatedBlock}
 use Rattle.sem_kept.specs.Statements.{stated_code, IsCompilable, program_with}
 
--- of two codes the second does what the first one means, at each profile: after every history the
--- mode, memory with timers and counters, the scheduler and the diagnostics are the same, and every
--- entry answers and shows the same
-pub record IsKept (c d : Code) : Type 0 where
-  pub world : (profile : Profile) (history : List What) → (replay profile d history).world ≡ (replay profile c history).world
-  pub mode : (profile : Profile) (history : List What) → (replay profile d history).mode ≡ (replay profile c history).mode
-  pub sched : (profile : Profile) (history : List What) → (replay profile d history).sched ≡ (replay profile c history).sched
-  pub diagnostics : (profile : Profile) (history : List What)
+-- of two codes the second does at a profile what the first one means: after every history the mode,
+-- memory with timers and counters, the scheduler and the diagnostics are the same, and every entry
+-- answers and shows the same
+pub record IsKept (profile : Profile) (c d : Code) : Type 0 where
+  pub world : (history : List What) → (replay profile d history).world ≡ (replay profile c history).world
+  pub mode : (history : List What) → (replay profile d history).mode ≡ (replay profile c history).mode
+  pub sched : (history : List What) → (replay profile d history).sched ≡ (replay profile c history).sched
+  pub diagnostics : (history : List What)
       → (replay profile d history).diagnostics ≡ (replay profile c history).diagnostics
-  pub reply : (profile : Profile) (history : List What) (entry : What)
+  pub reply : (history : List What) (entry : What)
       → (happens d (replay profile d history) entry).reply ≡ (happens c (replay profile c history) entry).reply
-  pub seen : (profile : Profile) (history : List What) (entry : What)
+  pub seen : (history : List What) (entry : What)
       → (happens d (replay profile d history) entry).seen ≡ (happens c (replay profile c history) entry).seen
 
--- the program that is compiled of blocks that can be compiled does what their statements mean,
--- whatever its data blocks and its names are
+-- the program that is compiled of blocks that can be compiled does at each profile what their statements
+-- mean, whatever its data blocks and its names are
 abbrev pub ProgramsAreKept : Type 0
 ProgramsAreKept =
-    (blocks : List StatedBlock) (data_blocks : List DataBlock) (names : List NameEntry)
+    (profile : Profile) (blocks : List StatedBlock) (data_blocks : List DataBlock) (names : List NameEntry)
     → AllByRecursion IsCompilable blocks
-    → IsKept (stated_code blocks data_blocks) (code_of (program_with blocks data_blocks names))
+    → IsKept profile (stated_code blocks data_blocks) (code_of (program_with blocks data_blocks names))

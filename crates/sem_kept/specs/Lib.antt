@@ -12,3 +12,4 @@ pub mod Sizes
 pub mod Stages
 pub mod Statements
 pub mod Verified
+pub mod Zones

@@ -11,8 +11,8 @@ use Rattle.flat_code.specs.Placed.{Placed, Spot, places, spots}
 use Rattle.flat_code.specs.Programs.{CodeBlock, Program}
 use Rattle.flat_code.specs.declared.operands.Operand.{Operand}
 use Rattle.flat_code.specs.declared.operands.Operand.TheVariants as operand
-use Rattle.flat_code.specs.declared.words.CallWord.{CallWord}
-use Rattle.flat_code.specs.declared.words.CallWord.TheVariants as calls
+use Rattle.flat_code.specs.declared.operations.CallOperation.{CallOperation}
+use Rattle.flat_code.specs.declared.operations.CallOperation.TheVariants as calls
 use Rattle.stl_ast.specs.Literals.{AreBytes}
 use Rattle.stl_ast.specs.declared.blocks.Tree.{Tree}
 use Rattle.stl_symbols.specs.Symbol.{Symbol}
@@ -51,7 +51,7 @@ ArePassed a s before (p ∷ ps) =
     × (misfits_callee a s p.index p.actual ≡ false) × ArePassed a s (Some p.index) ps
 
 -- what is passed by CALL alone
-abbrev pub PassesAlone : CallWord → List Passing → Type 0
+abbrev pub PassesAlone : CallOperation → List Passing → Type 0
 PassesAlone calls.Call ps = Unit {0}
 PassesAlone _ ps = ps ≡ []
 

@@ -1,4 +1,5 @@
-//! Laws of sources and of the programs that are compiled of them: each function does nothing, and its contract is the law.
+//! Laws of sources and of the programs that are compiled of them: each function does nothing, and its
+//! contract is the law.
 ghost use Rattle.std.specs.Prelude.{◌≡◌, List};
 ghost use Rattle.flat_code.specs.Programs.{CodeBlock};
 ghost use Rattle.stl_codegen.specs.Compiled.{Stated, code_in, lines_in};
@@ -16,6 +17,7 @@ ghost use Rattle.sem_kept.specs.Meaning.{
   NoFileHasNone,
 };
 ghost use Rattle.sem_kept.specs.Resumption.{SourcesResume, ImagesResume};
+ghost use Rattle.sem_kept.specs.Zones.{CodeHasNoZones};
 
 /// At the offset of each statement of a block stands the statement that was compiled, with offsets
 /// as its targets, and behind the last one none begins.
@@ -39,14 +41,20 @@ pub fn verified_is_compilable()
     ensures { VerifiedIsCompilable }
 {}
 
+/// Code in which neither `MCR(` nor `)MCR` stands has no zones of the master control relay: none is
+/// open at any of its ops and statements nor behind them, and no op has a fault by one.
+pub fn code_has_no_zones()
+    ensures { CodeHasNoZones }
+{}
+
 /// The program of a source that breaks no rule has an image, and verifies: its records fit their
 /// fields, and no op of its blocks has a fault.
 pub fn accepted_verifies()
     ensures { AcceptedVerifies }
 {}
 
-/// The program of statements is after every history in the state in which the statements are, but for
-/// the positions of frames; so every entry answers and shows the same.
+/// The program of statements is at each profile after every history in the state in which the
+/// statements are, but for the positions of frames; so every entry answers and shows the same.
 pub fn programs_are_kept()
     ensures { ProgramsAreKept }
 {
@@ -69,8 +77,8 @@ pub fn law_of_sources()
 }
 
 /// The program of a source that breaks no rule has an image and verifies, its names are those that
-/// the symbols file gives, and it runs as the source means: no history tells it from the statements
-/// of the source.
+/// the symbols file gives, and at each profile it runs as the source means: no history tells it from
+/// the statements of the source.
 pub fn programs_run()
     ensures { ProgramsRun }
 {
@@ -79,9 +87,10 @@ pub fn programs_run()
     programs_are_kept();
 }
 
-/// The image of the program of a source that breaks no rule keeps the source with its symbols: it is in the
-/// grammar of images and verifies, its names are those that the symbols file gives, and no history
-/// tells its program from the statements of the source.
+/// Each image of the program of a source that breaks no rule, of whatever version and profile, keeps
+/// the source with its symbols: it is in the grammar of images and verifies, its names are those that
+/// the symbols file gives, and with the sizes of its profile no history tells its program from the
+/// statements of the source.
 pub fn compiled_is_kept()
     ensures { ImagesKeepSources }
 {

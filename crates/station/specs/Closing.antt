@@ -2,14 +2,14 @@
 use Rattle.std.specs.Prelude.{◌≡◌, ◌<◌, List, ◌++◌}
 use mathlib.Core.List.{IsPrefix}
 use Rattle.var_access.specs.declared.Entry.{Entry}
-use Rattle.controller.specs.Recorded.{Recorded}
+use Rattle.controller.specs.Recording.{Recording}
 use Rattle.tracked_lock.specs.Passes.{Passed}
 use Rattle.tracked_lock.specs.Views.{IsMadeOf, Each, times}
 use Rattle.station.specs.declared.shared.Opening.{Opening}
 
 -- the controller that a station gives back: it has the program, the profile and the entries of the opening, and behind these the
 -- list, which all that the pass had seen begins, and which is what was made under the pass's numbers
-pub record IsGivenBack (o : Opening) (c : Recorded) (p : Passed Opening Entry) : Type 0 where
+pub record IsGivenBack (o : Opening) (c : Recording) (p : Passed Opening Entry) : Type 0 where
   pub program : c.program ≡ o.program
   pub profile : c.profile ≡ o.profile
   pub story : List Entry

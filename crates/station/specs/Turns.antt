@@ -4,7 +4,7 @@ use mathlib.Core.List.{IsPrefix}
 use Rattle.var_access.specs.declared.Entry.{Entry}
 use Rattle.var_access.specs.declared.What.{What}
 use Rattle.var_access.specs.declared.What.TheVariants.{Input, Arrive, Tick}
-use Rattle.controller.specs.Recorded.{Recorded}
+use Rattle.controller.specs.Recording.{Recording}
 use Rattle.tracked_lock.specs.Passes.{Passed}
 use Rattle.tracked_lock.specs.Views.{made_more}
 use Rattle.station.specs.declared.shared.Opening.{Opening}
@@ -26,7 +26,7 @@ MayFail NoMemory len = len < FULL
 MayFail Full len = FULL ≤ len
 
 -- a controller got exactly this entry
-pub record AddsEntry (old new : Recorded) (e : Entry) : Type 0 where
+pub record AddsEntry (old new : Recording) (e : Entry) : Type 0 where
   pub program : new.program ≡ old.program
   pub profile : new.profile ≡ old.profile
   pub history : new.history ≡ old.history ++ e ∷ []

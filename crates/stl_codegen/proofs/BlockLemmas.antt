@@ -6,7 +6,7 @@ use Rattle.std.proofs.lemmas.List.{drop_more, map-append}
 use Rattle.std.specs.List.{flat_map}
 use Rattle.flat_code.specs.Codes.{are_ops}
 use Rattle.flat_code.specs.Ops.{OpData}
-use Rattle.flat_code.specs.declared.kinds.JumpWord.{JumpWord}
+use Rattle.flat_code.specs.declared.kinds.JumpOperation.{JumpOperation}
 use Rattle.stl_ast.specs.Statements.{is_empty}
 use Rattle.stl_ast.specs.declared.blocks.Block.{Block}
 use Rattle.stl_ast.specs.declared.statements.Statement.{Statement}
@@ -18,11 +18,11 @@ use Rattle.stl_codegen.specs.Emitted.{ops_of}
 use Rattle.stl_codegen.specs.Fitting.{CodeFits, HasNoOp}
 use Rattle.stl_codegen.specs.Generated.{each_block, returning, stated_from, statements_of}
 use Rattle.stl_codegen.specs.Instruction.{instr_by, instruction, target_of}
-use Rattle.stl_codegen.specs.Words.{jump_of}
+use Rattle.stl_codegen.specs.Operations.{jump_of}
 use Rattle.stl_codegen.proofs.OpLemmas.{jump_ops}
 
 -- the number of a statement has no part in its ops
-by_number : (c : Context) (body : List Statement) (n m : ℕ) (s : Statement) (how : Option JumpWord) → ops_of (instr_by c body n s how) ≡ ops_of (instr_by c body m s how)
+by_number : (c : Context) (body : List Statement) (n m : ℕ) (s : Statement) (how : Option JumpOperation) → ops_of (instr_by c body n s how) ≡ ops_of (instr_by c body m s how)
 by_number c body n m s None = refl
 by_number c body n m s (Some how) = jump_ops how n (target_of body s.operand) ∙ sym (jump_ops how m (target_of body s.operand))
 

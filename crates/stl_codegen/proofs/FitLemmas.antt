@@ -1,17 +1,16 @@
 -- What the code blocks of a program fit.
-use Rattle.std.proofs.Common.{◌≡◌, ℕ, zero, suc, ◌/◌, ◌<◌, ◌≤◌, Bool, true, false, ltb, leb, ◌&&◌, List, [], ◌∷◌, map, refl, subst, arith}
-use Rattle.std.proofs.lemmas.Bool.{and_parts, ltb-true, leb-true}
+use Rattle.std.proofs.Common.{◌≡◌, ℕ, ◌/◌, ◌<◌, ◌≤◌, Bool, true, false, ltb, ◌&&◌, List, [], ◌∷◌, map, subst, arith}
+use Rattle.std.proofs.lemmas.Bool.{and_parts, ltb-true}
 use Rattle.std.proofs.lemmas.List.{length-map}
 use Rattle.std.specs.List.{AllByRecursion}
 use Rattle.plc_base.specs.declared.places.Width.{Width}
 use Rattle.flat_code.specs.Codes.{are_ops, code_of}
-use Rattle.flat_code.specs.Faults.{fault_of, unless}
-use Rattle.flat_code.specs.Image.{Head, IsProgram, after_block, block_number, body, code_and_lines, code_block, code_blocks, code_len_in, counts, data_blocks, head, instance_bytes, instance_in, kind_field, lines_of, local_bytes, names, parameter, parameter_bit, parameter_byte, parameter_count, parameters, params_in, plain_block, plain_u16, plain_u32, raw_block, raw_of_block, raw_of_parameter, raw_of_records, raw_parameter, raw_records, record_of_block, record_of_param, records, records_of, same_state, section_field, statements_in, width_field, zero_u16, zero_u8}
-use Rattle.flat_code.specs.Layout.{Layout, chain, good_many, is_fine}
+use Rattle.flat_code.specs.Image.{Head, IsProgram, body, body_rows, code_block, code_blocks, counts, data_blocks, fields_of_parameter, head, instance_bytes, local_bytes, names, parameter, parameter_bit, parameter_byte, parameter_row, parameter_rows, parameters, parts_of_block, parts_of_records, plain_block, record_of_block, record_of_param, records, records_of, row_of_body_parts, same_state, section_field, width_field, zero_u8}
+use Rattle.flat_code.specs.Layout.{chain}
 use Rattle.flat_code.specs.Ops.{OpData}
 use Rattle.flat_code.specs.Programs.{CodeBlock, Program}
 use Rattle.flat_code.specs.declared.programs.Param.{Param}
-use Rattle.flat_code.proofs.PartLemmas.{all_of_blocks, all_of_many, block_parts, chain_parts, head_params, head_parts, word_fits}
+use Rattle.flat_code.proofs.PartLemmas.{all_of_blocks, all_of_many, chain_parts, good_block, good_head, head_params, word_fits}
 use Rattle.stl_codegen.specs.Fitting.{BlockFits, ParamFits}
 use Rattle.stl_codegen.specs.Generated.{param}
 
@@ -21,10 +20,10 @@ word n judged good = ltb-true n 65536 (and_parts (ltb n 65536) judged good).0
 
 -- the numbers of a head
 record HeadFits (h : Head) : Type 0 where
-  count : params_in h ≤ 60
-  local_len : h.1.1.1.0 < 65536
-  instance_len : instance_in h < 65536
-  statements : statements_in h < 65536
+  count : h.parameter_count ≤ 60
+  local_len : h.local_bytes < 65536
+  instance_len : h.instance_bytes < 65536
+  statements : h.statement_count < 65536
 
 local_word : (kind n : ℕ) → (local_bytes kind).good n ≡ true → n < 65536
 unfolding local_bytes
@@ -36,12 +35,12 @@ instance_word kind n good = word n _ good
 
 head_fits : (before : ℕ × ℕ) (h : Head) → (head before).good h ≡ true → HeadFits h
 head_fits before h good =
-    let parts = head_parts before h good in
+    let parts = good_head before h good in
     record {
       count = head_params before h good;
-      local_len = local_word h.0 h.1.1.1.0 parts.locals_good;
-      instance_len = instance_word h.0 h.1.1.1.1.0 parts.instance_good;
-      statements = word_fits h.1.1.1.1.1.0 parts.statements_good;
+      local_len = local_word h.kind h.local_bytes parts.locals_good;
+      instance_len = instance_word h.kind h.instance_bytes parts.instance_good;
+      statements = word_fits h.statement_count parts.statements_good;
     }
 
 -- the places of parameters
@@ -50,9 +49,9 @@ unfolding parameter_byte
 byte_word kind instance w n good = word n _ good
 
 param_fits : (kind instance : ℕ) (p : Param) → (parameter kind instance).good (record_of_param p) ≡ true → ParamFits p
-unfolding parameter raw_parameter
+unfolding parameter parameter_rows
 param_fits kind instance p good =
-    let x = raw_of_parameter (record_of_param p) in
+    let x = parameter_row (fields_of_parameter (record_of_param p)) in
     let a = chain_parts section_field (λ s. chain width_field (λ w. chain (parameter_byte kind instance w) (λ byte. chain (parameter_bit kind) (λ bit. zero_u8)))) x good in
     let b = chain_parts width_field (λ w. chain (parameter_byte kind instance w) (λ byte. chain (parameter_bit kind) (λ bit. zero_u8))) x.1 a.1 in
     let c = chain_parts (parameter_byte kind instance x.1.0) (λ byte. chain (parameter_bit kind) (λ bit. zero_u8)) x.1.1 b.1 in
@@ -60,7 +59,7 @@ param_fits kind instance p good =
 
 places_fit : (h : Head) (ps : List Param) → (parameters h).good (map record_of_param ps) ≡ true → AllByRecursion ParamFits ps
 unfolding parameters
-places_fit h ps good = all_of_many (λ s. parameter h.0 (instance_in h)) same_state record_of_param ParamFits (λ s p. param_fits h.0 (instance_in h) p) 0 (params_in h) ps good
+places_fit h ps good = all_of_many (λ s. parameter h.kind h.instance_bytes) same_state record_of_param ParamFits (λ s p. param_fits h.kind h.instance_bytes p) 0 h.parameter_count ps good
 
 ops_are : (n : ℕ) (ops : List OpData) → (code_of false n).good ops ≡ true → are_ops ops ≡ true
 unfolding code_of
@@ -69,23 +68,24 @@ ops_are n ops good = (and_parts (are_ops ops) _ (and_parts (are_ops ops && _) _ 
 block_fits : (before : ℕ × ℕ) (b : CodeBlock) → (code_block false before).good (record_of_block b) ≡ true → BlockFits b
 unfolding code_block plain_block
 block_fits before b good =
-    let x = raw_of_block (record_of_block b) in
-    let p = block_parts false before 0 x good in
-    let h = head_fits before x.0 p.head_good in
+    let x = parts_of_block (record_of_block b) in
+    let p = good_block false before 0 x good in
+    let h = head_fits before x.head p.head_good in
     record {
       local_len = h.local_len;
       instance_len = h.instance_len;
-      params = record { count = subst (λ (k : ℕ). k ≤ 60) (length-map b.params record_of_param) h.count; places = places_fit x.0 b.params p.params_good };
-      code = record { ops = ops_are (code_len_in x.0) b.code p.code_good; count = h.statements };
+      params = record { count = subst (λ (k : ℕ). k ≤ 60) (length-map b.params record_of_param) h.count; places = places_fit x.head b.params p.params_good };
+      code = record { ops = ops_are x.head.code_length b.code p.code_good; count = h.statements };
     }
 
 pub program_fits : (p : Program) → IsProgram p → AllByRecursion BlockFits p.code_blocks
-unfolding body records raw_records
+unfolding body records body_rows
 program_fits p h =
-    let x = raw_of_records (records_of p) in
-    let a = chain_parts counts (λ c. chain (code_blocks false c.0) (λ blocks. chain (data_blocks c.1.0) (λ datas. names c.1.1.0))) x h.good in
-    let b = chain_parts (code_blocks false x.0.0) (λ blocks. chain (data_blocks x.0.1.0) (λ datas. names x.0.1.1.0)) x.1 a.1 in
-    all_of_blocks false BlockFits block_fits x.0.0 p.code_blocks b.0
+    let x = parts_of_records (records_of p) in
+    let row = row_of_body_parts x in
+    let a = chain_parts counts (λ c. chain (code_blocks false c.code_blocks) (λ blocks. chain (data_blocks c.data_blocks) (λ datas. names c.names))) row h.good in
+    let b = chain_parts (code_blocks false x.counts.code_blocks) (λ blocks. chain (data_blocks x.counts.data_blocks) (λ datas. names x.counts.names)) row.1 a.1 in
+    all_of_blocks false BlockFits block_fits x.counts.code_blocks p.code_blocks b.0
 
 -- a parameter too far behind
 pub far_param : (section : ℕ) (w : Width) (bits : ℕ) → 65536 ≤ bits / 8 → AllByRecursion ParamFits (param section w bits ∷ []) → ⊥

@@ -1,21 +1,21 @@
--- Which words and operands are no op.
+-- Which operations and operands are no op.
 use Rattle.std.proofs.Common.{◌≡◌, ℕ, ◌<◌, ◌≤◌, Bool, true, false, ltb, ◌&&◌, cond, [], ◌∷◌, Some, None, refl, ap, ◌∙◌, arith}
 use Rattle.std.proofs.lemmas.Bool.Decides.{nat_tests}
 use Rattle.plc_base.specs.declared.places.Width.{Width}
-use Rattle.flat_code.proofs.CodeLemmas.{word_again}
+use Rattle.flat_code.proofs.CodeLemmas.{operation_again}
 use Rattle.flat_code.specs.Forms.{payload_fits, actual}
 use Rattle.flat_code.specs.Kinds.{kind_of}
 use Rattle.flat_code.specs.OpCodes.{code_of}
 use Rattle.flat_code.specs.Ops.{is_instruction, is_op, op_of}
 use Rattle.flat_code.specs.Table.{admits, takes_of}
-use Rattle.flat_code.specs.declared.kinds.JumpWord.{JumpWord}
-use Rattle.flat_code.specs.declared.kinds.JumpWord.TheVariants as jump
+use Rattle.flat_code.specs.declared.kinds.JumpOperation.{JumpOperation}
+use Rattle.flat_code.specs.declared.kinds.JumpOperation.TheVariants as jump
 use Rattle.flat_code.specs.declared.operands.Operand.{Operand}
 use Rattle.flat_code.specs.declared.operands.Operand.TheVariants as operand
 use Rattle.flat_code.specs.declared.operands.Passed.{Passed}
 use Rattle.flat_code.specs.declared.operands.Passed.TheVariants as passed
-use Rattle.flat_code.specs.declared.words.Word.{Word}
-use Rattle.flat_code.specs.declared.words.Word.TheVariants as word
+use Rattle.flat_code.specs.declared.operations.Operation.{Operation}
+use Rattle.flat_code.specs.declared.operations.Operation.TheVariants as operation
 use Rattle.stl_codegen.specs.Compiled.{aimed}
 use Rattle.stl_codegen.specs.Emitted.{jump_op, ops_of}
 use Rattle.stl_codegen.specs.Fitting.{HasNoOp, IsNoOperand, IsStill}
@@ -52,16 +52,16 @@ alone code last o still h = record {
   never = λ f. ap (λ (t : Bool). t && true) (ap (λ (x : Operand). is_op code x) (aimed_still f o still) ∙ h);
 }
 
-instruction_fails : (w : Word) (o : Operand) → is_instruction w o ≡ false → is_op (code_of w) o ≡ false
+instruction_fails : (w : Operation) (o : Operand) → is_instruction w o ≡ false → is_op (code_of w) o ≡ false
 unfolding is_op is_instruction takes_of
-instruction_fails w o h = rw (word_again w) (and_front (ltb (code_of w) 128) _ _ h)
+instruction_fails w o h = rw (operation_again w) (and_front (ltb (code_of w) 128) _ _ h)
 
 operand_fails : (code : ℕ) (o : Operand) → payload_fits o ≡ false → is_op code o ≡ false
 unfolding is_op
 operand_fails code o h = ap (λ (t : Bool). ltb code 128 && admits (takes_of code) o && t) h ∙ and_false _
 
--- a word that doesn't take the operand
-pub not_taken : (w : Word) (last : Bool) (o : Operand) → IsStill o → None ≡ cond (is_instruction w o) (Some (op_of (code_of w) last o)) None
+-- an operation that doesn't take the operand
+pub not_taken : (w : Operation) (last : Bool) (o : Operand) → IsStill o → None ≡ cond (is_instruction w o) (Some (op_of (code_of w) last o)) None
     → HasNoOp (op_of (code_of w) last o ∷ [])
 not_taken w last o still h = alone (code_of w) last o still (instruction_fails w o (fails (is_instruction w o) h))
   where
@@ -69,7 +69,7 @@ not_taken w last o still h = alone (code_of w) last o still (instruction_fails w
     fails true e = absurd cc
     fails false e = refl
 
-pub no_operand : (w : Word) (last : Bool) (o : Operand) → IsNoOperand o → HasNoOp (op_of (code_of w) last o ∷ [])
+pub no_operand : (w : Operation) (last : Bool) (o : Operand) → IsNoOperand o → HasNoOp (op_of (code_of w) last o ∷ [])
 no_operand w last o h = alone (code_of w) last o h.still (operand_fails (code_of w) o h.never)
 
 far : (n : ℕ) → 256 ≤ n → ltb n 256 ≡ false
@@ -90,7 +90,7 @@ far_passed index own w h = record {
 }
 
 -- a jump is an op, wherever it leads
-kind_small : (how : JumpWord) → kind_of how < 18
+kind_small : (how : JumpOperation) → kind_of how < 18
 kind_small jump.Ju = omega arith
 kind_small jump.Jl = omega arith
 kind_small jump.Jc = omega arith
@@ -110,14 +110,14 @@ kind_small jump.Jmz = omega arith
 kind_small jump.Juo = omega arith
 kind_small jump.Loop = omega arith
 
-jump_taken : (kind target : ℕ) → kind < 18 → target < 4294967296 → is_instruction word.Jump (operand.Jump kind target) ≡ true
+jump_taken : (kind target : ℕ) → kind < 18 → target < 4294967296 → is_instruction operation.Jump (operand.Jump kind target) ≡ true
 unfolding is_instruction admits
 jump_taken kind target k t = grind (arith, nat_tests)
 
-pub jumps : (how : JumpWord) (target : ℕ) → target < 4294967296 → is_instruction word.Jump (operand.Jump (kind_of how) target) ≡ true
+pub jumps : (how : JumpOperation) (target : ℕ) → target < 4294967296 → is_instruction operation.Jump (operand.Jump (kind_of how) target) ≡ true
 jumps how target t = jump_taken (kind_of how) target (kind_small how) t
 
-pub jump_ops : (how : JumpWord) (n target : ℕ) → ops_of (jump_instr how n target) ≡ jump_op how target ∷ []
+pub jump_ops : (how : JumpOperation) (n target : ℕ) → ops_of (jump_instr how n target) ≡ jump_op how target ∷ []
 unfolding ops_of
 jump_ops jump.Ju n target = refl
 jump_ops jump.Jl n target = refl

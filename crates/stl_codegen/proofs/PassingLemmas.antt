@@ -11,7 +11,7 @@ use Rattle.std.specs.Str.{bytes_eq}
 use Rattle.flat_code.specs.Instr.{Passing}
 use Rattle.flat_code.specs.Ops.{OpData}
 use Rattle.flat_code.specs.declared.operands.Operand.TheVariants as operand
-use Rattle.flat_code.specs.declared.words.Word.TheVariants as word
+use Rattle.flat_code.specs.declared.operations.Operation.TheVariants as operation
 use Rattle.stl_ast.specs.declared.statements.Actual.{Actual}
 use Rattle.plc_base.specs.Folding.{folded}
 use Rattle.stl_types.specs.Context.{Context}
@@ -21,7 +21,7 @@ use Rattle.stl_codegen.specs.Passed.{passed_actual, passings_from, supplied}
 
 passing_both : (xs ys : List Passing) → passing (xs ++ ys) ≡ passing xs ++ passing ys
 passing_both [] ys = refl
-passing_both (x ∷ xs) ys = ap (λ (l : List OpData). preparing word.Pass (operand.Pass x.index x.actual) ∷ l) (passing_both xs ys)
+passing_both (x ∷ xs) ys = ap (λ (l : List OpData). preparing operation.Pass (operand.Pass x.index x.actual) ∷ l) (passing_both xs ys)
 
 pub passings_turn : (c : Context) (actuals : List Actual) (formals : List Formal) (i : ℕ) (f : Formal) → i < length formals → f ≡ get_or formals i f →
     passing (passings_from c actuals i (drop i formals)) ≡ passing (passed_actual c i (supplied actuals f)) ++ passing (passings_from c actuals (i + 1) (drop (i + 1) formals))

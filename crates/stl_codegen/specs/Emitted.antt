@@ -6,36 +6,36 @@ use Rattle.flat_code.specs.Instr.{Instr, Passing, Does, Jumps, JumpsByList, Call
 use Rattle.flat_code.specs.Kinds.{kind_of}
 use Rattle.flat_code.specs.OpCodes.{code_of}
 use Rattle.flat_code.specs.Ops.{OpData, op_of}
-use Rattle.flat_code.specs.declared.kinds.JumpWord.{JumpWord}
-use Rattle.flat_code.specs.declared.kinds.JumpWord.TheVariants as jump
+use Rattle.flat_code.specs.declared.kinds.JumpOperation.{JumpOperation}
+use Rattle.flat_code.specs.declared.kinds.JumpOperation.TheVariants as jump
 use Rattle.flat_code.specs.declared.operands.Operand.{Operand}
 use Rattle.flat_code.specs.declared.operands.Operand.TheVariants as operand
-use Rattle.flat_code.specs.declared.words.CallWord.{CallWord}
-use Rattle.flat_code.specs.declared.words.EndWord.{EndWord}
-use Rattle.flat_code.specs.declared.words.Word.{Word}
-use Rattle.flat_code.specs.declared.words.Word.TheVariants as word
+use Rattle.flat_code.specs.declared.operations.CallOperation.{CallOperation}
+use Rattle.flat_code.specs.declared.operations.EndOperation.{EndOperation}
+use Rattle.flat_code.specs.declared.operations.Operation.{Operation}
+use Rattle.flat_code.specs.declared.operations.Operation.TheVariants as operation
 
 -- an op that prepares its statement, and the op that does it
-abbrev pub preparing : Word → Operand → OpData
+abbrev pub preparing : Operation → Operand → OpData
 preparing w o = op_of (code_of w) false o
 
 -- the last op of a statement, which has the end mark
-abbrev pub ending : Word → Operand → OpData
+abbrev pub ending : Operation → Operand → OpData
 ending w o = op_of (code_of w) true o
 
 -- USEDB: the data block that the statement opens first
 abbrev pub opening : Option ℕ → List OpData
 opening None = []
-opening (Some number) = preparing word.UseDb (operand.UseDb number) ∷ []
+opening (Some number) = preparing operation.UseDb (operand.UseDb number) ∷ []
 
 -- PASS: what a CALL passes, one op for each parameter that is supplied
 abbrev pub passing : List Passing → List OpData
 passing [] = []
-passing (p ∷ ps) = preparing word.Pass (operand.Pass p.index p.actual) ∷ passing ps
+passing (p ∷ ps) = preparing operation.Pass (operand.Pass p.index p.actual) ∷ passing ps
 
 -- a jump, also LOOP and JL, by its kind and its target
-abbrev pub jump_op : JumpWord → (target : ℕ) → OpData
-jump_op how target = ending word.Jump (operand.Jump (kind_of how) target)
+abbrev pub jump_op : JumpOperation → (target : ℕ) → OpData
+jump_op how target = ending operation.Jump (operand.Jump (kind_of how) target)
 
 -- 0 stands for no instance
 abbrev pub instance_number : Option ℕ → ℕ
@@ -43,14 +43,14 @@ instance_number None = 0
 instance_number (Some number) = number
 
 -- CALL, UC or CC, with kind and number of the called block, and the number of the instance or 0
-abbrev pub call_op : CallWord → BlockId → (instance : Option ℕ) → OpData
+abbrev pub call_op : CallOperation → BlockId → (instance : Option ℕ) → OpData
 call_op how block instance =
-    ending (word.Call how)
+    ending (operation.Call how)
     (operand.Called (kind_number block.kind) block.number (instance_number instance))
 
 -- BE, BEC or BEU, which have no operand
-abbrev pub end_op : EndWord → OpData
-end_op how = ending (word.End how) operand.Nothing
+abbrev pub end_op : EndOperation → OpData
+end_op how = ending (operation.End how) operand.Nothing
 
 -- the ops of an instruction: those that prepare, USEDB or PASS, and the last one
 unfoldable pub ops_of : Instr → List OpData

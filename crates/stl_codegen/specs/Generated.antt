@@ -10,7 +10,7 @@ use Rattle.flat_code.specs.Instr.{Returns}
 use Rattle.plc_base.specs.Folding.{folded}
 use Rattle.flat_code.specs.Programs.{DataBlock, NameEntry, Program}
 use Rattle.flat_code.specs.declared.programs.Param.{Param}
-use Rattle.flat_code.specs.declared.words.EndWord.TheVariants as ends
+use Rattle.flat_code.specs.declared.operations.EndOperation.TheVariants as ends
 use Rattle.stl_ast.specs.Statements.{is_empty}
 use Rattle.stl_ast.specs.declared.blocks.Block.{Block}
 use Rattle.stl_ast.specs.declared.blocks.PartKind.{PartKind}

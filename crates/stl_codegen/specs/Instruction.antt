@@ -4,12 +4,12 @@
 use Rattle.std.specs.Prelude.{ℕ, zero, suc, ◌+◌, ◌-◌, List, [], ◌∷◌, ◌++◌, take, drop, Option, Some, None, if◌then◌else◌, slice_get}
 use Rattle.std.specs.Option.{option_and_then}
 use Rattle.flat_code.specs.Instr.{Instr, Passing, Does, Jumps, JumpsByList, Calls, Returns}
-use Rattle.flat_code.specs.declared.kinds.JumpWord.{JumpWord}
-use Rattle.flat_code.specs.declared.kinds.JumpWord.TheVariants as jump
+use Rattle.flat_code.specs.declared.kinds.JumpOperation.{JumpOperation}
+use Rattle.flat_code.specs.declared.kinds.JumpOperation.TheVariants as jump
 use Rattle.flat_code.specs.declared.operands.Operand.TheVariants as flat
-use Rattle.flat_code.specs.declared.words.CallWord.{CallWord}
-use Rattle.flat_code.specs.declared.words.EndWord.{EndWord}
-use Rattle.flat_code.specs.declared.words.Word.TheVariants as word
+use Rattle.flat_code.specs.declared.operations.CallOperation.{CallOperation}
+use Rattle.flat_code.specs.declared.operations.EndOperation.{EndOperation}
+use Rattle.flat_code.specs.declared.operations.Operation.TheVariants as operation
 use Rattle.stl_ast.specs.Statements.{is_empty}
 use Rattle.stl_ast.specs.declared.blocks.Block.{Block}
 use Rattle.stl_ast.specs.declared.declarations.Simple.{Simple}
@@ -24,7 +24,7 @@ use Rattle.stl_types.specs.declared.views.View.{View}
 use Rattle.stl_types.specs.declared.views.View.TheVariants as view
 use Rattle.stl_codegen.specs.Operands.{opened_by, operand_of}
 use Rattle.stl_codegen.specs.Passed.{passings_from}
-use Rattle.stl_codegen.specs.Words.{jump_of, call_of, end_of, word_of}
+use Rattle.stl_codegen.specs.Operations.{jump_of, call_of, end_of, operation_for}
 
 -- 0 for an empty statement, which has no number, and 1 for every other one
 abbrev pub counted : Statement → ℕ
@@ -46,7 +46,7 @@ numbers_from n zero = []
 numbers_from n (suc count) = n ∷ numbers_from (suc n) count
 
 -- JL has the JU behind it, up to its label, as its list
-abbrev pub jump_instr : JumpWord → (n target : ℕ) → Instr
+abbrev pub jump_instr : JumpOperation → (n target : ℕ) → Instr
 jump_instr jump.Jl n target =
     JumpsByList (numbers_from (suc n) (target - suc n)) target
 jump_instr how n target = Jumps how target
@@ -73,21 +73,21 @@ passings_to c s (Some callee) =
 
 -- for a statement that doesn't name what its instruction takes
 abbrev pub filler : Instr
-filler = Does None word.Nop (flat.Literal 0)
+filler = Does None operation.Nop (flat.Literal 0)
 
 -- the block that is called
-abbrev pub call_instr : Context → Statement → CallWord → View → Instr
+abbrev pub call_instr : Context → Statement → CallOperation → View → Instr
 call_instr c s how (view.Called id instance) =
     Calls how id instance (passings_to c s (callee_of c s.operand))
 call_instr c s how _ = filler
 
 -- BE, BEC and BEU return; every other instruction goes on to the next statement, with its operand
-abbrev pub end_instr : Statement → View → Option EndWord → Instr
-end_instr s v None = Does (opened_by v) (word_of s.code s.operand v) (operand_of s.operand v)
+abbrev pub end_instr : Statement → View → Option EndOperation → Instr
+end_instr s v None = Does (opened_by v) (operation_for s.code s.operand v) (operand_of s.operand v)
 end_instr s v (Some how) = Returns how
 
 -- CALL, UC and CC call a block; every other instruction returns or goes on
-abbrev pub view_instr : Context → Statement → View → Option CallWord → Instr
+abbrev pub view_instr : Context → Statement → View → Option CallOperation → Instr
 view_instr c s v None = end_instr s v (end_of s.code)
 view_instr c s v (Some how) = call_instr c s how v
 
@@ -97,7 +97,7 @@ resolved_instr c s None = filler
 resolved_instr c s (Some v) = view_instr c s v (call_of s.code)
 
 -- a jump goes to the statement of its label; every other instruction acts on what its operand names
-abbrev pub instr_by : Context → List Statement → (n : ℕ) → Statement → Option JumpWord → Instr
+abbrev pub instr_by : Context → List Statement → (n : ℕ) → Statement → Option JumpOperation → Instr
 instr_by c body n s None = resolved_instr c s (resolved c s)
 instr_by c body n s (Some how) = jump_instr how n (target_of body s.operand)
 

@@ -1,4 +1,4 @@
-pub mod Words
+pub mod Operations
 pub mod Operands
 pub mod Passed
 pub mod Instruction

@@ -52,7 +52,7 @@ abbrev pub constant_bits : Operand → ℕ
 constant_bits (operand.Constant value) = bits_of value
 constant_bits _ = 0
 
--- L DBLG, L DBNO, L DILG, L DINO; STW and AR2 stand in the word
+-- L DBLG, L DBNO, L DILG, L DINO; STW and AR2 stand in the operation
 abbrev pub register_operand : Register → FlatOperand
 register_operand register.Dblg = flat.Literal 0
 register_operand register.Dbno = flat.Literal 1

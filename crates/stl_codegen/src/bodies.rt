@@ -16,7 +16,7 @@ ghost use Rattle.stl_codegen.specs.Fitting.{Appended};
 ghost use Rattle.stl_codegen.specs.Instruction.{target_in, target_of};
 
 use crate::instructions::{append_jump_to, append_resolved};
-use crate::words::jump_of;
+use crate::operations::jump_of;
 use flat_code::Op;
 use std::alloc::{AllocError, Global};
 use std::marker::Model;

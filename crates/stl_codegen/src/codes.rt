@@ -8,7 +8,7 @@ ghost use Rattle.stl_codegen.specs.Generated.{statements_of};
 use crate::bodies::{Body, lines_of};
 use crate::emitting::append_end;
 use crate::places::place_targets;
-use flat_code::{EndWord, Op};
+use flat_code::{EndOperation, Op};
 use std::alloc::{AllocError, Global};
 use stl_ast::Block;
 use stl_types::Scope;
@@ -34,7 +34,7 @@ fn ops_of(alloc: Global, scope: &Scope, block: &Block) -> Result<Option<Vec<Op>>
     let Some(_) = body.append_to(alloc, &mut ops, scope)? else {
         return Ok(None);
     };
-    let Some(_) = append_end(&mut ops, EndWord::Be)? else {
+    let Some(_) = append_end(&mut ops, EndOperation::Be)? else {
         return Ok(None);
     };
     Ok(Some(ops))

@@ -3,7 +3,7 @@ ghost use Rattle.flat_code.specs.OpCodes.{code_of};
 ghost use Rattle.flat_code.specs.Ops.{op_of};
 ghost use Rattle.flat_code.specs.declared.operands.Operand.TheVariants as operands;
 ghost use Rattle.flat_code.specs.declared.operands.Passed.TheVariants as passed;
-ghost use Rattle.flat_code.specs.declared.words.Word.TheVariants as words;
+ghost use Rattle.flat_code.specs.declared.operations.Operation.TheVariants as operations;
 ghost use Rattle.stl_codegen.specs.Emitted.{
   call_op,
   end_op,
@@ -15,23 +15,23 @@ ghost use Rattle.stl_codegen.specs.Emitted.{
 ghost use Rattle.stl_codegen.specs.Fitting.{Appended, IsStill};
 
 use crate::operands::index_byte;
-use flat_code::{CallWord, EndWord, JumpWord, Op, Operand, Passed, Word};
+use flat_code::{CallOperation, EndOperation, JumpOperation, Op, Operand, Operation, Passed};
 use plc_base::{BlockId, Width};
 use std::alloc::AllocError;
 
-/// Appends an op, unless the word doesn't take the operand.
+/// Appends an op, unless the operation doesn't take the operand.
 #[tactic(auto, using(crate::proofs::OpLemmas::not_taken))]
 pub(crate) fn append(
     ops: &mut Vec<Op>,
-    word: Word,
+    operation: Operation,
     last: bool,
     operand: Operand,
 ) -> Result<Option<()>, AllocError>
     requires { IsStill operand }
     ensures { IfOk result (λ done. Appended ops.old.items ops.new.items
-        (op_of (code_of word) last operand ∷ []) done) }
+        (op_of (code_of operation) last operand ∷ []) done) }
 {
-    let Some(op) = Op::taken(word, last, operand) else {
+    let Some(op) = Op::taken(operation, last, operand) else {
         return Ok(None);
     };
     ops.push(op)?;
@@ -47,7 +47,7 @@ pub(crate) fn append_opening(
 {
     match block {
         None => Ok(Some(())),
-        Some(number) => append(ops, Word::UseDb, false, Operand::UseDb { number }),
+        Some(number) => append(ops, Operation::UseDb, false, Operand::UseDb { number }),
     }
 }
 
@@ -59,12 +59,12 @@ pub(crate) fn append_passing(
     actual: Passed,
 ) -> Result<Option<()>, AllocError>
     ensures { IfOk result (λ done. Appended ops.old.items ops.new.items
-        (preparing words.Pass (operands.Pass index actual) ∷ []) done) }
+        (preparing operations.Pass (operands.Pass index actual) ∷ []) done) }
 {
     let Some(index) = index_byte(index) else {
         return Ok(None);
     };
-    append(ops, Word::Pass, false, Operand::Pass { index, actual })
+    append(ops, Operation::Pass, false, Operand::Pass { index, actual })
 }
 
 /// Appends the op that passes a parameter of the function that calls, by its index there.
@@ -76,7 +76,7 @@ pub(crate) fn append_passed_parameter(
     width: Width,
 ) -> Result<Option<()>, AllocError>
     ensures { IfOk result (λ done. Appended ops.old.items ops.new.items
-        (preparing words.Pass (operands.Pass index (passed.Parameter own width)) ∷ []) done) }
+        (preparing operations.Pass (operands.Pass index (passed.Parameter own width)) ∷ []) done) }
 {
     let Some(own) = index_byte(own) else {
         return Ok(None);
@@ -88,7 +88,7 @@ pub(crate) fn append_passed_parameter(
 #[tactic(auto, using(crate::proofs::OpLemmas::jumps))]
 pub(crate) fn append_jump(
     ops: &mut Vec<Op>,
-    how: JumpWord,
+    how: JumpOperation,
     target: u32,
 ) -> Result<Option<()>, AllocError>
     ensures { IfOk result (λ done. Appended ops.old.items ops.new.items
@@ -98,7 +98,7 @@ pub(crate) fn append_jump(
         kind: how.kind(),
         target,
     };
-    ops.push(Op::new(Word::Jump, true, operand))?;
+    ops.push(Op::new(Operation::Jump, true, operand))?;
     Ok(Some(()))
 }
 
@@ -115,7 +115,7 @@ fn instance_number(instance: Option<u16>) -> u16
 /// Appends the call of a block.
 pub(crate) fn append_call(
     ops: &mut Vec<Op>,
-    how: CallWord,
+    how: CallOperation,
     block: BlockId,
     instance: Option<u16>,
 ) -> Result<Option<()>, AllocError>
@@ -127,12 +127,12 @@ pub(crate) fn append_call(
         number: block.number,
         instance: instance_number(instance),
     };
-    append(ops, Word::Call(how), true, operand)
+    append(ops, Operation::Call(how), true, operand)
 }
 
 /// Appends the end of a block.
-pub(crate) fn append_end(ops: &mut Vec<Op>, how: EndWord) -> Result<Option<()>, AllocError>
+pub(crate) fn append_end(ops: &mut Vec<Op>, how: EndOperation) -> Result<Option<()>, AllocError>
     ensures { IfOk result (λ done. Appended ops.old.items ops.new.items (end_op how ∷ []) done) }
 {
-    append(ops, Word::End(how), true, Operand::Nothing)
+    append(ops, Operation::End(how), true, Operand::Nothing)
 }

@@ -18,13 +18,13 @@ ghost use Rattle.stl_codegen.specs.Instruction.{
   view_instr,
 };
 ghost use Rattle.stl_codegen.specs.Operands.{opened_by, operand_of};
-ghost use Rattle.stl_codegen.specs.Words.{call_of, end_of, word_of};
+ghost use Rattle.stl_codegen.specs.Operations.{call_of, end_of, operation_for};
 
 use crate::emitting::{append, append_call, append_end, append_jump, append_opening};
 use crate::operands::{opened_by, operand_of};
+use crate::operations::{call_of, end_of, operation_for};
 use crate::passings::append_passings;
-use crate::words::{call_of, end_of, word_of};
-use flat_code::{CallWord, JumpWord, Op, Operand, Word};
+use flat_code::{CallOperation, JumpOperation, Op, Operand, Operation};
 use plc_base::BlockId;
 use std::alloc::{AllocError, Global};
 use stl_ast::{Block, Simple, Statement};
@@ -34,7 +34,7 @@ use stl_types::{Callee, Scope, View};
 #[tactic(auto, using(crate::proofs::OpLemmas::jump_ops))]
 pub(crate) fn append_jump_to(
     ops: &mut Vec<Op>,
-    how: JumpWord,
+    how: JumpOperation,
     target: u32,
 ) -> Result<Option<()>, AllocError>
     ensures { IfOk result (λ done. Appended ops.old.items ops.new.items
@@ -48,19 +48,19 @@ pub(crate) fn append_jump_to(
 fn append_filler(ops: &mut Vec<Op>) -> Result<Option<()>, AllocError>
     ensures { IfOk result (λ done. Appended ops.old.items ops.new.items (ops_of filler) done) }
 {
-    append(ops, Word::Nop, true, Operand::Literal { value: 0 })
+    append(ops, Operation::Nop, true, Operand::Literal { value: 0 })
 }
 
 /// Appends an instruction that goes on to the next statement, and the op that opens a data block
 /// before it.
 #[tactic(auto, unfolding(crate::specs::Emitted::ops_of), using(crate::proofs::AppendLemmas::front_has_none, crate::proofs::AppendLemmas::back_has_none, crate::proofs::AppendLemmas::appended_then, crate::proofs::OpLemmas::no_operand))]
-fn append_word(
+fn append_operation(
     ops: &mut Vec<Op>,
     statement: &Statement,
     view: View,
 ) -> Result<Option<()>, AllocError>
     ensures { IfOk result (λ done. Appended ops.old.items ops.new.items
-        (ops_of (Does (opened_by view) (word_of statement.now.code statement.now.operand view)
+        (ops_of (Does (opened_by view) (operation_for statement.now.code statement.now.operand view)
         (operand_of statement.now.operand view))) done) }
 {
     let Some(_) = append_opening(ops, opened_by(view))? else {
@@ -69,8 +69,8 @@ fn append_word(
     let Some(operand) = operand_of(&statement.operand, view) else {
         return Ok(None);
     };
-    let word = word_of(statement.code, &statement.operand, view);
-    append(ops, word, true, operand)
+    let operation = operation_for(statement.code, &statement.operand, view);
+    append(ops, operation, true, operand)
 }
 
 /// The list with its first item behind the others.
@@ -149,7 +149,7 @@ fn append_called(
     ops: &mut Vec<Op>,
     scope: &Scope,
     statement: &Statement,
-    how: CallWord,
+    how: CallOperation,
     block: BlockId,
     instance: Option<u16>,
 ) -> Result<Option<()>, AllocError>
@@ -169,7 +169,7 @@ fn append_call_by(
     ops: &mut Vec<Op>,
     scope: &Scope,
     statement: &Statement,
-    how: CallWord,
+    how: CallOperation,
     view: View,
 ) -> Result<Option<()>, AllocError>
     ensures { IfOk result (λ done. Appended ops.old.items ops.new.items
@@ -194,7 +194,7 @@ fn append_plain(
         (ops_of (end_instr statement.now view (end_of statement.now.code))) done) }
 {
     match end_of(statement.code) {
-        None => append_word(ops, statement, view),
+        None => append_operation(ops, statement, view),
         Some(how) => append_end(ops, how),
     }
 }

@@ -10,11 +10,11 @@ mod generating;
 mod instructions;
 mod names;
 mod operands;
+mod operations;
 mod order;
 mod params;
 mod passings;
 mod places;
-mod words;
 
 pub use generating::generate;
 pub use order::{sort_code_blocks, sort_data_blocks, sort_names};

@@ -1,9 +1,13 @@
 //! The instruction words of the tests with their op codes, typed from the table of op codes.
 
 /// Words with one op code whatever their operand.
-static WORDS: [(&str, u8); 95] = [
+static WORDS: [(&str, u8); 99] = [
     ("NOP", 0x01),
     ("BLD", 0x03),
+    ("MCRA", 0x05),
+    ("MCRD", 0x06),
+    ("MCR(", 0x07),
+    (")MCR", 0x08),
     ("A", 0x10),
     ("AN", 0x11),
     ("O", 0x12),

@@ -1,6 +1,6 @@
 //! The targets of jumps, from the number of a statement to its offset in the code.
 use crate::compare::same;
-use flat_code::{EndWord, Op, Operand, Word};
+use flat_code::{EndOperation, Op, Operand, Operation};
 use plc_base::{Area, Width};
 use std::alloc::Global;
 use std::process::Abort;
@@ -27,12 +27,12 @@ const PLACE: Operand = Operand::Direct {
 fn ops(alloc: Global) -> Result<Vec<Op>, Fail> {
     let mut ops = Vec::new(alloc);
     for (word, last, operand) in [
-        (Word::Nop, true, Operand::Literal { value: 0 }),
-        (Word::UseDb, false, Operand::UseDb { number: 10 }),
-        (Word::Transfer, true, PLACE),
-        (Word::Jump, true, jump_to(1)),
-        (Word::Jump, true, jump_to(4)),
-        (Word::End(EndWord::Be), true, Operand::Nothing),
+        (Operation::Nop, true, Operand::Literal { value: 0 }),
+        (Operation::UseDb, false, Operand::UseDb { number: 10 }),
+        (Operation::Transfer, true, PLACE),
+        (Operation::Jump, true, jump_to(1)),
+        (Operation::Jump, true, jump_to(4)),
+        (Operation::End(EndOperation::Be), true, Operand::Nothing),
     ] {
         ops.push(Op::taken(word, last, operand).ok_or("no op")?)?;
     }

@@ -12,7 +12,7 @@ use crate::compare::same;
 use crate::requests::{request_of, write_record, write_reply};
 use controller::{Controller, Observed};
 use image_file::{Loaded, load};
-use plc_base::{BlockKind, Mode, Spot};
+use plc_base::{BlockKind, Mode, Profile, Spot};
 use std::alloc::{AllocError, Global};
 use std::process::Abort;
 use std::test::Fail;
@@ -204,7 +204,7 @@ pub(crate) fn apply_line(
 /// The most entries of a run.
 pub(crate) const MOST_ENTRIES: u64 = 100_000;
 
-/// A program that is spelled as text.
+/// A program that is spelled as text, with the small profile, as its image has version 1.
 pub(crate) fn loaded(alloc: Global, program: &str) -> Result<Loaded, Fail> {
     let image = assembled(alloc, program)?;
     match load(alloc, image.bytes.as_slice()) {
@@ -213,9 +213,15 @@ pub(crate) fn loaded(alloc: Global, program: &str) -> Result<Loaded, Fail> {
     }
 }
 
-/// A controller of a program.
+/// A controller of a program at a profile.
+fn controller_at(alloc: Global, profile: Profile, program: &str) -> Result<Controller, Fail> {
+    let program = loaded(alloc, program)?.with_profile(profile);
+    Ok(Controller::new(alloc, program)?)
+}
+
+/// A controller of a program at the small profile.
 pub(crate) fn controller_of(alloc: Global, program: &str) -> Result<Controller, Fail> {
-    Ok(Controller::new(alloc, loaded(alloc, program)?)?)
+    controller_at(alloc, Profile::Small, program)
 }
 
 /// Applies a history, and writes what it showed with its end.
@@ -232,24 +238,38 @@ fn write_run(
     Ok(())
 }
 
-/// The text of a run.
+/// The text of a run at a profile.
 pub(crate) fn run_text(
     alloc: Global,
     rt: &impl Abort,
+    profile: Profile,
     program: &str,
     history: &str,
 ) -> Result<String, Fail> {
-    let mut controller = controller_of(alloc, program)?;
+    let mut controller = controller_at(alloc, profile, program)?;
     let mut out = String::new(alloc);
     write_run(rt, &mut controller, &mut out, history)?;
     Ok(out)
 }
 
-/// Each row's text is that of its run.
+/// A text is that of the run of a program and a history at a profile.
+pub(crate) fn holds(
+    rt: &impl Abort,
+    alloc: Global,
+    profile: Profile,
+    row: &Row,
+) -> Result<(), Fail> {
+    let (program, history, text) = *row;
+    let shown = run_text(alloc, rt, profile, program, history)?;
+    same(rt, (profile, program, history), shown.as_str(), text);
+    Ok(())
+}
+
+/// Each row's text is that of its run, at both profiles.
 pub(crate) fn all_hold(rt: &impl Abort, alloc: Global, rows: &[Row]) -> Result<(), Fail> {
-    for (program, history, text) in rows {
-        let shown = run_text(alloc, rt, program, history)?;
-        same(rt, (*program, *history), shown.as_str(), *text);
+    for row in rows {
+        holds(rt, alloc, Profile::Small, row)?;
+        holds(rt, alloc, Profile::Large, row)?;
     }
     Ok(())
 }

@@ -5,6 +5,7 @@
 //! tells that it wasn't interrupted besides. Each statement of its code is a step of the history.
 use crate::bench::run_text;
 use crate::compare::same;
+use plc_base::Profile;
 use std::alloc::{AllocError, Global};
 use std::test::Fail;
 
@@ -277,7 +278,13 @@ fn each_class_with_each_other(rt: HostRuntime) -> Result<(), Fail> {
         let run = run_of(alloc, *ob, *class, *by)?;
         let mut program = String::new(alloc);
         write_program(&mut program, *ob, run.code.as_str())?;
-        let shown = run_text(alloc, &rt, program.as_str(), run.history.as_str())?;
+        let shown = run_text(
+            alloc,
+            &rt,
+            Profile::Small,
+            program.as_str(),
+            run.history.as_str(),
+        )?;
         same(&rt, *ob, shown.as_str(), run.text.as_str());
     }
     Ok(())

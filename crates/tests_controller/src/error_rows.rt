@@ -2,7 +2,7 @@
 use crate::bench::{Row, all_hold};
 use std::test::Fail;
 
-static ROWS: [Row; 13] = [
+static ROWS: [Row; 11] = [
     // without OB 121 cause 3, without OB 122 cause 4
     (
         "OPN DB10; L DBW100; T MW0 | DB 10 { 00 00",
@@ -49,23 +49,13 @@ static ROWS: [Row; 13] = [
         "step 2 | arrive 40 | step 5",
         "@5 PQ 256 = 04 | @8 PQ 257 = 01 | END 8 RUN",
     ),
-    // 16 frames, and 1,024 local bytes
-    (
-        "UC FC1 | FC 1 0 0 { UC FC1",
-        "step 17",
-        "@17 MODE STOP 6 AT FC 1 LINE 1 | END 17 STOP 6",
-    ),
+    // 1,024 local bytes
     (
         "UC FC1 | FC 1 1000 0 { UC FC1",
         "step 3",
         "@3 MODE STOP 7 AT FC 1 LINE 1 | END 3 STOP 7",
     ),
     // in each activation by itself
-    (
-        "UC FC1 | OB 40 20 0 { UC FC1 | FC 1 0 0 { UC FC1",
-        "step 10 | arrive 40 | step 16",
-        "@27 MODE STOP 6 AT FC 1 LINE 1 | END 27 STOP 6",
-    ),
     (
         "UC FC1 | OB 40 20 0 { UC FC1 | FC 1 600 0 { NOP #0; UC FC1",
         "step 2 | arrive 40 | step 3",

@@ -16,6 +16,8 @@ mod interrupt_rows;
 #[cfg(test)]
 mod monitoring_rows;
 #[cfg(test)]
+mod profile_rows;
+#[cfg(test)]
 mod quiet_rows;
 #[cfg(test)]
 mod reply_lines;

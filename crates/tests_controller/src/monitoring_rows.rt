@@ -22,7 +22,7 @@ static NUMBERS: [Row; 3] = [
 ];
 
 /// The record is of the statement of the monitored block alone, and of the registers that it leaves.
-static STATEMENTS: [Row; 9] = [
+static STATEMENTS: [Row; 8] = [
     // while another block interrupts it nothing is recorded
     (
         "L #5; T MW0 | OB 40 20 0 { L #7; T MB4",
@@ -63,12 +63,7 @@ static STATEMENTS: [Row; 9] = [
         "step 2 | monitor OB 1 | step 1",
         "@3 DONE | @4 MON OB 1 LINE 2 STW 0000 A1 00000005 A2 00000000 | @4 MODE STOP 4 AT OB 1 LINE 2 | END 4 STOP 4",
     ),
-    // and so does one that stops for want of a frame; SFC 46 sets BR before it stops
-    (
-        "UC FC1 | FC 1 0 0 { UC FC1",
-        "step 16 | monitor FC 1 | step 1",
-        "@17 DONE | @18 MON FC 1 LINE 1 STW 0004 A1 00000000 A2 00000000 | @18 MODE STOP 6 AT FC 1 LINE 1 | END 18 STOP 6",
-    ),
+    // SFC 46 sets BR before it stops
     (
         "L #5; CALL SFC46",
         "step 2 | monitor OB 1 | step 1",

@@ -18,7 +18,7 @@ static VALUES: [Row; 11] = [
     ),
     (
         "A M0.0; A M0.1; O-; A M0.2; A M0.3; = M1.0",
-        "write MB0 0E | step 7 | read MB300",
+        "write MB0 0E | step 7 | read MB2048",
         "@1 DONE | @9 NOSUCH 1 | END 9 RUN",
     ),
     (
@@ -61,7 +61,7 @@ static VALUES: [Row; 11] = [
     // the first absent one counts, and then nothing is read or written
     (
         "DB 7 { 00 00",
-        "read MB0 MB300 MB1 | read M0.0 IB127 QB127 QW127 | read DB8.DBB0 | read MB0 DB7.DBW1 | write MW255 0001 | write DB7.DBW1 0102 | read MB255 DB7.DBB1",
+        "read MB0 MB2048 MB1 | read M0.0 IB127 QB127 QW127 | read DB8.DBB0 | read MB0 DB7.DBW1 | write MW2047 0001 | write DB7.DBW1 0102 | read MB255 DB7.DBB1",
         "@1 NOSUCH 2 | @2 NOSUCH 4 | @3 NOSUCH 1 | @4 NOSUCH 2 | @5 NOSUCH 1 | @6 NOSUCH 1 | @7 VALUES 00 00 | END 7 RUN | DB 7 0000",
     ),
     // eight variables

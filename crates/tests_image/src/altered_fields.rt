@@ -222,7 +222,30 @@ fn names_out_of_order(rt: HostRuntime) -> Result<(), Fail> {
 fn fields_by_themselves(rt: HostRuntime) {
     for (field, fault) in [
         (Field::Version { number: 1 }, None),
-        (Field::Version { number: 2 }, Some(2)),
+        (Field::Version { number: 2 }, None),
+        (Field::Version { number: 3 }, Some(2)),
+        (Field::Version { number: 0 }, Some(2)),
+        (
+            Field::Profile {
+                version: 1,
+                number: 0,
+            },
+            None,
+        ),
+        (
+            Field::Profile {
+                version: 2,
+                number: 2,
+            },
+            None,
+        ),
+        (
+            Field::Profile {
+                version: 2,
+                number: 0,
+            },
+            Some(4),
+        ),
         (Field::Reserved { number: 1 }, Some(4)),
         (Field::DataBlockCount { count: 256 }, None),
         (Field::DataBlockCount { count: 257 }, Some(4)),

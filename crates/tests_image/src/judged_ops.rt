@@ -26,7 +26,7 @@ static CODES: [Row; 31] = [
     ("A7 00; FB 00; FB 00", 0, 0),
     // No code of the table.
     ("80 00; FB 00", 0, 5),
-    ("85 00; FB 00", 0, 5),
+    ("89 00; FB 00", 0, 5),
     ("9F 00; FB 00", 0, 5),
     ("A7 00; AF 00; FB 00", 2, 5),
     // A form that the instruction doesn't have, or none at all.
@@ -222,6 +222,56 @@ static BRACKETS: [Row; 17] = [
 #[test]
 fn brackets(rt: HostRuntime) -> Result<(), Fail> {
     agree_in_ob(&rt, rt.alloc(), &BRACKETS)
+}
+
+static ZONES: [Row; 22] = [
+    ("85 00; 87 00; 88 00; 86 00; FB 00", 0, 0),
+    ("87 00; 87 00; 88 00; 88 00; FB 00", 0, 0),
+    ("88 00; FB 00", 0, 8),
+    ("87 00; 88 00; 88 00; FB 00", 4, 8),
+    // Eight, and a ninth.
+    (
+        "87 00; 87 00; 87 00; 87 00; 87 00; 87 00; 87 00; 87 00; 88 00; 88 00; 88 00; 88 00; 88 00; 88 00; 88 00; 88 00; FB 00",
+        0,
+        0,
+    ),
+    (
+        "87 00; 87 00; 87 00; 87 00; 87 00; 87 00; 87 00; 87 00; 87 00; 88 00; 88 00; 88 00; 88 00; 88 00; 88 00; 88 00; 88 00; 88 00; FB 00",
+        16,
+        8,
+    ),
+    // Open at the last statement: the first of them.
+    ("87 00; FB 00", 0, 8),
+    ("A7 00; 87 00; 87 00; FB 00", 2, 8),
+    ("87 00; 87 00; 88 00; FB 00", 0, 8),
+    // Jumps into, out of and between zones, whose number alone is compared.
+    ("EF 08 00 00000009; 87 00; 88 00; FB 00", 0, 8),
+    ("EF 08 00 0000000B; 87 00; 88 00; FB 00", 0, 0),
+    ("87 00; EF 08 00 0000000B; 88 00; FB 00", 2, 8),
+    ("87 00; EF 08 00 00000009; 88 00; FB 00", 0, 0),
+    ("87 00; EF 08 00 0000000D; 88 00; 87 00; 88 00; FB 00", 0, 0),
+    (
+        "87 00; EF 08 00 0000000D; 88 00; 87 00; 87 00; 88 00; 88 00; FB 00",
+        0,
+        0,
+    ),
+    (
+        "87 00; EF 08 00 0000000F; 88 00; 87 00; 87 00; 88 00; 88 00; FB 00",
+        2,
+        8,
+    ),
+    // Zones and brackets are counted apart.
+    ("98 00; 87 00; 9E 00; 88 00; FB 00", 0, 0),
+    ("98 00; 88 00; 9E 00; FB 00", 2, 8),
+    ("87 00; 9E 00; 88 00; FB 00", 2, 8),
+    ("98 00; EF 08 00 0000000D; 9E 00; 87 00; 88 00; FB 00", 2, 8),
+    ("98 00; 87 00; 9E 00; FB 00", 2, 8),
+    ("98 00; 87 00; 88 00; FB 00", 0, 8),
+];
+
+#[test]
+fn zones(rt: HostRuntime) -> Result<(), Fail> {
+    agree_in_ob(&rt, rt.alloc(), &ZONES)
 }
 
 /// Rows as the code of a function with the parameters IN word, IN_OUT word and OUT bit; it begins at

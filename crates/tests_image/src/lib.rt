@@ -6,6 +6,8 @@ mod altered_fields;
 #[cfg(test)]
 mod building;
 #[cfg(test)]
+mod code_in_place;
+#[cfg(test)]
 mod compare;
 #[cfg(test)]
 mod images;
@@ -20,6 +22,8 @@ mod names_found;
 #[cfg(test)]
 mod op_code_table;
 #[cfg(test)]
+mod operations_and_names;
+#[cfg(test)]
 mod ops_both_ways;
 #[cfg(test)]
 mod ops_made;
@@ -30,6 +34,6 @@ mod readers;
 #[cfg(test)]
 mod record_numbers;
 #[cfg(test)]
-mod words_and_names;
+mod versions;
 #[cfg(test)]
 mod written_programs;

@@ -5,8 +5,8 @@ ghost use Rattle.std.specs.Prelude.{◌<◌};
 
 use crate::compare::same;
 use flat_code::{
-    Adding, CallWord, EndWord, Logic, Number, Operand, Passed, PointerWord, Shift, Takes, Word,
-    taken_by, word_of,
+    Adding, CallOperation, EndOperation, Logic, Number, Operand, Operation, Passed,
+    PointerOperation, RelayOperation, Shift, Takes, operation_of, taken_by,
 };
 use plc_base::{Area, Check, Compare, TimerKind, Width};
 use std::alloc::{AllocError, Global};
@@ -20,10 +20,10 @@ const LIST: &str = "\
 02 USEDB 0A
 03 BLD 01:255
 04 PASS 0B
-05 -
-06 -
-07 -
-08 -
+05 MCRA 00
+06 MCRD 00
+07 MCR( 00
+08 )MCR 00
 09 -
 0A -
 0B -
@@ -240,17 +240,17 @@ fn shift_name(what: Shift) -> &'static str {
     }
 }
 
-fn pointer_name(what: PointerWord) -> &'static str {
+fn pointer_name(what: PointerOperation) -> &'static str {
     match what {
-        PointerWord::Lar1 => "LAR1",
-        PointerWord::Lar2 => "LAR2",
-        PointerWord::Tar1 => "TAR1",
-        PointerWord::Tar2 => "TAR2",
-        PointerWord::Lar1Ar2 => "LAR1 AR2",
-        PointerWord::Tar1Ar2 => "TAR1 AR2",
-        PointerWord::Car => "CAR",
-        PointerWord::AddAr1 => "+AR1",
-        PointerWord::AddAr2 => "+AR2",
+        PointerOperation::Lar1 => "LAR1",
+        PointerOperation::Lar2 => "LAR2",
+        PointerOperation::Tar1 => "TAR1",
+        PointerOperation::Tar2 => "TAR2",
+        PointerOperation::Lar1Ar2 => "LAR1 AR2",
+        PointerOperation::Tar1Ar2 => "TAR1 AR2",
+        PointerOperation::Car => "CAR",
+        PointerOperation::AddAr1 => "+AR1",
+        PointerOperation::AddAr2 => "+AR2",
     }
 }
 
@@ -264,72 +264,82 @@ fn start_name(kind: TimerKind) -> &'static str {
     }
 }
 
-fn call_name(how: CallWord) -> &'static str {
+fn call_name(how: CallOperation) -> &'static str {
     match how {
-        CallWord::Call => "CALL",
-        CallWord::Uc => "UC",
-        CallWord::Cc => "CC",
+        CallOperation::Call => "CALL",
+        CallOperation::Uc => "UC",
+        CallOperation::Cc => "CC",
     }
 }
 
-fn end_name(how: EndWord) -> &'static str {
+fn end_name(how: EndOperation) -> &'static str {
     match how {
-        EndWord::Be => "BE",
-        EndWord::Bec => "BEC",
-        EndWord::Beu => "BEU",
+        EndOperation::Be => "BE",
+        EndOperation::Bec => "BEC",
+        EndOperation::Beu => "BEU",
     }
 }
 
-/// The instruction of a word, a comparison without its type.
-fn name(word: Word) -> &'static str {
-    match word {
-        Word::CompareInt(how) | Word::CompareDint(how) => comparison_name(how),
-        Word::NoWord => "-",
-        Word::Nop => "NOP",
-        Word::Bld => "BLD",
-        Word::UseDb => "USEDB",
-        Word::Pass => "PASS",
-        Word::Check(with) => check_name(with),
-        Word::OrBare => "O",
-        Word::Nest(with) => nest_name(with),
-        Word::Unnest => ")",
-        Word::Load => "L",
-        Word::Transfer => "T",
-        Word::Assign => "=",
-        Word::Set => "S",
-        Word::Reset => "R",
-        Word::Edge { rising: true } => "FP",
-        Word::Edge { rising: false } => "FN",
-        Word::SetRlo => "SET",
-        Word::ClearRlo => "CLR",
-        Word::NegateRlo => "NOT",
-        Word::SaveRlo => "SAVE",
-        Word::LoadBcd => "LC",
-        Word::LoadStatus => "L STW",
-        Word::TransferStatus => "T STW",
-        Word::LoadOpenBlock => "L DBLG",
-        Word::Pointer(what) => pointer_name(what),
-        Word::Number(what) => number_name(what),
-        Word::Add(what) => adding_name(what),
-        Word::Logic(what) => logic_name(what),
-        Word::Shift(what) => shift_name(what),
-        Word::Jump => "JUMP",
-        Word::Start(kind) => start_name(kind),
-        Word::Free => "FR",
-        Word::CountUp => "CU",
-        Word::CountDown => "CD",
-        Word::Call(how) => call_name(how),
-        Word::End(how) => end_name(how),
-        Word::OpenBlock => "OPN",
-        Word::Exchange => "CDB",
+fn relay_name(what: RelayOperation) -> &'static str {
+    match what {
+        RelayOperation::Activate => "MCRA",
+        RelayOperation::Deactivate => "MCRD",
+        RelayOperation::Open => "MCR(",
+        RelayOperation::Close => ")MCR",
+    }
+}
+
+/// The instruction of an operation, a comparison without its type.
+fn name(operation: Operation) -> &'static str {
+    match operation {
+        Operation::CompareInt(how) | Operation::CompareDint(how) => comparison_name(how),
+        Operation::NoOperation => "-",
+        Operation::Nop => "NOP",
+        Operation::Bld => "BLD",
+        Operation::UseDb => "USEDB",
+        Operation::Pass => "PASS",
+        Operation::Relay(what) => relay_name(what),
+        Operation::Check(with) => check_name(with),
+        Operation::OrBare => "O",
+        Operation::Nest(with) => nest_name(with),
+        Operation::Unnest => ")",
+        Operation::Load => "L",
+        Operation::Transfer => "T",
+        Operation::Assign => "=",
+        Operation::Set => "S",
+        Operation::Reset => "R",
+        Operation::Edge { rising: true } => "FP",
+        Operation::Edge { rising: false } => "FN",
+        Operation::SetRlo => "SET",
+        Operation::ClearRlo => "CLR",
+        Operation::NegateRlo => "NOT",
+        Operation::SaveRlo => "SAVE",
+        Operation::LoadBcd => "LC",
+        Operation::LoadStatus => "L STW",
+        Operation::TransferStatus => "T STW",
+        Operation::LoadOpenBlock => "L DBLG",
+        Operation::Pointer(what) => pointer_name(what),
+        Operation::Number(what) => number_name(what),
+        Operation::Add(what) => adding_name(what),
+        Operation::Logic(what) => logic_name(what),
+        Operation::Shift(what) => shift_name(what),
+        Operation::Jump => "JUMP",
+        Operation::Start(kind) => start_name(kind),
+        Operation::Free => "FR",
+        Operation::CountUp => "CU",
+        Operation::CountDown => "CD",
+        Operation::Call(how) => call_name(how),
+        Operation::End(how) => end_name(how),
+        Operation::OpenBlock => "OPN",
+        Operation::Exchange => "CDB",
     }
 }
 
 /// The type behind a comparison.
-fn type_behind(word: Word) -> &'static str {
-    match word {
-        Word::CompareInt(_) => "I",
-        Word::CompareDint(_) => "D",
+fn type_behind(operation: Operation) -> &'static str {
+    match operation {
+        Operation::CompareInt(_) => "I",
+        Operation::CompareDint(_) => "D",
         _ => "",
     }
 }
@@ -468,10 +478,10 @@ fn line(alloc: Global, code: u8) -> Result<String, AllocError>
     requires { code < 128 }
 {
     let mut out = String::new(alloc);
-    let word = word_of(code);
+    let operation = operation_of(code);
     let takes = taken_by(code);
-    let name = name(word);
-    let of = type_behind(word);
+    let name = name(operation);
+    let of = type_behind(operation);
     write!(out, "{code:02X} {name}{of}")?;
     if takes.admits(&Operand::Nothing) {
         out.push_str(" 00")?;
@@ -498,7 +508,7 @@ fn each_code_takes_what_the_list_says(rt: HostRuntime) -> Result<(), Fail> {
         let want = lines.next().unwrap_or("no line");
         let line = line(rt.alloc(), code)?;
         same(&rt, code, line.as_str(), want);
-        let is_its_own = code == word_of(code).code() || want.ends_with('-');
+        let is_its_own = code == operation_of(code).code() || want.ends_with('-');
         same(&rt, ("code of the word of", code), is_its_own, true);
     }
     same(&rt, "a further line", lines.next(), None);

@@ -1,19 +1,20 @@
-//! Ops made of a word and an operand, and how many bytes they take. The bytes were written by hand
-//! from the tables of forms and codes.
+//! Ops made of an operation and an operand, and how many bytes they take. The bytes were written by
+//! hand from the tables of forms and codes.
 
 use crate::building::put_hex;
 use crate::compare::same;
 use flat_code::{
-    Adding, CallWord, EndWord, Logic, Number, Op, Operand, Passed, PointerWord, Shift, Word,
-    encode_op,
+    Adding, CallOperation, EndOperation, Logic, Number, Op, Operand, Operation, Passed,
+    PointerOperation, RelayOperation, Shift, encode_op,
 };
 use plc_base::{Area, Check, TimerKind, Width};
 use std::alloc::Global;
 use std::process::Abort;
 use std::test::Fail;
 
-/// A word and an operand that it takes, how many bytes their op has, and these without end mark.
-type Row = (Word, Operand, u32, &'static str);
+/// An operation and an operand that it takes, how many bytes their op has, and these without end
+/// mark.
+type Row = (Operation, Operand, u32, &'static str);
 
 fn literal(value: u32) -> Operand {
     Operand::Literal { value }
@@ -106,21 +107,21 @@ fn passed_in_block(number: u16, byte: u16, bit: u8) -> Passed {
 /// The row's op is made, has the row's size, and is spelled by the row's bytes; the last op of a
 /// statement by a code that is 128 higher.
 fn is_made(rt: &impl Abort, alloc: Global, row: &Row, last: bool) -> Result<(), Fail> {
-    let (word, operand, size, text) = *row;
+    let (operation, operand, size, text) = *row;
     let mut bytes = Vec::new(alloc);
     put_hex(&mut bytes, text)?;
     if last && !bytes.is_empty() {
         bytes[0] |= 0x80;
     }
-    let Some(op) = Op::taken(word, last, operand) else {
+    let Some(op) = Op::taken(operation, last, operand) else {
         panic!(rt; "no op: {text}")
     };
     let mut spelled = Vec::new(alloc);
     encode_op(&op, &mut spelled)?;
     same(rt, text, spelled.as_slice(), bytes.as_slice());
     same(rt, text, (op.size(), op.last), (size, last));
-    let found = (op.word().code(), operand.fits());
-    same(rt, text, found, (word.code(), true));
+    let found = (op.operation().code(), operand.fits());
+    same(rt, text, found, (operation.code(), true));
     Ok(())
 }
 
@@ -135,29 +136,73 @@ fn are_made(rt: &impl Abort, alloc: Global, rows: &[Row]) -> Result<(), Fail> {
 
 #[test]
 fn plain_ops(rt: HostRuntime) -> Result<(), Fail> {
-    let rows: [Row; 11] = [
-        (Word::OrBare, Operand::Nothing, 2, "16 00"),
-        (Word::End(EndWord::Be), Operand::Nothing, 2, "7B 00"),
+    let rows: [Row; 15] = [
         (
-            Word::Pointer(PointerWord::Lar1),
+            Operation::Relay(RelayOperation::Activate),
+            Operand::Nothing,
+            2,
+            "05 00",
+        ),
+        (
+            Operation::Relay(RelayOperation::Deactivate),
+            Operand::Nothing,
+            2,
+            "06 00",
+        ),
+        (
+            Operation::Relay(RelayOperation::Open),
+            Operand::Nothing,
+            2,
+            "07 00",
+        ),
+        (
+            Operation::Relay(RelayOperation::Close),
+            Operand::Nothing,
+            2,
+            "08 00",
+        ),
+        (Operation::OrBare, Operand::Nothing, 2, "16 00"),
+        (
+            Operation::End(EndOperation::Be),
+            Operand::Nothing,
+            2,
+            "7B 00",
+        ),
+        (
+            Operation::Pointer(PointerOperation::Lar1),
             Operand::Nothing,
             2,
             "30 00",
         ),
-        (Word::Logic(Logic::Aw), Operand::Nothing, 2, "5F 00"),
-        (Word::Number(Number::Rrda), Operand::Nothing, 2, "6E 00"),
-        (Word::Load, literal(0x1234_5678), 6, "20 01 12345678"),
-        (Word::Shift(Shift::Ssi), literal(15), 6, "65 01 0000000F"),
-        (Word::Shift(Shift::Rrd), literal(32), 6, "6C 01 00000020"),
+        (Operation::Logic(Logic::Aw), Operand::Nothing, 2, "5F 00"),
         (
-            Word::Add(Adding::Word),
+            Operation::Number(Number::Rrda),
+            Operand::Nothing,
+            2,
+            "6E 00",
+        ),
+        (Operation::Load, literal(0x1234_5678), 6, "20 01 12345678"),
+        (
+            Operation::Shift(Shift::Ssi),
+            literal(15),
+            6,
+            "65 01 0000000F",
+        ),
+        (
+            Operation::Shift(Shift::Rrd),
+            literal(32),
+            6,
+            "6C 01 00000020",
+        ),
+        (
+            Operation::Add(Adding::Word),
             literal(0xFFFF),
             6,
             "40 01 0000FFFF",
         ),
-        (Word::Bld, literal(255), 6, "03 01 000000FF"),
+        (Operation::Bld, literal(255), 6, "03 01 000000FF"),
         (
-            Word::Check(Check::Xn),
+            Operation::Check(Check::Xn),
             Operand::OfStatus { condition: 10 },
             3,
             "15 09 0A",
@@ -166,7 +211,7 @@ fn plain_ops(rt: HostRuntime) -> Result<(), Fail> {
     are_made(&rt, rt.alloc(), &rows)
 }
 
-/// A word takes operands of each width; whether it has the width is fault 7 of an image.
+/// An operation takes operands of each width; whether it has the width is fault 7 of an image.
 #[test]
 fn ops_at_places(rt: HostRuntime) -> Result<(), Fail> {
     let index = 255;
@@ -174,38 +219,43 @@ fn ops_at_places(rt: HostRuntime) -> Result<(), Fail> {
     let bit = by_memory(Area::M, Width::Bit, Area::L, 0x28);
     let rows: [Row; 7] = [
         (
-            Word::Transfer,
+            Operation::Transfer,
             direct(Area::Db, Width::Word, 2, 0),
             7,
             "21 02 84 03 0002 00",
         ),
         (
-            Word::Check(Check::A),
+            Operation::Check(Check::A),
             direct(Area::P, Width::Dword, 0xFFFF, 7),
             7,
             "10 02 80 04 FFFF 07",
         ),
-        (Word::Edge { rising: true }, bit, 7, "25 03 83 01 86 0028"),
         (
-            Word::Set,
+            Operation::Edge { rising: true },
+            bit,
+            7,
+            "25 03 83 01 86 0028",
+        ),
+        (
+            Operation::Set,
             by_register(None, Width::Bit, 2, 0xFFFF_FFFF),
             9,
             "23 04 00 01 02 FFFFFFFF",
         ),
         (
-            Word::Load,
+            Operation::Load,
             by_register(Some(Area::I), Width::Byte, 1, 8),
             9,
             "20 04 81 02 01 00000008",
         ),
         (
-            Word::Assign,
+            Operation::Assign,
             Operand::Parameter { index, width },
             4,
             "22 05 FF 01",
         ),
         (
-            Word::Pointer(PointerWord::Tar2),
+            Operation::Pointer(PointerOperation::Tar2),
             direct(Area::L, Width::Dword, 20, 0),
             7,
             "33 02 86 04 0014 00",
@@ -218,35 +268,40 @@ fn ops_at_places(rt: HostRuntime) -> Result<(), Fail> {
 fn ops_with_numbers(rt: HostRuntime) -> Result<(), Fail> {
     let rows: [Row; 9] = [
         (
-            Word::Start(TimerKind::Sp),
+            Operation::Start(TimerKind::Sp),
             numbered(1, 0x1FF),
             5,
             "70 06 01 01FF",
         ),
-        (Word::CountUp, numbered(2, 1), 5, "76 06 02 0001"),
+        (Operation::CountUp, numbered(2, 1), 5, "76 06 02 0001"),
         (
-            Word::LoadBcd,
+            Operation::LoadBcd,
             numbered_by(2, Area::Di, 6),
             6,
             "2B 07 02 85 0006",
         ),
-        (Word::Jump, jump(17, 7), 7, "6F 08 11 00000007"),
-        (Word::UseDb, Operand::UseDb { number: 10 }, 4, "02 0A 000A"),
+        (Operation::Jump, jump(17, 7), 7, "6F 08 11 00000007"),
         (
-            Word::Call(CallWord::Call),
+            Operation::UseDb,
+            Operand::UseDb { number: 10 },
+            4,
+            "02 0A 000A",
+        ),
+        (
+            Operation::Call(CallOperation::Call),
             called(3, 0x7FF, 5),
             7,
             "78 0D 03 07FF 0005",
         ),
         (
-            Word::Call(CallWord::Uc),
+            Operation::Call(CallOperation::Uc),
             called(5, 43, 0),
             7,
             "79 0D 05 002B 0000",
         ),
-        (Word::OpenBlock, open(2, 0x100), 5, "7E 0E 02 0100"),
+        (Operation::OpenBlock, open(2, 0x100), 5, "7E 0E 02 0100"),
         (
-            Word::OpenBlock,
+            Operation::OpenBlock,
             open_by(1, Area::Db, 16),
             6,
             "7E 0F 01 84 0010",
@@ -263,20 +318,20 @@ fn ops_that_pass(rt: HostRuntime) -> Result<(), Fail> {
     };
     let rows: [Row; 4] = [
         (
-            Word::Pass,
+            Operation::Pass,
             pass(0, Passed::Literal { value: 1 }),
             8,
             "04 0B 00 01 00000001",
         ),
         (
-            Word::Pass,
+            Operation::Pass,
             pass(3, passed_place(5, 7)),
             9,
             "04 0B 03 02 81 01 0005 07",
         ),
-        (Word::Pass, pass(59, own), 6, "04 0B 3B 05 02 03"),
+        (Operation::Pass, pass(59, own), 6, "04 0B 3B 05 02 03"),
         (
-            Word::Pass,
+            Operation::Pass,
             pass(1, passed_in_block(10, 0x102, 0)),
             11,
             "04 0B 01 0C 000A 84 04 0102 00",
@@ -285,58 +340,60 @@ fn ops_that_pass(rt: HostRuntime) -> Result<(), Fail> {
     are_made(&rt, rt.alloc(), &rows)
 }
 
-/// No row's word takes the row's operand.
-fn are_refused(rt: &impl Abort, rows: &[(Word, Operand)]) {
+/// No row's operation takes the row's operand.
+fn are_refused(rt: &impl Abort, rows: &[(Operation, Operand)]) {
     for row in rows {
-        let (word, operand) = *row;
-        let is_none = Op::taken(word, true, operand).is_none();
-        same(rt, (word.code(), operand), is_none, true);
+        let (operation, operand) = *row;
+        let is_none = Op::taken(operation, true, operand).is_none();
+        same(rt, (operation.code(), operand), is_none, true);
     }
 }
 
-/// A form that the word lacks, or a literal above its greatest.
+/// A form that the operation lacks, or a literal above its greatest.
 #[test]
-fn operands_that_a_word_lacks(rt: HostRuntime) {
+fn operands_that_an_operation_lacks(rt: HostRuntime) {
     let rows = [
-        (Word::NoWord, Operand::Nothing),
-        (Word::Load, Operand::Nothing),
-        (Word::SetRlo, literal(0)),
-        (Word::Assign, literal(1)),
-        (Word::Nop, literal(2)),
-        (Word::Bld, literal(256)),
-        (Word::LoadOpenBlock, literal(4)),
-        (Word::Add(Adding::Word), literal(0x1_0000)),
-        (Word::Shift(Shift::Ssi), literal(16)),
-        (Word::Shift(Shift::Rld), literal(33)),
-        (Word::Pointer(PointerWord::Tar1), literal(8)),
+        (Operation::NoOperation, Operand::Nothing),
+        (Operation::Load, Operand::Nothing),
+        (Operation::SetRlo, literal(0)),
+        (Operation::Assign, literal(1)),
+        (Operation::Nop, literal(2)),
+        (Operation::Bld, literal(256)),
+        (Operation::LoadOpenBlock, literal(4)),
+        (Operation::Add(Adding::Word), literal(0x1_0000)),
+        (Operation::Shift(Shift::Ssi), literal(16)),
+        (Operation::Shift(Shift::Rld), literal(33)),
+        (Operation::Pointer(PointerOperation::Tar1), literal(8)),
         (
-            Word::Pointer(PointerWord::Lar1),
+            Operation::Pointer(PointerOperation::Lar1),
             by_memory(Area::M, Width::Dword, Area::M, 0),
         ),
-        (Word::Transfer, Operand::OfStatus { condition: 1 }),
+        (Operation::Transfer, Operand::OfStatus { condition: 1 }),
     ];
     are_refused(&rt, &rows);
 }
 
 #[test]
-fn more_operands_that_a_word_lacks(rt: HostRuntime) {
+fn more_operands_that_an_operation_lacks(rt: HostRuntime) {
     let rows = [
-        (Word::Set, numbered(1, 0)),
-        (Word::Transfer, numbered(1, 0)),
-        (Word::CountDown, numbered(1, 0)),
-        (Word::Start(TimerKind::Sf), numbered(2, 0)),
-        (Word::Start(TimerKind::Sf), numbered_by(2, Area::M, 0)),
-        (Word::Call(CallWord::Cc), jump(0, 0)),
-        (Word::Jump, called(2, 1, 0)),
-        (Word::UseDb, open(1, 1)),
-        (Word::Pass, literal(1)),
-        (Word::End(EndWord::Beu), literal(0)),
+        (Operation::Set, numbered(1, 0)),
+        (Operation::Transfer, numbered(1, 0)),
+        (Operation::CountDown, numbered(1, 0)),
+        (Operation::Start(TimerKind::Sf), numbered(2, 0)),
+        (Operation::Start(TimerKind::Sf), numbered_by(2, Area::M, 0)),
+        (Operation::Call(CallOperation::Cc), jump(0, 0)),
+        (Operation::Jump, called(2, 1, 0)),
+        (Operation::UseDb, open(1, 1)),
+        (Operation::Pass, literal(1)),
+        (Operation::End(EndOperation::Beu), literal(0)),
+        (Operation::Relay(RelayOperation::Open), literal(0)),
+        (Operation::Relay(RelayOperation::Close), jump(0, 0)),
     ];
     are_refused(&rt, &rows);
 }
 
 /// Each row's operand has a field beyond those of its form, so its op isn't made.
-fn do_not_fit(rt: &impl Abort, rows: &[(Word, Operand)]) {
+fn do_not_fit(rt: &impl Abort, rows: &[(Operation, Operand)]) {
     are_refused(rt, rows);
     for (_, operand) in rows {
         same(rt, *operand, operand.fits(), false);
@@ -345,7 +402,7 @@ fn do_not_fit(rt: &impl Abort, rows: &[(Word, Operand)]) {
 
 #[test]
 fn operands_beyond_their_form(rt: HostRuntime) {
-    let check = Word::Check(Check::A);
+    let check = Operation::Check(Check::A);
     let rows = [
         (check, direct(Area::M, Width::Bit, 0, 8)),
         (check, by_memory(Area::P, Width::Bit, Area::M, 0)),
@@ -364,17 +421,17 @@ fn operands_beyond_their_form(rt: HostRuntime) {
 
 #[test]
 fn more_operands_beyond_their_form(rt: HostRuntime) {
-    let call = Word::Call(CallWord::Call);
+    let call = Operation::Call(CallOperation::Call);
     let rows = [
-        (Word::Jump, jump(18, 0)),
+        (Operation::Jump, jump(18, 0)),
         (call, called(1, 1, 0)),
         (call, called(4, 1, 0)),
-        (Word::OpenBlock, open(0, 1)),
-        (Word::OpenBlock, open(3, 1)),
-        (Word::OpenBlock, open_by(3, Area::M, 0)),
-        (Word::OpenBlock, open_by(1, Area::P, 0)),
-        (Word::Pass, pass(0, passed_place(0, 8))),
-        (Word::Pass, pass(0, passed_in_block(1, 0, 8))),
+        (Operation::OpenBlock, open(0, 1)),
+        (Operation::OpenBlock, open(3, 1)),
+        (Operation::OpenBlock, open_by(3, Area::M, 0)),
+        (Operation::OpenBlock, open_by(1, Area::P, 0)),
+        (Operation::Pass, pass(0, passed_place(0, 8))),
+        (Operation::Pass, pass(0, passed_in_block(1, 0, 8))),
     ];
     do_not_fit(&rt, &rows);
 }

@@ -5,7 +5,7 @@ use crate::compare::same;
 use crate::images::EXAMPLE;
 use arrayvec::ArrayVec;
 use flat_code::{
-    CodeBlock, DataBlock, EndWord, NameEntry, Op, Operand, Param, Passed, Program, Word,
+    CodeBlock, DataBlock, EndOperation, NameEntry, Op, Operand, Operation, Param, Passed, Program,
 };
 use image_file::{VerifyError, VerifyFault, verify, write_image};
 use plc_base::{Area, BlockId, BlockKind, Place, Width};
@@ -22,7 +22,7 @@ type Data = (u16, Option<u16>, usize);
 type Name = (&'static [u8], Place, Width);
 
 /// An op: its word, whether it is the last of its statement, and its operand.
-type Made = (Word, bool, Operand);
+type Made = (Operation, bool, Operand);
 
 /// The ops of these words; an operand that its word lacks makes none.
 fn code_of(alloc: Global, ops: &[Made]) -> Result<Vec<Op>, AllocError> {
@@ -38,7 +38,10 @@ fn code_of(alloc: Global, ops: &[Made]) -> Result<Vec<Op>, AllocError> {
 /// A code block with these parameters, the statement BE, and its line.
 fn code_block(alloc: Global, head: Head, params: &[Param]) -> Result<CodeBlock, AllocError> {
     let (kind, number, local_len, instance_len) = head;
-    let code = code_of(alloc, &[(Word::End(EndWord::Be), true, Operand::Nothing)])?;
+    let code = code_of(
+        alloc,
+        &[(Operation::End(EndOperation::Be), true, Operand::Nothing)],
+    )?;
     let lines = Vec::from_slice(alloc, &[1])?;
     let mut own = ArrayVec::new();
     for param in params {
@@ -299,10 +302,10 @@ fn long_code(alloc: Global, passes: usize, last: Operand) -> Result<Vec<Op>, All
         bit: 0,
     };
     let mut code = Vec::new(alloc);
-    if let Some(op) = Op::taken(Word::Pass, false, Operand::Pass { index: 0, actual }) {
+    if let Some(op) = Op::taken(Operation::Pass, false, Operand::Pass { index: 0, actual }) {
         code.resize(passes, op)?;
     }
-    if let Some(op) = Op::taken(Word::Load, true, last) {
+    if let Some(op) = Op::taken(Operation::Load, true, last) {
         code.push(op)?;
     }
     Ok(code)
@@ -341,10 +344,10 @@ fn example_code(alloc: Global, target: u32) -> Result<Vec<Op>, AllocError> {
     };
     let jump = Operand::Jump { kind: 0, target };
     let ops = [
-        (Word::Jump, true, jump),
-        (Word::UseDb, false, Operand::UseDb { number: 10 }),
-        (Word::Transfer, true, place),
-        (Word::End(EndWord::Be), true, Operand::Nothing),
+        (Operation::Jump, true, jump),
+        (Operation::UseDb, false, Operand::UseDb { number: 10 }),
+        (Operation::Transfer, true, place),
+        (Operation::End(EndOperation::Be), true, Operand::Nothing),
     ];
     code_of(alloc, &ops)
 }
@@ -416,9 +419,9 @@ fn code_that_does_not_verify(rt: HostRuntime) -> Result<(), Fail> {
     let program = example(rt.alloc(), Vec::new(rt.alloc()), &[])?;
     same(&rt, "no code", fault_of(rt.alloc(), program), (0, 5));
     let ops = [
-        (Word::SetRlo, true, Operand::Nothing),
-        (Word::Unnest, true, Operand::Nothing),
-        (Word::End(EndWord::Be), true, Operand::Nothing),
+        (Operation::SetRlo, true, Operand::Nothing),
+        (Operation::Unnest, true, Operand::Nothing),
+        (Operation::End(EndOperation::Be), true, Operand::Nothing),
     ];
     let code = code_of(rt.alloc(), &ops)?;
     let program = example(rt.alloc(), code, &[1, 1, 2])?;

@@ -93,9 +93,9 @@ fn code_of_a_block(rt: HostRuntime) -> Result<(), Fail> {
     let block = fb(1, 4, &[(1, 1, 0), (2, 3, 2)], "FB 00");
     let bytes = image(rt.alloc(), &[block], &[], &[])?;
     let loaded = load(rt.alloc(), bytes.as_slice())?;
-    let absent = loaded.code(id(BlockKind::Fc, 1)).is_none();
+    let absent = loaded.block(id(BlockKind::Fc, 1)).is_none();
     same(&rt, "no FC 1", absent, true);
-    let code = loaded.code(id(BlockKind::Fb, 1)).ok_or("no FB 1")?;
+    let code = loaded.block(id(BlockKind::Fb, 1)).ok_or("no FB 1")?;
     same(
         &rt,
         "bytes",

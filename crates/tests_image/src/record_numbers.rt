@@ -1,8 +1,10 @@
-//! The numbers of kinds, areas and widths in the records of an image.
+//! The numbers of kinds, areas and widths in the records of an image, and its version and profile.
 
 use crate::compare::same;
-use flat_code::{area_number, area_of_number, kind_of_code, kind_of_number, width_of_number};
-use plc_base::{Area, BlockKind, Place, Width};
+use flat_code::{
+    Stamp, area_number, area_of_number, kind_of_code, kind_of_number, width_of_number,
+};
+use plc_base::{Area, BlockKind, Place, Profile, Width};
 
 #[test]
 fn numbers_of_widths(rt: HostRuntime) {
@@ -105,5 +107,37 @@ fn kinds_of_numbers(rt: HostRuntime) {
     ] {
         same(&rt, number, kind_of_code(number), named);
         same(&rt, number, kind_of_number(number), of_record);
+    }
+}
+
+/// The two fields behind the magic, and the profile with which the image is run.
+#[test]
+fn fields_of_stamps(rt: HostRuntime) {
+    for (stamp, fields, profile) in [
+        (Stamp::One, (1, 0), Profile::Small),
+        (Stamp::Two(Profile::Small), (2, 1), Profile::Small),
+        (Stamp::Two(Profile::Large), (2, 2), Profile::Large),
+    ] {
+        let found = (stamp.version(), stamp.profile_field());
+        same(&rt, stamp, found, fields);
+        same(&rt, fields, Stamp::of(found.0, found.1), stamp);
+        same(&rt, stamp, stamp.profile(), profile);
+    }
+}
+
+/// Of fields that are a fault there is a stamp too, which no image has.
+#[test]
+fn stamps_of_faulty_fields(rt: HostRuntime) {
+    for (fields, stamp) in [
+        ((0, 0), Stamp::One),
+        ((0, 2), Stamp::One),
+        ((1, 1), Stamp::One),
+        ((1, 2), Stamp::One),
+        ((2, 0), Stamp::Two(Profile::Small)),
+        ((2, 3), Stamp::Two(Profile::Small)),
+        ((3, 2), Stamp::One),
+        ((65_535, 1), Stamp::One),
+    ] {
+        same(&rt, fields, Stamp::of(fields.0, fields.1), stamp);
     }
 }

@@ -63,7 +63,7 @@ static ENTRIES: [Row; 21] = [
     (
         "A(; A(; A(; A(; A(; A(; A(; UC FC1; A M0.1; ); ); ); ); ); ); ); = M1.0 | FC 1 0 0 { A(; A(; A(; A(; A(; A(; A(; A M0.0; ); ); ); ); ); ); )",
         "MB0=02",
-        "MB1=01 STW=6",
+        "MB1=01 STW=6 ERRS=0",
     ),
     // local bytes are 0 at each entry, also where another block had them before
     (

@@ -23,6 +23,8 @@ mod pointer_rows;
 #[cfg(test)]
 mod program_rows;
 #[cfg(test)]
+mod relay_rows;
+#[cfg(test)]
 mod system_call_rows;
 #[cfg(test)]
 mod timing_rows;

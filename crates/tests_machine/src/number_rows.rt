@@ -75,7 +75,7 @@ fn comparisons_and_conversions(rt: HostRuntime) -> Result<(), Fail> {
     all_hold(&rt, rt.alloc(), &COMPARED)
 }
 
-/// Word logic: CC 1 tells a result other than 0; CC 0 and OV become 0, OS stays.
+/// Operation logic: CC 1 tells a result other than 0; CC 0 and OV become 0, OS stays.
 static WORD_LOGIC: [Row; 12] = [
     ("AW", "A2=FF A1=AAAA0FF0 STW=70", "A1=AAAA00F0 STW=90"),
     ("OW", "A2=F A1=AAAA00F0", "A1=AAAA00FF STW=80"),

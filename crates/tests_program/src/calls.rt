@@ -281,7 +281,7 @@ static CHECKS: [Row; 18] = [
     ),
     // A place beyond the memory is met only when it runs.
     (
-        b"ORGANIZATION_BLOCK OB 40\nBEGIN\nA M 255.7;\nA M 256.0;\nEND_ORGANIZATION_BLOCK\n",
+        b"ORGANIZATION_BLOCK OB 40\nBEGIN\nA M 2047.7;\nA M 2048.0;\nEND_ORGANIZATION_BLOCK\n",
         b"",
         0,
         b"OK\n",

@@ -26,8 +26,17 @@ fn all_files(alloc: Global) -> Result<MemFiles, Fail> {
 
 const RUN_CYCLE: [&str; 3] = ["run", "image", "cycle"];
 
+/// Over itself, so that the file that is written is the one that each test looks at.
+const UPGRADE: [&str; 3] = ["upgrade", "image", "image"];
+
 // Words, and how many reads the call makes: a file in one piece, and the end behind it.
-static READS: [(&[&str], u64); 4] = [(&GO, 4), (&CHECK, 2), (&COMPILE, 2), (&RUN_CYCLE, 4)];
+static READS: [(&[&str], u64); 5] = [
+    (&GO, 4),
+    (&CHECK, 2),
+    (&COMPILE, 2),
+    (&RUN_CYCLE, 4),
+    (&UPGRADE, 2),
+];
 
 #[test]
 fn failed_reads(rt: HostRuntime) -> Result<(), Fail> {
@@ -60,8 +69,14 @@ fn no_further_reads(rt: HostRuntime) -> Result<(), Fail> {
     Ok(())
 }
 
-// How often each command writes a file: `compile` its image, and the others none.
-static WRITES: [(&[&str], u64); 4] = [(&GO, 0), (&CHECK, 0), (&COMPILE, 1), (&RUN_CYCLE, 0)];
+// How often each command writes a file: `compile` and `upgrade` their image, and the others none.
+static WRITES: [(&[&str], u64); 5] = [
+    (&GO, 0),
+    (&CHECK, 0),
+    (&COMPILE, 1),
+    (&RUN_CYCLE, 0),
+    (&UPGRADE, 1),
+];
 
 #[test]
 fn writes_of_commands(rt: HostRuntime) -> Result<(), Fail> {
@@ -74,29 +89,35 @@ fn writes_of_commands(rt: HostRuntime) -> Result<(), Fail> {
     Ok(())
 }
 
-// The one write of `compile` fails: the image is what it was, and nothing is said.
+// The one write of `compile`, and of `upgrade`, fails: the image is what it was, and nothing is said.
 #[test]
 fn failed_write(rt: HostRuntime) -> Result<(), Fail> {
-    let mut files = all_files(rt.alloc())?;
-    files.fail_writes(only(1));
-    let mut out = MemSink::new(rt.alloc(), 64);
-    let code = call(&rt, rt.alloc(), &COMPILE, &mut files, &mut out)?;
-    let told = (code, out.taken.as_slice());
-    same(&rt, "compile", told, (6, b"".as_slice()));
-    let image = files.files.get("image");
-    same(&rt, "the image", image, Some(IMAGE.as_slice()));
+    let writing: [&[&str]; 2] = [&COMPILE, &UPGRADE];
+    for words in writing {
+        let mut files = all_files(rt.alloc())?;
+        files.fail_writes(only(1));
+        let mut out = MemSink::new(rt.alloc(), 64);
+        let code = call(&rt, rt.alloc(), words, &mut files, &mut out)?;
+        let told = (code, out.taken.as_slice());
+        same(&rt, words, told, (6, b"".as_slice()));
+        let image = files.files.get("image");
+        same(&rt, words, image, Some(IMAGE.as_slice()));
+    }
     Ok(())
 }
 
 // The words of a call, how many bytes the sink takes before it fails, the status, and the text. The text of
-// `compile` has three bytes.
-static CUT_OFF: [(&[&str], usize, u8, &[u8]); 12] = [
+// `compile` and `upgrade` has three bytes.
+static CUT_OFF: [(&[&str], usize, u8, &[u8]); 15] = [
     (&GO, 0, 6, b""),
     (&GO, 1, 6, b"@"),
     (&GO, 9, 6, b"@7 PQ 4 ="),
     (&COMPILE, 0, 6, b""),
     (&COMPILE, 1, 6, b"O"),
     (&COMPILE, 9, 0, b"OK\n"),
+    (&UPGRADE, 0, 6, b""),
+    (&UPGRADE, 1, 6, b"O"),
+    (&UPGRADE, 9, 0, b"OK\n"),
     (&RUN_CYCLE, 0, 6, b""),
     (&RUN_CYCLE, 1, 6, b"E"),
     (&RUN_CYCLE, 9, 6, b"END 4 RUN"),
@@ -126,7 +147,7 @@ fn an_image_before_a_failed_push(rt: HostRuntime) -> Result<(), Fail> {
     out.fail_pushes(only(1));
     let code = call(&rt, rt.alloc(), &COMPILE, &mut files, &mut out)?;
     // a header of no blocks and no names
-    let empty = b"S7FB\0\x01\0\0\0\0\0\x14\0\0\0\0\0\0\0\0".as_slice();
+    let empty = b"S7FB\0\x02\0\x02\0\0\0\x14\0\0\0\0\0\0\0\0".as_slice();
     let told = (code, files.files.get("image"));
     same(&rt, "the image", told, (6, Some(empty)));
     Ok(())
@@ -154,10 +175,11 @@ fn failed_read_and_push(rt: HostRuntime) -> Result<(), Fail> {
 }
 
 // A sink that takes one byte a push takes the whole text.
-static WHOLE: [(&[&str], &[u8]); 5] = [
+static WHOLE: [(&[&str], &[u8]); 6] = [
     (&GO, RUNG_TEXT),
     (&CHECK, b"OK\n"),
     (&COMPILE, b"OK\n"),
+    (&UPGRADE, b"OK\n"),
     (&RUN_CYCLE, CYCLE_TEXT),
     (&GEN, GEN_TEXT),
 ];

@@ -24,8 +24,9 @@ fn no_command_passes_the_gate(rt: HostRuntime) -> Result<(), Fail> {
     let gate = WatchedGate {
         passed: AtomicBool::new(false),
     };
-    // `run` has the image that `compile` writes
-    let commands: [&[&str]; 5] = [&GO, &CHECK, &COMPILE, &RUN, &["gen", "1"]];
+    // `run` and `upgrade` have the image that `compile` writes
+    let upgrade = ["upgrade", "image", "image"];
+    let commands: [&[&str]; 6] = [&GO, &CHECK, &COMPILE, &RUN, &upgrade, &["gen", "1"]];
     let mut files = two_files(rt.alloc(), RUNG, ONE_RUN)?;
     for words in commands {
         let list = list_of(rt.alloc(), words)?;

@@ -5,6 +5,7 @@ use plc_io::{MemFiles, MemSink};
 use std::alloc::Global;
 use std::fmt::Debug;
 use std::process::Abort;
+use std::str::from_utf8;
 use std::sync::Wait;
 use std::test::Fail;
 use std::thread::Threads;
@@ -17,7 +18,7 @@ pub(crate) const RUN: [&str; 3] = ["run", "image", "history"];
 const SOURCE: &[u8] =
     b"DATA_BLOCK DB 10 STRUCT a : INT; b : INT; END_STRUCT; BEGIN END_DATA_BLOCK\nORGANIZATION_BLOCK OB 1 BEGIN\nJU x;\nx: T DB10.DBW 2;\nEND_ORGANIZATION_BLOCK\n";
 
-/// Its image, byte by byte as docs/FORMATS.md has it.
+/// Its image of version 1: the one of docs/FORMATS.md but for version and profile.
 pub(crate) static IMAGE: [u8; 80] = [
     // The header: version 1, 80 bytes, a code block, a data block, no names.
     0x53, 0x37, 0x46, 0x42, 0, 1, 0, 0, 0, 0, 0, 0x50, 0, 1, 0, 1, 0, 0, 0, 0,
@@ -30,6 +31,22 @@ pub(crate) static IMAGE: [u8; 80] = [
     // DB 10: no instance, 4 bytes.
     0, 0x0A, 0, 0, 0, 4, 0, 0, 0, 0, 0, 0,
 ];
+
+/// An image of version 1 with this version and profile in place of its own.
+pub(crate) fn stamped(
+    alloc: Global,
+    image: &[u8],
+    version: u8,
+    profile: u8,
+) -> Result<Vec<u8>, Fail> {
+    let mut stamped = Vec::from_slice(alloc, image)?;
+    for (place, value) in [(5, version), (7, profile)] {
+        if let Some(byte) = stamped.get_mut(place) {
+            *byte = value;
+        }
+    }
+    Ok(stamped)
+}
 
 /// A cycle: its point, the jump, the transfer, the end.
 pub(crate) const CYCLE: &[u8] = b"step 4\n";
@@ -67,7 +84,8 @@ fn an_image_is_written(rt: HostRuntime) -> Result<(), Fail> {
     let told = (code, out.taken.as_slice());
     same(&rt, "compile", told, (0, b"OK\n".as_slice()));
     let image = files.files.get("image");
-    same(&rt, "the image", image, Some(IMAGE.as_slice()));
+    let large = stamped(rt.alloc(), &IMAGE, 2, 2)?;
+    same(&rt, "the image", image, Some(large.as_slice()));
     same(&rt, "the source", files.files.get("source"), Some(SOURCE));
     Ok(())
 }
@@ -81,7 +99,8 @@ fn a_source_is_compiled_over_itself(rt: HostRuntime) -> Result<(), Fail> {
     let words = ["compile", "source", "source"];
     let code = call(&rt, rt.alloc(), &words, &mut files, &mut out)?;
     let told = (code, files.files.get("source"));
-    same(&rt, "compile", told, (0, Some(IMAGE.as_slice())));
+    let large = stamped(rt.alloc(), &IMAGE, 2, 2)?;
+    same(&rt, "compile", told, (0, Some(large.as_slice())));
     Ok(())
 }
 
@@ -102,6 +121,146 @@ fn a_refused_source_writes_no_image(rt: HostRuntime) -> Result<(), Fail> {
 #[test]
 fn an_image_is_run(rt: HostRuntime) -> Result<(), Fail> {
     image_answers(&rt, rt.alloc(), "the image", &IMAGE, (0, CYCLE_TEXT))
+}
+
+// The version, the number in the profile's place, the status of `run`, and its text: of another version the
+// number isn't judged.
+static STAMPS: [(u8, u8, u8, &[u8]); 9] = [
+    (1, 0, 0, CYCLE_TEXT),
+    (2, 1, 0, CYCLE_TEXT),
+    (2, 2, 0, CYCLE_TEXT),
+    (1, 1, 3, b"image refused: offset 6 code 4\n"),
+    (2, 0, 3, b"image refused: offset 6 code 4\n"),
+    (2, 3, 3, b"image refused: offset 6 code 4\n"),
+    (0, 0, 3, b"image refused: offset 4 code 2\n"),
+    (3, 0, 3, b"image refused: offset 4 code 2\n"),
+    (3, 3, 3, b"image refused: offset 4 code 2\n"),
+];
+
+#[test]
+fn versions_and_profiles(rt: HostRuntime) -> Result<(), Fail> {
+    for (version, profile, status, text) in &STAMPS {
+        let image = stamped(rt.alloc(), &IMAGE, *version, *profile)?;
+        let what = (*version, *profile);
+        image_answers(&rt, rt.alloc(), what, &image, (*status, text))?;
+    }
+    Ok(())
+}
+
+/// A function that calls itself without end, of version 1.
+const CHAIN: &[u8] = &[
+    // The header: 86 bytes, two code blocks, no data block, no names.
+    0x53, 0x37, 0x46, 0x42, 0, 1, 0, 0, 0, 0, 0, 0x56, 0, 2, 0, 0, 0, 0, 0, 0,
+    // OB 1: no parameters, 20 local bytes, 2 statements, 9 bytes of code.
+    1, 0, 0, 1, 0, 0x14, 0, 0, 0, 2, 0, 0, 0, 0, 0, 9,
+    // CALL FC 1; BE. The lines of the statements.
+    0xF8, 0x0D, 2, 0, 1, 0, 0, 0xFB, 0, 0, 0, 0, 7, 0, 0, 0, 8,
+    // FC 1: no parameters, no local bytes, 2 statements, 9 bytes of code.
+    2, 0, 0, 1, 0, 0, 0, 0, 0, 2, 0, 0, 0, 0, 0, 9,
+    // CALL FC 1; BE. The lines of the statements.
+    0xF8, 0x0D, 2, 0, 1, 0, 0, 0xFB, 0, 0, 0, 0, 3, 0, 0, 0, 4,
+];
+
+/// OB 1 with a zone of the master control relay, of version 1.
+const RELAY: &[u8] = &[
+    // The header: 105 bytes, a code block, no data block, no names.
+    0x53, 0x37, 0x46, 0x42, 0, 1, 0, 0, 0, 0, 0, 0x69, 0, 1, 0, 0, 0, 0, 0, 0,
+    // OB 1: no parameters, 20 local bytes, 9 statements, 33 bytes of code.
+    1, 0, 0, 1, 0, 0x14, 0, 0, 0, 9, 0, 0, 0, 0, 0, 0x21,
+    // MCRA; A I 0.0; MCR(; SET.
+    0x85, 0, 0x90, 2, 0x81, 1, 0, 0, 0, 0x87, 0, 0xA7, 0,
+    // = Q 4.0; S Q 4.1.
+    0xA2, 2, 0x82, 1, 0, 4, 0, 0xA3, 2, 0x82, 1, 0, 4, 1,
+    // )MCR; MCRD; BE.
+    0x88, 0, 0x86, 0, 0xFB, 0,
+    // The lines of the statements, 3 to 11.
+    0, 0, 0, 3, 0, 0, 0, 4, 0, 0, 0, 5, 0, 0, 0, 6, 0, 0, 0, 7, 0, 0, 0, 8, 0, 0, 0, 9, 0, 0, 0,
+    10, 0, 0, 0, 11,
+];
+
+/// The image of the empty source, of version 1.
+const NOTHING: &[u8] = &[
+    0x53, 0x37, 0x46, 0x42, 0, 1, 0, 0, 0, 0, 0, 0x14, 0, 0, 0, 0, 0, 0, 0, 0,
+];
+
+/// An image of version 1, another version and profile, a history, and the text of the run.
+type Sized = (&'static [u8], u8, u8, &'static [u8], &'static [u8]);
+
+/// Sizes by version and profile, and a zone that is closed and open.
+static SIZES: [Sized; 10] = [
+    // The seventeenth block of the chain, or the twenty-fifth.
+    (
+        CHAIN,
+        1,
+        0,
+        b"step 25\n",
+        b"@17 MODE STOP 6 AT FC 1 LINE 3\nEND 25 STOP 6\n",
+    ),
+    (
+        CHAIN,
+        2,
+        1,
+        b"step 17\n",
+        b"@17 MODE STOP 6 AT FC 1 LINE 3\nEND 17 STOP 6\n",
+    ),
+    (
+        CHAIN,
+        2,
+        2,
+        b"step 25\n",
+        b"@25 MODE STOP 6 AT FC 1 LINE 3\nEND 25 STOP 6\n",
+    ),
+    (CHAIN, 2, 2, b"step 24\n", b"END 24 RUN\n"),
+    // The end of bit memory.
+    (
+        NOTHING,
+        1,
+        0,
+        b"op 1 read MB 255, MB 256\nop 1 read MB255\n",
+        b"@1 OP 1 NOSUCH 2\n@2 OP 1 VALUES 00\nEND 2 RUN\n",
+    ),
+    (
+        NOTHING,
+        2,
+        1,
+        b"op 1 read MB 300\n",
+        b"@1 OP 1 NOSUCH 1\nEND 1 RUN\n",
+    ),
+    (
+        NOTHING,
+        2,
+        2,
+        b"op 1 read MB 300\nop 1 read MB 2047, MB 2048\n",
+        b"@1 OP 1 VALUES 00\n@2 OP 1 NOSUCH 2\nEND 2 RUN\n",
+    ),
+    // With input 0.0 the zone is open, and without it closed: nothing is set, and 0 assigned.
+    (RELAY, 1, 0, b"step 11\n", b"END 11 RUN\n"),
+    (
+        RELAY,
+        1,
+        0,
+        b"in 0 01\nstep 11\n",
+        b"@12 PQ 4 = 03\nEND 12 RUN\n",
+    ),
+    (
+        RELAY,
+        2,
+        2,
+        b"in 0 01\nstep 11\nin 0 00\nstep 20\n",
+        b"@12 PQ 4 = 03\n@33 PQ 4 = 02\nEND 33 RUN\n",
+    ),
+];
+
+#[test]
+fn sizes_and_zones(rt: HostRuntime) -> Result<(), Fail> {
+    for (image, version, profile, history, text) in &SIZES {
+        let image = stamped(rt.alloc(), image, *version, *profile)?;
+        let files = image_files(rt.alloc(), &image, history)?;
+        let out = MemSink::new(rt.alloc(), 64);
+        let what = (*version, *profile, from_utf8(history));
+        answers(&rt, rt.alloc(), what, &RUN, files, out, (0, text))?;
+    }
+    Ok(())
 }
 
 // No byte of a header field, no magic: the length of the file comes first.
@@ -137,21 +296,36 @@ static ALTERED: [(usize, u8, &[u8]); 10] = [
     (67, 0x00, b"image refused: offset 64 code 9\n"),
 ];
 
-/// The image with another byte at a place.
-fn altered(alloc: Global, place: usize, value: u8) -> Result<Vec<u8>, Fail> {
-    let mut image = Vec::from_slice(alloc, &IMAGE)?;
-    if let Some(byte) = image.get_mut(place) {
+/// An image with another byte at a place.
+fn altered(alloc: Global, image: &[u8], place: usize, value: u8) -> Result<Vec<u8>, Fail> {
+    let mut altered = Vec::from_slice(alloc, image)?;
+    if let Some(byte) = altered.get_mut(place) {
         *byte = value;
     }
-    Ok(image)
+    Ok(altered)
 }
 
 #[test]
 fn altered_images(rt: HostRuntime) -> Result<(), Fail> {
     for (place, value, text) in &ALTERED {
-        let image = altered(rt.alloc(), *place, *value)?;
+        let image = altered(rt.alloc(), &IMAGE, *place, *value)?;
         let what = (*place, *value);
         image_answers(&rt, rt.alloc(), what, &image, (3, text))?;
+    }
+    Ok(())
+}
+
+// MCRA in place of `MCR(`, so that `)MCR` finds no zone; MCRD in place of `)MCR`, so that the zone is open at the
+// end.
+#[test]
+fn zones_that_do_not_match(rt: HostRuntime) -> Result<(), Fail> {
+    let rows: [(usize, u8, &[u8]); 2] = [
+        (45, 0x85, b"image refused: offset 63 code 8\n"),
+        (63, 0x86, b"image refused: offset 45 code 8\n"),
+    ];
+    for (place, value, text) in rows {
+        let image = altered(rt.alloc(), RELAY, place, value)?;
+        image_answers(&rt, rt.alloc(), place, &image, (3, text))?;
     }
     Ok(())
 }
@@ -159,7 +333,7 @@ fn altered_images(rt: HostRuntime) -> Result<(), Fail> {
 // A data block of number 0, and a byte behind the last record.
 #[test]
 fn images_with_a_wrong_end(rt: HostRuntime) -> Result<(), Fail> {
-    let zero = altered(rt.alloc(), 69, 0)?;
+    let zero = altered(rt.alloc(), &IMAGE, 69, 0)?;
     let text = b"image refused: offset 68 code 4\n".as_slice();
     image_answers(&rt, rt.alloc(), "DB 0", &zero, (3, text))?;
     let mut long = Vec::from_slice(rt.alloc(), &IMAGE)?;

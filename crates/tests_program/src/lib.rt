@@ -39,4 +39,6 @@ mod run_tests;
 #[cfg(test)]
 mod symbols_tests;
 #[cfg(test)]
+mod upgrade_tests;
+#[cfg(test)]
 mod words_tests;

@@ -223,7 +223,7 @@ fn single_bytes(rt: HostRuntime) -> Result<(), Fail> {
     answers(&rt, rt.alloc(), "bytes", &LIVE, files, out, (0, STEP_TEXT))
 }
 
-// The image is that of the empty source.
+// The image is that of the empty source, but for version and profile.
 #[test]
 fn image_of_nothing(rt: HostRuntime) -> Result<(), Fail> {
     let mut files = MemFiles::new(rt.alloc());
@@ -235,7 +235,10 @@ fn image_of_nothing(rt: HostRuntime) -> Result<(), Fail> {
         &rt,
         "image",
         (code, files.files.get("image")),
-        (0, Some(EMPTY)),
+        (
+            0,
+            Some(b"S7FB\0\x02\0\x02\0\0\0\x14\0\0\0\0\0\0\0\0".as_slice()),
+        ),
     );
     Ok(())
 }

@@ -14,7 +14,7 @@ use std::sync::atomic::{AtomicBool, AtomicU64, Ordering};
 use std::test::Fail;
 use std::thread::Threads;
 
-/// The image of the empty source: a header of no blocks and no names.
+/// The image of the empty source, of version 1: a header of no blocks and no names.
 pub(crate) const EMPTY: &[u8] = b"S7FB\0\x01\0\0\0\0\0\x14\0\0\0\0\0\0\0\0";
 
 const LIVE: [&str; 7] = [
@@ -281,4 +281,25 @@ fn last_write_is_read(rt: HostRuntime) -> Result<(), Fail> {
     let told = told_of(rt.alloc(), history)?;
     same(&rt, history, run, told.as_str());
     runs_again(&rt, rt.alloc(), &mut files, history, run)
+}
+
+/// The image of the empty source, of version 2 for the large profile.
+const LARGE: &[u8] = b"S7FB\0\x02\0\x02\0\0\0\x14\0\0\0\0\0\0\0\0";
+
+// The sizes are those of the image's profile: an image, and how often a read of MB 300 finds no such byte.
+static SIZES: [(&[u8], usize); 2] = [(EMPTY, 1), (LARGE, 0)];
+
+#[test]
+fn sizes_of_images(rt: HostRuntime) -> Result<(), Fail> {
+    for (image, absent) in &SIZES {
+        let mut files = live_files(rt.alloc(), image, b"", b"read MB 300\n", b"")?;
+        let text = written_by(&rt, rt.alloc(), &LIVE, &mut files, &OpenGate)?;
+        let (history, run) = parts_of(text.as_slice());
+        let replies = run.lines().filter(|line| line.ends_with("OP 1 NOSUCH 1"));
+        same(&rt, *absent, replies.count(), *absent);
+        let replies = run.lines().filter(|line| line.ends_with("OP 1 VALUES 00"));
+        same(&rt, *absent, replies.count(), 1usize.wrapping_sub(*absent));
+        runs_again(&rt, rt.alloc(), &mut files, history, run)?;
+    }
+    Ok(())
 }

@@ -97,16 +97,21 @@ const BRANCHES: &str =
     "ORGANIZATION_BLOCK OB 1\nBEGIN\nA M 0.0;\nA M 0.1;\nO;\nA M 0.2;\nA M 0.3;\n= M 1.0;\nEND_ORGANIZATION_BLOCK\n";
 
 /// Variables are read and written between two statements.
-static VARIABLES: [Run; 8] = [
+static VARIABLES: [Run; 9] = [
     (
         BRANCHES,
         "op 1 write MB0 0E\nstep 7\nop 1 read MB1\n",
         "@1 OP 1 DONE\n@9 OP 1 VALUES 01\nEND 9 RUN\n",
     ),
-    // There is no byte 300; the first variable that is absent is told, and none is read.
+    // There is a byte 300, and no byte 2,048; the first variable that is absent is told, and none is read.
     (
         BRANCHES,
-        "op 1 write MB0 0E\nstep 7\nop 1 read MB 300\nop 4 read M1.0, MD 254, QW 2, DB9.DBX0.1\nop 4 read M 1.0, QD 124, IW 2\n",
+        "op 1 write MB0 0E\nstep 7\nop 1 read MB 300\n",
+        "@1 OP 1 DONE\n@9 OP 1 VALUES 00\nEND 9 RUN\n",
+    ),
+    (
+        BRANCHES,
+        "op 1 write MB0 0E\nstep 7\nop 1 read MB 2048\nop 4 read M1.0, MD 2046, QW 2, DB9.DBX0.1\nop 4 read M 1.0, QD 124, IW 2\n",
         "@1 OP 1 DONE\n@9 OP 1 NOSUCH 1\n@10 OP 4 NOSUCH 2\n@11 OP 4 VALUES 1 00000000 0000\nEND 11 RUN\n",
     ),
     // An interrupt between the two statements of OB 1.
@@ -143,7 +148,7 @@ static VARIABLES: [Run; 8] = [
     // The eighth variable of eight.
     (
         "",
-        "op 1 read MB0, MB1, MB2, MB3, MB4, MB5, MB6, MB255\nop 1 read MB0, MB1, MB2, MB3, MB4, MB5, MB6, MB256\n",
+        "op 1 read MB0, MB1, MB2, MB3, MB4, MB5, MB6, MB2047\nop 1 read MB0, MB1, MB2, MB3, MB4, MB5, MB6, MB2048\n",
         "@1 OP 1 VALUES 00 00 00 00 00 00 00 00\n@2 OP 1 NOSUCH 8\nEND 2 RUN\n",
     ),
 ];

@@ -151,8 +151,8 @@ fn statements(rt: HostRuntime) -> Result<(), Fail> {
     are_run(&rt, rt.alloc(), &STATEMENTS)
 }
 
-/// Functions, function blocks and their data blocks, and nesting that is too deep.
-static CALLS: [Run; 4] = [
+/// Functions, function blocks and their data blocks, nesting that is too deep, and the ends of memory.
+static CALLS: [Run; 7] = [
     (
         "FUNCTION_BLOCK FB 1\nVAR_INPUT a : INT; END_VAR\nVAR_OUTPUT b : INT; END_VAR\nBEGIN\nL #a; L 1; +I; T #b;\nEND_FUNCTION_BLOCK\nDATA_BLOCK DB 5 FB 1 BEGIN END_DATA_BLOCK\nORGANIZATION_BLOCK OB 1\nBEGIN\nCALL FB 1, DB 5 (a := IW 0, b := QW 4);\nEND_ORGANIZATION_BLOCK\n",
         "in 1 09\nstep 9\n",
@@ -163,11 +163,27 @@ static CALLS: [Run; 4] = [
         "in 1 09\nstep 5\n",
         "END 6 RUN\nDB 5 0 00090000\n",
     ),
-    // The seventeenth block of a chain.
+    // The twenty-fifth block of a chain.
     (
         "FUNCTION FC 1 : VOID\nBEGIN\nCALL FC 1;\nEND_FUNCTION\nORGANIZATION_BLOCK OB 1\nBEGIN\nCALL FC 1;\nEND_ORGANIZATION_BLOCK\n",
-        "step 17\n",
-        "@17 MODE STOP 6 AT FC 1 LINE 3\nEND 17 STOP 6\n",
+        "step 25\n",
+        "@25 MODE STOP 6 AT FC 1 LINE 3\nEND 25 STOP 6\n",
+    ),
+    // The last bits of bit memory, and the last timer and counter that there are.
+    (
+        "ORGANIZATION_BLOCK OB 1\nBEGIN\nSET;\n= M 2047.7;\nA M 2047.7;\nCU C 255;\nA C 255;\nAN T 255;\n= Q 4.0;\nA M 2048.0;\nEND_ORGANIZATION_BLOCK\n",
+        "step 8\nop 1 read MB2047\nstep 1\n",
+        "@9 OP 1 VALUES 80\n@10 MODE STOP 3 AT OB 1 LINE 10\nEND 10 STOP 3\n",
+    ),
+    (
+        "ORGANIZATION_BLOCK OB 1\nBEGIN\nA T 256;\nEND_ORGANIZATION_BLOCK\n",
+        "step 2\n",
+        "@2 MODE STOP 3 AT OB 1 LINE 3\nEND 2 STOP 3\n",
+    ),
+    (
+        "ORGANIZATION_BLOCK OB 1\nBEGIN\nA C 256;\nEND_ORGANIZATION_BLOCK\n",
+        "step 2\n",
+        "@2 MODE STOP 3 AT OB 1 LINE 3\nEND 2 STOP 3\n",
     ),
     // The local data of OB 1 and of two calls don't fit.
     (

@@ -39,7 +39,7 @@ fn is_told<R: Abort + Threads + Wait + Sync>(
 // No command, or a count of words behind it that isn't its own.
 #[test]
 fn commands(rt: HostRuntime) -> Result<(), Fail> {
-    let calls: [&[&str]; 23] = [
+    let calls: [&[&str]; 26] = [
         &[],
         &["help"],
         &["go"],
@@ -53,6 +53,9 @@ fn commands(rt: HostRuntime) -> Result<(), Fail> {
         &["run"],
         &["run", "image"],
         &["run", "image", "history", "more"],
+        &["upgrade"],
+        &["upgrade", "image"],
+        &["upgrade", "image", "upgraded", "more"],
         &["gen"],
         &["gen", "1", "2"],
         &["live", "--steps", "5"],
@@ -102,8 +105,9 @@ fn options(rt: HostRuntime) -> Result<(), Fail> {
 // `--symbols` goes with the commands that have a source, `--steps` with `live` alone, which needs it.
 #[test]
 fn options_of_others(rt: HostRuntime) -> Result<(), Fail> {
-    let calls: [&[&str]; 11] = [
+    let calls: [&[&str]; 13] = [
         &["run", "image", "history", "--symbols", "none"],
+        &["upgrade", "image", "upgraded", "--symbols", "none"],
         &["gen", "--symbols=none", "1"],
         &["live", "image", "stimuli", "ops", "--symbols", "none"],
         &[
@@ -120,6 +124,7 @@ fn options_of_others(rt: HostRuntime) -> Result<(), Fail> {
         &["check", "--steps", "5", "source"],
         &["compile", "source", "image", "--steps=5"],
         &["run", "--steps=5", "image", "history"],
+        &["upgrade", "--steps=5", "image", "upgraded"],
         &["gen", "1", "--steps", "5"],
         &["live", "image", "stimuli", "ops"],
         &["--", "live", "image", "stimuli", "ops", "--steps", "5"],
@@ -205,12 +210,14 @@ fn missing_names(rt: HostRuntime) -> Result<(), Fail> {
     is_told(&rt, rt.alloc(), &calls, 5, READ_FAULT)
 }
 
-// The words of `live` and `run` are taken, so the image is asked for, which isn't there.
+// The words of `live`, `run` and `upgrade` are taken, so the image is asked for, which isn't there.
 #[test]
 fn images(rt: HostRuntime) -> Result<(), Fail> {
-    let calls: [&[&str]; 12] = [
+    let calls: [&[&str]; 14] = [
         &["run", "image", "history"],
         &["--", "run", "image", "history"],
+        &["upgrade", "image", "upgraded"],
+        &["--", "upgrade", "image", "image"],
         &["--steps", "5", "live", "image", "stimuli", "1"],
         &["live", "--steps", "5", "image", "stimuli", "1"],
         &["live", "image", "--steps=5", "stimuli", "1"],

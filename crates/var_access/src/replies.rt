@@ -45,6 +45,17 @@ impl Numbers {
     {
         self.list.as_slice()
     }
+
+    /// The same values once more. It takes no memory.
+    pub fn copied(&self) -> Numbers
+        ensures { result ≡ self.now }
+    {
+        let mut list = ArrayVec::new();
+        for value in self.list.as_slice() {
+            list.push(*value);
+        }
+        Numbers { list }
+    }
 }
 
 /// What the controller answers to one entry.
@@ -61,4 +72,23 @@ pub enum Reply {
     NotStopped,
     /// The last records of diagnostics, the oldest first.
     Diag { list: Records },
+}
+
+impl Reply {
+    /// The same reply once more. It takes no memory.
+    pub fn copied(&self) -> Reply
+        ensures { result ≡ self.now }
+    {
+        match self {
+            Reply::Values { values } => Reply::Values {
+                values: values.copied(),
+            },
+            Reply::Done => Reply::Done,
+            Reply::NoSuch { index } => Reply::NoSuch { index: *index },
+            Reply::NotStopped => Reply::NotStopped,
+            Reply::Diag { list } => Reply::Diag {
+                list: list.copied(),
+            },
+        }
+    }
 }

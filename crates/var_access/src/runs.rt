@@ -25,13 +25,13 @@ pub struct Entries {
 }
 
 impl Model for Entries {
-    ghost use Rattle.var_access.specs.Recorded.{Recorded, IsRecorded, recorded};
+    ghost use Rattle.var_access.specs.History.{History, IsHistory, history_of};
 
-    ghost Value = { Recorded };
+    ghost Value = { History };
 
-    ghost view = { recorded };
+    ghost view = { history_of };
 
-    ghost invariant = { IsRecorded };
+    ghost invariant = { IsHistory };
 }
 
 impl Run {

@@ -3,12 +3,11 @@ use Rattle.std.proofs.Common.{◌≡◌, ◌<◌, ◌≤◌, refl, sym, ◌∙�
 use Rattle.std.specs.List.{AllByRecursion}
 use Rattle.std.proofs.lemmas.List.{length-replicate, map-append, replicate-append-replicate}
 use Rattle.std.proofs.lemmas.List.Elements.{All-head, All-tail}
-use Rattle.plc_base.specs.declared.Profile.TheVariants.{Small}
 use Rattle.plc_base.proofs.ListLemmas.{drop_next}
 use Rattle.plc_io.specs.Moments.{SinkAt}
 use Rattle.plc_io.specs.Taken.{Wrote}
 use Rattle.plc_io.specs.declared.faults.IoFault.{IoFault}
-use Rattle.flat_code.specs.Programs.{Program}
+use Rattle.image_file.specs.Loaded.{LoadedProgram}
 use Rattle.machine.specs.Code.{Code}
 use Rattle.machine.specs.Flat.{code_of}
 use Rattle.var_access.specs.Entry.{IsValid}
@@ -26,7 +25,7 @@ use Rattle.controller.specs.Replay.{ContinuesByMore, happens, replay, reply_to, 
 use Rattle.event_text.specs.Replies.{reply_text}
 use Rattle.controller.specs.Shown.{nothing_shown}
 use Rattle.controller.specs.State.{State}
-use Rattle.controller.specs.Recorded.{Recorded}
+use Rattle.controller.specs.Recording.{Recording}
 use Rattle.controller.specs.Replayed.{events, next_happens, replayed}
 use Rattle.s7_cli.specs.run_text.Behind.{closing_of, lines_behind, with_entries}
 use Rattle.s7_cli.specs.run_text.RunText.{closing_text, entry_text, lines_from, replied_text, run_text, shown_text}
@@ -34,7 +33,7 @@ use Rattle.s7_cli.proofs.run.WritingLemmas.{GoesOn, goes-cut, goes-end, goes-fir
 
 -- ---- controllers with further entries
 
-with-none : (r : Recorded) → r ≡ with_entries r []
+with-none : (r : Recording) → r ≡ with_entries r []
 with-none r =
     ap (λ (h : List Entry). record r { history = h }) (sym (append-nil r.history))
     ∙ ap (λ (n : ℕ). record r { history = r.history ++ []; spare = n }) none
@@ -42,7 +41,7 @@ with-none r =
     none : r.spare ≡ r.spare - length {A = Entry} []
     none = omega arith
 
-with-both : (r : Recorded) (front back : List Entry)
+with-both : (r : Recording) (front back : List Entry)
     → with_entries (with_entries r front) back ≡ with_entries r (front ++ back)
 with-both r front back =
     ap (λ (h : List Entry). record r { history = h; spare = r.spare - length front - length back })
@@ -53,7 +52,7 @@ with-both r front back =
     less = omega (arith, length-append front back)
 
 -- the state is that of the further entries
-replayed-on : ContinuesByMore → (r : Recorded) (es : List Entry)
+replayed-on : ContinuesByMore → (r : Recording) (es : List Entry)
     → replayed (with_entries r es) ≡ run_from (code_of r.program) (replayed r) (events es)
 replayed-on continues r es =
     ap (λ (ws : List What). replay r.profile (code_of r.program) ws) (map-append (λ (e : Entry). e.what) r.history es)
@@ -84,7 +83,7 @@ lines-split code n s (e ∷ front) back =
     count = omega arith
 
 -- the lines behind the first part are those of a controller that has it
-lines-behind : ContinuesByMore → (r : Recorded) (front back : List Entry)
+lines-behind : ContinuesByMore → (r : Recording) (front back : List Entry)
     → lines_behind r (front ++ back) ≡ lines_behind r front ++ lines_behind (with_entries r front) back
 lines-behind continues r front back =
     lines-split code (length r.history) (replayed r) front back
@@ -97,7 +96,7 @@ lines-behind continues r front back =
     code = code_of r.program
 
 -- what a request shows, and then its reply, which is that of the state before it
-pub request-lines : (r : Recorded) (e : Entry) (request : Request) (n m : ℕ) (shown : Observed) (answer : Reply) (before middle : List ℕ)
+pub request-lines : (r : Recording) (e : Entry) (request : Request) (n m : ℕ) (shown : Observed) (answer : Reply) (before middle : List ℕ)
     → e.what ≡ Ask request → n ≡ m → shown ≡ (next_happens r e).seen
     → answer ≡ answered (code_of r.program) request (replayed r) → middle ≡ before ++ shown_text n shown
     → middle ++ reply_text n e.who request answer ≡ before ++ entry_text m e (next_happens r e)
@@ -136,13 +135,13 @@ quiet-steps code n s e (suc k) is nothing =
 -- ---- what was applied and written
 
 -- the first entries of these were applied, and what they did was written; the rest is to follow
-pub record Follows (start : Recorded) (es rest : List Entry) (now : Recorded) (before at : SinkAt) : Type 0 where
+pub record Follows (start : Recording) (es rest : List Entry) (now : Recording) (before at : SinkAt) : Type 0 where
   pub front : List Entry
   pub all : front ++ rest ≡ es
   pub applied : now ≡ with_entries start front
   pub goes_on : GoesOn (lines_behind start es) (lines_behind now rest) before at
 
-pub follows-none : (start : Recorded) (es : List Entry) (at : SinkAt) → Follows start es es start at at
+pub follows-none : (start : Recording) (es : List Entry) (at : SinkAt) → Follows start es es start at at
 follows-none start es at = record {
   front = [];
   all = refl;
@@ -151,26 +150,26 @@ follows-none start es at = record {
 }
 
 -- the lines of the rest, when a part of it comes first
-rest-lines : ContinuesByMore → (s1 s2 : Recorded) (rest piece more : List Entry) → rest ≡ piece ++ more
+rest-lines : ContinuesByMore → (s1 s2 : Recording) (rest piece more : List Entry) → rest ≡ piece ++ more
     → s2 ≡ with_entries s1 piece → lines_behind s1 rest ≡ lines_behind s1 piece ++ lines_behind s2 more
 rest-lines continues s1 s2 rest piece more splits on =
     ap (lines_behind s1) splits ∙ lines-behind continues s1 piece more
-    ∙ ap (λ (r : Recorded). lines_behind s1 piece ++ lines_behind r more) (sym on)
+    ∙ ap (λ (r : Recording). lines_behind s1 piece ++ lines_behind r more) (sym on)
 
 -- a part of the rest was applied, and its lines were written
-pub follows-written : ContinuesByMore → (s0 s1 s2 : Recorded) (es rest piece more : List Entry) (a b c : SinkAt) (u : Unit)
+pub follows-written : ContinuesByMore → (s0 s1 s2 : Recording) (es rest piece more : List Entry) (a b c : SinkAt) (u : Unit)
     → Follows s0 es rest s1 a b → rest ≡ piece ++ more → s2 ≡ with_entries s1 piece
     → Wrote {X = Unit {0}} b c (lines_behind s1 piece) (Ok u) → Follows s0 es more s2 a c
 follows-written continues s0 s1 s2 es rest piece more a b c u so_far splits on wrote = record {
   front = so_far.front ++ piece;
   all = append_assoc so_far.front piece more ∙ ap (λ (l : List Entry). so_far.front ++ l) (sym splits) ∙ so_far.all;
-  applied = on ∙ ap (λ (r : Recorded). with_entries r piece) so_far.applied ∙ with-both s0 so_far.front piece;
+  applied = on ∙ ap (λ (r : Recording). with_entries r piece) so_far.applied ∙ with-both s0 so_far.front piece;
   goes_on = goes-next (lines_behind s0 es) (lines_behind s1 rest) (lines_behind s1 piece) (lines_behind s2 more)
       (lines_behind s1 piece) a b c u so_far.goes_on (rest-lines continues s1 s2 rest piece more splits on) refl wrote;
 }
 
 -- steps that show nothing were applied
-pub follows-quiet : ContinuesByMore → (s0 s1 s2 : Recorded) (es : List Entry) (e : Entry) (k left more : ℕ) (a b : SinkAt)
+pub follows-quiet : ContinuesByMore → (s0 s1 s2 : Recording) (es : List Entry) (e : Entry) (k left more : ℕ) (a b : SinkAt)
     → Follows s0 es (replicate left e) s1 a b → e.what ≡ Step → k ≤ left → more ≡ left - k
     → s2 ≡ record s1 { history = s1.history ++ replicate k e; spare = s1.spare - k }
     → ShowNothing (code_of s1.program) (replayed s1) (replicate k Step)
@@ -178,7 +177,7 @@ pub follows-quiet : ContinuesByMore → (s0 s1 s2 : Recorded) (es : List Entry) 
 follows-quiet continues s0 s1 s2 es e k left more a b so_far is few fewer on nothing = record {
   front = so_far.front ++ replicate k e;
   all = append_assoc so_far.front (replicate k e) (replicate more e) ∙ ap (λ (l : List Entry). so_far.front ++ l) (sym splits) ∙ so_far.all;
-  applied = entered ∙ ap (λ (r : Recorded). with_entries r (replicate k e)) so_far.applied ∙ with-both s0 so_far.front (replicate k e);
+  applied = entered ∙ ap (λ (r : Recording). with_entries r (replicate k e)) so_far.applied ∙ with-both s0 so_far.front (replicate k e);
   goes_on = subst (λ (text : List ℕ). GoesOn (lines_behind s0 es) text a b) lines so_far.goes_on;
 }
   where
@@ -195,7 +194,7 @@ follows-quiet continues s0 s1 s2 es e k left more a b so_far is few fewer on not
         (quiet-steps (code_of s1.program) (length s1.history) (replayed s1) e k is nothing)
 
 -- the part of the rest whose lines are being written ends so
-pub follows-cut : ContinuesByMore → (s0 s1 : Recorded) (es rest piece more : List Entry) (a b c : SinkAt) (fault : IoFault)
+pub follows-cut : ContinuesByMore → (s0 s1 : Recording) (es rest piece more : List Entry) (a b c : SinkAt) (fault : IoFault)
     (r : Result Unit IoFault) → Follows s0 es rest s1 a b → rest ≡ piece ++ more
     → Wrote {X = Unit {0}} b c (lines_behind s1 piece) (Err fault) → r ≡ Err fault → Wrote a c (lines_behind s0 es) r
 follows-cut continues s0 s1 es rest piece more a b c fault r so_far splits wrote ends =
@@ -204,16 +203,16 @@ follows-cut continues s0 s1 es rest piece more a b c fault r so_far splits wrote
     (rest-lines continues s1 (with_entries s1 piece) rest piece more splits refl) refl wrote ends
 
 -- all were applied and written
-pub follows-end : (s0 s1 : Recorded) (es rest : List Entry) (a b : SinkAt) (u : Unit) → Follows s0 es rest s1 a b
+pub follows-end : (s0 s1 : Recording) (es rest : List Entry) (a b : SinkAt) (u : Unit) → Follows s0 es rest s1 a b
     → rest ≡ [] → Wrote {X = Unit {0}} a b (lines_behind s0 es) (Ok u)
 follows-end s0 s1 es rest a b u so_far none =
     goes-end (lines_behind s0 es) (lines_behind s1 rest) a b u so_far.goes_on (ap (lines_behind s1) none)
 
 -- there is room for the rest
-pub follows-room : (s0 s1 : Recorded) (es rest : List Entry) (a b : SinkAt) → Follows s0 es rest s1 a b
+pub follows-room : (s0 s1 : Recording) (es rest : List Entry) (a b : SinkAt) → Follows s0 es rest s1 a b
     → length es ≤ s0.spare → length rest ≤ s1.spare
 follows-room s0 s1 es rest a b so_far room =
-    let spare : s1.spare ≡ s0.spare - length so_far.front = ap (λ (r : Recorded). r.spare) so_far.applied in
+    let spare : s1.spare ≡ s0.spare - length so_far.front = ap (λ (r : Recording). r.spare) so_far.applied in
     let len : length es ≡ length so_far.front + length rest =
     ap (λ (l : List Entry). length l) (sym so_far.all) ∙ length-append so_far.front rest in
     omega (arith, spare, len, room)
@@ -225,7 +224,7 @@ one-step : (n m : ℕ) (e : Entry) → 1 ≤ n → m ≡ n - 1 → replicate n e
 one-step zero m e some less = absurd (omega (arith, some))
 one-step (suc n) m e some less = ap (λ (k : ℕ). e ∷ replicate k e) (omega (arith, less))
 
-pub steps-next : ContinuesByMore → (s0 s1 s2 : Recorded) (e : Entry) (count left : ℕ) (a b c : SinkAt) (u : Unit)
+pub steps-next : ContinuesByMore → (s0 s1 s2 : Recording) (e : Entry) (count left : ℕ) (a b c : SinkAt) (u : Unit)
     → Follows s0 (replicate count e) (replicate left e) s1 a b → 1 ≤ left → s2 ≡ with_entries s1 (e ∷ [])
     → Wrote {X = Unit {0}} b c (lines_behind s1 (e ∷ [])) (Ok u)
     → Follows s0 (replicate count e) (replicate (left - 1) e) s2 a c
@@ -233,7 +232,7 @@ steps-next continues s0 s1 s2 e count left a b c u so_far some on wrote =
     follows-written continues s0 s1 s2 (replicate count e) (replicate left e) (e ∷ []) (replicate (left - 1) e) a b c u
     so_far (one-step left (left - 1) e some refl) on wrote
 
-pub steps-cut : ContinuesByMore → (s0 s1 : Recorded) (e : Entry) (count left : ℕ) (a b c : SinkAt) (fault : IoFault)
+pub steps-cut : ContinuesByMore → (s0 s1 : Recording) (e : Entry) (count left : ℕ) (a b c : SinkAt) (fault : IoFault)
     (r : Result Unit IoFault) → Follows s0 (replicate count e) (replicate left e) s1 a b → 1 ≤ left
     → Wrote {X = Unit {0}} b c (lines_behind s1 (e ∷ [])) (Err fault) → r ≡ Err fault
     → Wrote a c (lines_behind s0 (replicate count e)) r
@@ -241,7 +240,7 @@ steps-cut continues s0 s1 e count left a b c fault r so_far some wrote ends =
     follows-cut continues s0 s1 (replicate count e) (replicate left e) (e ∷ []) (replicate (left - 1) e) a b c fault r
     so_far (one-step left (left - 1) e some refl) wrote ends
 
-pub steps-room : (s0 s1 : Recorded) (e : Entry) (count left : ℕ) (a b : SinkAt)
+pub steps-room : (s0 s1 : Recording) (e : Entry) (count left : ℕ) (a b : SinkAt)
     → Follows s0 (replicate count e) (replicate left e) s1 a b → count ≤ s0.spare → left ≤ s1.spare
 steps-room s0 s1 e count left a b so_far room =
     let rest : length (replicate left e) ≤ s1.spare =
@@ -283,7 +282,7 @@ run-valid runs i r are valid within at =
     first zero more some valid = absurd (omega (arith, some))
     first (suc count) more some valid = All-head IsValid r.entry (replicate count r.entry ++ more) valid
 
-pub runs-more : ContinuesByMore → (s0 s1 s2 : Recorded) (runs : List Run) (i : ℕ) (r : Run) (a b c : SinkAt) (u : Unit)
+pub runs-more : ContinuesByMore → (s0 s1 s2 : Recording) (runs : List Run) (i : ℕ) (r : Run) (a b c : SinkAt) (u : Unit)
     → Follows s0 (written_out runs) (written_out (drop i runs)) s1 a b → i < length runs → r ≡ get_or runs i r
     → s2 ≡ with_entries s1 (replicate r.count r.entry)
     → Wrote {X = Unit {0}} b c (lines_behind s1 (replicate r.count r.entry)) (Ok u)
@@ -292,7 +291,7 @@ runs-more continues s0 s1 s2 runs i r a b c u so_far within at on wrote =
     follows-written continues s0 s1 s2 (written_out runs) (written_out (drop i runs)) (replicate r.count r.entry)
     (written_out (drop (i + 1) runs)) a b c u so_far (runs-next runs i r within at) on wrote
 
-pub runs-cut : ContinuesByMore → (s0 s1 : Recorded) (runs : List Run) (i : ℕ) (r : Run) (a b c : SinkAt) (fault : IoFault)
+pub runs-cut : ContinuesByMore → (s0 s1 : Recording) (runs : List Run) (i : ℕ) (r : Run) (a b c : SinkAt) (fault : IoFault)
     (came : Result Unit IoFault) → Follows s0 (written_out runs) (written_out (drop i runs)) s1 a b → i < length runs
     → r ≡ get_or runs i r → Wrote {X = Unit {0}} b c (lines_behind s1 (replicate r.count r.entry)) (Err fault)
     → came ≡ Err fault → Wrote a c (lines_behind s0 (written_out runs)) came
@@ -303,26 +302,26 @@ runs-cut continues s0 s1 runs i r a b c fault came so_far within at wrote ends =
 -- ---- a whole run
 
 -- a controller as it begins, with room for all entries
-abbrev pub Begins : Program → List Entry → Recorded → Type 0
-Begins program es s = s ≡ record { program = program; profile = Small; history = []; spare = length es }
+abbrev pub Begins : LoadedProgram → List Entry → Recording → Type 0
+Begins l es s = s ≡ record { program = l.program; profile = l.profile; history = []; spare = length es }
 
-pub begins : (program : Program) (s : Recorded) (es : List Entry) (count : ℕ)
-    → s ≡ record { program = program; profile = Small; history = []; spare = count } → count ≡ length es → Begins program es s
-begins program s es count is all = is ∙ ap (λ (n : ℕ). record { program = program; profile = Small; history = []; spare = n }) all
+pub begins : (l : LoadedProgram) (s : Recording) (es : List Entry) (count : ℕ)
+    → s ≡ record { program = l.program; profile = l.profile; history = []; spare = count } → count ≡ length es → Begins l es s
+begins l s es count is all = is ∙ ap (λ (n : ℕ). record { program = l.program; profile = l.profile; history = []; spare = n }) all
 
-pub run-splits : (program : Program) (s s' : Recorded) (es : List Entry) → Begins program es s → s' ≡ with_entries s es
-    → run_text Small (code_of program) es ≡ lines_behind s es ++ closing_of s'
+pub run-splits : (l : LoadedProgram) (s s' : Recording) (es : List Entry) → Begins l es s → s' ≡ with_entries s es
+    → run_text l.profile (code_of l.program) es ≡ lines_behind s es ++ closing_of s'
 unfolding run_text replay
-run-splits program s s' es begins has_run =
-    ap (λ (r : Recorded). lines_behind r es ++ closing_text (length es) (replay Small (code_of program) (events es))) (sym begins)
-    ∙ ap (λ (r : Recorded). lines_behind s es ++ closing_of r) (sym ended)
+run-splits l s s' es begins has_run =
+    ap (λ (r : Recording). lines_behind r es ++ closing_text (length es) (replay l.profile (code_of l.program) (events es))) (sym begins)
+    ∙ ap (λ (r : Recording). lines_behind s es ++ closing_of r) (sym ended)
   where
-    ended : s' ≡ record { program = program; profile = Small; history = es; spare = length es - length es }
-    ended = has_run ∙ ap (λ (r : Recorded). with_entries r es) begins
+    ended : s' ≡ record { program = l.program; profile = l.profile; history = es; spare = length es - length es }
+    ended = has_run ∙ ap (λ (r : Recording). with_entries r es) begins
 
 -- its lines stand before something, whatever is left
-pub cut-run : (program : Program) (s : Recorded) (es : List Entry) → Begins program es s
-    → run_text Small (code_of program) es ≡ lines_behind s es ++ closing_text (length es) (replay Small (code_of program) (events es))
+pub cut-run : (l : LoadedProgram) (s : Recording) (es : List Entry) → Begins l es s
+    → run_text l.profile (code_of l.program) es ≡ lines_behind s es ++ closing_text (length es) (replay l.profile (code_of l.program) (events es))
 unfolding run_text replay
-cut-run program s es begins =
-    ap (λ (r : Recorded). lines_behind r es ++ closing_text (length es) (replay Small (code_of program) (events es))) (sym begins)
+cut-run l s es begins =
+    ap (λ (r : Recording). lines_behind r es ++ closing_text (length es) (replay l.profile (code_of l.program) (events es))) (sym begins)

@@ -1,20 +1,25 @@
 -- The lines of a run as a controller that has a history shows them.
 use Rattle.std.specs.Prelude.{ℕ, ◌-◌, List, ◌++◌, length}
+use Rattle.image_file.specs.Loaded.{LoadedProgram}
 use Rattle.var_access.specs.declared.Entry.{Entry}
 use Rattle.machine.specs.Flat.{code_of}
-use Rattle.controller.specs.Recorded.{Recorded}
+use Rattle.controller.specs.Recording.{Recording}
 use Rattle.controller.specs.Replayed.{replayed}
 use Rattle.s7_cli.specs.run_text.RunText.{closing_text, lines_from}
 
 -- a controller with further entries in its history
-abbrev pub with_entries : Recorded → List Entry → Recorded
+abbrev pub with_entries : Recording → List Entry → Recording
 with_entries r entries =
     record r { history = r.history ++ entries; spare = r.spare - length entries }
 
 -- the lines of further entries, which are counted on from those of its history
-abbrev pub lines_behind : Recorded → List Entry → List ℕ
+abbrev pub lines_behind : Recording → List Entry → List ℕ
 lines_behind r entries = lines_from (code_of r.program) (length r.history) (replayed r) entries
 
 -- the lines at the end of its history
-abbrev pub closing_of : Recorded → List ℕ
+abbrev pub closing_of : Recording → List ℕ
 closing_of r = closing_text (length r.history) (replayed r)
+
+-- its program, with the profile
+abbrev pub program_of : Recording → LoadedProgram
+program_of r = record { program = r.program; profile = r.profile }

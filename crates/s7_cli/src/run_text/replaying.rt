@@ -1,5 +1,4 @@
 ghost use Rattle.std.specs.Prelude.{◌≡◌, [], length, All, IfOk, IfErr};
-ghost use Rattle.plc_base.specs.declared.Profile.TheVariants.{Small};
 ghost use Rattle.plc_io.specs.Taken.{Wrote};
 ghost use Rattle.plc_io.specs.declared.faults.IoFault.TheVariants.{NoMemory};
 ghost use Rattle.var_access.specs.Entry.{IsValid};
@@ -18,7 +17,7 @@ use var_access::Entries;
 pub fn started(alloc: Global, program: Loaded, entries: u64) -> Result<Controller, IoFault>
     ensures ok { IfOk result (λ c. c ≡ record {
       program = program.program;
-      profile = Small;
+      profile = program.profile;
       history = [];
       spare = entries;
     }) }
@@ -29,7 +28,7 @@ pub fn started(alloc: Global, program: Loaded, entries: u64) -> Result<Controlle
     Ok(controller)
 }
 
-/// Runs a program of the small profile along a history, and writes the text of the run: for each
+/// Runs a program at its profile along a history, and writes the text of the run: for each
 /// entry the record of its statement where that is of the monitored block, the peripheral output
 /// bytes and the mode that it changed, and the reply to a request; then the mode at the end and all
 /// data blocks.
@@ -47,7 +46,7 @@ pub fn replay_text<K: Sink>(
 ) -> Result<(), IoFault>
     requires { All IsValid entries.now.entries }
     ensures { Wrote (K.shown out.old) (K.shown out.new)
-        (run_text Small (code_of program.program) entries.now.entries) result }
+        (run_text program.profile (code_of program.program) entries.now.entries) result }
 {
     let mut controller = started(alloc, program, entries.len())?;
     let mut text = Vec::new(alloc);

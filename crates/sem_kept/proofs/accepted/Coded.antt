@@ -6,7 +6,7 @@ use Rattle.std.proofs.lemmas.Bool.{and_from, eq-eqb, ltb-false}
 use Rattle.plc_base.specs.declared.blocks.BlockId.{BlockId}
 use Rattle.plc_base.proofs.ListLemmas.{all_append}
 use Rattle.flat_code.specs.Codes.{are_ops, code_bytes, code_of, is_nowhere, stop_at}
-use Rattle.flat_code.specs.declared.words.EndWord.TheVariants as end
+use Rattle.flat_code.specs.declared.operations.EndOperation.TheVariants as end
 use Rattle.stl_ast.specs.Statements.{is_empty}
 use Rattle.stl_ast.specs.declared.blocks.Block.{Block}
 use Rattle.stl_ast.specs.declared.blocks.Tree.{Tree}

@@ -6,7 +6,7 @@ use Rattle.plc_base.specs.Bcd.{bcd_digits}
 use Rattle.plc_base.specs.S5Time.{s5time_of, s5time_of_units, smallest_base, unit_of}
 use Rattle.plc_base.specs.declared.s5times.TimeBase.{TimeBase}
 use Rattle.plc_base.specs.declared.s5times.TimeBase.TheVariants as base
-use Rattle.flat_code.specs.Table.{admits, takes_of_word}
+use Rattle.flat_code.specs.Table.{admits, takes_of_operation}
 use Rattle.flat_code.specs.declared.operands.Operand.TheVariants as flat
 use Rattle.stl_ast.specs.Literals.{AreBytes, IsDecimal, IsLiteral, IsLong}
 use Rattle.stl_ast.specs.declared.declarations.Simple.TheVariants as simple
@@ -19,7 +19,7 @@ use Rattle.block_layout.specs.Fits.{bits_of, fits, number_from, or_0, twos}
 use Rattle.stl_types.specs.Constants.{is_count, takes_constant}
 use Rattle.stl_types.specs.Forms.{form_of}
 use Rattle.stl_types.specs.declared.views.View.TheVariants as view
-use Rattle.stl_codegen.specs.Words.{add_word, word_of}
+use Rattle.stl_codegen.specs.Operations.{add_operation, operation_for}
 use Rattle.sem_kept.specs.Coded.{HasBytes}
 
 -- ---- bits
@@ -120,7 +120,7 @@ any_taken value is has = le-leb (bits_of value) 4294967295 (bits_small value is 
 
 added : (value : Literal) → IsLiteral value
     → takes_constant (form_of code.Add) value ≡ true
-    → admits (takes_of_word (add_word (operand.Constant value))) (flat.Literal (bits_of value)) ≡ true
+    → admits (takes_of_operation (add_operation (operand.Constant value))) (flat.Literal (bits_of value)) ≡ true
 unfolding form_of takes_constant admits bits_of
 added (literal.Number n) is h = le-leb (twos 16 n) 65535 (decimal_small n is)
 added (literal.Long n) is h = le-leb (twos 32 n) 4294967295 (long_small n is)
@@ -129,9 +129,9 @@ added _ is h = absurd cc
 -- an instruction takes the constants that its form does
 pub constant_taken : (m : Mnemonic) (value : Literal) → IsLiteral value → HasBytes value
     → takes_constant (form_of m) value ≡ true
-    → admits (takes_of_word (word_of m (operand.Constant value) view.Constant))
+    → admits (takes_of_operation (operation_for m (operand.Constant value) view.Constant))
     (flat.Literal (bits_of value)) ≡ true
-unfolding form_of takes_constant word_of admits
+unfolding form_of takes_constant operation_for admits
 constant_taken code.L value is has h = refl
 constant_taken code.Nop value is has h = counted 1 value h
 constant_taken code.Bld value is has h = counted 255 value h

@@ -12,7 +12,7 @@ use Rattle.flat_code.specs.Ops.{OpData, is_op, op_bytes}
 use Rattle.flat_code.specs.declared.operands.Operand.{Operand as FlatOperand}
 use Rattle.flat_code.specs.declared.operands.Operand.TheVariants as flat
 use Rattle.flat_code.specs.declared.operands.Passed.TheVariants as passed
-use Rattle.flat_code.specs.declared.words.EndWord.TheVariants as end
+use Rattle.flat_code.specs.declared.operations.EndOperation.TheVariants as end
 use Rattle.stl_codegen.specs.Compiled.{Stated, StatedBlock, aimed, aimed_op, compiled, offset_from, offset_of, ops_in, placed_ops}
 use Rattle.stl_codegen.specs.Emitted.{ops_of}
 use Rattle.sem_kept.proofs.accepted.CodedOps.{IsGood, IsGoodPart, IsGoodStatement}

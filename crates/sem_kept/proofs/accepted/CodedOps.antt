@@ -14,17 +14,17 @@ use Rattle.flat_code.specs.Instr.{Passing, Does, Calls, Returns}
 use Rattle.flat_code.specs.Kinds.{kind_of}
 use Rattle.flat_code.specs.OpCodes.{code_of}
 use Rattle.flat_code.specs.Ops.{OpData, is_instruction, is_op}
-use Rattle.flat_code.specs.Table.{admits, takes_of_word}
-use Rattle.flat_code.specs.declared.kinds.JumpWord.{JumpWord}
+use Rattle.flat_code.specs.Table.{admits, takes_of_operation}
+use Rattle.flat_code.specs.declared.kinds.JumpOperation.{JumpOperation}
 use Rattle.flat_code.specs.declared.operands.Operand.{Operand as FlatOperand}
 use Rattle.flat_code.specs.declared.operands.Operand.TheVariants as flat
 use Rattle.flat_code.specs.declared.operands.Passed.{Passed}
 use Rattle.flat_code.specs.declared.operands.Passed.TheVariants as passed
-use Rattle.flat_code.specs.declared.words.CallWord.{CallWord}
-use Rattle.flat_code.specs.declared.words.EndWord.{EndWord}
-use Rattle.flat_code.specs.declared.words.EndWord.TheVariants as ends
-use Rattle.flat_code.specs.declared.words.Word.{Word}
-use Rattle.flat_code.specs.declared.words.Word.TheVariants as word
+use Rattle.flat_code.specs.declared.operations.CallOperation.{CallOperation}
+use Rattle.flat_code.specs.declared.operations.EndOperation.{EndOperation}
+use Rattle.flat_code.specs.declared.operations.EndOperation.TheVariants as ends
+use Rattle.flat_code.specs.declared.operations.Operation.{Operation}
+use Rattle.flat_code.specs.declared.operations.Operation.TheVariants as operation
 use Rattle.block_layout.specs.Fits.{bits_of}
 use Rattle.stl_ast.specs.Literals.{IsLiteral}
 use Rattle.stl_ast.specs.Operands.{IsOperand}
@@ -61,12 +61,12 @@ use Rattle.stl_codegen.specs.Emitted.{call_op, end_op, ending, instance_number, 
 use Rattle.stl_codegen.specs.Instruction.{block_at, call_instr, end_instr, filler, in_order, instr_by, instruction, jump_instr, passings_to, resolved_instr, return_last, target_of, view_instr}
 use Rattle.stl_codegen.specs.Operands.{constant_bits, is_in_named_block, opened_by, operand_of}
 use Rattle.stl_codegen.specs.Passed.{passed_actual, passed_place, passed_seen, passed_view, passings_from, supplied, with_index}
-use Rattle.stl_codegen.specs.Words.{call_of, end_of, jump_of, word_of}
+use Rattle.stl_codegen.specs.Operations.{call_of, end_of, jump_of, operation_for}
 use Rattle.sem_kept.proofs.accepted.CodedBits.{bits_small, constant_taken}
-use Rattle.sem_kept.proofs.accepted.CodedTables.{taken, word_is_op}
+use Rattle.sem_kept.proofs.accepted.CodedTables.{taken, operation_is_op}
 use Rattle.sem_kept.proofs.accepted.CodedViews.{IsFit, IsWord, PlaceFits, SeenFits, ViewFits, direct_fits, found_holds, payload_right, pointer_fits, seen_fits, word_fits}
 use Rattle.sem_kept.specs.Coded.{HasBytes, OperandHasBytes, StatementHasBytes}
-use Rattle.sem_kept.proofs.accepted.OperandsWords.{allowed}
+use Rattle.sem_kept.proofs.accepted.OperandsOperations.{allowed}
 use Rattle.sem_kept.proofs.accepted.Shared.{call_form, no_call_constant, rule_callable, rule_there}
 
 -- ---- ops that stay ops wherever they lead
@@ -90,10 +90,10 @@ pub record IsGoodStatement (ops : List OpData) : Type 0 where
   pub last : final.last ≡ true
 
 -- an operand that isn't a jump's
-still_good : (w : Word) (last : Bool) (o : FlatOperand) → ((f : ℕ → ℕ) → aimed f o ≡ o)
+still_good : (w : Operation) (last : Bool) (o : FlatOperand) → ((f : ℕ → ℕ) → aimed f o ≡ o)
     → is_instruction w o ≡ true → IsGood (record { code = code_of w; last = last; operand = o })
 still_good w last o still h f small =
-    ap (λ (x : FlatOperand). is_op (code_of w) x) (still f) ∙ word_is_op w o h
+    ap (λ (x : FlatOperand). is_op (code_of w) x) (still f) ∙ operation_is_op w o h
 
 -- one op alone
 alone : (op : OpData) → IsGood op → op.last ≡ true → IsGoodStatement (op ∷ [])
@@ -136,35 +136,35 @@ still_view o _ f = refl
 
 by_rule : (m : Mnemonic) (o : Operand) (v : View) → jump_of m ≡ None → call_of m ≡ None
     → end_of m ≡ None → is_empty m ≡ false → ViewFits o v → rule_of (form_of m) v ≡ None
-    → is_instruction (word_of m o v) (operand_of o v) ≡ true
+    → is_instruction (operation_for m o v) (operand_of o v) ≡ true
 unfolding is_instruction
 by_rule m o v j c e n fits rule =
     let t = rule_parts (form_of m) v rule in
-    and_from (admits (takes_of_word (word_of m o v)) (operand_of o v))
+    and_from (admits (takes_of_operation (operation_for m o v)) (operand_of o v))
     (payload_fits (operand_of o v))
     (taken m o v j c e n (pointer_fits o v fits) t.takes)
     (payload_right (form_of m) o v t.side fits)
 
 by_constant : (m : Mnemonic) (value : Literal) → IsLiteral value → HasBytes value
     → takes_constant (form_of m) value ≡ true
-    → is_instruction (word_of m (operand.Constant value) view.Constant)
+    → is_instruction (operation_for m (operand.Constant value) view.Constant)
     (operand_of (operand.Constant value) view.Constant) ≡ true
 unfolding is_instruction operand_of
 by_constant m value is has h =
     let small = bits_small value is has in
     and_from
-    (admits (takes_of_word (word_of m (operand.Constant value) view.Constant))
+    (admits (takes_of_operation (operation_for m (operand.Constant value) view.Constant))
     (flat.Literal (bits_of value)))
     (ltb (bits_of value) 4294967296) (constant_taken m value is has h)
     (lt-ltb (bits_of value) 4294967296 (omega (arith, small)))
 
 is_taken : (m : Mnemonic) (o : Operand) (v : View) → jump_of m ≡ None → call_of m ≡ None
     → end_of m ≡ None → is_empty m ≡ false → IsOperand o → OperandHasBytes o → ViewFits o v
-    → IsAllowed (form_of m) o v → is_instruction (word_of m o v) (operand_of o v) ≡ true
+    → IsAllowed (form_of m) o v → is_instruction (operation_for m o v) (operand_of o v) ≡ true
 is_taken m (operand.Constant value) v j c e n is has fits allowed =
     subst
     (λ (x : View).
-    is_instruction (word_of m (operand.Constant value) x) (operand_of (operand.Constant value) x)
+    is_instruction (operation_for m (operand.Constant value) x) (operand_of (operand.Constant value) x)
     ≡ true)
     (sym allowed.1) (by_constant m value is has allowed.0)
 is_taken m operand.Nothing v j c e n is has fits allowed =
@@ -249,14 +249,14 @@ opened_fits o (view.Direct place w side declared) fits = by (is_in_named_block p
     by false = tt
 opened_fits o _ fits = tt
 
-opening_good : (n : ℕ) → IsWord n → IsGoodPart (preparing word.UseDb (flat.UseDb n))
+opening_good : (n : ℕ) → IsWord n → IsGoodPart (preparing operation.UseDb (flat.UseDb n))
 unfolding is_instruction admits
 opening_good n h = record {
-  good = still_good word.UseDb false (flat.UseDb n) (λ f. refl) (word_fits n h);
+  good = still_good operation.UseDb false (flat.UseDb n) (λ f. refl) (word_fits n h);
   inner = refl;
 }
 
-opened_good : (use_db : Option ℕ) (w : Word) (o : FlatOperand) → IfSome use_db IsWord
+opened_good : (use_db : Option ℕ) (w : Operation) (o : FlatOperand) → IfSome use_db IsWord
     → IsGood (ending w o) → IsGoodStatement (opening use_db ++ ending w o ∷ [])
 opened_good None w o h good = alone (ending w o) good refl
 opened_good (Some n) w o h good = record {
@@ -284,18 +284,18 @@ instance_small : (instance : Option ℕ) → IfSome instance IsWord → IsWord (
 instance_small None h = omega arith
 instance_small (Some n) h = h
 
-call_takes : (how : CallWord) (k n m : ℕ)
+call_takes : (how : CallOperation) (k n m : ℕ)
     → (ltb k 256 && is_callable k) ≡ true → IsWord n → IsWord m
-    → is_instruction (word.Call how) (flat.Called k n m) ≡ true
+    → is_instruction (operation.Call how) (flat.Called k n m) ≡ true
 unfolding is_instruction admits
 call_takes how k n m h i j =
     and_from (ltb k 256 && is_callable k) _ h
     (and_from (ltb n 65536) (ltb m 65536) (word_fits n i) (word_fits m j))
 
-call_good : (how : CallWord) (id : BlockId) (instance : Option ℕ) → is_callable_kind id.kind ≡ true
+call_good : (how : CallOperation) (id : BlockId) (instance : Option ℕ) → is_callable_kind id.kind ≡ true
     → IsWord id.number → IfSome instance IsWord → IsGood (call_op how id instance)
 call_good how id instance c h k =
-    still_good (word.Call how) true
+    still_good (operation.Call how) true
     (flat.Called (kind_number id.kind) id.number (instance_number instance)) (λ f. refl)
     (call_takes how (kind_number id.kind) id.number (instance_number instance)
     (kind_called id.kind c) h (instance_small instance k))
@@ -335,14 +335,14 @@ record IsGoodPassing (most : ℕ) (ps : List Passing) : Type 0 where
   few : length (passing ps) ≤ most
 
 pass_takes : (index : ℕ) (a : Passed) → index < 256 → actual_fits a ≡ true
-    → is_instruction word.Pass (flat.Pass index a) ≡ true
+    → is_instruction operation.Pass (flat.Pass index a) ≡ true
 unfolding is_instruction admits actual
 pass_takes index a lt fits = and_from (ltb index 256) (actual_fits a) (lt-ltb index 256 lt) fits
 
 pass_good : (index : ℕ) (a : Passed) → index < 256 → actual_fits a ≡ true
-    → IsGoodPart (preparing word.Pass (flat.Pass index a))
+    → IsGoodPart (preparing operation.Pass (flat.Pass index a))
 pass_good index a lt fits = record {
-  good = still_good word.Pass false (flat.Pass index a) (λ f. refl) (pass_takes index a lt fits);
+  good = still_good operation.Pass false (flat.Pass index a) (λ f. refl) (pass_takes index a lt fits);
   inner = refl;
 }
 
@@ -402,7 +402,7 @@ passings_good c s (Some callee) all few =
     let good = passed_good c s.actuals 0 ordered all within in
     record { parts = good.parts; few = omega (arith, good.few, same, few) }
 
-called_good : (how : CallWord) (id : BlockId) (instance : Option ℕ) (ps : List Passing)
+called_good : (how : CallOperation) (id : BlockId) (instance : Option ℕ) (ps : List Passing)
     → is_callable_kind id.kind ≡ true → IsWord id.number → IfSome instance IsWord → IsGoodPassing 60 ps
     → IsGoodStatement (ops_of (Calls how id instance ps))
 unfolding ops_of
@@ -421,29 +421,29 @@ called_good how id instance ps c h k good = record {
 filler_good : IsGoodStatement (ops_of filler)
 unfolding ops_of is_instruction admits
 filler_good =
-    alone (ending word.Nop (flat.Literal 0))
-    (still_good word.Nop true (flat.Literal 0) (λ f. refl) refl) refl
+    alone (ending operation.Nop (flat.Literal 0))
+    (still_good operation.Nop true (flat.Literal 0) (λ f. refl) refl) refl
 
-jump_good : (how : JumpWord) (n target : ℕ) → IsGoodStatement (ops_of (jump_instr how n target))
+jump_good : (how : JumpOperation) (n target : ℕ) → IsGoodStatement (ops_of (jump_instr how n target))
 jump_good how n target =
     subst IsGoodStatement (sym (jump_ops how n target))
     (alone (jump_op how target)
-    (λ f small. word_is_op word.Jump (flat.Jump (kind_of how) (f target)) (jumps how (f target) (small target)))
+    (λ f small. operation_is_op operation.Jump (flat.Jump (kind_of how) (f target)) (jumps how (f target) (small target)))
     refl)
 
-end_takes : (how : EndWord) → is_instruction (word.End how) flat.Nothing ≡ true
+end_takes : (how : EndOperation) → is_instruction (operation.End how) flat.Nothing ≡ true
 unfolding is_instruction admits
 end_takes ends.Be = refl
 end_takes ends.Bec = refl
 end_takes ends.Beu = refl
 
-pub end_good : (how : EndWord) → IsGoodStatement (ops_of (Returns how))
+pub end_good : (how : EndOperation) → IsGoodStatement (ops_of (Returns how))
 unfolding ops_of
 end_good how =
     alone (end_op how)
-    (still_good (word.End how) true flat.Nothing (λ f. refl) (end_takes how)) refl
+    (still_good (operation.End how) true flat.Nothing (λ f. refl) (end_takes how)) refl
 
-does_good : (use_db : Option ℕ) (w : Word) (o : FlatOperand) → IfSome use_db IsWord
+does_good : (use_db : Option ℕ) (w : Operation) (o : FlatOperand) → IfSome use_db IsWord
     → IsGood (ending w o) → IsGoodStatement (ops_of (Does use_db w o))
 unfolding ops_of
 does_good use_db w o h good = opened_good use_db w o h good
@@ -469,7 +469,7 @@ calls_callable : (v : View) → rule_of form.Calls v ≡ None → CallsCallable 
 calls_callable (view.Called id instance) h = rule_callable id instance h
 calls_callable _ h = tt
 
-call_view_good : (c : Context) (s : Statement) (how : CallWord) (v : View) → IsFit c
+call_view_good : (c : Context) (s : Statement) (how : CallOperation) (v : View) → IsFit c
     → IsGoodSource c s → ViewFits s.operand v → CallsCallable v
     → IsGoodStatement (ops_of (call_instr c s how v))
 call_view_good c s how (view.Called id instance) fit good fits calls =
@@ -487,18 +487,18 @@ view_good c s v fit good some no_jump rule e = by (call_of s.code) refl
     fits =
         subst (SeenFits s.operand) e (seen_fits c s.operand fit good.formed.value good.has.operand)
 
-    ended : (end : Option EndWord) → call_of s.code ≡ None → end_of s.code ≡ end
+    ended : (end : Option EndOperation) → call_of s.code ≡ None → end_of s.code ≡ end
         → IsGoodStatement (ops_of (end_instr s v end))
     ended (Some how) no_call is = end_good how
     ended None no_call is =
-        does_good (opened_by v) (word_of s.code s.operand v) (operand_of s.operand v)
+        does_good (opened_by v) (operation_for s.code s.operand v) (operand_of s.operand v)
         (opened_fits s.operand v fits)
-        (still_good (word_of s.code s.operand v) true (operand_of s.operand v)
+        (still_good (operation_for s.code s.operand v) true (operand_of s.operand v)
         (still_view s.operand v)
         (is_taken s.code s.operand v no_jump no_call is some good.formed.value good.has.operand fits
         (allowed_by c (form_of s.code) s.operand v rule e)))
 
-    by : (how : Option CallWord) → call_of s.code ≡ how
+    by : (how : Option CallOperation) → call_of s.code ≡ how
         → IsGoodStatement (ops_of (view_instr c s v how))
     by (Some how) is =
         call_view_good c s how v fit good fits
@@ -540,7 +540,7 @@ statement_good c body n s fit good some = by (jump_of s.code) refl
     resolves (Some v) no_jump e =
         let r = resolved_parts c s v e in view_good c s v fit good some no_jump r.rule r.seen
 
-    by : (how : Option JumpWord) → jump_of s.code ≡ how
+    by : (how : Option JumpOperation) → jump_of s.code ≡ how
         → IsGoodStatement (ops_of (instr_by c body n s how))
     by (Some how) is = jump_good how n (target_of body s.operand)
     by None is = resolves (resolved c s) is refl

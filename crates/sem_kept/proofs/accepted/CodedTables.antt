@@ -6,21 +6,22 @@ use Rattle.plc_base.specs.declared.places.Area.TheVariants as area
 use Rattle.flat_code.proofs.OpLemmas.{instruction_is_op}
 use Rattle.flat_code.specs.OpCodes.{code_of}
 use Rattle.flat_code.specs.Ops.{is_op, is_instruction}
-use Rattle.flat_code.specs.Table.{admits, takes_of_word}
+use Rattle.flat_code.specs.Table.{admits, takes_of_operation}
 use Rattle.flat_code.specs.declared.operands.Operand.{Operand as FlatOperand}
 use Rattle.flat_code.specs.declared.table.Takes.TheVariants as takes
-use Rattle.flat_code.specs.declared.words.Adding.TheVariants as adding
-use Rattle.flat_code.specs.declared.words.CallWord.TheVariants as calls
+use Rattle.flat_code.specs.declared.operations.Adding.TheVariants as adding
+use Rattle.flat_code.specs.declared.operations.CallOperation.TheVariants as calls
 use Rattle.plc_base.specs.declared.Compare.TheVariants as compare
-use Rattle.flat_code.specs.declared.words.EndWord.TheVariants as ends
+use Rattle.flat_code.specs.declared.operations.EndOperation.TheVariants as ends
 use Rattle.plc_base.specs.declared.Check.TheVariants as check
-use Rattle.flat_code.specs.declared.words.Logic.TheVariants as logic
-use Rattle.flat_code.specs.declared.words.Number.TheVariants as number
-use Rattle.flat_code.specs.declared.words.PointerWord.TheVariants as pointers
-use Rattle.flat_code.specs.declared.words.Shift.TheVariants as shifts
+use Rattle.flat_code.specs.declared.operations.Logic.TheVariants as logic
+use Rattle.flat_code.specs.declared.operations.Number.TheVariants as number
+use Rattle.flat_code.specs.declared.operations.PointerOperation.TheVariants as pointers
+use Rattle.flat_code.specs.declared.operations.RelayOperation.TheVariants as relay
+use Rattle.flat_code.specs.declared.operations.Shift.TheVariants as shifts
 use Rattle.plc_base.specs.declared.TimerKind.TheVariants as starts
-use Rattle.flat_code.specs.declared.words.Word.{Word}
-use Rattle.flat_code.specs.declared.words.Word.TheVariants as word
+use Rattle.flat_code.specs.declared.operations.Operation.{Operation}
+use Rattle.flat_code.specs.declared.operations.Operation.TheVariants as operation
 use Rattle.stl_ast.specs.Statements.{is_empty}
 use Rattle.stl_ast.specs.declared.mnemonics.Mnemonic.{Mnemonic}
 use Rattle.stl_ast.specs.declared.mnemonics.Mnemonic.TheVariants as code
@@ -33,28 +34,29 @@ use Rattle.stl_types.specs.declared.views.Register.TheVariants as register
 use Rattle.stl_types.specs.declared.views.View.{View}
 use Rattle.stl_types.specs.declared.views.View.TheVariants as view
 use Rattle.stl_codegen.specs.Operands.{operand_of, pointer_bits}
-use Rattle.stl_codegen.specs.Words.{jump_of, call_of, end_of, or_word, load_word, transfer_word, load_pointer_word, store_pointer_word, word_of}
+use Rattle.stl_codegen.specs.Operations.{jump_of, call_of, end_of, or_operation, load_operation, transfer_operation, load_pointer_operation, store_pointer_operation, operation_for}
 
--- ---- words and operands are ops
+-- ---- operations and operands are ops
 
-code_below : (w : Word) → ltb (code_of w) 128 ≡ true
-code_below (word.Check check.A) = refl
-code_below (word.Nest check.A) = refl
-code_below (word.Edge true) = refl
-code_below (word.Pointer pointers.Lar1) = refl
-code_below (word.Number number.Tak) = refl
-code_below (word.Add adding.Inc) = refl
-code_below (word.CompareInt compare.Eq) = refl
-code_below (word.CompareDint compare.Eq) = refl
-code_below (word.Logic logic.Aw) = refl
-code_below (word.Shift shifts.Ssi) = refl
-code_below (word.Start starts.Sp) = refl
-code_below (word.Call calls.Call) = refl
-code_below (word.End ends.Be) = refl
+code_below : (w : Operation) → ltb (code_of w) 128 ≡ true
+code_below (operation.Relay relay.Activate) = refl
+code_below (operation.Check check.A) = refl
+code_below (operation.Nest check.A) = refl
+code_below (operation.Edge true) = refl
+code_below (operation.Pointer pointers.Lar1) = refl
+code_below (operation.Number number.Tak) = refl
+code_below (operation.Add adding.Inc) = refl
+code_below (operation.CompareInt compare.Eq) = refl
+code_below (operation.CompareDint compare.Eq) = refl
+code_below (operation.Logic logic.Aw) = refl
+code_below (operation.Shift shifts.Ssi) = refl
+code_below (operation.Start starts.Sp) = refl
+code_below (operation.Call calls.Call) = refl
+code_below (operation.End ends.Be) = refl
 code_below _ = refl
 
-pub word_is_op : (w : Word) (o : FlatOperand) → is_instruction w o ≡ true → is_op (code_of w) o ≡ true
-word_is_op w o h = instruction_is_op w o (ltb-true (code_of w) 128 (code_below w)) h
+pub operation_is_op : (w : Operation) (o : FlatOperand) → is_instruction w o ≡ true → is_op (code_of w) o ≡ true
+operation_is_op w o h = instruction_is_op w o (ltb-true (code_of w) 128 (code_below w)) h
 
 -- ---- operands by form, constants apart
 
@@ -79,7 +81,7 @@ check_takes o (view.OfStatus flag) h = refl
 check_takes o _ h = absurd cc
 
 or_takes : (o : Operand) (v : View) → form_takes form.ReadsBitOrBare v ≡ true
-    → admits (takes_of_word (or_word v)) (operand_of o v) ≡ true
+    → admits (takes_of_operation (or_operation v)) (operand_of o v) ≡ true
 unfolding form_takes admits operand_of
 or_takes o view.Nothing h = refl
 or_takes o (view.Direct place width side declared) h = refl
@@ -127,7 +129,7 @@ reset_takes o (view.NumberBy numbered.Counter from byte) h = refl
 reset_takes o _ h = absurd cc
 
 load_takes : (o : Operand) (v : View) → form_takes form.Loads v ≡ true
-    → admits (takes_of_word (load_word v)) (operand_of o v) ≡ true
+    → admits (takes_of_operation (load_operation v)) (operand_of o v) ≡ true
 unfolding form_takes admits operand_of
 load_takes o (view.Direct place width side declared) h = refl
 load_takes o (view.Parameter index section declared) h = refl
@@ -143,7 +145,7 @@ load_takes o (view.Register _) h = refl
 load_takes o _ h = absurd cc
 
 transfer_takes : (o : Operand) (v : View) → form_takes form.Transfers v ≡ true
-    → admits (takes_of_word (transfer_word v)) (operand_of o v) ≡ true
+    → admits (takes_of_operation (transfer_operation v)) (operand_of o v) ≡ true
 unfolding form_takes admits operand_of
 transfer_takes o (view.Direct place width side declared) h = refl
 transfer_takes o (view.Parameter index section declared) h = refl
@@ -167,7 +169,7 @@ unfolding form_takes
 enable_takes o v h = numbered_takes o v h
 
 lar1_takes : (o : Operand) (v : View) → form_takes form.LoadsAr1 v ≡ true
-    → admits (takes_of_word (load_pointer_word v)) (operand_of o v) ≡ true
+    → admits (takes_of_operation (load_pointer_operation v)) (operand_of o v) ≡ true
 unfolding form_takes admits operand_of
 lar1_takes o view.Nothing h = refl
 lar1_takes o (view.Pointer a byte bit) h = refl
@@ -184,7 +186,7 @@ lar2_takes o (view.Direct place width side declared) h = refl
 lar2_takes o _ h = absurd cc
 
 tar1_takes : (o : Operand) (v : View) → form_takes form.StoresAr1 v ≡ true
-    → admits (takes_of_word (store_pointer_word v)) (operand_of o v) ≡ true
+    → admits (takes_of_operation (store_pointer_operation v)) (operand_of o v) ≡ true
 unfolding form_takes admits operand_of
 tar1_takes o view.Nothing h = refl
 tar1_takes o (view.Direct place width side declared) h = refl
@@ -256,8 +258,8 @@ pointer_takes o _ f h = absurd cc
 -- an instruction that goes on takes what its form does
 pub taken : (m : Mnemonic) (o : Operand) (v : View) → jump_of m ≡ None → call_of m ≡ None
     → end_of m ≡ None → is_empty m ≡ false → PointerFits v → form_takes (form_of m) v ≡ true
-    → admits (takes_of_word (word_of m o v)) (operand_of o v) ≡ true
-unfolding form_of word_of form_takes
+    → admits (takes_of_operation (operation_for m o v)) (operand_of o v) ≡ true
+unfolding form_of operation_for form_takes
 taken code.Empty o v j c e n f h = absurd cc
 taken code.Ju o v j c e n f h = absurd cc
 taken code.Jl o v j c e n f h = absurd cc

@@ -1,21 +1,21 @@
 -- The code of a block whose labels, brackets and jumps break no rule has no fault in them.
-use Rattle.std.proofs.Common.{◌≡◌, ℕ, zero, suc, ◌+◌, ◌-◌, Bool, true, false, ◌&&◌, if◌then◌else◌, eqb, List, [], ◌∷◌, ◌++◌, length, map, append_assoc, Option, Some, None, refl, sym, ap, subst, ◌∙◌, arith}
-use Rattle.std.specs.Prelude.{◌||◌, nat_le, nat_lt}
+use Rattle.std.proofs.Common.{◌≡◌, ℕ, zero, suc, ◌+◌, ◌-◌, Bool, true, false, ◌&&◌, if◌then◌else◌, eqb, List, [], ◌∷◌, ◌++◌, length, map, append_assoc, Option, Some, None, refl, sym, ap, ap₂, subst, ◌∙◌, arith}
+use Rattle.std.specs.Prelude.{nat_le, nat_lt, not}
 use Rattle.std.specs.List.{AllByRecursion, flat_map}
 use Rattle.std.proofs.lemmas.Bool.{eq-eqb}
 use Rattle.std.proofs.lemmas.Bool.Decides.{nat_tests}
-use Rattle.flat_code.specs.Blocks.{differing, is_bad_list, jump_fault, leads, same_codes, target_fault}
+use Rattle.flat_code.specs.Blocks.{are_other, differing, is_bad_list, jump_fault, leads, same_codes, target_fault}
 use Rattle.flat_code.specs.Codes.{size}
 use Rattle.flat_code.specs.Instr.{Instr, Jumps, Returns}
 use Rattle.flat_code.specs.Kinds.{kind_of}
 use Rattle.flat_code.specs.Ops.{OpData}
 use Rattle.flat_code.specs.Placed.{Placed, Spot, bracket_codes, few, open_behind, opened, placed, spot_at, spots}
 use Rattle.flat_code.specs.declared.image_fields.OpenBracket.{OpenBracket}
-use Rattle.flat_code.specs.declared.kinds.JumpWord.{JumpWord}
-use Rattle.flat_code.specs.declared.kinds.JumpWord.TheVariants as jump
+use Rattle.flat_code.specs.declared.kinds.JumpOperation.{JumpOperation}
+use Rattle.flat_code.specs.declared.kinds.JumpOperation.TheVariants as jump
 use Rattle.flat_code.specs.declared.operands.Operand.{Operand as FlatOperand}
 use Rattle.flat_code.specs.declared.operands.Operand.TheVariants as flat
-use Rattle.flat_code.specs.declared.words.EndWord.TheVariants as ends
+use Rattle.flat_code.specs.declared.operations.EndOperation.TheVariants as ends
 use Rattle.stl_ast.specs.Statements.{is_empty}
 use Rattle.stl_ast.specs.declared.mnemonics.Mnemonic.{Mnemonic}
 use Rattle.stl_ast.specs.declared.mnemonics.Mnemonic.TheVariants as code
@@ -24,7 +24,7 @@ use Rattle.stl_ast.specs.declared.operands.Operand.TheVariants as operand
 use Rattle.stl_ast.specs.declared.blocks.Block.{Block}
 use Rattle.stl_ast.specs.declared.statements.Statement.{Statement}
 use Rattle.plc_base.specs.Least.{broken_if}
-use Rattle.plc_base.proofs.ListLemmas.{all_front}
+use Rattle.plc_base.proofs.ListLemmas.{all_append, all_front}
 use Rattle.stl_types.specs.Brackets.{behind, behind_all, closes, left_open, opening}
 use Rattle.stl_types.specs.Context.{Context}
 use Rattle.stl_types.specs.Labels.{is_unknown_label, labels_of, unknown_labels}
@@ -36,15 +36,16 @@ use Rattle.stl_codegen.specs.Compiled.{Stated, aimed, aimed_op, code_in}
 use Rattle.stl_codegen.specs.Emitted.{jump_op}
 use Rattle.stl_codegen.specs.Generated.{stated_from, statements_of}
 use Rattle.stl_codegen.specs.Instruction.{counted, instr_by, instruction, target_in, target_of}
-use Rattle.stl_codegen.specs.Words.{jump_of}
+use Rattle.stl_codegen.specs.Operations.{jump_of}
 use Rattle.sem_kept.specs.Back.{is_target}
 use Rattle.sem_kept.proofs.compiled.Reading.{aimed_append, aimed_are, aimed_bytes, aimed_extent, aimed_is, aimed_part, aimed_parts, ends_append, ends_at, is_statement, parted, parts, parts_append, parts_are, position, position_is, the_code, the_code_is}
 use Rattle.sem_kept.proofs.compiled.Runs.{Parted, bytes_of, flat as flat_parts, size_aimed, total}
 use Rattle.sem_kept.specs.Jumps.{AllLandRight, LandsRight, jump_fault_of}
+use Rattle.sem_kept.specs.Zones.{LeavesZones}
 use Rattle.plc_base.proofs.TruthLemmas.{or_met_behind}
-use Rattle.sem_kept.proofs.accepted.JumpsCode.{AreQuiet, IsQuiet, codes_after, codes_behind, codes_fault, codes_opened, fault_is, few_codes, few_is, none_left, open_after, placed_all, spot_there}
+use Rattle.sem_kept.proofs.accepted.JumpsCode.{AreQuiet, IsFound, IsQuiet, IsQuietPart, codes_after, codes_behind, codes_fault, codes_opened, fault_is, few_codes, few_is, found_by, none_left, open_after, placed_all, spot_there}
 use Rattle.sem_kept.proofs.accepted.JumpsRules.{AreRightFrom, HasList, IsRightAt, IsTarget, behind_more, by_29, by_31, few_open, functions, has_list, right_body, same_lists, target_is, target_past}
-use Rattle.sem_kept.proofs.accepted.JumpsWords.{IsLastOf, TakesRight, behind_codes, bracket_right, codes_of, front_quiet, jumps_to, last_of, last_op}
+use Rattle.sem_kept.proofs.accepted.JumpsOperations.{IsLastOf, TakesRight, behind_codes, bracket_right, codes_of, front_quiet, jumps_to, last_leaves, last_of, last_op}
 
 -- ---- small facts
 
@@ -63,13 +64,19 @@ same_as_itself : (xs : List ℕ) → same_codes xs xs ≡ true
 same_as_itself [] = refl
 same_as_itself (x ∷ xs) = rw (eq-eqb x x refl) (same_as_itself xs)
 
-no_difference : (xs : List ℕ) → differing (few_codes xs) (few_codes xs) ≡ None
-no_difference xs = by (nat_le (length xs) 7)
+same_few : (xs : List ℕ) → are_other (few_codes xs) (few_codes xs) ≡ false
+same_few xs = by (nat_le (length xs) 7)
   where
     by : (few : Bool)
-        → differing (if few then Some xs else None) (if few then Some xs else None) ≡ None
-    by true = rw (same_as_itself xs) refl
+        → are_other (if few then Some xs else None) (if few then Some xs else None) ≡ false
+    by true = ap not (same_as_itself xs)
     by false = refl
+
+no_difference : (xs : List ℕ) (codes : Option (List ℕ)) (zones : ℕ) (there : Spot)
+    → codes ≡ few_codes xs → there.codes ≡ few_codes xs → there.zones ≡ zones
+    → differing codes zones there ≡ None
+no_difference xs codes zones there here same count =
+    rw (ap₂ are_other here same ∙ same_few xs) (rw (eq-eqb zones there.zones (sym count)) refl)
 
 codes_by : (bs : List Bracket) → codes_of bs ≡ map (λ k. 0x18 + k) (functions bs)
 codes_by [] = refl
@@ -109,11 +116,30 @@ aimed_quiet f (op ∷ ops) h = (one op h.0, aimed_quiet f ops h.1)
     stays _ e = e
 
     one : (op : OpData) → IsQuiet op → IsQuiet (aimed_op f op)
-    one op q = record { opens = q.opens; closes = q.closes; stays = stays op.operand q.stays }
+    one op q = record { opens = q.opens; closes = q.closes; zones = record { opens_none = q.zones.opens_none; ends_none = q.zones.ends_none }; stays = stays op.operand q.stays }
 
-parts_quiet : (f : ℕ → ℕ) (ss : List Stated) → AreQuiet (aimed_parts f (parts ss))
-parts_quiet f [] = tt
-parts_quiet f (s ∷ ss) = (aimed_quiet f (parted s.instr).front (front_quiet s.instr), parts_quiet f ss)
+-- the last op leaves zones as they are
+abbrev EndLeaves : Stated → Type 0
+EndLeaves s = LeavesZones (last_op s.instr)
+
+part_quiet : (f : ℕ → ℕ) (s : Stated) → EndLeaves s → IsQuietPart (aimed_part f (parted s.instr))
+part_quiet f s h = record {
+  front = aimed_quiet f (parted s.instr).front (front_quiet s.instr);
+  end = record { opens_none = h.opens_none; ends_none = h.ends_none };
+}
+
+parts_quiet : (f : ℕ → ℕ) (ss : List Stated) → AllByRecursion EndLeaves ss
+    → AreQuiet (aimed_parts f (parts ss))
+parts_quiet f [] h = tt
+parts_quiet f (s ∷ ss) h = (part_quiet f s h.0, parts_quiet f ss h.1)
+
+all_leave : (ps : List Parted) → AreQuiet ps → AllByRecursion LeavesZones (flat_parts ps)
+all_leave [] h = tt
+all_leave (p ∷ ps) h = all_append LeavesZones p.front (p.end ∷ flat_parts ps) (front p.front h.0.front) (h.0.end, all_leave ps h.1)
+  where
+    front : (ops : List OpData) → AllByRecursion IsQuiet ops → AllByRecursion LeavesZones ops
+    front [] h = tt
+    front (op ∷ ops) h = (h.0.zones, front ops h.1)
 
 -- ---- the statements of a body
 
@@ -161,6 +187,19 @@ stated_count c body n (x ∷ xs) =
         ≡ (if e then 0 else 1) + count_of xs
     by true same next = omega (arith, same)
     by false same next = omega (arith, next)
+
+-- none of them opens or ends a zone
+stated_leave : (c : Context) (body : List Statement) (n : ℕ) (xs : List Statement)
+    → AllByRecursion EndLeaves (stated_from c body n xs)
+stated_leave c body n [] = tt
+stated_leave c body n (x ∷ xs) =
+    by (is_empty x.code) (stated_leave c body n xs) (stated_leave c body (suc n) xs)
+  where
+    by : (e : Bool) → AllByRecursion EndLeaves (stated_from c body n xs)
+        → AllByRecursion EndLeaves (stated_from c body (suc n) xs)
+        → AllByRecursion EndLeaves (if e then stated_from c body n xs else stated c body n x ∷ stated_from c body (suc n) xs)
+    by true same next = same
+    by false same next = (last_leaves c body n x, next)
 
 -- where the statements before end
 abbrev ends_of : Context → (body : List Statement) → (pre : List Statement) → ℕ
@@ -270,16 +309,18 @@ place_is c body ret pre rest e =
 
 -- the statement behind statements, and the brackets that are open there
 spot_behind : (f : ℕ → ℕ) (front : List Stated) (s : Stated) (rest : List Stated)
-    → spot_at (spots (the_code f (front ++ s ∷ rest))) (ends_at front)
-    ≡ Some (few_codes (codes_after (aimed_parts f (parts front)) []))
-spot_behind f front s rest =
-    ap (λ (z : List Parted). spot_at (spots (flat_parts z)) (ends_at front)) cut
+    → AllByRecursion EndLeaves front → EndLeaves s
+    → IsFound (spot_at (spots (the_code f (front ++ s ∷ rest))) (ends_at front))
+    (few_codes (codes_after (aimed_parts f (parts front)) [])) 0
+spot_behind f front s rest leave leaves =
+    found_by _ _ _ _ 0
+    (ap (λ (z : List Parted). spot_at (spots (flat_parts z)) (ends_at front)) cut
     ∙ ap (spot_at (spots (flat_parts (ps ++ aimed_part f (parted s.instr) ∷ aimed_parts f (parts rest)))))
-    (sym (aimed_extent f (parts front)) ∙ omega arith)
-    ∙ spot_there 0 [] ps (aimed_part f (parted s.instr)) (aimed_parts f (parts rest))
-    (aimed_are f (parts front) (parts_are front)) (parts_quiet f front)
-    (aimed_quiet f (parted s.instr).front (front_quiet s.instr))
-    (aimed_is f (parted s.instr) (is_statement s.instr))
+    (sym (aimed_extent f (parts front)) ∙ omega arith))
+    refl
+    (spot_there 0 [] [] ps (aimed_part f (parted s.instr)) (aimed_parts f (parts rest))
+    (aimed_are f (parts front) (parts_are front)) (parts_quiet f front leave) (part_quiet f s leaves)
+    (aimed_is f (parted s.instr) (is_statement s.instr)))
   where
     ps : List Parted
     ps = aimed_parts f (parts front)
@@ -290,15 +331,19 @@ spot_behind f front s rest =
         ∙ aimed_append f (parts front) (parts (s ∷ rest))
 
 spot_of : (c : Context) (body : List Statement) (ret : Stated) (f : ℕ → ℕ) (pre rest : List Statement)
-    → body ≡ pre ++ rest → AllByRecursion TakesRight pre
-    → spot_at (spots (the_code f (whole c body ret))) (ends_of c body pre)
-    ≡ Some (few_codes (codes_of (behind_all [] pre)))
-spot_of c body ret f pre rest e takes =
+    → body ≡ pre ++ rest → EndLeaves ret → AllByRecursion TakesRight pre
+    → IsFound (spot_at (spots (the_code f (whole c body ret))) (ends_of c body pre))
+    (few_codes (codes_of (behind_all [] pre))) 0
+spot_of c body ret f pre rest e leaves takes =
     let h = has_first (stated_from c body (count_of pre) rest) ret in
-    ap (λ (z : List Stated). spot_at (spots (the_code f z)) (ends_of c body pre))
-    (whole_cut c body ret pre rest e ∙ ap (λ (z : List Stated). stated_from c body 0 pre ++ z) h.is)
-    ∙ spot_behind f (stated_from c body 0 pre) h.first h.rest
-    ∙ ap (λ (z : List ℕ). Some (few_codes z)) (stated_codes f c body 0 [] pre takes)
+    let leave = subst (AllByRecursion EndLeaves) h.is
+    (all_append EndLeaves (stated_from c body (count_of pre) rest) (ret ∷ [])
+    (stated_leave c body (count_of pre) rest) (leaves, tt)) in
+    found_by _ _ _ _ 0
+    (ap (λ (z : List Stated). spot_at (spots (the_code f z)) (ends_of c body pre))
+    (whole_cut c body ret pre rest e ∙ ap (λ (z : List Stated). stated_from c body 0 pre ++ z) h.is))
+    (ap few_codes (stated_codes f c body 0 [] pre takes))
+    (spot_behind f (stated_from c body 0 pre) h.first h.rest (stated_leave c body 0 pre) leave.0)
 
 -- ---- the list of a JL
 
@@ -419,15 +464,14 @@ stays_right ss p f _ e = refl
 
 jump_right : (ss : List Spot) (p : Placed) (kind target : ℕ) (codes : List ℕ)
     → is_bad_list p kind target ≡ false → few p.brackets ≡ few_codes codes
-    → spot_at ss target ≡ Some (few_codes codes) → jump_fault ss p kind target ≡ None
+    → IsFound (spot_at ss target) (few_codes codes) (length p.zones) → jump_fault ss p kind target ≡ None
 jump_right ss p kind target codes list here there =
-    ap (λ (t : Bool). if t then Some 6 else target_fault (few p.brackets) (spot_at ss target)) list
-    ∙ ap (target_fault (few p.brackets)) there
-    ∙ ap (λ (z : Option (List ℕ)). differing z (few_codes codes)) here
-    ∙ no_difference codes
+    ap (λ (t : Bool). if t then Some 6 else target_fault (few p.brackets) (length p.zones) (spot_at ss target)) list
+    ∙ ap (target_fault (few p.brackets) (length p.zones)) there.is
+    ∙ no_difference codes (few p.brackets) (length p.zones) there.spot here there.codes_are there.zones_are
 
 -- only a JL has a list
-list_right : (how : JumpWord) (p : Placed) (target : ℕ)
+list_right : (how : JumpOperation) (p : Placed) (target : ℕ)
     → (how ≡ jump.Jl → leads 255 target (p.at + size p.op) p.rest ≡ true)
     → is_bad_list p (kind_of how) target ≡ false
 list_right jump.Jl p target h = rw (h refl) refl
@@ -444,24 +488,24 @@ pub record IsRightBody (body : List Statement) : Type 0 where
   pub by_33 : crossing_jumps (labels_of body) (lists_at_labels [] body) body ≡ []
 
 -- a label is where its jump leads, with the same brackets
-record Lands (c : Context) (body : List Statement) (ret : Stated) (pre : List Statement) (name : List ℕ)
-    : Type 0 where
-  spot : spot_at (spots (the_code (place c body ret) (whole c body ret)))
-      (place c body ret (target_in name body))
-      ≡ Some (few_codes (codes_of (behind_all [] pre)))
+abbrev Lands : Context → (body : List Statement) → (ret : Stated) → (pre : List Statement) → (name : List ℕ)
+    → Type 0
+Lands c body ret pre name =
+    IsFound (spot_at (spots (the_code (place c body ret) (whole c body ret)))
+    (place c body ret (target_in name body))) (few_codes (codes_of (behind_all [] pre))) 0
 
 lands : (c : Context) (body : List Statement) (ret : Stated) (pre : List Statement) (s : Statement)
     (post : List Statement) (name : List ℕ)
-    → IsRightBody body → body ≡ pre ++ s ∷ post → IsRightAt body pre s post
+    → IsRightBody body → EndLeaves ret → body ≡ pre ++ s ∷ post → IsRightAt body pre s post
     → s.operand ≡ operand.Label name → Lands c body ret pre name
-lands c body ret pre s post name all e right label = record {
-  spot = ap (spot_at (spots (the_code f (whole c body ret))))
-      (ap f there.count ∙ place_is c body ret there.before there.rest there.whole)
-      ∙ spot_of c body ret f there.before there.rest there.whole
-      (all_front TakesRight there.before there.rest
-      (subst (AllByRecursion TakesRight) there.whole all.takes))
-      ∙ ap (λ (z : List ℕ). Some (few_codes z)) (sym same);
-}
+lands c body ret pre s post name all leaves e right label =
+    found_by _ _ _ _ 0
+    (ap (spot_at (spots (the_code f (whole c body ret))))
+    (ap f there.count ∙ place_is c body ret there.before there.rest there.whole))
+    (ap few_codes (sym same))
+    (spot_of c body ret f there.before there.rest there.whole leaves
+    (all_front TakesRight there.before there.rest
+    (subst (AllByRecursion TakesRight) there.whole all.takes)))
   where
     f : ℕ → ℕ
     f = place c body ret
@@ -517,6 +561,7 @@ abbrev placed_end : Context → List Statement → Stated → Statement → List
 placed_end c body ret s post at n bs done = record {
   at = at + total (front_of c body ret n s);
   brackets = bs;
+  zones = [];
   before = done;
   op = end_of c body ret n s;
   rest = code_from c body ret (place c body ret) (suc n) post;
@@ -534,12 +579,12 @@ ends_here c body ret pre s post at n bs h =
 
 jump_lands : (c : Context) (body : List Statement) (ret : Stated) (pre : List Statement) (s : Statement)
     (post : List Statement) (at n : ℕ) (bs : List OpenBracket) (done : List OpData)
-    → IsRightBody body → IsHere c body pre s post at n bs
-    → (how : JumpWord) → jump_of s.code ≡ Some how
+    → IsRightBody body → EndLeaves ret → IsHere c body pre s post at n bs
+    → (how : JumpOperation) → jump_of s.code ≡ Some how
     → jump_fault (spots (the_code (place c body ret) (whole c body ret)))
     (placed_end c body ret s post at n bs done) (kind_of how) (place c body ret (target_of body s.operand))
     ≡ None
-jump_lands c body ret pre s post at n bs done all h how is =
+jump_lands c body ret pre s post at n bs done all leaves h how is =
     let label = h.takes.jumps how is in
     let name = label.0 in
     let target : ℕ = place c body ret (target_in name body) in
@@ -552,16 +597,16 @@ jump_lands c body ret pre s post at n bs done all h how is =
     (list_right how p target (λ jl.
     listed c body ret pre s post name (p.at + size p.op) (suc n) h.whole h.full
     (ends_here c body ret pre s post at n bs h) (omega (arith, number, same))
-    (has_list body pre s name post h.right (jl_code s.code (is ∙ ap (λ (j : JumpWord). Some j) jl)) label.1)))
+    (has_list body pre s name post h.right (jl_code s.code (is ∙ ap (λ (j : JumpOperation). Some j) jl)) label.1)))
     (few_is bs ∙ ap few_codes h.codes)
-    (lands c body ret pre s post name all h.whole h.right label.1).spot
+    (lands c body ret pre s post name all leaves h.whole h.right label.1)
 
 last_lands : (c : Context) (body : List Statement) (ret : Stated) (pre : List Statement) (s : Statement)
     (post : List Statement) (at n : ℕ) (bs : List OpenBracket) (done : List OpData)
-    → IsRightBody body → IsHere c body pre s post at n bs
+    → IsRightBody body → EndLeaves ret → IsHere c body pre s post at n bs
     → LandsRight (spots (the_code (place c body ret) (whole c body ret)))
     (placed_end c body ret s post at n bs done)
-last_lands c body ret pre s post at n bs done all h = record {
+last_lands c body ret pre s post at n bs done all leaves h = record {
   jump = by (jump_of s.code) refl last.jumps;
   brackets = fault_is op.code bs ∙ ap (codes_fault op.code) h.codes
       ∙ bracket_right (behind_all [] pre) body s op last h.right.closes h.right.few;
@@ -579,12 +624,12 @@ last_lands c body ret pre s post at n bs done all h = record {
     p : Placed
     p = placed_end c body ret s post at n bs done
 
-    by : (j : Option JumpWord) → jump_of s.code ≡ j → jumps_to body s j op.operand
+    by : (j : Option JumpOperation) → jump_of s.code ≡ j → jumps_to body s j op.operand
         → jump_fault_of ss p (aimed (place c body ret) op.operand) ≡ None
     by None is stays = stays_right ss p (place c body ret) op.operand stays
     by (Some how) is there =
         ap (λ (o : FlatOperand). jump_fault_of ss p (aimed (place c body ret) o)) there
-        ∙ jump_lands c body ret pre s post at n bs done all h how is
+        ∙ jump_lands c body ret pre s post at n bs done all leaves h how is
 
 -- ---- the ops of a body
 
@@ -597,11 +642,11 @@ quiet_lands ss q h = record { jump = by q.op.operand h.stays; brackets = rw h.op
 
 abbrev AllLand : Context → List Statement → Stated → (at : ℕ) → List OpenBracket → List OpData → Type 0
 AllLand c body ret at bs ops =
-    AllByRecursion (LandsRight (spots (the_code (place c body ret) (whole c body ret)))) (placed at bs [] ops)
+    AllByRecursion (LandsRight (spots (the_code (place c body ret) (whole c body ret)))) (placed at bs [] [] ops)
 
 -- a statement, and those behind it
 next_lands : (c : Context) (body : List Statement) (ret : Stated) (pre : List Statement) (s : Statement)
-    (post : List Statement) (at n : ℕ) (bs : List OpenBracket) → IsRightBody body
+    (post : List Statement) (at n : ℕ) (bs : List OpenBracket) → IsRightBody body → EndLeaves ret
     → body ≡ pre ++ s ∷ post → at ≡ ends_of c body pre → n ≡ count_of pre
     → bracket_codes bs ≡ codes_of (behind_all [] pre) → TakesRight s → IsRightAt body pre s post
     → ((at n : ℕ) (bs : List OpenBracket) → at ≡ ends_of c body (pre ++ s ∷ [])
@@ -610,15 +655,16 @@ next_lands : (c : Context) (body : List Statement) (ret : Stated) (pre : List St
     → (empty : Bool) → is_empty s.code ≡ empty
     → AllLand c body ret at bs (the_code (place c body ret) ((if empty then stated_from c body n post
     else stated c body n s ∷ stated_from c body (suc n) post) ++ ret ∷ []))
-next_lands c body ret pre s post at n bs all e is_at is_n codes takes right more true is =
+next_lands c body ret pre s post at n bs all leaves e is_at is_n codes takes right more true is =
     more at n bs (is_at ∙ sym (ends_empty c body pre s is)) (is_n ∙ sym (count_empty pre s is))
     (codes ∙ ap codes_of (sym (behind_more [] pre (s ∷ []) ∙ empty_behind (behind_all [] pre) s is)))
-next_lands c body ret pre s post at n bs all e is_at is_n codes takes right more false is =
-    placed_all (LandsRight (spots (the_code f (whole c body ret)))) at bs [] front op
+next_lands c body ret pre s post at n bs all leaves e is_at is_n codes takes right more false is =
+    placed_all (LandsRight (spots (the_code f (whole c body ret)))) at bs [] [] front op
     (code_from c body ret f (suc n) post) (aimed_quiet f (parted i).front (front_quiet i))
+    (part_quiet f (stated c body n s) (last_leaves c body n s)).end
     (aimed_is f (parted i) (is_statement i)).front (aimed_is f (parted i) (is_statement i)).end
     (quiet_lands (spots (the_code f (whole c body ret))))
-    (λ done. last_lands c body ret pre s post at n bs done all here)
+    (λ done. last_lands c body ret pre s post at n bs done all leaves here)
     (more (at + (total front + size op)) (suc n) (opened (at + total front) op.code bs)
     (omega arith ∙ ends_here c body ret pre s post at n bs here)
     (let number = count_more pre s is in omega (arith, number, is_n))
@@ -653,6 +699,16 @@ next_lands c body ret pre s post at n bs all e is_at is_n codes takes right more
 abbrev returning_at : ℕ → Stated
 returning_at line = record { instr = Returns ends.Be; line = line }
 
+return_leaves : (line : ℕ) → EndLeaves (returning_at line)
+return_leaves line = record { opens_none = refl; ends_none = refl }
+
+-- no statement of a block opens or ends a zone
+whole_leaves : (c : Context) (body : List Statement) (line : ℕ)
+    → AllByRecursion EndLeaves (whole c body (returning_at line))
+whole_leaves c body line =
+    all_append EndLeaves (stated_from c body 0 body) (returning_at line ∷ [])
+    (stated_leave c body 0 body) (return_leaves line, tt)
+
 body_lands : (c : Context) (body : List Statement) (line : ℕ) (pre post : List Statement) (at n : ℕ)
     (bs : List OpenBracket) → IsRightBody body
     → body ≡ pre ++ post → at ≡ ends_of c body pre → n ≡ count_of pre
@@ -663,7 +719,7 @@ body_lands : (c : Context) (body : List Statement) (line : ℕ) (pre post : List
 body_lands c body line pre [] at n bs all e is_at is_n codes takes right =
     (record { jump = refl; brackets = refl }, tt)
 body_lands c body line pre (s ∷ post) at n bs all e is_at is_n codes takes right =
-    next_lands c body (returning_at line) pre s post at n bs all e is_at is_n codes takes.0 right.0
+    next_lands c body (returning_at line) pre s post at n bs all (return_leaves line) e is_at is_n codes takes.0 right.0
     (λ at n bs is_at is_n codes.
     body_lands c body line (pre ++ s ∷ []) post at n bs all
     (e ∙ sym (append_assoc pre (s ∷ []) post)) is_at is_n codes takes.1 right.1)
@@ -680,7 +736,7 @@ all_closed : (c : Context) (body : List Statement) (line : ℕ) (f : ℕ → ℕ
 all_closed c body line f all =
     none_left (open_behind 0 [] (the_code f (whole c body (returning_at line))))
     (open_after 0 [] (aimed_parts f (parts (whole c body (returning_at line))))
-    (parts_quiet f (whole c body (returning_at line)))
+    (parts_quiet f (whole c body (returning_at line)) (whole_leaves c body line))
     ∙ ap (λ (z : List Parted). codes_after (aimed_parts f z) [])
     (parts_append (stated_from c body 0 body) (returning_at line ∷ []))
     ∙ ap (λ (z : List Parted). codes_after z [])
@@ -696,6 +752,7 @@ whole_lands c body line all = record {
   each = body_lands c body line [] body 0 0 [] all refl refl refl refl all.takes
       (right_body body all.by_26 all.by_29 all.by_31 all.by_32 all.by_33);
   closed = all_closed c body line (place c body (returning_at line)) all;
+  leave = all_leave _ (parts_quiet (place c body (returning_at line)) (whole c body (returning_at line)) (whole_leaves c body line));
 }
 
 -- the code of a block

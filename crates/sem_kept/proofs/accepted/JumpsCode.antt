@@ -1,4 +1,4 @@
--- Brackets and jumps of code that lies statement by statement.
+-- Brackets and jumps of code that lies statement by statement, and has no zones.
 use Rattle.std.proofs.Common.{◌≡◌, ℕ, zero, suc, ◌+◌, ◌-◌, Bool, true, false, if◌then◌else◌, eqb, List, [], ◌∷◌, ◌++◌, length, take, Option, Some, None, refl, sym, ap, subst, ◌∙◌, arith}
 use Rattle.std.specs.Prelude.{nat_le, ◌==◌}
 use Rattle.std.proofs.lemmas.Bool.{eq-eqb, ne_eqb}
@@ -6,9 +6,11 @@ use Rattle.std.specs.List.{AllByRecursion}
 use Rattle.flat_code.specs.Blocks.{bracket_fault}
 use Rattle.flat_code.specs.Codes.{size}
 use Rattle.flat_code.specs.Ops.{OpData}
-use Rattle.flat_code.specs.Placed.{Placed, Spot, before_next, bracket_codes, few, inner, is_empty, open_behind, opened, opens, placed, spot_at, spots_from}
+use Rattle.flat_code.specs.Placed.{Placed, Spot, before_next, bracket_codes, few, inner, is_empty, open_behind, opened, opens, placed, spot_at, spots_from, zones_behind}
 use Rattle.flat_code.specs.declared.image_fields.OpenBracket.{OpenBracket}
 use Rattle.sem_kept.specs.Back.{is_target}
+use Rattle.sem_kept.specs.Zones.{LeavesZones}
+use Rattle.sem_kept.proofs.ZoneLemmas.{zones_stay}
 use Rattle.sem_kept.proofs.compiled.Runs.{total, Parted, IsPreparing, IsStatement, AreStatements, flat, bytes_of, bytes_long, extent}
 
 -- ---- the codes of open brackets
@@ -87,14 +89,20 @@ none_left (b ∷ bs) e = absurd cc
 
 -- ---- ops that prepare
 
--- an op that has nothing to do with brackets and doesn't jump
+-- an op that has nothing to do with brackets and zones and doesn't jump
 pub record IsQuiet (op : OpData) : Type 0 where
   pub opens : opens op.code ≡ false
   pub closes : (op.code == 0x1E) ≡ false
+  pub zones : LeavesZones op
   pub stays : is_target op.operand ≡ false
 
+-- a statement without zones, of which only the last op may have to do with brackets, or jump
+pub record IsQuietPart (p : Parted) : Type 0 where
+  pub front : AllByRecursion IsQuiet p.front
+  pub end : LeavesZones p.end
+
 abbrev pub AreQuiet : List Parted → Type 0
-AreQuiet ps = AllByRecursion (λ p. AllByRecursion IsQuiet p.front) ps
+AreQuiet ps = AllByRecursion IsQuietPart ps
 
 quiet_opens : (at : ℕ) (op : OpData) (bs : List OpenBracket) → IsQuiet op
     → opened at op.code bs ≡ bs
@@ -102,69 +110,88 @@ quiet_opens at op bs h = rw h.opens (rw h.closes refl)
 
 -- ---- the statements
 
-spots_inside : (at : ℕ) (bs : List OpenBracket) (front : List OpData) (op : OpData) (rest : List OpData)
-    → AllByRecursion IsQuiet front → AllByRecursion IsPreparing front → op.last ≡ true
-    → spots_from at false bs (front ++ op ∷ rest)
-    ≡ spots_from (at + (total front + size op)) true (opened (at + total front) op.code bs) rest
-spots_inside at bs [] op rest quiet fs last =
+spots_inside : (at : ℕ) (bs : List OpenBracket) (zones : List ℕ) (front : List OpData) (op : OpData)
+    (rest : List OpData)
+    → AllByRecursion IsQuiet front → LeavesZones op → AllByRecursion IsPreparing front → op.last ≡ true
+    → spots_from at false bs zones (front ++ op ∷ rest)
+    ≡ spots_from (at + (total front + size op)) true (opened (at + total front) op.code bs) zones rest
+spots_inside at bs zones [] op rest quiet leaves fs last =
     let here : at + size op ≡ at + (total [] + size op) = omega arith in
     let there : at ≡ at + total [] = omega arith in
-    ap (λ (t : Bool). spots_from (at + size op) t (opened at op.code bs) rest) last
-    ∙ ap (λ (k : ℕ). spots_from k true (opened at op.code bs) rest) here
-    ∙ ap (λ (k : ℕ). spots_from (at + (total [] + size op)) true (opened k op.code bs) rest) there
-spots_inside at bs (x ∷ front) op rest quiet fs last =
+    ap (λ (t : Bool). spots_from (at + size op) t (opened at op.code bs) (zones_behind at op.code zones) rest) last
+    ∙ ap (λ (z : List ℕ). spots_from (at + size op) true (opened at op.code bs) z rest) (zones_stay at op zones leaves)
+    ∙ ap (λ (k : ℕ). spots_from k true (opened at op.code bs) zones rest) here
+    ∙ ap (λ (k : ℕ). spots_from (at + (total [] + size op)) true (opened k op.code bs) zones rest) there
+spots_inside at bs zones (x ∷ front) op rest quiet leaves fs last =
     let here : at + size x + (total front + size op) ≡ at + (size x + total front + size op) = omega arith in
     let there : at + size x + total front ≡ at + (size x + total front) = omega arith in
-    ap (λ (t : Bool). spots_from (at + size x) t (opened at x.code bs) (front ++ op ∷ rest)) fs.0
-    ∙ ap (λ (z : List OpenBracket). spots_from (at + size x) false z (front ++ op ∷ rest))
+    ap (λ (t : Bool). spots_from (at + size x) t (opened at x.code bs) (zones_behind at x.code zones) (front ++ op ∷ rest)) fs.0
+    ∙ ap (λ (z : List OpenBracket). spots_from (at + size x) false z (zones_behind at x.code zones) (front ++ op ∷ rest))
     (quiet_opens at x bs quiet.0)
-    ∙ spots_inside (at + size x) bs front op rest quiet.1 fs.1 last
-    ∙ ap (λ (k : ℕ). spots_from k true (opened (at + size x + total front) op.code bs) rest) here
-    ∙ ap (λ (k : ℕ). spots_from (at + (size x + total front + size op)) true (opened k op.code bs) rest) there
+    ∙ ap (λ (z : List ℕ). spots_from (at + size x) false bs z (front ++ op ∷ rest)) (zones_stay at x zones quiet.0.zones)
+    ∙ spots_inside (at + size x) bs zones front op rest quiet.1 leaves fs.1 last
+    ∙ ap (λ (k : ℕ). spots_from k true (opened (at + size x + total front) op.code bs) zones rest) here
+    ∙ ap (λ (k : ℕ). spots_from (at + (size x + total front + size op)) true (opened k op.code bs) zones rest) there
 
 -- a statement, and those behind it
-spots_next : (at : ℕ) (bs : List OpenBracket) (p : Parted) (rest : List OpData)
-    → AllByRecursion IsQuiet p.front → IsStatement p
-    → spots_from at true bs (p.front ++ p.end ∷ rest)
-    ≡ record { at = at; codes = few bs }
-    ∷ spots_from (at + bytes_of p) true (opened (at + total p.front) p.end.code bs) rest
-spots_next at bs p rest quiet h = by p.front quiet h.front
+spots_next : (at : ℕ) (bs : List OpenBracket) (zones : List ℕ) (p : Parted) (rest : List OpData)
+    → IsQuietPart p → IsStatement p
+    → spots_from at true bs zones (p.front ++ p.end ∷ rest)
+    ≡ record { at = at; codes = few bs; zones = length zones }
+    ∷ spots_from (at + bytes_of p) true (opened (at + total p.front) p.end.code bs) zones rest
+spots_next at bs zones p rest quiet h = by p.front quiet.front h.front
   where
+    here : Spot
+    here = record { at = at; codes = few bs; zones = length zones }
+
     by : (front : List OpData) → AllByRecursion IsQuiet front → AllByRecursion IsPreparing front
-        → spots_from at true bs (front ++ p.end ∷ rest)
-        ≡ record { at = at; codes = few bs }
-        ∷ spots_from (at + (total front + size p.end)) true (opened (at + total front) p.end.code bs) rest
+        → spots_from at true bs zones (front ++ p.end ∷ rest)
+        ≡ here ∷ spots_from (at + (total front + size p.end)) true (opened (at + total front) p.end.code bs) zones rest
     by [] q fs =
-        ap (λ (z : List Spot). record { at = at; codes = few bs } ∷ z)
-        (spots_inside at bs [] p.end rest q fs h.end)
+        ap (λ (z : List Spot). here ∷ z) (spots_inside at bs zones [] p.end rest q quiet.end fs h.end)
     by (x ∷ front) q fs =
-        ap (λ (z : List Spot). record { at = at; codes = few bs } ∷ z)
-        (spots_inside at bs (x ∷ front) p.end rest q fs h.end)
+        ap (λ (z : List Spot). here ∷ z) (spots_inside at bs zones (x ∷ front) p.end rest q quiet.end fs h.end)
 
 -- the codes of the brackets that are open behind statements
 abbrev pub codes_after : List Parted → List ℕ → List ℕ
 codes_after [] codes = codes
 codes_after (p ∷ ps) codes = codes_after ps (codes_behind p.end.code codes)
 
+-- a statement is found, at which these brackets and so many zones are open
+pub record IsFound (found : Option Spot) (codes : Option (List ℕ)) (zones : ℕ) : Type 0 where
+  pub spot : Spot
+  pub is : found ≡ Some spot
+  pub codes_are : spot.codes ≡ codes
+  pub zones_are : spot.zones ≡ zones
+
+pub found_by : (a b : Option Spot) (codes others : Option (List ℕ)) (zones : ℕ) → a ≡ b → codes ≡ others
+    → IsFound b codes zones → IsFound a others zones
+found_by a b codes others zones e same h =
+    record { spot = h.spot; is = e ∙ h.is; codes_are = h.codes_are ∙ same; zones_are = h.zones_are }
+
 -- the statement behind others is found by its offset
-pub spot_there : (at : ℕ) (bs : List OpenBracket) (ps : List Parted) (p : Parted) (qs : List Parted)
-    → AreStatements ps → AreQuiet ps → AllByRecursion IsQuiet p.front → IsStatement p
-    → spot_at (spots_from at true bs (flat (ps ++ p ∷ qs))) (at + extent ps)
-    ≡ Some (few_codes (codes_after ps (bracket_codes bs)))
-spot_there at bs [] p qs hs quiets quiet h =
-    rw (spots_next at bs p (flat qs) quiet h)
-    (rw (eq-eqb at (at + 0) (omega arith)) (ap (λ (z : Option (List ℕ)). Some z) (few_is bs)))
-spot_there at bs (q ∷ ps) p qs hs quiets quiet h =
+pub spot_there : (at : ℕ) (bs : List OpenBracket) (zones : List ℕ) (ps : List Parted) (p : Parted)
+    (qs : List Parted)
+    → AreStatements ps → AreQuiet ps → IsQuietPart p → IsStatement p
+    → IsFound (spot_at (spots_from at true bs zones (flat (ps ++ p ∷ qs))) (at + extent ps))
+    (few_codes (codes_after ps (bracket_codes bs))) (length zones)
+spot_there at bs zones [] p qs hs quiets quiet h = record {
+  spot = record { at = at; codes = few bs; zones = length zones };
+  is = rw (spots_next at bs zones p (flat qs) quiet h) (rw (eq-eqb at (at + 0) (omega arith)) refl);
+  codes_are = few_is bs;
+  zones_are = refl;
+}
+spot_there at bs zones (q ∷ ps) p qs hs quiets quiet h =
     let long = bytes_long q in
     let other : eqb at (at + (bytes_of q + extent ps)) ≡ false =
     ne_eqb at (at + (bytes_of q + extent ps)) (λ e. omega (arith, e, long)) in
     let moved : at + (bytes_of q + extent ps) ≡ at + bytes_of q + extent ps = omega arith in
     let next : List OpenBracket = opened (at + total q.front) q.end.code bs in
-    rw (spots_next at bs q (flat (ps ++ p ∷ qs)) quiets.0 hs.0)
-    (rw other (ap (spot_at (spots_from (at + bytes_of q) true next (flat (ps ++ p ∷ qs)))) moved
-    ∙ spot_there (at + bytes_of q) next ps p qs hs.1 quiets.1 quiet h
-    ∙ ap (λ (z : List ℕ). Some (few_codes (codes_after ps z)))
-    (codes_opened (at + total q.front) q.end.code bs)))
+    found_by _ _ _ _ (length zones)
+    (rw (spots_next at bs zones q (flat (ps ++ p ∷ qs)) quiets.0 hs.0)
+    (rw other (ap (spot_at (spots_from (at + bytes_of q) true next zones (flat (ps ++ p ∷ qs)))) moved)))
+    (ap (λ (z : List ℕ). few_codes (codes_after ps z)) (codes_opened (at + total q.front) q.end.code bs))
+    (spot_there (at + bytes_of q) next zones ps p qs hs.1 quiets.1 quiet h)
 
 -- ---- brackets open behind all
 
@@ -182,40 +209,45 @@ pub open_after : (at : ℕ) (bs : List OpenBracket) (ps : List Parted) → AreQu
     → bracket_codes (open_behind at bs (flat ps)) ≡ codes_after ps (bracket_codes bs)
 open_after at bs [] quiets = refl
 open_after at bs (p ∷ ps) quiets =
-    ap bracket_codes (open_inside at bs p.front (p.end ∷ flat ps) quiets.0)
+    ap bracket_codes (open_inside at bs p.front (p.end ∷ flat ps) quiets.0.front)
     ∙ open_after (at + total p.front + size p.end) (opened (at + total p.front) p.end.code bs) ps quiets.1
     ∙ ap (codes_after ps) (codes_opened (at + total p.front) p.end.code bs)
 
 -- ---- each op
 
 -- what holds of each op of a statement, and of those behind it
-pub placed_all : (P : Placed → Type 0) (at : ℕ) (bs : List OpenBracket) (before front : List OpData)
-    (op : OpData) (rest : List OpData)
-    → AllByRecursion IsQuiet front → AllByRecursion IsPreparing front → op.last ≡ true
+pub placed_all : (P : Placed → Type 0) (at : ℕ) (bs : List OpenBracket) (zones : List ℕ)
+    (before front : List OpData) (op : OpData) (rest : List OpData)
+    → AllByRecursion IsQuiet front → LeavesZones op → AllByRecursion IsPreparing front → op.last ≡ true
     → ((q : Placed) → IsQuiet q.op → P q)
     → ((done : List OpData)
-    → P (record { at = at + total front; brackets = bs; before = done; op = op; rest = rest }))
-    → AllByRecursion P (placed (at + (total front + size op)) (opened (at + total front) op.code bs) [] rest)
-    → AllByRecursion P (placed at bs before (front ++ op ∷ rest))
-placed_all P at bs before [] op rest quiet fs last one end more =
+    → P (record { at = at + total front; brackets = bs; zones = zones; before = done; op = op; rest = rest }))
+    → AllByRecursion P (placed (at + (total front + size op)) (opened (at + total front) op.code bs) zones [] rest)
+    → AllByRecursion P (placed at bs zones before (front ++ op ∷ rest))
+placed_all P at bs zones before [] op rest quiet leaves fs last one end more =
     let here : at + total [] ≡ at = omega arith in
     let there : at + (total [] + size op) ≡ at + size op = omega arith in
+    let same : zones ≡ zones_behind at op.code zones = sym (zones_stay at op zones leaves) in
     let none : [] ≡ before_next op before =
     ap (λ (t : Bool). if t then [] else before ++ op ∷ []) (sym last) in (
-      subst (λ (k : ℕ). P (record { at = k; brackets = bs; before = before; op = op; rest = rest })) here (end before),
-      subst (λ (z : List OpData). AllByRecursion P (placed (at + size op) (opened at op.code bs) z rest)) none
-          (subst (λ (k : ℕ). AllByRecursion P (placed (at + size op) (opened k op.code bs) [] rest)) here
-          (subst (λ (k : ℕ). AllByRecursion P (placed k (opened (at + total []) op.code bs) [] rest)) there more)),
+      subst (λ (k : ℕ). P (record { at = k; brackets = bs; zones = zones; before = before; op = op; rest = rest })) here (end before),
+      subst (λ (z : List OpData). AllByRecursion P (placed (at + size op) (opened at op.code bs) (zones_behind at op.code zones) z rest)) none
+          (subst (λ (z : List ℕ). AllByRecursion P (placed (at + size op) (opened at op.code bs) z [] rest)) same
+          (subst (λ (k : ℕ). AllByRecursion P (placed (at + size op) (opened k op.code bs) zones [] rest)) here
+          (subst (λ (k : ℕ). AllByRecursion P (placed k (opened (at + total []) op.code bs) zones [] rest)) there more))),
     )
-placed_all P at bs before (x ∷ front) op rest quiet fs last one end more =
+placed_all P at bs zones before (x ∷ front) op rest quiet leaves fs last one end more =
     let here : at + (size x + total front) ≡ at + size x + total front = omega arith in
     let there : at + (size x + total front + size op) ≡ at + size x + (total front + size op) = omega arith in
-    let same : bs ≡ opened at x.code bs = sym (quiet_opens at x bs quiet.0) in (
-      one (record { at = at; brackets = bs; before = before; op = x; rest = front ++ op ∷ rest }) quiet.0,
+    let same : bs ≡ opened at x.code bs = sym (quiet_opens at x bs quiet.0) in
+    let stay : zones ≡ zones_behind at x.code zones = sym (zones_stay at x zones quiet.0.zones) in (
+      one (record { at = at; brackets = bs; zones = zones; before = before; op = x; rest = front ++ op ∷ rest }) quiet.0,
       subst (λ (z : List OpenBracket). AllByRecursion P
-          (placed (at + size x) z (before_next x before) (front ++ op ∷ rest))) same
-          (placed_all P (at + size x) bs (before_next x before) front op rest quiet.1 fs.1 last one
-          (λ done. subst (λ (k : ℕ). P (record { at = k; brackets = bs; before = done; op = op; rest = rest })) here (end done))
-          (subst (λ (k : ℕ). AllByRecursion P (placed (at + size x + (total front + size op)) (opened k op.code bs) [] rest)) here
-          (subst (λ (k : ℕ). AllByRecursion P (placed k (opened (at + (size x + total front)) op.code bs) [] rest)) there more))),
+          (placed (at + size x) z (zones_behind at x.code zones) (before_next x before) (front ++ op ∷ rest))) same
+          (subst (λ (z : List ℕ). AllByRecursion P
+          (placed (at + size x) bs z (before_next x before) (front ++ op ∷ rest))) stay
+          (placed_all P (at + size x) bs zones (before_next x before) front op rest quiet.1 leaves fs.1 last one
+          (λ done. subst (λ (k : ℕ). P (record { at = k; brackets = bs; zones = zones; before = done; op = op; rest = rest })) here (end done))
+          (subst (λ (k : ℕ). AllByRecursion P (placed (at + size x + (total front + size op)) (opened k op.code bs) zones [] rest)) here
+          (subst (λ (k : ℕ). AllByRecursion P (placed k (opened (at + (size x + total front)) op.code bs) zones [] rest)) there more)))),
     )

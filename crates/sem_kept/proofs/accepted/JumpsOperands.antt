@@ -3,7 +3,7 @@ use Rattle.std.proofs.Common.{◌≡◌, ℕ, Bool, true, false, if◌then◌els
 use Rattle.plc_base.specs.declared.places.Area.TheVariants as area
 use Rattle.plc_base.specs.declared.places.Place.{Place}
 use Rattle.plc_base.specs.declared.places.Width.{Width}
-use Rattle.flat_code.specs.declared.kinds.JumpWord.{JumpWord}
+use Rattle.flat_code.specs.declared.kinds.JumpOperation.{JumpOperation}
 use Rattle.stl_ast.specs.Statements.{is_call, is_called}
 use Rattle.stl_ast.specs.declared.blocks.PathStep.{PathStep}
 use Rattle.stl_ast.specs.declared.declarations.Simple.{Simple}
@@ -43,9 +43,9 @@ use Rattle.stl_types.specs.declared.views.Seen.{Seen}
 use Rattle.stl_types.specs.declared.views.Seen.TheVariants.{Sees, Unknown, Rests}
 use Rattle.stl_types.specs.declared.views.View.{View}
 use Rattle.stl_types.specs.declared.views.View.TheVariants as view
-use Rattle.stl_codegen.specs.Words.{jump_of}
+use Rattle.stl_codegen.specs.Operations.{jump_of}
 use Rattle.sem_kept.proofs.accepted.Accepted.{IsSoundStatement}
-use Rattle.sem_kept.proofs.accepted.JumpsWords.{TakesRight, is_bracket, bracket_form}
+use Rattle.sem_kept.proofs.accepted.JumpsOperations.{TakesRight, is_bracket, bracket_form}
 use Rattle.sem_kept.proofs.accepted.Shared.{jump_form}
 
 -- an operand is judged: it stands on nothing that breaks a rule itself or is absent
@@ -213,7 +213,7 @@ nothing_of_bracket c _ none h known e = absurd cc
 
 -- ---- a statement
 
-jump_calls : (m : Mnemonic) (how : JumpWord) → jump_of m ≡ Some how → is_call m ≡ false
+jump_calls : (m : Mnemonic) (how : JumpOperation) → jump_of m ≡ Some how → is_call m ≡ false
 jump_calls code.Call how e = absurd cc
 jump_calls code.Uc how e = absurd cc
 jump_calls code.Cc how e = absurd cc

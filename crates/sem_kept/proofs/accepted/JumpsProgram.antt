@@ -1,4 +1,4 @@
--- No code block of an accepted source has a fault in its jumps or brackets.
+-- No code block of an accepted source has a fault in its jumps, brackets or zones.
 use Rattle.std.proofs.Common.{◌≡◌, ℕ, false, List, [], ◌∷◌, ◌++◌, Option, Some, None, refl, ap, ◌∙◌}
 use Rattle.std.specs.List.{AllByRecursion}
 use Rattle.stl_ast.specs.Statements.{is_called}
@@ -13,17 +13,19 @@ use Rattle.stl_types.specs.Context.{Context}
 use Rattle.stl_types.specs.Seen.{seen}
 use Rattle.stl_codegen.specs.Compiled.{code_in}
 use Rattle.stl_codegen.specs.Fitting.{IsStill}
-use Rattle.flat_code.specs.Blocks.{Around, block_faults, call_fault, faults_over, op_faults, open_faults, operand_fault}
-use Rattle.flat_code.specs.Placed.{Placed, Spot, open_behind, places, spots}
+use Rattle.flat_code.specs.Blocks.{Around, block_faults, call_fault, faults_over, op_faults, operand_fault}
+use Rattle.flat_code.specs.Placed.{Placed, Spot, places, spots}
 use Rattle.flat_code.specs.declared.operands.Operand.{Operand as FlatOperand}
 use Rattle.flat_code.specs.declared.operands.Operand.TheVariants as flat
 use Rattle.sem_kept.specs.Jumps.{AllLandRight, FineIsFaultless, JumpsLandRight, LandsRight, jump_fault_of}
 use Rattle.sem_kept.specs.Operands.{AreFine, IsFine}
+use Rattle.sem_kept.specs.Zones.{IsOutsideZones}
+use Rattle.sem_kept.proofs.ZoneLemmas.{code_has_no_zones}
 use Rattle.sem_kept.proofs.accepted.Accepted.{IsSound, IsSoundStatement, context_at, right_tree, sound_code_blocks}
 use Rattle.sem_kept.proofs.accepted.Jumps.{IsRightBody, lands_right}
 use Rattle.sem_kept.proofs.accepted.JumpsOperands.{Settles, takes_right}
 use Rattle.sem_kept.proofs.accepted.JumpsSettled.{Settle, operands_settle}
-use Rattle.sem_kept.proofs.accepted.JumpsWords.{TakesRight}
+use Rattle.sem_kept.proofs.accepted.JumpsOperations.{TakesRight}
 
 all_take : (y : Types) (c : Context) (body : List Statement)
     → AllByRecursion (IsSoundStatement y c) body
@@ -62,26 +64,27 @@ all_operands a ss p (flat.Jump kind target) still jump = jump
 all_operands a ss p _ still jump = still tt
 
 op_faultless : (a : Around) (lens : List (ℕ × ℕ)) (ss : List Spot) (start : ℕ) (p : Placed)
-    → a.data_lens ≡ Some lens → IsFine a lens ss p → LandsRight ss p → op_faults a ss start p ≡ []
+    → a.data_lens ≡ Some lens → IsFine a lens ss p → LandsRight ss p → IsOutsideZones p
+    → op_faults a ss start p ≡ []
 unfolding op_faults
-op_faultless a lens ss start p e fine lands =
+op_faultless a lens ss start p e fine lands outside =
     let calls : call_fault a a.data_lens p ≡ None =
     ap (λ (z : Option (List (ℕ × ℕ))). call_fault a z p) e ∙ fine.call in
     rw (all_operands a ss p p.op.operand fine.operand lands.jump)
-    (rw calls (rw fine.mark (rw lands.brackets refl)))
+    (rw calls (rw fine.mark (rw lands.brackets (rw outside.faultless refl))))
 
 all_faultless : (a : Around) (lens : List (ℕ × ℕ)) (ss : List Spot) (start : ℕ) (ps : List Placed)
     → a.data_lens ≡ Some lens → AreFine a lens ss ps → AllByRecursion (LandsRight ss) ps
-    → faults_over a ss start ps ≡ []
-all_faultless a lens ss start [] e fine lands = refl
-all_faultless a lens ss start (p ∷ ps) e fine lands =
+    → AllByRecursion IsOutsideZones ps → faults_over a ss start ps ≡ []
+all_faultless a lens ss start [] e fine lands outside = refl
+all_faultless a lens ss start (p ∷ ps) e fine lands outside =
     ap (λ (z : List (ℕ × ℕ)). z ++ faults_over a ss start ps)
-    (op_faultless a lens ss start p e fine.0 lands.0)
-    ∙ all_faultless a lens ss start ps e fine.1 lands.1
+    (op_faultless a lens ss start p e fine.0 lands.0 outside.0)
+    ∙ all_faultless a lens ss start ps e fine.1 lands.1 outside.1
 
 pub fine_is_faultless : FineIsFaultless
 unfolding block_faults
 fine_is_faultless a lens start ops e fine lands =
-    ap (λ (z : List (ℕ × ℕ)). z ++ open_faults start (open_behind 0 [] ops))
-    (all_faultless a lens (spots ops) start (places ops) e fine lands.each)
-    ∙ ap (open_faults start) lands.closed
+    let zones = code_has_no_zones ops lands.leave in
+    rw (all_faultless a lens (spots ops) start (places ops) e fine lands.each zones.at_ops)
+    (rw lands.closed (rw zones.behind refl))

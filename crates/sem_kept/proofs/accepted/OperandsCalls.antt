@@ -21,9 +21,9 @@ use Rattle.flat_code.specs.Placed.{is_empty as is_nothing_in}
 use Rattle.flat_code.specs.declared.image_fields.ParameterRecord.{ParameterRecord}
 use Rattle.flat_code.specs.declared.operands.Operand.TheVariants as flat
 use Rattle.flat_code.specs.declared.operands.Passed.{Passed}
-use Rattle.flat_code.specs.declared.words.CallWord.{CallWord}
-use Rattle.flat_code.specs.declared.words.CallWord.TheVariants as calls
-use Rattle.flat_code.specs.declared.words.Word.TheVariants as word
+use Rattle.flat_code.specs.declared.operations.CallOperation.{CallOperation}
+use Rattle.flat_code.specs.declared.operations.CallOperation.TheVariants as calls
+use Rattle.flat_code.specs.declared.operations.Operation.TheVariants as operation
 use Rattle.stl_ast.specs.Blocks.{is_parameter}
 use Rattle.stl_ast.specs.Statements.{IsActual, has_actuals, is_call, is_called}
 use Rattle.stl_ast.specs.WellFormed.{IsBlock}
@@ -71,7 +71,7 @@ use Rattle.stl_codegen.specs.Emitted.{instance_number, passing, preparing}
 use Rattle.stl_codegen.specs.Generated.{code_blocks_of, data_blocks_of, instance_len, params_of}
 use Rattle.stl_codegen.specs.Instruction.{block_at, in_order, passings_to, return_last}
 use Rattle.stl_codegen.specs.Passed.{passed_actual, passings_from, supplied, with_index}
-use Rattle.stl_codegen.specs.Words.{call_of}
+use Rattle.stl_codegen.specs.Operations.{call_of}
 use Rattle.sem_kept.specs.Coded.{OperandHasBytes, StatementHasBytes}
 use Rattle.sem_kept.specs.Operands.{ArePassed, InstrFits, PassesAlone}
 use Rattle.sem_kept.proofs.accepted.Accepted.{IsSound, IsSoundActual, IsSoundCall, IsSoundStatement, IsSoundTree, context_at}
@@ -87,14 +87,14 @@ use Rattle.sem_kept.proofs.accepted.Shared.{callable_by, calls_called, or_first,
 -- ---- what is passed stands among the ops
 
 passed_here : (index : ℕ) (done : List OpData) (actual : Passed) (behind : List OpData)
-    → is_passed index (done ++ preparing word.Pass (flat.Pass index actual) ∷ behind) ≡ true
+    → is_passed index (done ++ preparing operation.Pass (flat.Pass index actual) ∷ behind) ≡ true
 passed_here index [] actual behind =
     ap (λ (t : Bool). t || is_passed index behind) (eq-eqb index index refl)
 passed_here index (op ∷ done) actual behind =
     either (is_index index (pass_index op.operand)) (passed_here index done actual behind)
   where
-    either : (t : Bool) → is_passed index (done ++ preparing word.Pass (flat.Pass index actual) ∷ behind) ≡ true
-        → (t || is_passed index (done ++ preparing word.Pass (flat.Pass index actual) ∷ behind)) ≡ true
+    either : (t : Bool) → is_passed index (done ++ preparing operation.Pass (flat.Pass index actual) ∷ behind) ≡ true
+        → (t || is_passed index (done ++ preparing operation.Pass (flat.Pass index actual) ∷ behind)) ≡ true
     either true h = refl
     either false h = h
 
@@ -125,10 +125,10 @@ module _ (a : Around) (c : Context) (formals : List Formal) (actuals : List Actu
       p = supplied_passes a c formals actuals f r given.0.0 good found.0 matched.0 given.0.1
 
       op : OpData
-      op = preparing word.Pass (flat.Pass i p.actual)
+      op = preparing operation.Pass (flat.Pass i p.actual)
 
       ops_are : done ++ passing (passings_from c actuals i (f ∷ fs))
-          ≡ done ++ preparing word.Pass (flat.Pass i p.actual) ∷ passing (passings_from c actuals (suc i) fs)
+          ≡ done ++ preparing operation.Pass (flat.Pass i p.actual) ∷ passing (passings_from c actuals (suc i) fs)
       ops_are =
           ap (λ (o : Option Actual). done ++ passing (passed_actual c i o ++ passings_from c actuals (suc i) fs)) given.0.1
           ∙ ap (λ (o : Option Passed). done ++ passing (with_index i o ++ passings_from c actuals (suc i) fs)) p.is
@@ -539,24 +539,24 @@ callee_there symbols t tree k name inst id instance call callable known = by (ca
     by (OfBlock is) = source (inr is) (ap is_system_function is)
 
 -- the words of calls
-calls_form : (m : Mnemonic) (how : CallWord) → call_of m ≡ Some how → form_of m ≡ form.Calls
+calls_form : (m : Mnemonic) (how : CallOperation) → call_of m ≡ Some how → form_of m ≡ form.Calls
 unfolding form_of
 calls_form code.Call how e = refl
 calls_form code.Uc how e = refl
 calls_form code.Cc how e = refl
 calls_form _ how e = absurd cc
 
-calls_alone : (m : Mnemonic) (how : CallWord) (ps : List Passing) → call_of m ≡ Some how
+calls_alone : (m : Mnemonic) (how : CallOperation) (ps : List Passing) → call_of m ≡ Some how
     → (has_actuals m ≡ false → ps ≡ []) → PassesAlone how ps
 calls_alone code.Call how ps e none =
-    subst (λ (h : CallWord). PassesAlone h ps) (let same : calls.Call ≡ how = cc in same) tt
+    subst (λ (h : CallOperation). PassesAlone h ps) (let same : calls.Call ≡ how = cc in same) tt
 calls_alone code.Uc how ps e none =
-    subst (λ (h : CallWord). PassesAlone h ps) (let same : calls.Uc ≡ how = cc in same) (none refl)
+    subst (λ (h : CallOperation). PassesAlone h ps) (let same : calls.Uc ≡ how = cc in same) (none refl)
 calls_alone code.Cc how ps e none =
-    subst (λ (h : CallWord). PassesAlone h ps) (let same : calls.Cc ≡ how = cc in same) (none refl)
+    subst (λ (h : CallOperation). PassesAlone h ps) (let same : calls.Cc ≡ how = cc in same) (none refl)
 calls_alone _ how ps e none = absurd cc
 
-calls_are : (m : Mnemonic) (how : CallWord) → call_of m ≡ Some how → is_call m ≡ true
+calls_are : (m : Mnemonic) (how : CallOperation) → call_of m ≡ Some how → is_call m ≡ true
 calls_are code.Call how e = refl
 calls_are code.Uc how e = refl
 calls_are code.Cc how e = refl
@@ -757,7 +757,7 @@ module _ (symbols : List Symbol) (t : Tree) (tree : IsSoundTree symbols t)
     (s : Statement) (sound : IsSoundStatement (types_of symbols t.blocks) (context_at symbols t k) s)
     (ends : EndsBy a.local_len s) (bytes : StatementHasBytes s) where
   -- what is known of the call
-  record IsMade (how : CallWord) (id : BlockId) (instance : Option ℕ) : Type 0 where
+  record IsMade (how : CallOperation) (id : BlockId) (instance : Option ℕ) : Type 0 where
     name : BlockName
     inst : Option BlockName
     operand_is : s.operand ≡ operand.Called name inst
@@ -767,7 +767,7 @@ module _ (symbols : List Symbol) (t : Tree) (tree : IsSoundTree symbols t)
     cal : IsCallee symbols t k (map signature_of (map record_of_block (map compiled (code_blocks_of t symbols (layouts_of t symbols))))) (operand.Called name inst) id
     rules : IsSoundCall (context_at symbols t k) cal.of_source s
 
-  made : (how : CallWord) (id : BlockId) (instance : Option ℕ) → call_of s.code ≡ Some how
+  made : (how : CallOperation) (id : BlockId) (instance : Option ℕ) → call_of s.code ≡ Some how
       → seen (context_at symbols t k) s.operand ≡ Sees (view.Called id instance)
       → IsMade how id instance
   made how id instance word e = record {
@@ -805,19 +805,19 @@ module _ (symbols : List Symbol) (t : Tree) (tree : IsSoundTree symbols t)
           (ap (calls_unknown (context_at symbols t k)) (sym o.2) ∙ sound.one_of_nine)
 
   -- what it passes
-  passings_are : (how : CallWord) (id : BlockId) (instance : Option ℕ) (m : IsMade how id instance)
+  passings_are : (how : CallOperation) (id : BlockId) (instance : Option ℕ) (m : IsMade how id instance)
       → passings_to (context_at symbols t k) s (callee_of (context_at symbols t k) s.operand)
       ≡ passings_from (context_at symbols t k) s.actuals 0 (in_order (block_at t.blocks m.cal.of_source.place) m.cal.of_source.formals)
   passings_are how id instance m =
       ap (passings_to (context_at symbols t k) s) (ap (callee_of (context_at symbols t k)) m.operand_is ∙ m.cal.is)
 
-  goods : (how : CallWord) (id : BlockId) (instance : Option ℕ) (m : IsMade how id instance)
+  goods : (how : CallOperation) (id : BlockId) (instance : Option ℕ) (m : IsMade how id instance)
       → AllByRecursion (IsGoodActual a (context_at symbols t k) m.cal.of_source.formals) s.actuals
   goods how id instance m =
       good_actuals symbols t tree fit k b l block code a around m.cal.of_source.formals s.actuals
       sound.well_formed.actuals sound.actuals ends.1 bytes.actuals m.rules.fits
 
-  passes_right : (how : CallWord) (id : BlockId) (instance : Option ℕ) (m : IsMade how id instance)
+  passes_right : (how : CallOperation) (id : BlockId) (instance : Option ℕ) (m : IsMade how id instance)
       → ArePassed a (Some (kind_number id.kind, m.cal.il, m.cal.params)) None
       (passings_from (context_at symbols t k) s.actuals 0 (in_order (block_at t.blocks m.cal.of_source.place) m.cal.of_source.formals))
   passes_right how id instance m =
@@ -827,7 +827,7 @@ module _ (symbols : List Symbol) (t : Tree) (tree : IsSoundTree symbols t)
       (λ n e. refl) m.cal.matched m.cal.found refl refl
 
   -- UC and CC call blocks without parameters
-  nothing_owed : (how : CallWord) (id : BlockId) (instance : Option ℕ) (m : IsMade how id instance)
+  nothing_owed : (how : CallOperation) (id : BlockId) (instance : Option ℕ) (m : IsMade how id instance)
       → has_actuals s.code ≡ false → m.cal.params ≡ []
   nothing_owed how id instance m e =
       no_params (in_order (block_at t.blocks m.cal.of_source.place) m.cal.of_source.formals) m.cal.params
@@ -838,7 +838,7 @@ module _ (symbols : List Symbol) (t : Tree) (tree : IsSoundTree symbols t)
       (not (has_actuals s.code) && has_formals m.cal.of_source.formals) m.rules.bare))))
       m.cal.matched
 
-  all_owed : (how : CallWord) (id : BlockId) (instance : Option ℕ) (m : IsMade how id instance)
+  all_owed : (how : CallOperation) (id : BlockId) (instance : Option ℕ) (m : IsMade how id instance)
       → is_function_block id.kind ≡ false
       → are_passed 0 m.cal.params (passing (passings_from (context_at symbols t k) s.actuals 0
       (in_order (block_at t.blocks m.cal.of_source.place) m.cal.of_source.formals))) ≡ true
@@ -863,7 +863,7 @@ module _ (symbols : List Symbol) (t : Tree) (tree : IsSoundTree symbols t)
           (ap (λ (z : BlockId). is_function_block z.kind) m.cal.same ∙ other)))))
 
   -- the instance of a function block
-  instance_right : (how : CallWord) (id : BlockId) (n : ℕ) (m : IsMade how id (Some n))
+  instance_right : (how : CallOperation) (id : BlockId) (n : ℕ) (m : IsMade how id (Some n))
       → is_function_block id.kind ≡ true
       → is_bad_instance (lens_of (data_blocks_of t symbols (layouts_of t symbols))) (3, m.cal.il, m.cal.params) n ≡ false
   instance_right how id n m fb =
@@ -923,7 +923,7 @@ module _ (symbols : List Symbol) (t : Tree) (tree : IsSoundTree symbols t)
           omega (arith, one, two)
 
   -- CALL names one
-  bare_owed : (how : CallWord) (id : BlockId) (m : IsMade how id None) → is_function_block id.kind ≡ true
+  bare_owed : (how : CallOperation) (id : BlockId) (m : IsMade how id None) → is_function_block id.kind ≡ true
       → m.cal.params ≡ []
   bare_owed how id m fb = by (has_actuals s.code) refl
     where
@@ -937,7 +937,7 @@ module _ (symbols : List Symbol) (t : Tree) (tree : IsSoundTree symbols t)
           (ap has_no_instance (m.operand_is ∙ ap (λ (i : Option BlockName). operand.Called m.name i)
           (instance_none (context_at symbols t k) m.inst m.call.with_instance))))
 
-  call_bad : (how : CallWord) (id : BlockId) (instance : Option ℕ) (m : IsMade how id instance)
+  call_bad : (how : CallOperation) (id : BlockId) (instance : Option ℕ) (m : IsMade how id instance)
       → is_bad_call (lens_of (data_blocks_of t symbols (layouts_of t symbols)))
       (Some (kind_number id.kind, m.cal.il, m.cal.params)) (instance_number instance)
       (passing (passings_from (context_at symbols t k) s.actuals 0

@@ -9,6 +9,7 @@ use Rattle.std.proofs.lemmas.Grind.{flat_map-append}
 use Rattle.std.proofs.lemmas.Slice.Eq.{bytes_eq-Decides}
 use Rattle.plc_base.specs.Kinds.{is_function_block}
 use Rattle.plc_base.specs.Widths.{width_number}
+use Rattle.plc_base.specs.declared.places.Width.TheVariants as width
 use Rattle.plc_base.specs.declared.blocks.BlockKind.{BlockKind}
 use Rattle.flat_code.specs.Blocks.{input, output, system_params}
 use Rattle.flat_code.specs.Image.{record_of_param}
@@ -512,12 +513,12 @@ formals_by a b c d e f g h i =
 
 abbrev params_by : (a b c d e f g h i : Bool) → Option (List ParameterRecord)
 params_by a b c d e f g h i =
-    if a then Some (input 3 ∷ input 4 ∷ input 3 ∷ output 3 ∷ [])
-    else if b then Some (input 3 ∷ output 3 ∷ [])
-    else if c || d then Some (input 2 ∷ input 3 ∷ output 3 ∷ [])
-    else if e || f then Some (output 3 ∷ [])
+    if a then Some (input width.Word ∷ input width.Dword ∷ input width.Word ∷ output width.Word ∷ [])
+    else if b then Some (input width.Word ∷ output width.Word ∷ [])
+    else if c || d then Some (input width.Byte ∷ input width.Word ∷ output width.Word ∷ [])
+    else if e || f then Some (output width.Word ∷ [])
     else if g || h then Some []
-    else if i then Some (output 4 ∷ [])
+    else if i then Some (output width.Dword ∷ [])
     else None
 
 record IsSystemBy (o : Option (List ParameterRecord)) (formals : List Formal) : Type 0 where
@@ -534,22 +535,22 @@ system_by : (a b c d e f g h i : Bool) (formals : List Formal)
     → IsSystemBy (params_by a b c d e f g h i) formals
 system_by true b c d e f g h i formals s =
     subst (λ (fs : List Formal). IsSystemBy (params_by true b c d e f g h i) fs) (some_list (ob_nr ∷ dtime ∷ sign ∷ returns simple.Int ∷ []) formals s)
-    (record { params = input 3 ∷ input 4 ∷ input 3 ∷ output 3 ∷ []; is = refl; matched = ((refl, refl, refl), ((refl, refl, refl), ((refl, refl, refl), ((refl, refl, refl), tt)))); fresh = (refl, (refl, (refl, (refl, tt)))) })
+    (record { params = input width.Word ∷ input width.Dword ∷ input width.Word ∷ output width.Word ∷ []; is = refl; matched = ((refl, refl, refl), ((refl, refl, refl), ((refl, refl, refl), ((refl, refl, refl), tt)))); fresh = (refl, (refl, (refl, (refl, tt)))) })
 system_by false true c d e f g h i formals s =
     subst (λ (fs : List Formal). IsSystemBy (params_by false true c d e f g h i) fs) (some_list (ob_nr ∷ returns simple.Int ∷ []) formals s)
-    (record { params = input 3 ∷ output 3 ∷ []; is = refl; matched = ((refl, refl, refl), ((refl, refl, refl), tt)); fresh = (refl, (refl, tt)) })
+    (record { params = input width.Word ∷ output width.Word ∷ []; is = refl; matched = ((refl, refl, refl), ((refl, refl, refl), tt)); fresh = (refl, (refl, tt)) })
 system_by false false true d e f g h i formals s =
     subst (λ (fs : List Formal). IsSystemBy (params_by false false true d e f g h i) fs) (some_list (mode ∷ ob_nr ∷ returns simple.Int ∷ []) formals s)
-    (record { params = input 2 ∷ input 3 ∷ output 3 ∷ []; is = refl; matched = ((refl, refl, refl), ((refl, refl, refl), ((refl, refl, refl), tt))); fresh = (refl, (refl, (refl, tt))) })
+    (record { params = input width.Byte ∷ input width.Word ∷ output width.Word ∷ []; is = refl; matched = ((refl, refl, refl), ((refl, refl, refl), ((refl, refl, refl), tt))); fresh = (refl, (refl, (refl, tt))) })
 system_by false false false true e f g h i formals s =
     subst (λ (fs : List Formal). IsSystemBy (params_by false false false true e f g h i) fs) (some_list (mode ∷ ob_nr ∷ returns simple.Int ∷ []) formals s)
-    (record { params = input 2 ∷ input 3 ∷ output 3 ∷ []; is = refl; matched = ((refl, refl, refl), ((refl, refl, refl), ((refl, refl, refl), tt))); fresh = (refl, (refl, (refl, tt))) })
+    (record { params = input width.Byte ∷ input width.Word ∷ output width.Word ∷ []; is = refl; matched = ((refl, refl, refl), ((refl, refl, refl), ((refl, refl, refl), tt))); fresh = (refl, (refl, (refl, tt))) })
 system_by false false false false true f g h i formals s =
     subst (λ (fs : List Formal). IsSystemBy (params_by false false false false true f g h i) fs) (some_list (returns simple.Int ∷ []) formals s)
-    (record { params = output 3 ∷ []; is = refl; matched = ((refl, refl, refl), tt); fresh = (refl, tt) })
+    (record { params = output width.Word ∷ []; is = refl; matched = ((refl, refl, refl), tt); fresh = (refl, tt) })
 system_by false false false false false true g h i formals s =
     subst (λ (fs : List Formal). IsSystemBy (params_by false false false false false true g h i) fs) (some_list (returns simple.Int ∷ []) formals s)
-    (record { params = output 3 ∷ []; is = refl; matched = ((refl, refl, refl), tt); fresh = (refl, tt) })
+    (record { params = output width.Word ∷ []; is = refl; matched = ((refl, refl, refl), tt); fresh = (refl, tt) })
 system_by false false false false false false true h i formals s =
     subst (λ (fs : List Formal). IsSystemBy (params_by false false false false false false true h i) fs) (some_list [] formals s)
     (record { params = []; is = refl; matched = tt; fresh = tt })
@@ -558,7 +559,7 @@ system_by false false false false false false false true i formals s =
     (record { params = []; is = refl; matched = tt; fresh = tt })
 system_by false false false false false false false false true formals s =
     subst (λ (fs : List Formal). IsSystemBy (params_by false false false false false false false false true) fs) (some_list (returns simple.Time ∷ []) formals s)
-    (record { params = output 4 ∷ []; is = refl; matched = ((refl, refl, refl), tt); fresh = (refl, tt) })
+    (record { params = output width.Dword ∷ []; is = refl; matched = ((refl, refl, refl), tt); fresh = (refl, tt) })
 system_by false false false false false false false false false formals s = absurd cc
 
 pub system_matched : (n : ℕ) (formals : List Formal) → system_formals n ≡ Some formals

@@ -4,10 +4,10 @@ use Rattle.std.specs.Option.{is_none}
 use Rattle.plc_base.specs.declared.blocks.BlockId.{BlockId}
 use Rattle.flat_code.specs.Blocks.{Around}
 use Rattle.flat_code.specs.Instr.{Calls}
-use Rattle.flat_code.specs.declared.kinds.JumpWord.{JumpWord}
-use Rattle.flat_code.specs.declared.kinds.JumpWord.TheVariants as jump
-use Rattle.flat_code.specs.declared.words.CallWord.{CallWord}
-use Rattle.flat_code.specs.declared.words.EndWord.{EndWord}
+use Rattle.flat_code.specs.declared.kinds.JumpOperation.{JumpOperation}
+use Rattle.flat_code.specs.declared.kinds.JumpOperation.TheVariants as jump
+use Rattle.flat_code.specs.declared.operations.CallOperation.{CallOperation}
+use Rattle.flat_code.specs.declared.operations.EndOperation.{EndOperation}
 use Rattle.stl_ast.specs.Statements.{is_call}
 use Rattle.stl_ast.specs.declared.literals.Literal.{Literal}
 use Rattle.stl_ast.specs.declared.mnemonics.Mnemonic.{Mnemonic}
@@ -29,12 +29,12 @@ use Rattle.stl_types.specs.declared.views.View.TheVariants as view
 use Rattle.stl_codegen.specs.Emitted.{ending}
 use Rattle.stl_codegen.specs.Instruction.{call_instr, end_instr, filler, instr_by, instruction, jump_instr, passings_to, resolved_instr, target_of, view_instr}
 use Rattle.stl_codegen.specs.Operands.{operand_of}
-use Rattle.stl_codegen.specs.Words.{call_of, end_of, jump_of, word_of}
+use Rattle.stl_codegen.specs.Operations.{call_of, end_of, jump_of, operation_for}
 use Rattle.sem_kept.specs.Operands.{InstrFits, IsRightOperand}
 use Rattle.sem_kept.proofs.accepted.OperandsViews.{IsSeen}
-use Rattle.sem_kept.proofs.accepted.OperandsWords.{ViewFits, allowed, opened_fits, operand_fits, ordinary}
+use Rattle.sem_kept.proofs.accepted.OperandsOperations.{ViewFits, allowed, opened_fits, operand_fits, ordinary}
 
-jump_fits : (a : Around) (lens : List (ℕ × ℕ)) (how : JumpWord) (n target : ℕ)
+jump_fits : (a : Around) (lens : List (ℕ × ℕ)) (how : JumpOperation) (n target : ℕ)
     → InstrFits a lens (jump_instr how n target)
 jump_fits a lens jump.Jl n target = tt
 jump_fits a lens _ n target = tt
@@ -62,7 +62,7 @@ sees_same v w e = cc
 
 constant_right : (a : Around) (m : Mnemonic) (value : Literal)
     → IsRightOperand a
-    (ending (word_of m (operand.Constant value) view.Constant) (operand_of (operand.Constant value) view.Constant))
+    (ending (operation_for m (operand.Constant value) view.Constant) (operand_of (operand.Constant value) view.Constant))
     (operand_of (operand.Constant value) view.Constant)
 unfolding operand_of
 constant_right a m value = tt
@@ -70,9 +70,9 @@ constant_right a m value = tt
 -- the operand that a statement does its instruction on
 right_for : (a : Around) (c : Context) (m : Mnemonic) (o : Operand) (v : View)
     → seen c o ≡ Sees v → operand_rule c (form_of m) o ≡ None → ViewFits a v
-    → IsRightOperand a (ending (word_of m o v) (operand_of o v)) (operand_of o v)
+    → IsRightOperand a (ending (operation_for m o v) (operand_of o v)) (operand_of o v)
 right_for a c m (operand.Constant value) v e h fits =
-    subst (λ (w : View). IsRightOperand a (ending (word_of m (operand.Constant value) w) (operand_of (operand.Constant value) w)) (operand_of (operand.Constant value) w))
+    subst (λ (w : View). IsRightOperand a (ending (operation_for m (operand.Constant value) w) (operand_of (operand.Constant value) w)) (operand_of (operand.Constant value) w))
     (sees_same view.Constant v (sym (constant_seen c value) ∙ e)) (constant_right a m value)
 right_for a c m operand.Nothing v e h fits = operand_fits a m operand.Nothing v (allowed (form_of m) v (seen_rule c (form_of m) operand.Nothing v e h)) fits
 right_for a c m (operand.Direct n r w y i) v e h fits = operand_fits a m (operand.Direct n r w y i) v (allowed (form_of m) v (seen_rule c (form_of m) (operand.Direct n r w y i) v e h)) fits
@@ -91,7 +91,7 @@ right_for a c m (operand.Called n i) v e h fits = operand_fits a m (operand.Call
 
 does_fits : (a : Around) (lens : List (ℕ × ℕ)) (c : Context) (s : Statement) (v : View)
     → seen c s.operand ≡ Sees v → statement_rule c s ≡ None → ViewFits a v
-    → (how : Option EndWord) → InstrFits a lens (end_instr s v how)
+    → (how : Option EndOperation) → InstrFits a lens (end_instr s v how)
 does_fits a lens c s v e h fits None = (
   ordinary s.code s.operand v,
   right_for a c s.code s.operand v e h fits,
@@ -108,11 +108,11 @@ resolved_is c s h =
 -- what is owed of a call
 abbrev pub CallFits : Around → List (ℕ × ℕ) → Context → Statement → Type 0
 CallFits a lens c s =
-    (how : CallWord) (id : BlockId) (instance : Option ℕ) → call_of s.code ≡ Some how
+    (how : CallOperation) (id : BlockId) (instance : Option ℕ) → call_of s.code ≡ Some how
     → seen c s.operand ≡ Sees (view.Called id instance)
     → InstrFits a lens (Calls how id instance (passings_to c s (callee_of c s.operand)))
 
-call_view_fits : (a : Around) (lens : List (ℕ × ℕ)) (c : Context) (s : Statement) (how : CallWord)
+call_view_fits : (a : Around) (lens : List (ℕ × ℕ)) (c : Context) (s : Statement) (how : CallOperation)
     → CallFits a lens c s → call_of s.code ≡ Some how
     → (v : View) → seen c s.operand ≡ Sees v → InstrFits a lens (call_instr c s how v)
 call_view_fits a lens c s how calls is (view.Called id instance) e = calls how id instance is e
@@ -125,26 +125,26 @@ pub instr_fits : (a : Around) (lens : List (ℕ × ℕ)) (c : Context) (body : L
 unfolding instruction
 instr_fits a lens c body n s allowed seen_fits calls = by (jump_of s.code)
   where
-    called : (how : CallWord) → call_of s.code ≡ Some how → (x : Seen) → seen c s.operand ≡ x
+    called : (how : CallOperation) → call_of s.code ≡ Some how → (x : Seen) → seen c s.operand ≡ x
         → InstrFits a lens (resolved_instr c s (seen_view x))
     called how is (Sees v) e =
-        subst (λ (o : Option CallWord). InstrFits a lens (view_instr c s v o)) (sym is)
+        subst (λ (o : Option CallOperation). InstrFits a lens (view_instr c s v o)) (sym is)
         (call_view_fits a lens c s how calls is v e)
     called how is Unknown e = filler_fits a lens
     called how is Rests e = filler_fits a lens
 
-    whether : (o : Option CallWord) → call_of s.code ≡ o
+    whether : (o : Option CallOperation) → call_of s.code ≡ o
         → InstrFits a lens (resolved_instr c s (seen_view (seen c s.operand)))
     whether None is =
         subst (λ (x : Seen). InstrFits a lens (resolved_instr c s (seen_view x))) (sym found.is)
-        (subst (λ (o : Option CallWord). InstrFits a lens (view_instr c s found.view o)) (sym is)
+        (subst (λ (o : Option CallOperation). InstrFits a lens (view_instr c s found.view o)) (sym is)
         (does_fits a lens c s found.view found.is allowed found.fits (end_of s.code)))
       where
         found : IsSeen a (seen c s.operand)
         found = seen_fits (no_call s.code is)
     whether (Some how) is = called how is (seen c s.operand) refl
 
-    by : (o : Option JumpWord) → InstrFits a lens (instr_by c body n s o)
+    by : (o : Option JumpOperation) → InstrFits a lens (instr_by c body n s o)
     by (Some how) = jump_fits a lens how n (target_of body s.operand)
     by None =
         subst (λ (o : Option View). InstrFits a lens (resolved_instr c s o)) (sym (resolved_is c s allowed))

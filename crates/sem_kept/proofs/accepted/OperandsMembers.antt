@@ -28,7 +28,7 @@ use Rattle.block_layout.specs.declared.blocks.BlockLayout.{BlockLayout}
 use Rattle.stl_types.specs.Context.{Context}
 use Rattle.stl_codegen.specs.Compiled.{StatedBlock, compiled}
 use Rattle.stl_codegen.specs.Generated.{code_block, code_block_of, code_blocks_of, data_block, data_block_of, data_blocks_of, each_block, instance_len, params_of}
-use Rattle.stl_codegen.specs.Order.{inserted, is_code_before, is_data_before, sorted}
+use Rattle.stl_codegen.specs.Order.{is_code_before, is_data_before}
 use Rattle.stl_codegen.proofs.ProgramLemmas.{all_before}
 use Rattle.sem_kept.proofs.accepted.Accepted.{IsSound, IsSoundTree, context_at, sound_code_blocks, sound_data_blocks}
 use Rattle.sem_kept.proofs.accepted.OperandsCells.{measured_ids, measured_symbols}

@@ -42,14 +42,14 @@ use Rattle.stl_types.specs.declared.views.View.{View}
 use Rattle.stl_types.specs.declared.views.View.TheVariants as view
 use Rattle.stl_codegen.specs.Generated.{section_number}
 use Rattle.stl_codegen.specs.Passed.{passed_actual, passed_place, passed_seen, passings_from, supplied, with_index}
-use Rattle.stl_codegen.specs.Words.{word_of}
+use Rattle.stl_codegen.specs.Operations.{operation_for}
 use Rattle.sem_kept.specs.Coded.{HasBytes, OperandHasBytes}
 use Rattle.sem_kept.specs.Operands.{ArePassed}
 use Rattle.sem_kept.proofs.accepted.Accepted.{there}
 use Rattle.sem_kept.proofs.accepted.CodedBits.{constant_taken}
 use Rattle.sem_kept.proofs.accepted.OperandsFormals.{IsFoundIn, IsRecordOf, Matched}
 use Rattle.sem_kept.proofs.accepted.OperandsViews.{IsSeen}
-use Rattle.sem_kept.proofs.accepted.OperandsWords.{HasWidth, ViewFits}
+use Rattle.sem_kept.proofs.accepted.OperandsOperations.{HasWidth, ViewFits}
 use Rattle.sem_kept.proofs.accepted.Shared.{or_first}
 
 -- ---- literals
@@ -64,7 +64,7 @@ one_byte (b ∷ c ∷ bs) e h =
 
 word_fits : (value : Literal) → IsLiteral value → HasBytes value → fits value simple.Word ≡ true
     → nat_le (bits_of value) 65535 ≡ true
-unfolding form_of takes_constant admits word_of
+unfolding form_of takes_constant admits operation_for
 word_fits value is has h = constant_taken code.Aw value is has h
 
 truth_fits : (value : Literal) → fits value simple.Bool ≡ true → nat_le (bits_of value) 1 ≡ true

@@ -13,16 +13,16 @@ use Rattle.flat_code.specs.Instr.{Instr, Passing, Does, Jumps, JumpsByList, Call
 use Rattle.flat_code.specs.Kinds.{kind_of}
 use Rattle.flat_code.specs.OpCodes.{code_of}
 use Rattle.flat_code.specs.Ops.{OpData}
-use Rattle.flat_code.specs.Placed.{Placed, Spot, before_next, ending as ending_op, last_op, opened, placed}
+use Rattle.flat_code.specs.Placed.{Placed, Spot, before_next, ending as ending_op, last_op, opened, placed, zones_behind}
 use Rattle.flat_code.specs.declared.image_fields.OpenBracket.{OpenBracket}
 use Rattle.flat_code.specs.declared.operands.Operand.{Operand}
 use Rattle.flat_code.specs.declared.operands.Operand.TheVariants as operand
-use Rattle.flat_code.specs.declared.words.CallWord.{CallWord}
-use Rattle.flat_code.specs.declared.words.CallWord.TheVariants as calls
-use Rattle.flat_code.specs.declared.words.EndWord.{EndWord}
-use Rattle.flat_code.specs.declared.words.EndWord.TheVariants as ends
-use Rattle.flat_code.specs.declared.words.Word.{Word}
-use Rattle.flat_code.specs.declared.words.Word.TheVariants as word
+use Rattle.flat_code.specs.declared.operations.CallOperation.{CallOperation}
+use Rattle.flat_code.specs.declared.operations.CallOperation.TheVariants as calls
+use Rattle.flat_code.specs.declared.operations.EndOperation.{EndOperation}
+use Rattle.flat_code.specs.declared.operations.EndOperation.TheVariants as ends
+use Rattle.flat_code.specs.declared.operations.Operation.{Operation}
+use Rattle.flat_code.specs.declared.operations.Operation.TheVariants as operation
 use Rattle.stl_codegen.specs.Compiled.{Stated, aimed, aimed_op, ops_in, placed_ops}
 use Rattle.stl_codegen.specs.Emitted.{call_op, end_op, ending, instance_number, ops_of, passing, preparing}
 use Rattle.sem_kept.specs.Operands.{ArePassed, AreFine, InstrFits, IsFine, IsRightOperand}
@@ -38,7 +38,7 @@ ends_here : (op : OpData) (rest : List OpData) → op.last ≡ true → ending_o
 ends_here op [] e = refl
 ends_here op (next ∷ ops) e = rw e refl
 
-marked : (w : Word) (o : Operand) → prepares (code_of w) ≡ false → mark_fault (ending w o) ≡ None
+marked : (w : Operation) (o : Operand) → prepares (code_of w) ≡ false → mark_fault (ending w o) ≡ None
 marked w o e = rw e refl
 
 -- an operand that isn't a jump's stays as it is
@@ -101,50 +101,51 @@ right_call a lens p (operand.OpenBy register from byte) h = refl
 
 -- the ops behind a statement are fine wherever they stand
 abbrev FineBehind : Around → List (ℕ × ℕ) → List Spot → List OpData → Type 0
-FineBehind a lens ss rest = (at : ℕ) (brackets : List OpenBracket)
-    → AreFine a lens ss (placed at brackets [] rest)
+FineBehind a lens ss rest = (at : ℕ) (brackets : List OpenBracket) (zones : List ℕ)
+    → AreFine a lens ss (placed at brackets zones [] rest)
 
 -- an op that ends a statement, and those behind it
 last_fine : (a : Around) (lens : List (ℕ × ℕ)) (ss : List Spot) (at : ℕ)
-    (brackets : List OpenBracket) (before : List OpData) (op : OpData) (rest : List OpData)
+    (brackets : List OpenBracket) (zones : List ℕ) (before : List OpData) (op : OpData) (rest : List OpData)
     → op.last ≡ true
-    → IsFine a lens ss (record { at = at; brackets = brackets; before = before; op = op; rest = rest })
-    → FineBehind a lens ss rest → AreFine a lens ss (placed at brackets before (op ∷ rest))
-last_fine a lens ss at brackets before op rest last fine behind = (
+    → IsFine a lens ss (record { at = at; brackets = brackets; zones = zones; before = before; op = op; rest = rest })
+    → FineBehind a lens ss rest → AreFine a lens ss (placed at brackets zones before (op ∷ rest))
+last_fine a lens ss at brackets zones before op rest last fine behind = (
   fine,
-  subst (λ (z : List OpData). AreFine a lens ss (placed (at + size op) (opened at op.code brackets) z rest))
-      (sym next) (behind (at + size op) (opened at op.code brackets)),
+  subst (λ (z : List OpData). AreFine a lens ss (placed (at + size op) (opened at op.code brackets) (zones_behind at op.code zones) z rest))
+      (sym next) (behind (at + size op) (opened at op.code brackets) (zones_behind at op.code zones)),
 )
   where
     next : before_next op before ≡ []
     next = rw last refl
 
 does_fine : (a : Around) (lens : List (ℕ × ℕ)) (ss : List Spot) (at : ℕ)
-    (brackets : List OpenBracket) (before : List OpData) (w : Word) (o : Operand) (rest : List OpData)
+    (brackets : List OpenBracket) (zones : List ℕ) (before : List OpData) (w : Operation) (o : Operand) (rest : List OpData)
     → prepares (code_of w) ≡ false → IsRightOperand a (ending w o) o → FineBehind a lens ss rest
-    → AreFine a lens ss (placed at brackets before (ending w o ∷ rest))
-does_fine a lens ss at brackets before w o rest own right behind =
-    last_fine a lens ss at brackets before (ending w o) rest refl
+    → AreFine a lens ss (placed at brackets zones before (ending w o ∷ rest))
+does_fine a lens ss at brackets zones before w o rest own right behind =
+    last_fine a lens ss at brackets zones before (ending w o) rest refl
     (record {
       operand = λ still. right_operand a ss
-          (record { at = at; brackets = brackets; before = before; op = ending w o; rest = rest }) o right;
+          (record { at = at; brackets = brackets; zones = zones; before = before; op = ending w o; rest = rest }) o right;
       call = right_call a lens
-          (record { at = at; brackets = brackets; before = before; op = ending w o; rest = rest }) o right;
+          (record { at = at; brackets = brackets; zones = zones; before = before; op = ending w o; rest = rest }) o right;
       mark = marked w o own;
     })
     behind
 
 use_db_fine : (a : Around) (lens : List (ℕ × ℕ)) (ss : List Spot) (at number : ℕ)
-    (brackets : List OpenBracket) (w : Word) (o : Operand) (rest : List OpData)
+    (brackets : List OpenBracket) (zones : List ℕ) (w : Operation) (o : Operand) (rest : List OpData)
     → is_in_db o ≡ true
     → IsFine a lens ss (record {
       at = at;
       brackets = brackets;
+      zones = zones;
       before = [];
-      op = preparing word.UseDb (operand.UseDb number);
+      op = preparing operation.UseDb (operand.UseDb number);
       rest = ending w o ∷ rest;
     })
-use_db_fine a lens ss at number brackets w o rest db = record {
+use_db_fine a lens ss at number brackets zones w o rest db = record {
   operand = λ still. seven_none _ stray;
   call = refl;
   mark = refl;
@@ -154,8 +155,9 @@ use_db_fine a lens ss at number brackets w o rest db = record {
     here = record {
       at = at;
       brackets = brackets;
+      zones = zones;
       before = [];
-      op = preparing word.UseDb (operand.UseDb number);
+      op = preparing operation.UseDb (operand.UseDb number);
       rest = ending w o ∷ rest;
     }
 
@@ -170,7 +172,7 @@ use_db_fine a lens ss at number brackets w o rest db = record {
 passing_still : (f : ℕ → ℕ) (ps : List Passing) → map (aimed_op f) (passing ps) ≡ passing ps
 passing_still f [] = refl
 passing_still f (p ∷ ps) =
-    ap (λ (z : List OpData). preparing word.Pass (operand.Pass p.index p.actual) ∷ z)
+    ap (λ (z : List OpData). preparing operation.Pass (operand.Pass p.index p.actual) ∷ z)
     (passing_still f ps)
 
 pass_last : (found : Option ℕ) (ops : List OpData) (op : OpData)
@@ -183,21 +185,22 @@ ends_calls : (op : OpData) (ps : List Passing) (call : OpData) (rest : List OpDa
     → op.last ≡ false → call.last ≡ true → ending_op op (passing ps ++ call ∷ rest) ≡ call
 ends_calls op [] call rest going closed = rw going (ends_here call rest closed)
 ends_calls op (p ∷ ps) call rest going closed =
-    rw going (ends_calls (preparing word.Pass (operand.Pass p.index p.actual)) ps call rest refl closed)
+    rw going (ends_calls (preparing operation.Pass (operand.Pass p.index p.actual)) ps call rest refl closed)
 
 pass_fine : (a : Around) (lens : List (ℕ × ℕ)) (ss : List Spot) (at : ℕ)
-    (brackets : List OpenBracket) (before : List OpData) (p : Passing) (ps : List Passing)
+    (brackets : List OpenBracket) (zones : List ℕ) (before : List OpData) (p : Passing) (ps : List Passing)
     (block : BlockId) (instance : Option ℕ) (rest : List OpData)
     → is_above p.index (pass_before None before) ≡ true → is_bad_actual a p.actual ≡ false
     → misfits_callee a (callee a.blocks (kind_number block.kind) block.number) p.index p.actual ≡ false
     → IsFine a lens ss (record {
       at = at;
       brackets = brackets;
+      zones = zones;
       before = before;
-      op = preparing word.Pass (operand.Pass p.index p.actual);
+      op = preparing operation.Pass (operand.Pass p.index p.actual);
       rest = passing ps ++ call_op calls.Call block instance ∷ rest;
     })
-pass_fine a lens ss at brackets before p ps block instance rest above bad misfits = record {
+pass_fine a lens ss at brackets zones before p ps block instance rest above bad misfits = record {
   operand = λ still. seven_none _ (or_from (is_stray_pass here p.index) (is_bad_actual a p.actual) stray bad);
   call = seven_none _ unfit;
   mark = refl;
@@ -207,13 +210,14 @@ pass_fine a lens ss at brackets before p ps block instance rest above bad misfit
     here = record {
       at = at;
       brackets = brackets;
+      zones = zones;
       before = before;
-      op = preparing word.Pass (operand.Pass p.index p.actual);
+      op = preparing operation.Pass (operand.Pass p.index p.actual);
       rest = passing ps ++ call_op calls.Call block instance ∷ rest;
     }
 
     last : last_op here ≡ call_op calls.Call block instance
-    last = ends_calls (preparing word.Pass (operand.Pass p.index p.actual)) ps
+    last = ends_calls (preparing operation.Pass (operand.Pass p.index p.actual)) ps
         (call_op calls.Call block instance) rest refl refl
 
     stray : is_stray_pass here p.index ≡ false
@@ -227,40 +231,40 @@ pass_fine a lens ss at brackets before p ps block instance rest above bad misfit
         ∙ misfits
 
 call_fine : (a : Around) (lens : List (ℕ × ℕ)) (ss : List Spot) (at : ℕ)
-    (brackets : List OpenBracket) (before : List OpData) (how : CallWord) (block : BlockId)
+    (brackets : List OpenBracket) (zones : List ℕ) (before : List OpData) (how : CallOperation) (block : BlockId)
     (instance : Option ℕ) (rest : List OpData)
     → is_bad_call lens (callee a.blocks (kind_number block.kind) block.number)
     (instance_number instance) before ≡ false
     → FineBehind a lens ss rest
-    → AreFine a lens ss (placed at brackets before (call_op how block instance ∷ rest))
-call_fine a lens ss at brackets before how block instance rest bad behind =
-    last_fine a lens ss at brackets before (call_op how block instance) rest refl
+    → AreFine a lens ss (placed at brackets zones before (call_op how block instance ∷ rest))
+call_fine a lens ss at brackets zones before how block instance rest bad behind =
+    last_fine a lens ss at brackets zones before (call_op how block instance) rest refl
     (record { operand = λ still. refl; call = seven_none _ bad; mark = by how }) behind
   where
-    by : (how : CallWord) → mark_fault (call_op how block instance) ≡ None
+    by : (how : CallOperation) → mark_fault (call_op how block instance) ≡ None
     by calls.Call = refl
     by calls.Uc = refl
     by calls.Cc = refl
 
 calls_fine : (a : Around) (lens : List (ℕ × ℕ)) (ss : List Spot) (at : ℕ)
-    (brackets : List OpenBracket) (done : List OpData) (block : BlockId)
+    (brackets : List OpenBracket) (zones : List ℕ) (done : List OpData) (block : BlockId)
     (instance : Option ℕ) (left : List Passing) (rest : List OpData)
     → ArePassed a (callee a.blocks (kind_number block.kind) block.number) (pass_before None done) left
     → is_bad_call lens (callee a.blocks (kind_number block.kind) block.number)
     (instance_number instance) (done ++ passing left) ≡ false
     → FineBehind a lens ss rest
-    → AreFine a lens ss (placed at brackets done (passing left ++ call_op calls.Call block instance ∷ rest))
-calls_fine a lens ss at brackets done block instance [] rest passed bad behind =
-    call_fine a lens ss at brackets done calls.Call block instance rest
+    → AreFine a lens ss (placed at brackets zones done (passing left ++ call_op calls.Call block instance ∷ rest))
+calls_fine a lens ss at brackets zones done block instance [] rest passed bad behind =
+    call_fine a lens ss at brackets zones done calls.Call block instance rest
     (subst (λ (z : List OpData). is_bad_call lens (callee a.blocks (kind_number block.kind) block.number)
     (instance_number instance) z ≡ false) (append_nothing done) bad) behind
   where
     append_nothing : (ops : List OpData) → ops ++ [] ≡ ops
     append_nothing [] = refl
     append_nothing (op ∷ ops) = ap (λ (z : List OpData). op ∷ z) (append_nothing ops)
-calls_fine a lens ss at brackets done block instance (p ∷ ps) rest passed bad behind = (
-  pass_fine a lens ss at brackets done p ps block instance rest passed.0 passed.1 passed.2,
-  calls_fine a lens ss (at + size op) (opened at op.code brackets) (done ++ op ∷ []) block instance ps rest
+calls_fine a lens ss at brackets zones done block instance (p ∷ ps) rest passed bad behind = (
+  pass_fine a lens ss at brackets zones done p ps block instance rest passed.0 passed.1 passed.2,
+  calls_fine a lens ss (at + size op) (opened at op.code brackets) (zones_behind at op.code zones) (done ++ op ∷ []) block instance ps rest
       (subst (λ (o : Option ℕ). ArePassed a (callee a.blocks (kind_number block.kind) block.number) o ps)
       (sym (pass_last None done op)) passed.3)
       (subst (λ (z : List OpData). is_bad_call lens (callee a.blocks (kind_number block.kind) block.number)
@@ -269,56 +273,56 @@ calls_fine a lens ss at brackets done block instance (p ∷ ps) rest passed bad 
 )
   where
     op : OpData
-    op = preparing word.Pass (operand.Pass p.index p.actual)
+    op = preparing operation.Pass (operand.Pass p.index p.actual)
 
 -- ---- statements
 
 jump_fine : (a : Around) (lens : List (ℕ × ℕ)) (ss : List Spot) (at kind target : ℕ)
-    (brackets : List OpenBracket) (rest : List OpData)
+    (brackets : List OpenBracket) (zones : List ℕ) (rest : List OpData)
     → FineBehind a lens ss rest
-    → AreFine a lens ss (placed at brackets [] (ending word.Jump (operand.Jump kind target) ∷ rest))
-jump_fine a lens ss at kind target brackets rest behind =
-    last_fine a lens ss at brackets [] (ending word.Jump (operand.Jump kind target)) rest refl
+    → AreFine a lens ss (placed at brackets zones [] (ending operation.Jump (operand.Jump kind target) ∷ rest))
+jump_fine a lens ss at kind target brackets zones rest behind =
+    last_fine a lens ss at brackets zones [] (ending operation.Jump (operand.Jump kind target)) rest refl
     (record { operand = λ still. absurd still; call = refl; mark = refl }) behind
 
 end_fine : (a : Around) (lens : List (ℕ × ℕ)) (ss : List Spot) (at : ℕ)
-    (brackets : List OpenBracket) (how : EndWord) (rest : List OpData) → FineBehind a lens ss rest
-    → AreFine a lens ss (placed at brackets [] (end_op how ∷ rest))
-end_fine a lens ss at brackets how rest behind =
-    last_fine a lens ss at brackets [] (end_op how) rest refl
+    (brackets : List OpenBracket) (zones : List ℕ) (how : EndOperation) (rest : List OpData) → FineBehind a lens ss rest
+    → AreFine a lens ss (placed at brackets zones [] (end_op how ∷ rest))
+end_fine a lens ss at brackets zones how rest behind =
+    last_fine a lens ss at brackets zones [] (end_op how) rest refl
     (record { operand = λ still. refl; call = refl; mark = by how }) behind
   where
-    by : (how : EndWord) → mark_fault (end_op how) ≡ None
+    by : (how : EndOperation) → mark_fault (end_op how) ≡ None
     by ends.Be = refl
     by ends.Bec = refl
     by ends.Beu = refl
 
 instr_fine : (a : Around) (lens : List (ℕ × ℕ)) (ss : List Spot) (f : ℕ → ℕ) (at : ℕ)
-    (brackets : List OpenBracket) (i : Instr) (rest : List OpData) → InstrFits a lens i
+    (brackets : List OpenBracket) (zones : List ℕ) (i : Instr) (rest : List OpData) → InstrFits a lens i
     → FineBehind a lens ss rest
-    → AreFine a lens ss (placed at brackets [] (map (aimed_op f) (ops_of i) ++ rest))
+    → AreFine a lens ss (placed at brackets zones [] (map (aimed_op f) (ops_of i) ++ rest))
 unfolding ops_of
-instr_fine a lens ss f at brackets (Does None w o) rest h behind =
-    subst (λ (x : Operand). AreFine a lens ss (placed at brackets [] (ending w x ∷ rest)))
+instr_fine a lens ss f at brackets zones (Does None w o) rest h behind =
+    subst (λ (x : Operand). AreFine a lens ss (placed at brackets zones [] (ending w x ∷ rest)))
     (sym (aimed_still f a (ending w o) o h.1))
-    (does_fine a lens ss at brackets [] w o rest h.0 h.1 behind)
-instr_fine a lens ss f at brackets (Does (Some number) w o) rest h behind =
-    subst (λ (x : Operand). AreFine a lens ss (placed at brackets []
-    (preparing word.UseDb (operand.UseDb number) ∷ ending w x ∷ rest)))
+    (does_fine a lens ss at brackets zones [] w o rest h.0 h.1 behind)
+instr_fine a lens ss f at brackets zones (Does (Some number) w o) rest h behind =
+    subst (λ (x : Operand). AreFine a lens ss (placed at brackets zones []
+    (preparing operation.UseDb (operand.UseDb number) ∷ ending w x ∷ rest)))
     (sym (aimed_still f a (ending w o) o h.1)) (
-      use_db_fine a lens ss at number brackets w o rest h.2,
-      does_fine a lens ss (at + size (preparing word.UseDb (operand.UseDb number))) brackets
-          (preparing word.UseDb (operand.UseDb number) ∷ []) w o rest h.0 h.1 behind,
+      use_db_fine a lens ss at number brackets zones w o rest h.2,
+      does_fine a lens ss (at + size (preparing operation.UseDb (operand.UseDb number))) brackets zones
+          (preparing operation.UseDb (operand.UseDb number) ∷ []) w o rest h.0 h.1 behind,
     )
-instr_fine a lens ss f at brackets (Jumps how target) rest h behind =
-    jump_fine a lens ss at (kind_of how) (f target) brackets rest behind
-instr_fine a lens ss f at brackets (JumpsByList targets otherwise) rest h behind =
-    jump_fine a lens ss at 1 (f otherwise) brackets rest behind
-instr_fine a lens ss f at brackets (Returns how) rest h behind =
-    end_fine a lens ss at brackets how rest behind
-instr_fine a lens ss f at brackets (Calls calls.Call block instance ps) rest h behind =
-    subst (λ (z : List OpData). AreFine a lens ss (placed at brackets [] z)) (sym same)
-    (calls_fine a lens ss at brackets [] block instance ps rest h.1 h.2 behind)
+instr_fine a lens ss f at brackets zones (Jumps how target) rest h behind =
+    jump_fine a lens ss at (kind_of how) (f target) brackets zones rest behind
+instr_fine a lens ss f at brackets zones (JumpsByList targets otherwise) rest h behind =
+    jump_fine a lens ss at 1 (f otherwise) brackets zones rest behind
+instr_fine a lens ss f at brackets zones (Returns how) rest h behind =
+    end_fine a lens ss at brackets zones how rest behind
+instr_fine a lens ss f at brackets zones (Calls calls.Call block instance ps) rest h behind =
+    subst (λ (z : List OpData). AreFine a lens ss (placed at brackets zones [] z)) (sym same)
+    (calls_fine a lens ss at brackets zones [] block instance ps rest h.1 h.2 behind)
   where
     call : OpData
     call = call_op calls.Call block instance
@@ -328,13 +332,13 @@ instr_fine a lens ss f at brackets (Calls calls.Call block instance ps) rest h b
         ap (λ (z : List OpData). z ++ rest) (map-append (aimed_op f) (passing ps) (call ∷ [])
         ∙ ap (λ (z : List OpData). z ++ call ∷ []) (passing_still f ps))
         ∙ append_assoc (passing ps) (call ∷ []) rest
-instr_fine a lens ss f at brackets (Calls calls.Uc block instance []) rest h behind =
-    call_fine a lens ss at brackets [] calls.Uc block instance rest h.2 behind
-instr_fine a lens ss f at brackets (Calls calls.Cc block instance []) rest h behind =
-    call_fine a lens ss at brackets [] calls.Cc block instance rest h.2 behind
-instr_fine a lens ss f at brackets (Calls calls.Uc block instance (p ∷ ps)) rest h behind =
+instr_fine a lens ss f at brackets zones (Calls calls.Uc block instance []) rest h behind =
+    call_fine a lens ss at brackets zones [] calls.Uc block instance rest h.2 behind
+instr_fine a lens ss f at brackets zones (Calls calls.Cc block instance []) rest h behind =
+    call_fine a lens ss at brackets zones [] calls.Cc block instance rest h.2 behind
+instr_fine a lens ss f at brackets zones (Calls calls.Uc block instance (p ∷ ps)) rest h behind =
     let none = h.0 in absurd cc
-instr_fine a lens ss f at brackets (Calls calls.Cc block instance (p ∷ ps)) rest h behind =
+instr_fine a lens ss f at brackets zones (Calls calls.Cc block instance (p ∷ ps)) rest h behind =
     let none = h.0 in absurd cc
 
 -- ---- a block
@@ -342,15 +346,15 @@ instr_fine a lens ss f at brackets (Calls calls.Cc block instance (p ∷ ps)) re
 statements_fine : (a : Around) (lens : List (ℕ × ℕ)) (ss : List Spot) (f : ℕ → ℕ)
     (statements : List Stated) → AllByRecursion (λ s. InstrFits a lens s.instr) statements
     → FineBehind a lens ss (map (aimed_op f) (ops_in statements))
-statements_fine a lens ss f [] h at brackets = tt
-statements_fine a lens ss f (s ∷ more) h at brackets =
-    subst (λ (z : List OpData). AreFine a lens ss (placed at brackets [] z))
+statements_fine a lens ss f [] h at brackets zones = tt
+statements_fine a lens ss f (s ∷ more) h at brackets zones =
+    subst (λ (z : List OpData). AreFine a lens ss (placed at brackets zones [] z))
     (sym (map-append (aimed_op f) (ops_of s.instr) (ops_in more)))
-    (instr_fine a lens ss f at brackets s.instr (map (aimed_op f) (ops_in more)) h.0
+    (instr_fine a lens ss f at brackets zones s.instr (map (aimed_op f) (ops_in more)) h.0
     (statements_fine a lens ss f more h.1))
 
 pub code_fine : (a : Around) (lens : List (ℕ × ℕ)) (ss : List Spot) (statements : List Stated)
     → AllByRecursion (λ s. InstrFits a lens s.instr) statements
-    → AreFine a lens ss (placed 0 [] [] (placed_ops (ops_in statements)))
+    → AreFine a lens ss (placed 0 [] [] [] (placed_ops (ops_in statements)))
 unfolding placed_ops
-code_fine a lens ss statements h = statements_fine a lens ss _ statements h 0 []
+code_fine a lens ss statements h = statements_fine a lens ss _ statements h 0 [] []

@@ -85,7 +85,7 @@ use Rattle.sem_kept.proofs.accepted.OperandsPaths.{Moves, data_goes, local_goes,
 use Rattle.sem_kept.proofs.accepted.OperandsPlaces.{AreParameters, GivesOne, IsElementary, IsParameterCell, IsPlaced, Stays, count_each, data_fits, elementary, function_components, in_its_order, instance_fits, local_fits, local_stays, one_each, placed_sees, reached_place}
 use Rattle.sem_kept.proofs.accepted.OperandsSymbols.{SymbolFits, TargetFits, is_symbols_area, named_fits}
 use Rattle.sem_kept.proofs.accepted.OperandsWalks.{AreRight, Goes, Lies, structure_even}
-use Rattle.sem_kept.proofs.accepted.OperandsWords.{ViewFits}
+use Rattle.sem_kept.proofs.accepted.OperandsOperations.{ViewFits}
 use Rattle.sem_kept.proofs.accepted.Shared.{or_second, kind_there}
 
 -- ---- what surrounds a block

@@ -30,7 +30,7 @@ use Rattle.block_layout.specs.declared.blocks.BlockLayout.{BlockLayout}
 use Rattle.flat_code.specs.Checking.{all_good}
 use Rattle.flat_code.specs.Codes.{are_ops, code_bytes, code_fault, code_of, is_nowhere, only, stop_at}
 use Rattle.flat_code.specs.Faults.{fault_of, has_number}
-use Rattle.flat_code.specs.Image.{block_number, code_and_lines, code_block as block_layout_of, end_marks, head, instance_bytes, kind_field, line_after, line_field, lines_of as lines_layout, local_bytes, parameter_count, parameters, parameter, plain_block, plain_u16, plain_u32, raw_block, raw_of_block, record_of_block, record_of_param, same_state}
+use Rattle.flat_code.specs.Image.{block_number, code_and_lines, code_block as block_layout_of, end_marks, head, instance_bytes, kind_field, line_after, line_field, lines_of as lines_layout, local_bytes, parameter_count, parameters, parameter, plain_block, plain_u16, plain_u32, block_rows, head_of_block, head_rows, record_of_block, record_of_param, same_state}
 use Rattle.flat_code.specs.Instr.{Instr, Passing, Does, Jumps, JumpsByList, Calls, Returns}
 use Rattle.flat_code.specs.Layout.{Layout, good_many, is_fine}
 use Rattle.flat_code.specs.Ops.{OpData}
@@ -411,8 +411,8 @@ instance_near kind n h = grind (arith, nat_tests)
 
 head_good : (last : ℕ) (before : ℕ × ℕ) (b : CodeBlock) → HasFields last b → HasCode b → before.0 ≤ kind_number b.id.kind
     → (not (eqb (kind_number b.id.kind) before.0) || ltb before.1 b.id.number) ≡ true
-    → (head before).good (raw_of_block (record_of_block b)).0 ≡ true
-unfolding head
+    → (head before).good (head_of_block (record_of_block b)) ≡ true
+unfolding head head_rows
 head_good last before b h c low rises =
     let kind = kind_within b.id.kind h.code in
     let number = number_there b.id.kind b.id.number h.code h.number in
@@ -489,7 +489,7 @@ marks_good false marks count same = refl
 block_good : (last : ℕ) (judged : Bool) (before : ℕ × ℕ) (b : CodeBlock) → last < 4294967296 → HasFields last b → HasCode b → end_marks b.code ≡ length b.lines → before.0 ≤ kind_number b.id.kind
     → (not (eqb (kind_number b.id.kind) before.0) || ltb before.1 b.id.number) ≡ true
     → (block_layout_of judged before).good (record_of_block b) ≡ true
-unfolding block_layout_of plain_block raw_block code_and_lines parameters lines_layout
+unfolding block_layout_of plain_block block_rows code_and_lines parameters lines_layout
 block_good last judged before b near h c marks low rises =
     and_from _ _ (head_good last before b h c low rises)
     (and_from _ _ (counted (λ s. parameter (kind_number b.id.kind) b.instance_len) same_state 0 (map record_of_param b.params) ∙ h.params.good)

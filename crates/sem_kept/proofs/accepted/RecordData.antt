@@ -30,7 +30,7 @@ use Rattle.block_layout.specs.declared.blocks.Shape.{Shape}
 use Rattle.block_layout.specs.declared.blocks.Shape.TheVariants as shape
 use Rattle.flat_code.specs.Checking.{good_datas}
 use Rattle.flat_code.specs.Faults.{fault_of}
-use Rattle.flat_code.specs.Image.{after_data, bytes_fit, data_block as data_layout, data_len, data_number, instance_field, number_of_instance, raw_data}
+use Rattle.flat_code.specs.Image.{after_data, bytes_fit, data_block as data_layout, data_len, data_number, instance_field, number_of_instance, data_rows}
 use Rattle.flat_code.specs.Programs.{DataBlock}
 use Rattle.flat_code.proofs.CheckLemmas.{contents_good, zero_word_good}
 use Rattle.stl_codegen.specs.Generated.{data_block, data_block_of, data_blocks_of, each_block, function_block_number, instance_in}
@@ -308,7 +308,7 @@ unfolding data_len fault_of
 len_good before n short most = grind (arith, nat_tests)
 
 data_good : (before : ℕ × ℕ) (d : DataBlock) → IsData d → before.0 < d.number → before.1 + length d.bytes ≤ 2097152 → (data_layout before).good d ≡ true
-unfolding data_layout raw_data
+unfolding data_layout data_rows
 data_good before d h rises most =
     and_from _ _ (number_good before.0 d.number h.low h.high rises)
     (and_from _ _ (instance_good (number_of_instance d.instance_of) h.instance)

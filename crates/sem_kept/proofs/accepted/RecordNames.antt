@@ -26,7 +26,7 @@ use Rattle.plc_base.specs.declared.places.Width.TheVariants as width
 use Rattle.plc_base.specs.declared.refusals.Refusal.{Refusal}
 use Rattle.flat_code.specs.Checking.{good_names}
 use Rattle.flat_code.specs.Faults.{is_before, is_upper, ends_blank, lies_within, fault_of, name_fault}
-use Rattle.flat_code.specs.Image.{bytes_fit, name_record, raw_name, name_len, name_area, name_bit, width_field, plain_u16, name_of_entry, number_of_area, after_name}
+use Rattle.flat_code.specs.Image.{bytes_fit, name_record, name_rows, name_len, name_area, name_bit, width_field, plain_u16, name_of_entry, number_of_area, after_name}
 use Rattle.flat_code.specs.Layout.{is_fine}
 use Rattle.flat_code.specs.Programs.{NameEntry}
 use Rattle.flat_code.proofs.CheckLemmas.{text_good}
@@ -629,7 +629,7 @@ text_right before e h rises = rw (fine (is_before before e.name) (is_upper e.nam
 
 entry_good : (before : List ℕ) (e : NameEntry) → IsEntry e → is_before before e.name ≡ true
     → (name_record before).good (name_of_entry e) ≡ true
-unfolding name_record raw_name
+unfolding name_record name_rows
 entry_good before e h rises =
     and_from _ _ (len_good (length e.name) h.some h.short)
     (and_from _ _ (text_good before e.name h.bytes ∙ text_right before e h rises)

@@ -57,7 +57,7 @@ use Rattle.block_layout.specs.Sizes.{largest}
 use Rattle.block_layout.specs.declared.members.Member.{Member}
 use Rattle.flat_code.specs.Checking.{good_params}
 use Rattle.flat_code.specs.Faults.{fault_of}
-use Rattle.flat_code.specs.Image.{parameter, parameter_bit, parameter_byte, raw_parameter, record_of_param, section_field}
+use Rattle.flat_code.specs.Image.{parameter, parameter_bit, parameter_byte, parameter_rows, record_of_param, section_field}
 use Rattle.flat_code.specs.declared.programs.Param.{Param}
 use Rattle.flat_code.proofs.CheckLemmas.{zero_byte_good}
 use Rattle.stl_codegen.specs.Generated.{instance_len, offset_named, param_here, param_of, params_of, section_number}
@@ -615,7 +615,7 @@ unfolding parameter_bit fault_of
 bit_good kind bit few whole = grind (arith, nat_tests)
 
 param_good : (kind instance : ℕ) (p : Param) → IsGood kind instance p → (parameter kind instance).good (record_of_param p) ≡ true
-unfolding parameter raw_parameter
+unfolding parameter parameter_rows
 param_good kind instance p h =
     and_from _ _ (section_good p.section h.low h.high)
     (and_from _ _ (width_good p.width)

@@ -8,7 +8,7 @@ use Rattle.std.proofs.lemmas.List.{length-map}
 use Rattle.plc_base.specs.Kinds.{kind_number}
 use Rattle.flat_code.specs.Checking.{all_good, good_counts, good_datas, good_names}
 use Rattle.flat_code.specs.Faults.{fault_of}
-use Rattle.flat_code.specs.Image.{after_block, after_data, after_name, body, code_block, code_blocks, counts, data_block, data_blocks, data_count, name_of_entry, name_record, names, plain_u16, raw_records, record_of_block, records, zero_u16}
+use Rattle.flat_code.specs.Image.{after_block, after_data, after_name, body, body_rows, code_block, code_blocks, count_rows, counts, data_block, data_blocks, data_count, name_of_entry, name_record, names, plain_u16, record_of_block, records, zero_u16}
 use Rattle.flat_code.specs.Programs.{Program}
 use Rattle.stl_ast.specs.declared.blocks.Tree.{Tree}
 use Rattle.stl_parser.specs.Lines.{Rises, lines_of, LinesRise}
@@ -29,14 +29,14 @@ use Rattle.sem_kept.proofs.accepted.RecordOrder.{good_all}
 
 -- ---- a program of right records
 
-counts_good : (codes datas names : ℕ) → good_counts codes datas names ≡ true → counts.good (codes, (datas, (names, 0))) ≡ true
-unfolding counts plain_u16 data_count zero_u16 fault_of
+counts_good : (codes datas names : ℕ) → good_counts codes datas names ≡ true → counts.good (record { code_blocks = codes; data_blocks = datas; names = names; reserved = 0 }) ≡ true
+unfolding counts count_rows plain_u16 data_count zero_u16 fault_of
 counts_good codes datas names h = grind (arith, nat_tests)
 
 body_good : (judged : Bool) (p : Program) → HasCounts p
     → all_good (code_block judged) after_block (0, 0) (map record_of_block p.code_blocks) ≡ true
     → good_datas (0, 0) p.data_blocks ≡ true → good_names [] p.names ≡ true → (body judged).good p ≡ true
-unfolding body records raw_records code_blocks data_blocks names
+unfolding body records body_rows code_blocks data_blocks names
 body_good judged p enough blocks datas entries =
     and_from _ _
     (rw (length-map p.code_blocks record_of_block, length-map p.names name_of_entry) (counts_good (length p.code_blocks) (length p.data_blocks) (length p.names) enough))

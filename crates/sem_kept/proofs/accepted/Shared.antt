@@ -9,8 +9,8 @@ use Rattle.plc_base.specs.Kinds.{is_callable, is_function_block, is_same_kind}
 use Rattle.plc_base.specs.declared.blocks.BlockId.{BlockId}
 use Rattle.plc_base.specs.declared.blocks.BlockKind.{BlockKind}
 use Rattle.plc_base.specs.declared.blocks.BlockKind.TheVariants as kinds
-use Rattle.flat_code.specs.declared.kinds.JumpWord.{JumpWord}
-use Rattle.flat_code.specs.declared.words.CallWord.{CallWord}
+use Rattle.flat_code.specs.declared.kinds.JumpOperation.{JumpOperation}
+use Rattle.flat_code.specs.declared.operations.CallOperation.{CallOperation}
 use Rattle.stl_ast.specs.Statements.{is_empty}
 use Rattle.stl_ast.specs.declared.literals.Literal.{Literal}
 use Rattle.stl_ast.specs.declared.mnemonics.Mnemonic.{Mnemonic}
@@ -35,8 +35,8 @@ use Rattle.stl_types.specs.declared.views.View.{View}
 use Rattle.stl_types.specs.declared.views.View.TheVariants as view
 use Rattle.stl_codegen.specs.Generated.{stated_from}
 use Rattle.stl_codegen.specs.Instruction.{instruction}
-use Rattle.stl_codegen.specs.Words.{call_of, jump_of}
-use Rattle.sem_kept.proofs.accepted.OperandsWords.{allowed}
+use Rattle.stl_codegen.specs.Operations.{call_of, jump_of}
+use Rattle.sem_kept.proofs.accepted.OperandsOperations.{allowed}
 use Rattle.stl_symbols.specs.Symbol.{Symbol}
 
 -- ---- truth values
@@ -109,7 +109,7 @@ stated_count c body n (s ∷ ss) =
 
 -- ---- the forms of instructions
 
-pub jump_form : (m : Mnemonic) (how : JumpWord) → jump_of m ≡ Some how → form_of m ≡ form.Jumps
+pub jump_form : (m : Mnemonic) (how : JumpOperation) → jump_of m ≡ Some how → form_of m ≡ form.Jumps
 unfolding form_of
 jump_form code.Ju how h = refl
 jump_form code.Jl how h = refl
@@ -131,7 +131,7 @@ jump_form code.Juo how h = refl
 jump_form code.Loop how h = refl
 jump_form _ how h = absurd cc
 
-pub call_form : (m : Mnemonic) (how : CallWord) → call_of m ≡ Some how → form_of m ≡ form.Calls
+pub call_form : (m : Mnemonic) (how : CallOperation) → call_of m ≡ Some how → form_of m ≡ form.Calls
 unfolding form_of
 call_form code.Call how h = refl
 call_form code.Uc how h = refl

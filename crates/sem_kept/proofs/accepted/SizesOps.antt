@@ -15,17 +15,17 @@ use Rattle.flat_code.specs.Codes.{code_bytes}
 use Rattle.flat_code.specs.Forms.{actual, direct, payload}
 use Rattle.flat_code.specs.Instr.{Calls, Does, Passing, Returns}
 use Rattle.flat_code.specs.Ops.{OpData, op_bytes}
-use Rattle.flat_code.specs.declared.kinds.JumpWord.{JumpWord}
-use Rattle.flat_code.specs.declared.kinds.JumpWord.TheVariants as jump
+use Rattle.flat_code.specs.declared.kinds.JumpOperation.{JumpOperation}
+use Rattle.flat_code.specs.declared.kinds.JumpOperation.TheVariants as jump
 use Rattle.flat_code.specs.declared.operands.Operand.{Operand as FlatOperand}
 use Rattle.flat_code.specs.declared.operands.Operand.TheVariants as flat
 use Rattle.flat_code.specs.declared.operands.Passed.{Passed}
 use Rattle.flat_code.specs.declared.operands.Passed.TheVariants as passed
-use Rattle.flat_code.specs.declared.words.CallWord.{CallWord}
-use Rattle.flat_code.specs.declared.words.EndWord.{EndWord}
-use Rattle.flat_code.specs.declared.words.EndWord.TheVariants as ends
-use Rattle.flat_code.specs.declared.words.Word.{Word}
-use Rattle.flat_code.specs.declared.words.Word.TheVariants as word
+use Rattle.flat_code.specs.declared.operations.CallOperation.{CallOperation}
+use Rattle.flat_code.specs.declared.operations.EndOperation.{EndOperation}
+use Rattle.flat_code.specs.declared.operations.EndOperation.TheVariants as ends
+use Rattle.flat_code.specs.declared.operations.Operation.{Operation}
+use Rattle.flat_code.specs.declared.operations.Operation.TheVariants as operation
 use Rattle.stl_ast.specs.Sizes.{block_size, body_size, code_size, op_size, path_size, return_size, statement_size}
 use Rattle.stl_ast.specs.Statements.{is_empty}
 use Rattle.stl_ast.specs.declared.blocks.Block.{Block}
@@ -73,7 +73,7 @@ use Rattle.stl_codegen.specs.Emitted.{call_op, ending, opening, ops_of, passing,
 use Rattle.stl_codegen.specs.Generated.{returning, stated_from, statements_of}
 use Rattle.stl_codegen.specs.Instruction.{call_instr, end_instr, filler, instr_by, instruction, jump_instr, passings_to, resolved_instr, target_of, view_instr}
 use Rattle.stl_codegen.specs.Operands.{is_db, is_in_named_block, numbered_operand, opened_by, opened_by_place, operand_of, register_operand}
-use Rattle.stl_codegen.specs.Words.{call_of, end_of, jump_of, word_of}
+use Rattle.stl_codegen.specs.Operations.{call_of, end_of, jump_of, operation_for}
 use Rattle.sem_kept.proofs.accepted.Shared.{call_form, calls_called, jump_form, no_call_constant, no_jump_constant, rule_there, stated_count}
 use Rattle.sem_kept.proofs.accepted.SizesNames.{IsApart, IsFine}
 
@@ -177,7 +177,7 @@ abbrev opened_size : Option ℕ → ℕ
 opened_size None = 0
 opened_size (Some number) = 4
 
-does_sized : (use_db : Option ℕ) (w : Word) (o : FlatOperand)
+does_sized : (use_db : Option ℕ) (w : Operation) (o : FlatOperand)
     → bytes_in (ops_of (Does use_db w o)) ≡ opened_size use_db + flat_size o
 unfolding ops_of
 does_sized None w o = omega (arith, one_sized (ending w o))
@@ -186,7 +186,7 @@ does_sized (Some number) w o =
       arith,
       bytes_both (opening (Some number)) (ending w o ∷ []),
       one_sized (ending w o),
-      one_sized (preparing word.UseDb (flat.UseDb number)),
+      one_sized (preparing operation.UseDb (flat.UseDb number)),
     )
 
 passed_few : (index : ℕ) (p : Passed) → flat_size (flat.Pass index p) ≤ 11
@@ -198,7 +198,7 @@ passed_few index (passed.InBlock number area width byte bit) = omega arith
 passing_sized : (ps : List Passing) → bytes_in (passing ps) ≤ 11 * length ps
 passing_sized [] = omega arith
 passing_sized (p ∷ ps) =
-    let op = preparing word.Pass (flat.Pass p.index p.actual) in
+    let op = preparing operation.Pass (flat.Pass p.index p.actual) in
     omega (
       arith,
       length-append (op_bytes op) (code_bytes (passing ps)),
@@ -207,7 +207,7 @@ passing_sized (p ∷ ps) =
       passing_sized ps,
     )
 
-calls_sized : (how : CallWord) (id : BlockId) (instance : Option ℕ) (ps : List Passing)
+calls_sized : (how : CallOperation) (id : BlockId) (instance : Option ℕ) (ps : List Passing)
     → bytes_in (ops_of (Calls how id instance ps)) ≤ 7 + 11 * length ps
 unfolding ops_of
 calls_sized how id instance ps =
@@ -218,15 +218,15 @@ calls_sized how id instance ps =
       passing_sized ps,
     )
 
-jump_sized : (how : JumpWord) (n target : ℕ) → bytes_in (ops_of (jump_instr how n target)) ≡ 7
+jump_sized : (how : JumpOperation) (n target : ℕ) → bytes_in (ops_of (jump_instr how n target)) ≡ 7
 unfolding ops_of
 jump_sized how n target = by how
   where
-    by : (how : JumpWord) → bytes_in (ops_of (jump_instr how n target)) ≡ 7
+    by : (how : JumpOperation) → bytes_in (ops_of (jump_instr how n target)) ≡ 7
     by jump.Jl = one_sized _
     by _ = one_sized _
 
-returns_sized : (how : EndWord) → bytes_in (ops_of (Returns how)) ≡ 2
+returns_sized : (how : EndOperation) → bytes_in (ops_of (Returns how)) ≡ 2
 unfolding ops_of
 returns_sized how = one_sized _
 
@@ -546,7 +546,7 @@ view_holds n o s v e h = subst (λ (s : Seen). SeenFits n o s) e h
 abbrev pub PassesFew : Context → Statement → Type 0
 PassesFew c s = length (passings_to c s (callee_of c s.operand)) ≤ length s.actuals
 
-jump_fits : (c : Context) (n : ℕ) (s : Statement) (how : JumpWord) (v : View)
+jump_fits : (c : Context) (n : ℕ) (s : Statement) (how : JumpOperation) (v : View)
     → jump_of s.code ≡ Some how → statement_rule c s ≡ None → seen c s.operand ≡ Sees v
     → (target : ℕ) → bytes_in (ops_of (jump_instr how n target)) ≤ op_size s.operand
 jump_fits c n s how v is rule e target =
@@ -556,7 +556,7 @@ jump_fits c n s how v is rule e target =
     (seen_wide c s.operand) (jumps_wide v there) in
     omega (arith, jump_sized how n target, wide)
 
-called_view_fits : (c : Context) (s : Statement) (how : CallWord) (v : View)
+called_view_fits : (c : Context) (s : Statement) (how : CallOperation) (v : View)
     → is_called v ≡ true → 7 ≤ op_size s.operand → PassesFew c s
     → bytes_in (ops_of (call_instr c s how v)) ≤ op_size s.operand + 11 * length s.actuals
 called_view_fits c s how (view.Called id instance) h wide few =
@@ -567,7 +567,7 @@ called_wide : (v : View) → is_called v ≡ true → IsWide v
 called_wide (view.Called id instance) h = tt
 called_wide _ h = absurd cc
 
-call_fits : (c : Context) (s : Statement) (how : CallWord) (v : View)
+call_fits : (c : Context) (s : Statement) (how : CallOperation) (v : View)
     → call_of s.code ≡ Some how → statement_rule c s ≡ None → seen c s.operand ≡ Sees v
     → PassesFew c s
     → bytes_in (ops_of (call_instr c s how v)) ≤ op_size s.operand + 11 * length s.actuals
@@ -579,18 +579,18 @@ call_fits c s how v is rule e few =
     (seen_wide c s.operand) (called_wide v called) in
     called_view_fits c s how v called wide few
 
-end_fits : (c : Context) (s : Statement) (v : View) (how : Option EndWord)
+end_fits : (c : Context) (s : Statement) (v : View) (how : Option EndOperation)
     → AllByRecursion IsFine c.symbols → seen c s.operand ≡ Sees v
     → bytes_in (ops_of (end_instr s v how)) ≤ op_size s.operand
 end_fits c s v None fine e =
     omega (
       arith,
-      does_sized (opened_by v) (word_of s.code s.operand v) (operand_of s.operand v),
+      does_sized (opened_by v) (operation_for s.code s.operand v) (operand_of s.operand v),
       view_holds (op_size s.operand) s.operand (seen c s.operand) v e (seen_fits c s.operand fine),
     )
 end_fits c s v (Some how) fine e = omega (arith, returns_sized how, least_op s.operand)
 
-view_instr_fits : (c : Context) (s : Statement) (v : View) (how : Option CallWord)
+view_instr_fits : (c : Context) (s : Statement) (v : View) (how : Option CallOperation)
     → call_of s.code ≡ how → AllByRecursion IsFine c.symbols → statement_rule c s ≡ None
     → seen c s.operand ≡ Sees v → PassesFew c s
     → bytes_in (ops_of (view_instr c s v how)) ≤ op_size s.operand + 11 * length s.actuals
@@ -629,7 +629,7 @@ view_fits c s Rests fine is e =
     omega (arith, wide, filler_sized)
 
 -- a jump
-jump_seen_fits : (c : Context) (n : ℕ) (s : Statement) (how : JumpWord) (found : Seen)
+jump_seen_fits : (c : Context) (n : ℕ) (s : Statement) (how : JumpOperation) (found : Seen)
     → IsTaken c s → jump_of s.code ≡ Some how → seen c s.operand ≡ found → (target : ℕ)
     → bytes_in (ops_of (jump_instr how n target)) ≤ op_size s.operand
 jump_seen_fits c n s how (Sees v) is jumps e target =
@@ -643,7 +643,7 @@ jump_seen_fits c n s how Rests is jumps e target =
     (seen_or_wide c s.operand is.opens) in
     omega (arith, wide, jump_sized how n target)
 
-instr_fits : (c : Context) (body : List Statement) (n : ℕ) (s : Statement) (how : Option JumpWord)
+instr_fits : (c : Context) (body : List Statement) (n : ℕ) (s : Statement) (how : Option JumpOperation)
     → jump_of s.code ≡ how → AllByRecursion IsFine c.symbols → IsTaken c s
     → bytes_in (ops_of (instr_by c body n s how)) ≤ op_size s.operand + 11 * length s.actuals
 instr_fits c body n s None jumps fine is =

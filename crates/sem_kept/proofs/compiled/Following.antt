@@ -2,7 +2,7 @@
 use Rattle.std.proofs.Common.{◌≡◌, ℕ, Bool, true, false, if◌then◌else◌, List, [], ◌∷◌, map, slice_get, Option, Some, None, option_map, option_and_then, refl, ap, ◌∙◌}
 use Rattle.std.specs.List.{AllByRecursion}
 use Rattle.plc_base.specs.declared.blocks.BlockId.{BlockId}
-use Rattle.flat_code.specs.Laws.{WordsHaveTheirCodes, JumpsHaveTheirKinds}
+use Rattle.flat_code.specs.Laws.{OperationsHaveTheirCodes, JumpsHaveTheirKinds}
 use Rattle.image_file.specs.Readers.{block_of, same_id}
 use Rattle.machine.specs.Flat.{statement_at, head_of}
 use Rattle.machine.specs.Moved.{moved_fetched}
@@ -42,12 +42,12 @@ statement_aimed f n None = refl
 statement_aimed f n (Some s) = refl
 
 statement_follows :
-    (o : Option StatedBlock) (n : ℕ) → WordsHaveTheirCodes → JumpsHaveTheirKinds → IsCompilableFound o
+    (o : Option StatedBlock) (n : ℕ) → OperationsHaveTheirCodes → JumpsHaveTheirKinds → IsCompilableFound o
     → option_and_then (λ b. statement_at b (position_in o n)) (option_map compiled o)
     ≡ option_map (moved_fetched (position_in o)) (option_and_then (λ b. statement_of b n) o)
-statement_follows None n words jumps h = refl
-statement_follows (Some b) n words jumps h =
-    is_read_back (compiled b) b.statements words jumps h refl refl n
+statement_follows None n operations jumps h = refl
+statement_follows (Some b) n operations jumps h =
+    is_read_back (compiled b) b.statements operations jumps h refl refl n
     ∙ statement_aimed (offset_of (ops_in b.statements)) n (slice_get b.statements n)
 
 head_follows : (o : Option StatedBlock) → option_map head_of (option_map compiled o) ≡ option_map stated_head o
@@ -63,11 +63,11 @@ unfolding offset_of
 first_position None = refl
 first_position (Some b) = first_offset (ops_in b.statements)
 
-pub programs_follow : WordsHaveTheirCodes → JumpsHaveTheirKinds → ProgramsFollow
-programs_follow words jumps blocks data_blocks names h = record {
+pub programs_follow : OperationsHaveTheirCodes → JumpsHaveTheirKinds → ProgramsFollow
+programs_follow operations jumps blocks data_blocks names h = record {
   start = λ id. first_position (stated_at id blocks);
   fetch = λ id n. ap (option_and_then (λ b. statement_at b (position blocks id n))) (found_compiled id blocks)
-      ∙ statement_follows (stated_at id blocks) n words jumps (compilable_at id blocks h);
+      ∙ statement_follows (stated_at id blocks) n operations jumps (compilable_at id blocks h);
   head = λ id. ap (option_map head_of) (found_compiled id blocks) ∙ head_follows (stated_at id blocks);
   blocks = refl;
 }

@@ -10,10 +10,10 @@ use Rattle.plc_base.specs.declared.places.Area.{Area}
 use Rattle.plc_base.specs.declared.places.Place.{Place}
 use Rattle.plc_base.specs.declared.places.Width.{Width}
 use Rattle.flat_code.specs.Instr.{Instr, Does, Jumps, JumpsByList, Calls, Returns}
-use Rattle.flat_code.specs.declared.kinds.JumpWord.{JumpWord}
-use Rattle.flat_code.specs.declared.kinds.JumpWord.TheVariants as jump
-use Rattle.flat_code.specs.declared.words.CallWord.{CallWord}
-use Rattle.flat_code.specs.declared.words.EndWord.{EndWord}
+use Rattle.flat_code.specs.declared.kinds.JumpOperation.{JumpOperation}
+use Rattle.flat_code.specs.declared.kinds.JumpOperation.TheVariants as jump
+use Rattle.flat_code.specs.declared.operations.CallOperation.{CallOperation}
+use Rattle.flat_code.specs.declared.operations.EndOperation.{EndOperation}
 use Rattle.machine.specs.Flat.{is_jl}
 use Rattle.stl_ast.specs.declared.blocks.PathStep.{PathStep}
 use Rattle.stl_ast.specs.declared.declarations.Simple.{Simple}
@@ -60,7 +60,7 @@ use Rattle.stl_types.specs.declared.views.View.{View}
 use Rattle.stl_types.specs.declared.views.View.TheVariants as view
 use Rattle.stl_codegen.specs.Instruction.{numbers_from, jump_instr, target_of, call_instr, end_instr, view_instr, resolved_instr, instr_by, instruction}
 use Rattle.stl_codegen.specs.Operands.{numbered_operand, register_operand, operand_of}
-use Rattle.stl_codegen.specs.Words.{jump_of, call_of, end_of, or_word, load_word, transfer_word, load_pointer_word, store_pointer_word, add_word, word_of}
+use Rattle.stl_codegen.specs.Operations.{jump_of, call_of, end_of, or_operation, load_operation, transfer_operation, load_pointer_operation, store_pointer_operation, add_operation, operation_for}
 use Rattle.sem_kept.specs.Back.{goes_on, is_target, IsInstance}
 use Rattle.sem_kept.proofs.accepted.Shared.{call_form, rule_callable}
 
@@ -72,43 +72,43 @@ IsMade n (Calls how block instance passings) =
     (is_callable block.kind ≡ true) × IsInstance instance
 IsMade n (Returns how) = Unit {0}
 
--- ---- words and operands of instructions that go on
+-- ---- operations and operands of instructions that go on
 
-or_goes_on : (v : View) → goes_on (or_word v) ≡ true
+or_goes_on : (v : View) → goes_on (or_operation v) ≡ true
 or_goes_on view.Nothing = refl
 or_goes_on _ = refl
 
-load_goes_on : (v : View) → goes_on (load_word v) ≡ true
+load_goes_on : (v : View) → goes_on (load_operation v) ≡ true
 load_goes_on (view.Register register.Stw) = refl
 load_goes_on (view.Register _) = refl
 load_goes_on _ = refl
 
-transfer_goes_on : (v : View) → goes_on (transfer_word v) ≡ true
+transfer_goes_on : (v : View) → goes_on (transfer_operation v) ≡ true
 transfer_goes_on (view.Register which) = refl
 transfer_goes_on _ = refl
 
-load_pointer_goes_on : (v : View) → goes_on (load_pointer_word v) ≡ true
+load_pointer_goes_on : (v : View) → goes_on (load_pointer_operation v) ≡ true
 load_pointer_goes_on (view.Register which) = refl
 load_pointer_goes_on _ = refl
 
-store_pointer_goes_on : (v : View) → goes_on (store_pointer_word v) ≡ true
+store_pointer_goes_on : (v : View) → goes_on (store_pointer_operation v) ≡ true
 store_pointer_goes_on (view.Register which) = refl
 store_pointer_goes_on _ = refl
 
-add_goes_on : (o : Operand) → goes_on (add_word o) ≡ true
+add_goes_on : (o : Operand) → goes_on (add_operation o) ≡ true
 add_goes_on (operand.Constant (literal.Long value)) = refl
 add_goes_on (operand.Constant _) = refl
 add_goes_on _ = refl
 
-word_goes_on : (m : Mnemonic) (o : Operand) (v : View) → goes_on (word_of m o v) ≡ true
-unfolding word_of
-word_goes_on code.O o v = or_goes_on v
-word_goes_on code.L o v = load_goes_on v
-word_goes_on code.T o v = transfer_goes_on v
-word_goes_on code.Lar1 o v = load_pointer_goes_on v
-word_goes_on code.Tar1 o v = store_pointer_goes_on v
-word_goes_on code.Add o v = add_goes_on o
-word_goes_on _ o v = refl
+operation_goes_on : (m : Mnemonic) (o : Operand) (v : View) → goes_on (operation_for m o v) ≡ true
+unfolding operation_for
+operation_goes_on code.O o v = or_goes_on v
+operation_goes_on code.L o v = load_goes_on v
+operation_goes_on code.T o v = transfer_goes_on v
+operation_goes_on code.Lar1 o v = load_pointer_goes_on v
+operation_goes_on code.Tar1 o v = store_pointer_goes_on v
+operation_goes_on code.Add o v = add_goes_on o
+operation_goes_on _ o v = refl
 
 by_number : (what : Numbered) (from : Area) (byte : ℕ)
     → is_target (numbered_operand what from byte) ≡ false
@@ -392,7 +392,7 @@ instance_is c o id (Some number) e = seen_instance c o id number e
 
 -- ---- instructions
 
-called_made : (c : Context) (n : ℕ) (s : Statement) (how : CallWord) (v : View)
+called_made : (c : Context) (n : ℕ) (s : Statement) (how : CallOperation) (v : View)
     → resolved c s ≡ Some v → call_of s.code ≡ Some how → IsMade n (call_instr c s how v)
 unfolding resolved
 called_made c n s how (view.Called id i) is e =
@@ -405,13 +405,13 @@ called_made c n s how (view.Called id i) is e =
     )
 called_made c n s how _ is e = (refl, refl)
 
-ended_made : (n : ℕ) (s : Statement) (v : View) (e : Option EndWord)
+ended_made : (n : ℕ) (s : Statement) (v : View) (e : Option EndOperation)
     → IsMade n (end_instr s v e)
-ended_made n s v None = (word_goes_on s.code s.operand v, no_target s.operand v)
+ended_made n s v None = (operation_goes_on s.code s.operand v, no_target s.operand v)
 ended_made n s v (Some how) = tt
 
 seen_made : (c : Context) (n : ℕ) (s : Statement) (v : View) → resolved c s ≡ Some v
-    → (h : Option CallWord) → call_of s.code ≡ h → IsMade n (view_instr c s v h)
+    → (h : Option CallOperation) → call_of s.code ≡ h → IsMade n (view_instr c s v h)
 seen_made c n s v is None e = ended_made n s v (end_of s.code)
 seen_made c n s v is (Some how) e = called_made c n s how v is e
 
@@ -420,11 +420,11 @@ resolved_made : (c : Context) (n : ℕ) (s : Statement) (v : Option View) → re
 resolved_made c n s None is = (refl, refl)
 resolved_made c n s (Some v) is = seen_made c n s v is (call_of s.code) refl
 
-jump_made : (n target : ℕ) (how : JumpWord) → IsMade n (jump_instr how n target)
+jump_made : (n target : ℕ) (how : JumpOperation) → IsMade n (jump_instr how n target)
 jump_made n target jump.Jl = refl
 jump_made n target _ = refl
 
-instr_made : (c : Context) (body : List Statement) (n : ℕ) (s : Statement) (j : Option JumpWord)
+instr_made : (c : Context) (body : List Statement) (n : ℕ) (s : Statement) (j : Option JumpOperation)
     → IsMade n (instr_by c body n s j)
 instr_made c body n s None = resolved_made c n s (resolved c s) refl
 instr_made c body n s (Some how) = jump_made n (target_of body s.operand) how

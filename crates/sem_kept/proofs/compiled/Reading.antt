@@ -8,18 +8,19 @@ use Rattle.plc_base.specs.declared.blocks.BlockKind.{BlockKind}
 use Rattle.plc_base.specs.declared.blocks.BlockKind.TheVariants as kinds
 use Rattle.plc_base.specs.Kinds.{is_callable, kind_number}
 use Rattle.flat_code.specs.Codes.{size}
+use Rattle.flat_code.specs.Forms.{kind_of_code}
 use Rattle.flat_code.specs.Instr.{Instr, Passing, Does, Jumps, JumpsByList, Calls, Returns}
-use Rattle.flat_code.specs.Laws.{WordsHaveTheirCodes, JumpsHaveTheirKinds}
+use Rattle.flat_code.specs.Laws.{OperationsHaveTheirCodes, JumpsHaveTheirKinds}
 use Rattle.flat_code.specs.Ops.{OpData}
 use Rattle.flat_code.specs.Placed.{op_placed, line_placed}
 use Rattle.flat_code.specs.Programs.{CodeBlock}
-use Rattle.flat_code.specs.Words.{word_of}
-use Rattle.flat_code.specs.declared.kinds.JumpWord.TheVariants as jump
+use Rattle.flat_code.specs.Operations.{operation_of}
+use Rattle.flat_code.specs.declared.kinds.JumpOperation.TheVariants as jump
 use Rattle.flat_code.specs.declared.operands.Operand.{Operand}
 use Rattle.flat_code.specs.declared.operands.Operand.TheVariants as operand
-use Rattle.flat_code.specs.declared.words.Word.{Word}
-use Rattle.flat_code.specs.declared.words.Word.TheVariants as word
-use Rattle.machine.specs.Flat.{Run, run_at, with_op, most_ops, use_db_of, passings_of, list_of, most_listed, kind_called, instance_named, instr_of, fetched_of, statement_at}
+use Rattle.flat_code.specs.declared.operations.Operation.{Operation}
+use Rattle.flat_code.specs.declared.operations.Operation.TheVariants as operation
+use Rattle.machine.specs.Flat.{Run, run_at, with_op, most_ops, use_db_of, passings_of, list_of, most_listed, instance_named, instr_of, fetched_of, statement_at}
 use Rattle.stl_codegen.specs.Emitted.{ops_of, ending, opening, passing, jump_op, call_op, end_op, instance_number}
 use Rattle.stl_codegen.specs.Compiled.{Stated, ops_in, offset_from, offset_of, aimed, aimed_op, placed_ops, code_in, lines_in}
 use Rattle.stl_codegen.specs.Instruction.{numbers_from}
@@ -223,49 +224,50 @@ aimed_same f (operand.OpenBlock register number) h = refl
 aimed_same f (operand.OpenBy register from byte) h = refl
 
 does_back :
-    (w : Word) (o : Operand) (use_db : Option ℕ) (passings : List Passing) (next : ℕ) (ops : List OpData)
+    (w : Operation) (o : Operand) (use_db : Option ℕ) (passings : List Passing) (next : ℕ) (ops : List OpData)
     → goes_on w ≡ true → instr_of w o use_db passings next ops ≡ Does use_db w o
-does_back word.NoWord o use_db passings next ops h = refl
-does_back word.Nop o use_db passings next ops h = refl
-does_back word.Bld o use_db passings next ops h = refl
-does_back word.UseDb o use_db passings next ops h = refl
-does_back word.Pass o use_db passings next ops h = refl
-does_back (word.Check joined) o use_db passings next ops h = refl
-does_back word.OrBare o use_db passings next ops h = refl
-does_back (word.Nest joined) o use_db passings next ops h = refl
-does_back word.Unnest o use_db passings next ops h = refl
-does_back word.Load o use_db passings next ops h = refl
-does_back word.Transfer o use_db passings next ops h = refl
-does_back word.Assign o use_db passings next ops h = refl
-does_back word.Set o use_db passings next ops h = refl
-does_back word.Reset o use_db passings next ops h = refl
-does_back (word.Edge rising) o use_db passings next ops h = refl
-does_back word.SetRlo o use_db passings next ops h = refl
-does_back word.ClearRlo o use_db passings next ops h = refl
-does_back word.NegateRlo o use_db passings next ops h = refl
-does_back word.SaveRlo o use_db passings next ops h = refl
-does_back word.LoadBcd o use_db passings next ops h = refl
-does_back word.LoadStatus o use_db passings next ops h = refl
-does_back word.TransferStatus o use_db passings next ops h = refl
-does_back word.LoadOpenBlock o use_db passings next ops h = refl
-does_back (word.Pointer p) o use_db passings next ops h = refl
-does_back (word.Number n) o use_db passings next ops h = refl
-does_back (word.Add a) o use_db passings next ops h = refl
-does_back (word.CompareInt c) o use_db passings next ops h = refl
-does_back (word.CompareDint c) o use_db passings next ops h = refl
-does_back (word.Logic l) o use_db passings next ops h = refl
-does_back (word.Shift s) o use_db passings next ops h = refl
-does_back word.Jump o use_db passings next ops h = absurd cc
-does_back (word.Start s) o use_db passings next ops h = refl
-does_back word.Free o use_db passings next ops h = refl
-does_back word.CountUp o use_db passings next ops h = refl
-does_back word.CountDown o use_db passings next ops h = refl
-does_back (word.Call how) o use_db passings next ops h = absurd cc
-does_back (word.End how) o use_db passings next ops h = absurd cc
-does_back word.OpenBlock o use_db passings next ops h = refl
-does_back word.Exchange o use_db passings next ops h = refl
+does_back operation.NoOperation o use_db passings next ops h = refl
+does_back operation.Nop o use_db passings next ops h = refl
+does_back operation.Bld o use_db passings next ops h = refl
+does_back operation.UseDb o use_db passings next ops h = refl
+does_back operation.Pass o use_db passings next ops h = refl
+does_back (operation.Relay which) o use_db passings next ops h = refl
+does_back (operation.Check joined) o use_db passings next ops h = refl
+does_back operation.OrBare o use_db passings next ops h = refl
+does_back (operation.Nest joined) o use_db passings next ops h = refl
+does_back operation.Unnest o use_db passings next ops h = refl
+does_back operation.Load o use_db passings next ops h = refl
+does_back operation.Transfer o use_db passings next ops h = refl
+does_back operation.Assign o use_db passings next ops h = refl
+does_back operation.Set o use_db passings next ops h = refl
+does_back operation.Reset o use_db passings next ops h = refl
+does_back (operation.Edge rising) o use_db passings next ops h = refl
+does_back operation.SetRlo o use_db passings next ops h = refl
+does_back operation.ClearRlo o use_db passings next ops h = refl
+does_back operation.NegateRlo o use_db passings next ops h = refl
+does_back operation.SaveRlo o use_db passings next ops h = refl
+does_back operation.LoadBcd o use_db passings next ops h = refl
+does_back operation.LoadStatus o use_db passings next ops h = refl
+does_back operation.TransferStatus o use_db passings next ops h = refl
+does_back operation.LoadOpenBlock o use_db passings next ops h = refl
+does_back (operation.Pointer p) o use_db passings next ops h = refl
+does_back (operation.Number n) o use_db passings next ops h = refl
+does_back (operation.Add a) o use_db passings next ops h = refl
+does_back (operation.CompareInt c) o use_db passings next ops h = refl
+does_back (operation.CompareDint c) o use_db passings next ops h = refl
+does_back (operation.Logic l) o use_db passings next ops h = refl
+does_back (operation.Shift s) o use_db passings next ops h = refl
+does_back operation.Jump o use_db passings next ops h = absurd cc
+does_back (operation.Start s) o use_db passings next ops h = refl
+does_back operation.Free o use_db passings next ops h = refl
+does_back operation.CountUp o use_db passings next ops h = refl
+does_back operation.CountDown o use_db passings next ops h = refl
+does_back (operation.Call how) o use_db passings next ops h = absurd cc
+does_back (operation.End how) o use_db passings next ops h = absurd cc
+does_back operation.OpenBlock o use_db passings next ops h = refl
+does_back operation.Exchange o use_db passings next ops h = refl
 
-kind_back : (kind : BlockKind) → is_callable kind ≡ true → kind_called (kind_number kind) ≡ Some kind
+kind_back : (kind : BlockKind) → is_callable kind ≡ true → kind_of_code (kind_number kind) ≡ Some kind
 kind_back kinds.Fc h = refl
 kind_back kinds.Fb h = refl
 kind_back kinds.Sfc h = refl
@@ -279,7 +281,7 @@ instance_back (Some number) h = rw (ne_eqb number 0 (λ e. omega (arith, e, h)))
 
 -- the instruction that a run of ops is
 abbrev back : List OpData → OpData → (next : ℕ) → List OpData → Instr
-back front end next ops = instr_of (word_of end.code) end.operand (use_db_of front) (passings_of front) next ops
+back front end next ops = instr_of (operation_of end.code) end.operand (use_db_of front) (passings_of front) next ops
 
 -- of a jump list, whose list is in the ops behind it
 abbrev ListIsThere : (ℕ → ℕ) → Instr → (next : ℕ) → List OpData → Type 0
@@ -288,19 +290,19 @@ ListIsThere f _ next ops = Unit {0}
 
 instr_back :
     (f : ℕ → ℕ) (n : ℕ) (i : Instr) (behind : List Stated) (next : ℕ) (ops : List OpData)
-    → WordsHaveTheirCodes → JumpsHaveTheirKinds → IsCompiled n i behind → ListIsThere f i next ops
+    → OperationsHaveTheirCodes → JumpsHaveTheirKinds → IsCompiled n i behind → ListIsThere f i next ops
     → back (aimed_part f (parted i)).front (aimed_part f (parted i)).end next ops ≡ aimed_instr f i
-instr_back f n (Does use_db w o) behind next ops words jumps h list =
-    rw (words w) (rw (aimed_same f o h.1) (rw (use_db_back f use_db)
+instr_back f n (Does use_db w o) behind next ops operations jumps h list =
+    rw (operations w) (rw (aimed_same f o h.1) (rw (use_db_back f use_db)
     (does_back w o use_db (passings_of (map (aimed_op f) (opening use_db))) next ops h.0)))
-instr_back f n (Jumps how target) behind next ops words jumps h list =
-    rw (words word.Jump) (rw (jumps how) (rw h refl))
-instr_back f n (JumpsByList targets otherwise) behind next ops words jumps h list =
-    rw (words word.Jump) (rw (jumps jump.Jl) (ap (λ (z : List ℕ). JumpsByList z (f otherwise)) list))
-instr_back f n (Calls how block instance passings) behind next ops words jumps h list =
-    rw (words (word.Call how)) (rw (kind_back block.kind h.0) (rw (instance_back instance h.1) (rw (passings_back f passings) refl)))
-instr_back f n (Returns how) behind next ops words jumps h list =
-    rw (words (word.End how)) refl
+instr_back f n (Jumps how target) behind next ops operations jumps h list =
+    rw (operations operation.Jump) (rw (jumps how) (rw h refl))
+instr_back f n (JumpsByList targets otherwise) behind next ops operations jumps h list =
+    rw (operations operation.Jump) (rw (jumps jump.Jl) (ap (λ (z : List ℕ). JumpsByList z (f otherwise)) list))
+instr_back f n (Calls how block instance passings) behind next ops operations jumps h list =
+    rw (operations (operation.Call how)) (rw (kind_back block.kind h.0) (rw (instance_back instance h.1) (rw (passings_back f passings) refl)))
+instr_back f n (Returns how) behind next ops operations jumps h list =
+    rw (operations (operation.End how)) refl
 
 -- ---- the list of a JL
 
@@ -547,12 +549,12 @@ none_in b at is = rw is refl
 
 statement_here :
     (b : CodeBlock) (front : List Stated) (s : Stated) (rest : List Stated)
-    → WordsHaveTheirCodes → JumpsHaveTheirKinds
+    → OperationsHaveTheirCodes → JumpsHaveTheirKinds
     → b.code ≡ code_in (front ++ s ∷ rest) → b.lines ≡ lines_in (front ++ s ∷ rest)
     → IsCompiled (length front) s.instr rest
     → statement_at b (position (front ++ s ∷ rest) (length front))
     ≡ Some (aimed_statement (position (front ++ s ∷ rest)) (length front) s)
-statement_here b front s rest words jumps is lines h =
+statement_here b front s rest operations jumps is lines h =
     ap (statement_at b) (position_is front (s ∷ rest))
     ∙ found_in b (ends_at front) s.line 0 run line_is run_there ∙ ap Some same
   where
@@ -600,10 +602,10 @@ statement_here b front s rest words jumps is lines h =
     next_is = next_at ∙ sym (ap (λ (z : List Stated). position z (suc (length front))) (sym (append_assoc front (s ∷ []) rest))
         ∙ ap (position ((front ++ s ∷ []) ++ rest)) (omega (arith, length-append front (s ∷ []))) ∙ position_is (front ++ s ∷ []) rest)
 
-    instr : instr_of (word_of p.end.code) p.end.operand (use_db_of p.front) (passings_of p.front) (extent ps + bytes_of p) b.code ≡ aimed_instr f s.instr
+    instr : instr_of (operation_of p.end.code) p.end.operand (use_db_of p.front) (passings_of p.front) (extent ps + bytes_of p) b.code ≡ aimed_instr f s.instr
     instr = ap (λ (k : ℕ). back p.front p.end k b.code) next_at
         ∙ ap (back p.front p.end (ends_at (front ++ s ∷ []))) (is ∙ the_code_is ss)
-        ∙ instr_back f (length front) s.instr rest (ends_at (front ++ s ∷ [])) (the_code f ss) words jumps h (list_found front s rest s.instr h)
+        ∙ instr_back f (length front) s.instr rest (ends_at (front ++ s ∷ [])) (the_code f ss) operations jumps h (list_found front s rest s.instr h)
 
     same : fetched_of b.code s.line run ≡ aimed_statement f (length front) s
     same = ap (λ (z : Instr). record { instr = z; next = extent ps + bytes_of p; line = s.line }) instr
@@ -624,9 +626,9 @@ compiled_in n [] s rest h = subst (λ (k : ℕ). IsCompiled k s.instr rest) (ome
 compiled_in n (x ∷ front) s rest h = subst (λ (k : ℕ). IsCompiled k s.instr rest) (omega arith) (compiled_in (suc n) front s rest h.1)
 
 pub is_read_back :
-    (b : CodeBlock) (ss : List Stated) → WordsHaveTheirCodes → JumpsHaveTheirKinds
+    (b : CodeBlock) (ss : List Stated) → OperationsHaveTheirCodes → JumpsHaveTheirKinds
     → AreCompiled 0 ss → b.code ≡ code_in ss → b.lines ≡ lines_in ss → IsReadBack b ss
-is_read_back b ss words jumps h is lines n = by [] ss n refl (omega arith)
+is_read_back b ss operations jumps h is lines n = by [] ss n refl (omega arith)
   where
     by : (front rest : List Stated) (k : ℕ) → ss ≡ front ++ rest → n ≡ length front + k
         → statement_at b (position ss n) ≡ option_map (aimed_statement (position ss) n) (slice_get rest k)
@@ -640,4 +642,4 @@ is_read_back b ss words jumps h is lines n = by [] ss n refl (omega arith)
         let at_lines : b.lines ≡ lines_in (front ++ s ∷ rest) = lines ∙ ap lines_in e in
         let compiled : IsCompiled (length front) s.instr rest
         = subst (λ (k : ℕ). IsCompiled k s.instr rest) (omega arith) (compiled_in 0 front s rest (subst (AreCompiled 0) e h)) in
-        rw here (rw e (statement_here b front s rest words jumps at_code at_lines compiled))
+        rw here (rw e (statement_here b front s rest operations jumps at_code at_lines compiled))

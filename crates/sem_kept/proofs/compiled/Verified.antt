@@ -6,25 +6,25 @@ use Rattle.std.specs.List.{AllByRecursion}
 use Rattle.std.proofs.lemmas.Bool.{eqb-true, eqb-false}
 use Rattle.std.proofs.lemmas.List.{length-map}
 use Rattle.plc_base.specs.Kinds.{is_code}
-use Rattle.flat_code.specs.Blocks.{Around, is_ju as is_ju_operand, leads, is_bad_list, jump_fault, call_fault, mark_fault, bracket_fault, at_offset, op_faults, faults_over, block_faults}
+use Rattle.flat_code.specs.Blocks.{Around, is_ju as is_ju_operand, leads, is_bad_list, jump_fault, call_fault, mark_fault, bracket_fault, zone_fault, at_offset, op_faults, faults_over, block_faults}
 use Rattle.flat_code.specs.Codes.{size, overlong, first_of, is_nowhere, are_ops, code_bytes, ends as ends_right, last_place, stop_at, code_of}
-use Rattle.flat_code.specs.Image.{IsRight, record_of_block, raw_block, plain_block, code_block as whole_block, code_and_lines, after_block, code_blocks, raw_records, records, body}
+use Rattle.flat_code.specs.Image.{IsRight, record_of_block, block_rows, plain_block, code_block as whole_block, code_and_lines, after_block, code_blocks, body_rows, records, body}
 use Rattle.flat_code.specs.Instr.{Instr, Passing, Does, Jumps, JumpsByList, Calls, Returns}
 use Rattle.flat_code.specs.Kinds.{kind_of}
 use Rattle.flat_code.specs.Layout.{good_many}
 use Rattle.flat_code.specs.Loading.{AreVerified, lens_of, around}
-use Rattle.flat_code.specs.OpCodes.{code_of as code_of_word}
+use Rattle.flat_code.specs.OpCodes.{code_of as code_of_operation}
 use Rattle.flat_code.specs.Ops.{OpData}
-use Rattle.flat_code.specs.Placed.{Placed, Spot, placed, opened, before_next, spots}
+use Rattle.flat_code.specs.Placed.{Placed, Spot, placed, opened, before_next, spots, zones_behind}
 use Rattle.flat_code.specs.Programs.{Program}
 use Rattle.flat_code.specs.Records.{BlockRecord}
 use Rattle.flat_code.specs.declared.image_fields.OpenBracket.{OpenBracket}
-use Rattle.flat_code.specs.declared.kinds.JumpWord.{JumpWord}
-use Rattle.flat_code.specs.declared.kinds.JumpWord.TheVariants as jump
+use Rattle.flat_code.specs.declared.kinds.JumpOperation.{JumpOperation}
+use Rattle.flat_code.specs.declared.kinds.JumpOperation.TheVariants as jump
 use Rattle.flat_code.specs.declared.operands.Operand.{Operand}
 use Rattle.flat_code.specs.declared.operands.Operand.TheVariants as operand
-use Rattle.flat_code.specs.declared.words.EndWord.TheVariants as ends
-use Rattle.flat_code.specs.declared.words.Word.TheVariants as word
+use Rattle.flat_code.specs.declared.operations.EndOperation.TheVariants as ends
+use Rattle.flat_code.specs.declared.operations.Operation.TheVariants as operation
 use Rattle.stl_ast.specs.Statements.{is_empty}
 use Rattle.stl_ast.specs.declared.blocks.Block.{Block}
 use Rattle.stl_ast.specs.declared.blocks.Tree.{Tree}
@@ -40,7 +40,7 @@ use Rattle.stl_types.specs.Context.{Context}
 use Rattle.stl_codegen.specs.Compiled.{Stated, StatedBlock, compiled, code_in, ops_in, offset_from, offset_of, aimed, aimed_op}
 use Rattle.stl_codegen.specs.Emitted.{preparing, ending, passing, jump_op, call_op, end_op}
 use Rattle.stl_codegen.specs.Generated.{stated_from, statements_of, code_block, code_block_of, each_block, code_blocks_of, program_of}
-use Rattle.stl_codegen.specs.Order.{inserted, is_code_before, sorted}
+use Rattle.stl_codegen.specs.Order.{is_code_before}
 use Rattle.stl_codegen.specs.Instruction.{numbers_from, instruction}
 use Rattle.sem_kept.specs.Back.{is_target, is_ju, IsJu, IsList, IsCompiled, AreCompiled}
 use Rattle.sem_kept.specs.Statements.{IsCompilable}
@@ -126,23 +126,26 @@ no_fault at (Some code) e = absurd cc
 -- ops at an offset, of which none has a fault
 record IsClean (around : Around) (statements : List Spot) (at : ℕ) (ops : List OpData) : Type 0 where
   brackets : List OpenBracket
+  zones : List ℕ
   before : List OpData
-  none : faults_over around statements 0 (placed at brackets before ops) ≡ []
+  none : faults_over around statements 0 (placed at brackets zones before ops) ≡ []
 
 clean_next : (a : Around) (ss : List Spot) (at : ℕ) (op : OpData) (ops : List OpData)
     → IsClean a ss at (op ∷ ops) → IsClean a ss (at + size op) ops
 clean_next a ss at op ops h = record {
   brackets = opened at op.code h.brackets;
+  zones = zones_behind at op.code h.zones;
   before = before_next op h.before;
   none = none_right (op_faults a ss 0 (record {
     at = at;
     brackets = h.brackets;
+    zones = h.zones;
     before = h.before;
     op = op;
     rest = ops;
   }))
       (faults_over a ss 0
-      (placed (at + size op) (opened at op.code h.brackets) (before_next op h.before) ops)) h.none;
+      (placed (at + size op) (opened at op.code h.brackets) (zones_behind at op.code h.zones) (before_next op h.before) ops)) h.none;
 }
 
 clean_behind : (a : Around) (ss : List Spot) (at : ℕ) (front ops : List OpData)
@@ -176,7 +179,7 @@ clean_leads a ss at code target last ops h = leads_by a ss here target judged
     op = record { code = code; last = last; operand = operand.Jump 1 target }
 
     here : Placed
-    here = record { at = at; brackets = h.brackets; before = h.before; op = op; rest = ops }
+    here = record { at = at; brackets = h.brackets; zones = h.zones; before = h.before; op = op; rest = ops }
 
     one : List (ℕ × ℕ)
     one = at_offset (0 + at) (jump_fault ss here 1 target)
@@ -190,14 +193,18 @@ clean_leads a ss at code target last ops h = leads_by a ss here target judged
     four : List (ℕ × ℕ)
     four = at_offset (0 + at) (bracket_fault code h.brackets)
 
+    five : List (ℕ × ℕ)
+    five = at_offset (0 + at) (zone_fault code h.zones)
+
     judged : jump_fault ss here 1 target ≡ None
     judged = no_fault (0 + at) (jump_fault ss here 1 target)
         (none_left one two
         (none_left (one ++ two) three
         (none_left ((one ++ two) ++ three) four
-        (none_left (((one ++ two) ++ three) ++ four)
+        (none_left (((one ++ two) ++ three) ++ four) five
+        (none_left ((((one ++ two) ++ three) ++ four) ++ five)
         (faults_over a ss 0
-        (placed (at + size op) (opened at code h.brackets) (before_next op h.before) ops)) h.none))))
+        (placed (at + size op) (opened at code h.brackets) (zones_behind at code h.zones) (before_next op h.before) ops)) h.none)))))
 
 -- ---- positions
 
@@ -292,7 +299,7 @@ no_jump f (operand.Jump kind target) h = absurd cc
 no_jump f operand.Nothing h = refl
 no_jump f _ h = refl
 
-other_jump : (how : JumpWord) (target : ℕ) → is_ju (Jumps how target) ≡ false
+other_jump : (how : JumpOperation) (target : ℕ) → is_ju (Jumps how target) ≡ false
     → is_ju_operand (operand.Jump (kind_of how) target) ≡ false
 other_jump jump.Ju target h = absurd cc
 other_jump _ target h = refl
@@ -307,12 +314,12 @@ list_stops : (f : ℕ → ℕ) (n most target from : ℕ) (i : Instr) (rest : Li
 list_stops f n most target from (Does None w o) rest made other e =
     leads_here most target from (aimed_op f (ending w o)) rest (no_jump f o made.1) e
 list_stops f n most target from (Does (Some number) w o) rest made other e =
-    leads_here most target from (preparing word.UseDb (operand.UseDb number))
+    leads_here most target from (preparing operation.UseDb (operand.UseDb number))
     (aimed_op f (ending w o) ∷ rest) refl e
 list_stops f n most target from (Jumps how there) rest made other e =
     leads_here most target from (jump_op how (f there)) rest (other_jump how (f there) (no_ju how other)) e
   where
-    no_ju : (how : JumpWord) → is_ju (Jumps how there) ≡ false
+    no_ju : (how : JumpOperation) → is_ju (Jumps how there) ≡ false
         → is_ju (Jumps how (f there)) ≡ false
     no_ju jump.Ju h = h
     no_ju _ h = refl
@@ -321,7 +328,7 @@ list_stops f n most target from (JumpsByList targets otherwise) rest made other 
 list_stops f n most target from (Calls how block instance []) rest made other e =
     leads_here most target from (call_op how block instance) rest refl e
 list_stops f n most target from (Calls how block instance (p ∷ ps)) rest made other e =
-    leads_here most target from (preparing word.Pass (operand.Pass p.index p.actual))
+    leads_here most target from (preparing operation.Pass (operand.Pass p.index p.actual))
     ((aimed_part f (parted (Calls how block instance ps))).front
     ++ call_op how block instance ∷ rest) refl e
 list_stops f n most target from (Returns how) rest made other e =
@@ -533,7 +540,7 @@ one_compiled a ss whole front s behind line (JumpsByList targets otherwise) e is
     (listed whole (front ++ s ∷ []) behind line (suc (length front)) 255 otherwise
     (e ∙ sym (append_assoc front (s ∷ []) (behind ++ returning line ∷ []))) more
     (ap (λ (k : ℕ). leads 255 (f otherwise) k rest) from
-    ∙ clean_leads a ss (ends_at front) (code_of_word word.Jump) (f otherwise) true rest clean)))
+    ∙ clean_leads a ss (ends_at front) (code_of_operation operation.Jump) (f otherwise) true rest clean)))
   where
     f : ℕ → ℕ
     f = position whole
@@ -620,7 +627,7 @@ code_short count ops e = record {
 }
 
 block_short : (before : ℕ × ℕ) (b : BlockRecord) → (whole_block true before).good b ≡ true → IsShort b.code
-unfolding whole_block plain_block raw_block code_and_lines
+unfolding whole_block plain_block block_rows code_and_lines
 block_short before b e = code_short _ b.code (and_first _ _ (and_second _ _ (and_second _ _ e)))
 
 blocks_short : (before : ℕ × ℕ) (n : ℕ) (bs : List BlockRecord)
@@ -635,14 +642,14 @@ blocks_short before (suc n) (b ∷ bs) e = (
 
 program_short : (p : Program) → IsRight p
     → AllByRecursion (λ b. IsShort b.code) (map record_of_block p.code_blocks)
-unfolding body records raw_records code_blocks
+unfolding body records body_rows code_blocks
 program_short p e =
     blocks_short (0, 0) _ (map record_of_block p.code_blocks)
     (and_first _ _ (and_second _ _ e))
 
 code_clean : (a : Around) (ops : List OpData) → block_faults a 0 ops ≡ [] → IsClean a (spots ops) 0 ops
 unfolding block_faults
-code_clean a ops e = record { brackets = []; before = []; none = none_left _ _ e }
+code_clean a ops e = record { brackets = []; zones = []; before = []; none = none_left _ _ (none_left _ _ e) }
 
 right_codes : (lens : List (ℕ × ℕ)) (all : List BlockRecord) (bs : List StatedBlock)
     → AreVerified lens all (map record_of_block (map compiled bs))

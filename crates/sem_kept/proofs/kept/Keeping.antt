@@ -1,6 +1,7 @@
 -- A code that follows another is kept by it.
 use Rattle.std.proofs.Common.{ℕ, ap, ◌∙◌}
 use Rattle.plc_base.specs.declared.BlockId.{BlockId}
+use Rattle.plc_base.specs.declared.Profile.{Profile}
 use Rattle.machine.specs.Code.{Code}
 use Rattle.machine.specs.Moved.{Follows}
 use Rattle.controller.specs.Moved.{EntriesMove, HistoriesMove}
@@ -9,14 +10,15 @@ use Rattle.controller.specs.State.{State}
 use Rattle.sem_kept.specs.Kept.{IsKept}
 
 pub kept_by :
-    (f : BlockId → ℕ → ℕ) (c d : Code) → EntriesMove → HistoriesMove → Follows f c d → IsKept c d
-kept_by f c d entries histories follows = record {
-  world = λ profile history. ap (λ (s : State). s.world) (histories profile f c d history follows);
-  mode = λ profile history. ap (λ (s : State). s.mode) (histories profile f c d history follows);
-  sched = λ profile history. ap (λ (s : State). s.sched) (histories profile f c d history follows);
-  diagnostics = λ profile history. ap (λ (s : State). s.diagnostics) (histories profile f c d history follows);
-  reply = λ profile history entry. ap (λ (s : State). (happens d s entry).reply) (histories profile f c d history follows)
+    (profile : Profile) (f : BlockId → ℕ → ℕ) (c d : Code)
+    → EntriesMove → HistoriesMove → Follows f c d → IsKept profile c d
+kept_by profile f c d entries histories follows = record {
+  world = λ history. ap (λ (s : State). s.world) (histories profile f c d history follows);
+  mode = λ history. ap (λ (s : State). s.mode) (histories profile f c d history follows);
+  sched = λ history. ap (λ (s : State). s.sched) (histories profile f c d history follows);
+  diagnostics = λ history. ap (λ (s : State). s.diagnostics) (histories profile f c d history follows);
+  reply = λ history entry. ap (λ (s : State). (happens d s entry).reply) (histories profile f c d history follows)
       ∙ ap (λ (h : Happened). h.reply) (entries f c d (replay profile c history) entry follows);
-  seen = λ profile history entry. ap (λ (s : State). (happens d s entry).seen) (histories profile f c d history follows)
+  seen = λ history entry. ap (λ (s : State). (happens d s entry).seen) (histories profile f c d history follows)
       ∙ ap (λ (h : Happened). h.seen) (entries f c d (replay profile c history) entry follows);
 }

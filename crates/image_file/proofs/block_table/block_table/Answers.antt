@@ -1,6 +1,6 @@
 use Rattle.std.proofs.Common.{◌≡◌, ◌+◌, ◌-◌, arith, sym, ap, subst, ◌∙◌, length, get_or}
 use Rattle.std.proofs.lemmas.List.{get_or-replicate}
-use Rattle.image_file.specs.Seats.{slot_of, slots}
+use Rattle.image_file.specs.Tables.{slot_of, slots}
 use Rattle.image_file.proofs.BlockTableLemmas.{Finds, finds_none, finds_more, finds_skip, finds_all, slot_small}
 use Rattle.image_file.proofs.block_table.block_table.Goals as goal
 

@@ -1,5 +1,5 @@
 use Rattle.std.proofs.Common.{◌≡◌, map, take}
-use Rattle.image_file.specs.Seats.{call_key}
+use Rattle.image_file.specs.Tables.{call_key}
 use Rattle.image_file.proofs.surroundings.call_keys.Given as goal
 
 abbrev pub invariant-loop-block : goal.invariant-loop-block

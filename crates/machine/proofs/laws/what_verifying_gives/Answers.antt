@@ -9,6 +9,7 @@ returns c = record {
   statements = c.statements_are_right.ensures;
   lines = c.statements_have_lines.ensures;
   brackets = c.brackets_fit.ensures;
+  zones = c.zones_fit.ensures;
   targets = c.jumps_land.ensures.targets;
   lists = c.jumps_land.ensures.lists;
   operands = c.operands_fit.ensures;

@@ -7,7 +7,7 @@ use Rattle.machine.proofs.quiet.cross_at.Goals as goal
 
 pub returns-in-Some : goal.returns-in-Some
 returns-in-Some c = λ t n there.
-    found_there c.args.code.now c.args.a.now.running.frame.at c.in-Some.walk c.word.result c.last.inside.operand
+    found_there c.args.code.now c.args.a.now.running.frame.at c.in-Some.walk c.operation.result c.last.inside.operand
     c.walk.inside.opens c.walk.inside.next (code_of c.args.c.now.program) is_quiet_across c.args.a.now c.cross_op.new.a
     (world c.args.m.now t n) (world c.cross_op.new.m t n) c.cross_op.result
     (search rules) (search rules) (search rules) (search rules) c.in-Some.ensures there

@@ -6,7 +6,7 @@ use Rattle.machine.proofs.quiet.pass_statement.Goals as goal
 
 pub returns-in-Some-clause-goes : goal.returns-in-Some-clause-goes
 returns-in-Some-clause-goes c = λ code there.
-    found_there c.args.code.now c.args.a.now.running.frame.at c.in-Some.walk c.word.result c.last.inside.operand
+    found_there c.args.code.now c.args.a.now.running.frame.at c.in-Some.walk c.operation.result c.last.inside.operand
     c.walk.inside.opens c.walk.inside.next code is_quiet_inside c.args.a.now c.pass_op.new.a
     (world c.args.m.now c.args.t.now c.args.n.now) (world c.pass_op.new.m c.pass_op.new.t c.pass_op.new.n) c.pass_op.result
     (search rules) (search rules) (search rules) (search rules) c.in-Some.ensures there

@@ -1,4 +1,4 @@
-use Rattle.std.proofs.Common.{◌≡◌, ◌<◌, ◌≤◌, true, false, is_some, sym, rules}
+use Rattle.std.proofs.Common.{◌≡◌, true, false, is_some, sym, rules}
 use Rattle.machine.specs.Quiet.{has_caller}
 use Rattle.machine.specs.Statement.{is_ended}
 use Rattle.machine.proofs.QuietLemmas.{has_below, no_instance, returns_or_stays, some_below}

@@ -57,7 +57,7 @@ returns g c =
     let contents : Contents = (g.F.Files.shown c.args.files.now).contents in
     let text = c.in_ok-text.text in
     let image = c.in_ok-image.ensures.keeps in
-    let runs = image.keeps.runs in
+    let runs = image.0.keeps.runs in
     comes-output (Compile c.args.src.now symbols c.args.img.now) _ _ _ _ (contents_of text) c.args.img.now _ ok_line _
     refl c.in_ok-text.ensures
     (subst (λ (bytes : List ℕ). Writes (Compile c.args.src.now symbols c.args.img.now) (contents_of text) c.args.img.now bytes)

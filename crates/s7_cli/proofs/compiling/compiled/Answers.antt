@@ -1,5 +1,7 @@
-use Rattle.std.proofs.Common.{refl, sym, subst}
-use Rattle.flat_code.specs.Programs.{Program}
+use Rattle.std.proofs.Common.{refl, sym, ap, subst}
+use Rattle.plc_base.specs.declared.Profile.{Profile}
+use Rattle.plc_base.specs.declared.Profile.TheVariants.{Large}
+use Rattle.flat_code.specs.declared.stamps.Stamp.TheVariants.{Two}
 use Rattle.sem_kept.specs.Agreement.{KeepsSource}
 use Rattle.s7_cli.proofs.compiling.compiled.Goals as goal
 
@@ -7,12 +9,17 @@ pub loaded-requires : goal.loaded-requires
 loaded-requires c = c.in_ok-program.ensures.ok.runnable
 
 pub returns-clause-ok : goal.returns-clause-ok
-returns-clause-ok c = subst (KeepsSource c.args.source.now c.args.symbols.now) (sym c.in_ok-loaded.ensures) c.in_ok-program.ensures.ok
+returns-clause-ok c = subst (KeepsSource Large c.args.source.now c.args.symbols.now) (sym c.in_ok-loaded.ensures.program) c.in_ok-program.ensures.ok
 
 pub returns-clause-image : goal.returns-clause-image
 returns-clause-image c =
-    let loaded : Program = c.in_ok-loaded.field-0.program in record {
-      program = loaded;
-      spelled = refl;
-      keeps = subst (KeepsSource c.args.source.now c.args.symbols.now) (sym c.in_ok-loaded.ensures) c.in_ok-program.ensures.ok;
-    }
+    let loaded = c.in_ok-loaded.field-0 in (
+      record {
+        stamp = Two loaded.profile;
+        program = loaded.program;
+        spelled = refl;
+        keeps = subst (λ (f : Profile). KeepsSource f c.args.source.now c.args.symbols.now loaded.program) (sym c.in_ok-loaded.ensures.large)
+            (returns-clause-ok c);
+      },
+      ap Two c.in_ok-loaded.ensures.large,
+    )

@@ -1,6 +1,7 @@
 use Rattle.std.proofs.Common.{ℕ, List, Result, Err, IfErr, sym, ap, ◌∙◌, subst}
 use Rattle.std.proofs.lemmas.Result.{err_from_is_err_and}
 use Rattle.flat_code.specs.Programs.{Program}
+use Rattle.plc_base.specs.declared.Profile.TheVariants.{Large}
 use Rattle.sem_kept.specs.Agreement.{KeepsSource}
 use Rattle.s7_cli.specs.Compiling.{RefusesBy}
 use Rattle.s7_cli.specs.declared.faults.CompileFault.{CompileFault}
@@ -30,4 +31,4 @@ returns-clause-ok c =
     let runs = generated_runs c.programs_run.ensures c.args.source.now given c.in_ok-laid.laid
     c.in_ok-checked.checked c.law_of_files.ensures c.in_ok-laid.ensures.laid
     c.in_ok-checked.ensures.tree c.in_ok-checked.ensures.sound in
-    subst (KeepsSource c.args.source.now given) (sym c.in_ok-generate.ensures) runs
+    subst (KeepsSource Large c.args.source.now given) (sym c.in_ok-generate.ensures) runs

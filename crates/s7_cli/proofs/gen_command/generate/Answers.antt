@@ -1,11 +1,13 @@
 use Rattle.std.proofs.Common.{◌≡◌, refl, ◌∙◌, ap, subst, List, [], ℕ, length, Ok, Err}
 use Rattle.std.proofs.lemmas.Result.{err_from_is_err_and}
-use Rattle.plc_base.specs.declared.Profile.TheVariants.{Small}
+use Rattle.plc_base.specs.declared.Profile.{Profile}
+use Rattle.plc_base.specs.declared.Profile.TheVariants.{Large}
 use Rattle.generator.specs.History.{history}
 use Rattle.image_file.specs.Loaded.{LoadedProgram}
 use Rattle.machine.specs.Flat.{code_of}
 use Rattle.var_access.specs.declared.Entry.{Entry}
-use Rattle.controller.specs.Recorded.{Recorded}
+use Rattle.controller.specs.Recording.{Recording}
+use Rattle.controller.specs.Replay.{replay}
 use Rattle.controller.specs.Replayed.{events, replayed}
 use Rattle.s7_cli.specs.Answer.{Answer}
 use Rattle.s7_cli.specs.Command.{Gen}
@@ -32,12 +34,13 @@ returns g c = λ files.
     let runs = c.in_ok-program.ensures.keeps.runs in
     let running = code_of c.in_ok-program.program.program in
     let line : List ℕ = c.as_slice.result.now in
-    let is : line ≡ summary_text number Small runs.0 (history number) =
+    let is : line ≡ summary_text number Large runs.0 (history number) =
     c.as_slice.ensures ∙ c.summary_line.ensures
-    ∙ ap (λ (r : Recorded). summary_of number (length r.history) (replayed r)) c.in_ok-controller.ensures.ok
-    ∙ summary-kept number (length entries) Small runs.0 running runs.2 (events entries)
-    ∙ ap (λ (es : List Entry). summary_text number Small runs.0 es) c.in_ok-entries.ensures.entries in
-    comes-written (Gen number) files files _ [] (summary_text number Small runs.0 (history number)) _ refl
+    ∙ ap (λ (r : Recording). summary_of number (length r.history) (replayed r)) c.in_ok-controller.ensures.ok
+    ∙ ap (λ (f : Profile). summary_of number (length entries) (replay f running (events entries))) c.in_ok-program.ensures.large
+    ∙ summary-kept number (length entries) Large runs.0 running runs.2 (events entries)
+    ∙ ap (λ (es : List Entry). summary_text number Large runs.0 es) c.in_ok-entries.ensures.entries in
+    comes-written (Gen number) files files _ [] (summary_text number Large runs.0 (history number)) _ refl
     (record { same = unchanged files; hold = tt })
     (Ok runs.0, runs.1, refl)
     (subst

@@ -1,11 +1,12 @@
 use Rattle.std.proofs.Common.{◌≡◌, ◌≤◌, ap, refl, sym, ◌∙◌, subst, List, [], ◌∷◌, ◌++◌, length, ℕ, Vec, Global, Option, Ok, Err, append-nil}
 use Rattle.std.specs.Option.{option_map}
 use Rattle.std.proofs.lemmas.Result.{err_from_is_err_and}
-use Rattle.plc_base.specs.declared.Profile.TheVariants.{Small}
+use Rattle.plc_base.specs.declared.Profile.{Profile}
+use Rattle.plc_base.specs.declared.Profile.TheVariants.{Large}
 use Rattle.plc_io.specs.Contents.{Contents}
 use Rattle.image_file.specs.Loaded.{LoadedProgram}
 use Rattle.machine.specs.Flat.{code_of}
-use Rattle.var_access.specs.Recorded.{Recorded}
+use Rattle.var_access.specs.History.{History as EntryHistory}
 use Rattle.var_access.specs.declared.Entry.{Entry}
 use Rattle.sem_kept.specs.Agreement.{names_in}
 use Rattle.event_text.specs.Texts.{history_of}
@@ -63,7 +64,7 @@ returns-in_err-program g c =
     let contents : Contents = (g.F.Files.shown c.args.files.now).contents in
     let text = c.in_ok-text.text in
     let history : List ℕ = c.in_ok-history.history.items in
-    comes-refused (LoadedProgram × Recorded) (Go c.args.src.now symbols c.args.hist.now) _ _ _ (contents_of text ++ history ∷ [])
+    comes-refused (LoadedProgram × EntryHistory) (Go c.args.src.now symbols c.args.hist.now) _ _ _ (contents_of text ++ history ∷ [])
     (GoSays text.source.items (symbols_of text) c.deref.result.now) _ _ (fault.1 ∙ ap Err fault.2)
     (read-then _ _ _ (program_inputs c.args.src.now symbols) (history_input c.args.hist.now ∷ []) (contents_of text) (history ∷ []) c.in_ok-text.ensures
     (file-read bytes_of _ _ (history_input c.args.hist.now) c.in_ok-history.history c.in_ok-history.ensures))
@@ -83,12 +84,13 @@ returns g c =
     let runs = c.in_ok-program.ensures.keeps.runs in
     let names = names_in (symbols_of text) in
     let spells : history_of names history ≡ Ok entries = ap (history_of names) (sym c.deref.ensures.value) ∙ c.in_ok-program.ensures.spells in
-    comes-written (Go c.args.src.now symbols c.args.hist.now) _ _ _ (contents_of text ++ history ∷ []) (run_text Small runs.0 entries) _ refl
+    comes-written (Go c.args.src.now symbols c.args.hist.now) _ _ _ (contents_of text ++ history ∷ []) (run_text Large runs.0 entries) _ refl
     (read-then _ _ _ (program_inputs c.args.src.now symbols) (history_input c.args.hist.now ∷ []) (contents_of text) (history ∷ []) c.in_ok-text.ensures
     (file-read bytes_of _ _ (history_input c.args.hist.now) c.in_ok-history.history c.in_ok-history.ensures))
     (go-said contents c.args.src.now symbols c.args.hist.now text.source.items (symbols_file text) history _ c.in_ok-text.ensures.hold.1
-    (Ok runs.0, runs.1, ap (go_answer (Ok runs.0)) (sym spells)))
+    (Ok runs.0, runs.1, ap (go_answer Large (Ok runs.0)) (sym spells)))
     (subst
     (λ (t : List ℕ). TextWritten t (taking (g.K.Sink.shown c.args.out.now) (g.K.Sink.shown c.replay_text.new.out)) c.written.result)
-    (texts-kept c.continues_replay.ensures.state Small runs.0 running runs.2 entries)
+    (ap (λ (f : Profile). run_text f running entries) c.in_ok-program.ensures.large
+    ∙ texts-kept c.continues_replay.ensures.state Large runs.0 running runs.2 entries)
     (c.written.ensures _ _ _ c.replay_text.ensures))

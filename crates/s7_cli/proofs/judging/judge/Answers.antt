@@ -2,7 +2,7 @@ use Rattle.std.proofs.Common.{◌∙◌, ap, subst, Err, List}
 use Rattle.std.proofs.lemmas.Result.{err_from_is_err_and}
 use Rattle.flat_code.specs.Programs.{NameEntry}
 use Rattle.image_file.specs.Loaded.{LoadedProgram}
-use Rattle.var_access.specs.Recorded.{Recorded}
+use Rattle.var_access.specs.History.{History}
 use Rattle.event_text.specs.TextFault.{IsTextFault}
 use Rattle.event_text.specs.Texts.{history_of}
 use Rattle.s7_cli.proofs.SaysLemmas.{go-refused, history-refused}
@@ -11,13 +11,13 @@ use Rattle.s7_cli.proofs.judging.judge.Goals as goal
 pub returns-in_err-program-clause-refused : goal.returns-in_err-program-clause-refused
 returns-in_err-program-clause-refused c =
     let fault = err_from_is_err_and c.from_residual.result c.from_residual.ensures.1 in
-    go-refused (LoadedProgram × Recorded) _ _ _ _ c.args.history.now c.in_err-program.field-0.0 _ c.deref.ensures.value c.symbols.ensures
+    go-refused (LoadedProgram × History) _ _ _ _ c.args.history.now c.in_err-program.field-0.0 _ c.deref.ensures.value c.symbols.ensures
     (fault.1 ∙ ap Err fault.2) c.in_err-program.ensures.refused
 
 pub returns-in_err-entries-clause-refused : goal.returns-in_err-entries-clause-refused
 returns-in_err-entries-clause-refused c =
     let fault = err_from_is_err_and c.from_residual-in_err-entries.result c.from_residual-in_err-entries.ensures.1 in
-    history-refused (LoadedProgram × Recorded) _ _ _ _ _ c.args.history.now _ _ c.deref.ensures.value c.symbols.ensures
+    history-refused (LoadedProgram × History) _ _ _ _ _ c.args.history.now _ _ c.deref.ensures.value c.symbols.ensures
     (fault.1 ∙ ap Err fault.2) c.in_ok-program.ensures.ok
     (subst (λ (names : List NameEntry). IsTextFault (history_of names c.args.history.now) c.in_err-entries.field-0.0)
     c.names.ensures c.in_err-entries.ensures.refused)

@@ -24,7 +24,7 @@ returns-in_err-program-clause-refused c =
 
 pub returns-in-Err-clause-refused : goal.returns-in-Err-clause-refused
 returns-in-Err-clause-refused c =
-    let p = c.in_ok-program.program.program in
+    let p = c.in_ok-program.program in
     stimuli-refused LiveWork c.args.text.now p c.in-Err.fault (Err c.failure_of_text.result) (ap Err c.failure_of_text.ensures)
     (subst (λ (bytes : List ℕ). LoadsAs bytes (Ok p)) c.deref.ensures.value c.in_ok-program.ensures.loads)
     (subst (λ (bytes : List ℕ). IsTextFault (stimuli_of bytes) c.in-Err.fault) c.deref-2.ensures.value c.in-Err.ensures.refused)
@@ -32,7 +32,7 @@ returns-in-Err-clause-refused c =
 pub returns-in_err-scripts-clause-refused : goal.returns-in_err-scripts-clause-refused
 returns-in_err-scripts-clause-refused c =
     let fault = err_from_is_err_and c.from_residual-in_err-scripts.result c.from_residual-in_err-scripts.ensures.1 in
-    let p = c.in_ok-program.program.program in
+    let p = c.in_ok-program.program in
     scripts-refused _ c.args.text.now p c.in-Ok.entries.items _ _ (fault.1 ∙ ap Err fault.2)
     (subst (λ (bytes : List ℕ). LoadsAs bytes (Ok p)) c.deref.ensures.value c.in_ok-program.ensures.loads)
     (ap stimuli_of (sym c.deref-2.ensures.value) ∙ c.in-Ok.ensures.spelled)
@@ -42,7 +42,7 @@ returns-in_err-scripts-clause-refused c =
 
 pub returns-clause-finds : goal.returns-clause-finds
 returns-clause-finds c =
-    let p = c.in_ok-program.program.program in record {
+    let p = c.in_ok-program.program in record {
       loads = subst (λ (bytes : List ℕ). LoadsAs bytes (Ok p)) c.deref.ensures.value c.in_ok-program.ensures.loads;
       are_stimuli = ap stimuli_of (sym c.deref-2.ensures.value) ∙ c.in-Ok.ensures.spelled;
       are_scripts = ap (λ (names : List NameEntry). scripts_from names 1 (scripts_of c.args.text.now)) (sym c.names.ensures)

@@ -5,4 +5,8 @@ use Rattle.s7_cli.proofs.judging.loaded.Goals as goal
 pub returns-clause-loads : goal.returns-clause-loads
 returns-clause-loads c =
     IfOk-weaker c.load.result _ _
-    (λ l gives. (gives, (c.gives_exactly_images.ensures c.args.image.now l.program (λ i. omega (arith, c.type_inv.image i))).0 gives)) c.load.ensures.gives
+    (λ l image. record {
+      image = image;
+      loadable = (c.gives_exactly_images.ensures c.args.image.now image.stamp l.program (λ i. omega (arith, c.type_inv.image i))).0 image.given;
+    })
+    c.load.ensures.gives

@@ -14,7 +14,7 @@ returns-in_err-program-clause-refused g c =
 
 pub returns-clause-says : goal.returns-clause-says
 returns-clause-says g c =
-    let p = c.in_ok-program.field-0.program.program in
+    let p = c.in_ok-program.field-0.program in
     let stimuli = c.in_ok-program.field-0.stimuli.items in
     let scripts = map (λ v. v.items) c.in_ok-program.field-0.scripts.items in
     let made = c.in_ok-live_run.ensures in
@@ -22,4 +22,4 @@ returns-clause-says g c =
     live-said c.args.steps c.args.text.now p _ stimuli scripts history made.program c.in_ok-program.ensures.finds
     (subst (λ (es : List Entry). IsLive p c.args.steps es scripts history) c.deref.ensures.value
     (subst (λ ss. IsLive p c.args.steps c.deref.result.now (map (λ v. v.items) ss) history) c.deref-2.ensures.value made.live))
-    (c.written_is_read.ensures p.names history made.regular (omega (arith, made.steps, c.requires.steps)))
+    (c.written_is_read.ensures p.program.names history made.regular (omega (arith, made.steps, c.requires.steps)))

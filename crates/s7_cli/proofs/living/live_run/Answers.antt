@@ -26,7 +26,7 @@ ended-requires-clause-room g c d back =
     let scripts = map (λ v. v.items) c.args.scripts.now in
     let station = c.in_ok-station.ensures in
     never_full c.in_ok-station.station c.args.steps c.args.stimuli.now scripts r.0 (is_ok r.1) _ _ station.passes (omega (arith, length_items (λ v. v.items) c.args.scripts.now)) c.work-pass.ensures.made
-    c.in_ok-controller.controller d station.station.0 c.args.program.program c.in_ok-controller.ensures back r.1 c.work-pass.ensures.fault c.requires.few
+    c.in_ok-controller.controller d station.station.0 c.args.program c.in_ok-controller.ensures back r.1 c.work-pass.ensures.fault c.requires.few
 
 pub returns-clause-live : goal.returns-clause-live
 returns-clause-live g c =
@@ -34,16 +34,16 @@ returns-clause-live g c =
     let scripts = map (λ v. v.items) c.args.scripts.now in
     let station = c.in_ok-station.ensures in
     IfOk-weaker c.ended.result _ _ (λ d e. lived c.in_ok-station.station c.args.steps c.args.stimuli.now scripts r.0 (is_ok r.1) _ _ station.passes (omega (arith, length_items (λ v. v.items) c.args.scripts.now)) c.work-pass.ensures.made
-    c.in_ok-controller.controller d station.station.0 c.args.program.program c.in_ok-controller.ensures e.0 c.work-pass.ensures.agrees e.1) c.ended.ensures
+    c.in_ok-controller.controller d station.station.0 c.args.program c.in_ok-controller.ensures e.0 c.work-pass.ensures.agrees e.1) c.ended.ensures
 
 pub returns-clause-regular : goal.returns-clause-regular
 returns-clause-regular g c =
     IfOk-weaker c.ended.result _ _
-    (λ d live. live_is_regular c.args.program.program c.args.steps c.args.stimuli.now (map (λ v. v.items) c.args.scripts.now) d.history live c.requires.entries)
+    (λ d live. live_is_regular c.args.program c.args.steps c.args.stimuli.now (map (λ v. v.items) c.args.scripts.now) d.history live c.requires.entries)
     (returns-clause-live g c)
 
 pub returns-clause-steps : goal.returns-clause-steps
 returns-clause-steps g c =
     IfOk-weaker c.ended.result _ _
-    (λ d live. live_has_steps c.args.program.program c.args.steps c.args.stimuli.now (map (λ v. v.items) c.args.scripts.now) d.history live c.requires.entries)
+    (λ d live. live_has_steps c.args.program c.args.steps c.args.stimuli.now (map (λ v. v.items) c.args.scripts.now) d.history live c.requires.entries)
     (returns-clause-live g c)

@@ -1,10 +1,8 @@
 use Rattle.std.proofs.Common.{◌≡◌, ◌≤◌, ap, refl, sym, ◌∙◌, subst, List, [], ◌∷◌, length, ℕ, Vec, Global, Ok, Err}
 use Rattle.std.proofs.lemmas.Result.{err_from_is_err_and}
-use Rattle.plc_base.specs.declared.Profile.TheVariants.{Small}
-use Rattle.flat_code.specs.Programs.{Program}
 use Rattle.image_file.specs.Loaded.{LoadedProgram}
 use Rattle.machine.specs.Flat.{code_of}
-use Rattle.var_access.specs.Recorded.{Recorded}
+use Rattle.var_access.specs.History.{History as EntryHistory}
 use Rattle.var_access.specs.declared.Entry.{Entry}
 use Rattle.event_text.specs.Texts.{history_of}
 use Rattle.s7_cli.specs.run_text.RunText.{run_text}
@@ -57,7 +55,7 @@ returns-in_err-program g c =
     let fault = err_from_is_err_and c.from_residual-in_err-program.result c.from_residual-in_err-program.ensures.1 in
     let image : List ℕ = c.in_ok-image.image.items in
     let history : List ℕ = c.in_ok-history.history.items in
-    comes-refused (LoadedProgram × Recorded) (Run c.args.img.now c.args.hist.now) _ _ _ (image ∷ history ∷ [])
+    comes-refused (LoadedProgram × EntryHistory) (Run c.args.img.now c.args.hist.now) _ _ _ (image ∷ history ∷ [])
     (RunSays c.deref.result.now c.deref-2.result.now) _ _ (fault.1 ∙ ap Err fault.2)
     (read-then _ _ _ (image_input c.args.img.now ∷ []) (history_input c.args.hist.now ∷ []) (image ∷ []) (history ∷ [])
     (file-read bytes_of _ _ (image_input c.args.img.now) c.in_ok-image.image c.in_ok-image.ensures)
@@ -71,15 +69,15 @@ pub returns : goal.returns
 returns g c =
     let image : List ℕ = c.in_ok-image.image.items in
     let history : List ℕ = c.in_ok-history.history.items in
-    let p : Program = c.in_ok-program.program.program in
+    let l : LoadedProgram = c.in_ok-program.program in
     let entries : List Entry = c.in_ok-program.entries.entries in
-    let loads : LoadsAs image (Ok p) =
-    subst (λ (b : List ℕ). LoadsAs b (Ok p)) c.deref.ensures.value c.in_ok-program.ensures.loads in
-    let spells : history_of p.names history ≡ Ok entries =
-    ap (history_of p.names) (sym c.deref-2.ensures.value) ∙ c.in_ok-program.ensures.spells in
-    comes-written (Run c.args.img.now c.args.hist.now) _ _ _ (image ∷ history ∷ []) (run_text Small (code_of p) entries) _ refl
+    let loads : LoadsAs image (Ok l) =
+    subst (λ (b : List ℕ). LoadsAs b (Ok l)) c.deref.ensures.value c.in_ok-program.ensures.loads in
+    let spells : history_of l.program.names history ≡ Ok entries =
+    ap (history_of l.program.names) (sym c.deref-2.ensures.value) ∙ c.in_ok-program.ensures.spells in
+    comes-written (Run c.args.img.now c.args.hist.now) _ _ _ (image ∷ history ∷ []) (run_text l.profile (code_of l.program) entries) _ refl
     (read-then _ _ _ (image_input c.args.img.now ∷ []) (history_input c.args.hist.now ∷ []) (image ∷ []) (history ∷ [])
     (file-read bytes_of _ _ (image_input c.args.img.now) c.in_ok-image.image c.in_ok-image.ensures)
     (file-read bytes_of _ _ (history_input c.args.hist.now) c.in_ok-history.history c.in_ok-history.ensures))
-    (Ok p, loads, ap (ran p) (sym spells))
+    (Ok l, loads, ap (ran l) (sym spells))
     (c.written.ensures _ _ _ c.replay_text.ensures)

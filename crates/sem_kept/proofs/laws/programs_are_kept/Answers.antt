@@ -5,7 +5,7 @@ use Rattle.sem_kept.proofs.laws.programs_are_kept.Goals as goal
 
 -- src/laws.rt:6:1
 pub returns : goal.returns
-returns c blocks data_blocks names compilable =
-    kept_by (position blocks) (stated_code blocks data_blocks)
+returns c profile blocks data_blocks names compilable =
+    kept_by profile (position blocks) (stated_code blocks data_blocks)
     (code_of (program_with blocks data_blocks names)) c.positions_move.ensures.entries
     c.positions_move.ensures.histories (c.programs_follow.ensures blocks data_blocks names compilable)

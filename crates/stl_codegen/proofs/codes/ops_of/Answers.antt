@@ -1,6 +1,6 @@
 use Rattle.std.proofs.Common.{[], ◌∷◌}
 use Rattle.std.specs.List.{flat_map}
-use Rattle.flat_code.specs.declared.words.EndWord.TheVariants as ends
+use Rattle.flat_code.specs.declared.operations.EndOperation.TheVariants as ends
 use Rattle.stl_codegen.specs.Bodies.{ops_here}
 use Rattle.stl_codegen.specs.Emitted.{end_op}
 use Rattle.stl_codegen.proofs.AppendLemmas.{appended_none, back_has_none}

@@ -4,7 +4,7 @@ use Rattle.std.specs.FinMap as finmap
 use Rattle.controller.specs.Starting.{numbers_of}
 use Rattle.controller.specs.State.{State}
 use Rattle.controller.specs.Views.{state_of}
-use Rattle.controller.specs.Recorded.{Recorded}
+use Rattle.controller.specs.Recording.{Recording}
 use Rattle.controller.specs.Replayed.{replayed}
 use Rattle.controller.proofs.history.BlockLemmas.{block_there, memory_numbers, no_block_there}
 use Rattle.controller.proofs.controllers.Controller.data_block.Goals as goal
@@ -13,7 +13,7 @@ pub returns-in-None : goal.returns-in-None
 returns-in-None c =
     let now : State = state_of c.self.inside.cpu in
     let after : now ≡ replayed c.args.self.now =
-    c.self.invariant.state ∙ ap (λ (r : Recorded). replayed r) c.self.view_is in
+    c.self.invariant.state ∙ ap (λ (r : Recording). replayed r) c.self.view_is in
     let are : numbers_of (finmap.entries (replayed c.args.self.now).world.memory.data_blocks) ≡ c.self.inside.numbers.items =
     ap (λ (s : State). numbers_of (finmap.entries s.world.memory.data_blocks)) (sym after)
     ∙ memory_numbers c.self.inside.program.program now.world.memory c.self.invariant.verifies c.self.invariant.fit.memory
@@ -25,7 +25,7 @@ pub returns-in-Some : goal.returns-in-Some
 returns-in-Some c =
     let now : State = state_of c.self.inside.cpu in
     let after : now ≡ replayed c.args.self.now =
-    c.self.invariant.state ∙ ap (λ (r : Recorded). replayed r) c.self.view_is in
+    c.self.invariant.state ∙ ap (λ (r : Recording). replayed r) c.self.view_is in
     let are : numbers_of (finmap.entries (replayed c.args.self.now).world.memory.data_blocks) ≡ c.self.inside.numbers.items =
     ap (λ (s : State). numbers_of (finmap.entries s.world.memory.data_blocks)) (sym after)
     ∙ memory_numbers c.self.inside.program.program now.world.memory c.self.invariant.verifies c.self.invariant.fit.memory

@@ -3,7 +3,7 @@ use Rattle.plc_base.specs.declared.Profile.{Profile}
 use Rattle.flat_code.specs.Programs.{Program}
 use Rattle.machine.specs.Code.{Code}
 use Rattle.machine.specs.Flat.{code_of}
-use Rattle.var_access.specs.Recorded.{Recorded as Kept}
+use Rattle.var_access.specs.History.{History}
 use Rattle.var_access.specs.declared.Entry.{Entry}
 use Rattle.controller.specs.Replay.{happens, last_seen, replay}
 use Rattle.controller.specs.Shown.{watched}
@@ -22,12 +22,12 @@ enter-mon-requires-clause-ready c =
 pub invariant_of-self : goal.invariant_of-self
 invariant_of-self c =
     let p : Program = c.self.inside.program.program in
-    let profile : Profile = c.self.inside.profile in
+    let profile : Profile = c.self.inside.program.profile in
     let code : Code = code_of p in
     let history : List Entry = c.self.inside.history.entries in
     let s : State = state_of c.self.inside.cpu in
     let t : State = state_of c.enter-mon.new.self in
-    let entries : c.push.new.self.entries ≡ history ++ c.args.e.now ∷ [] = ap (λ (kept : Kept). kept.entries) c.push.ensures in
+    let entries : c.push.new.self.entries ≡ history ++ c.args.e.now ∷ [] = ap (λ (kept : History). kept.entries) c.push.ensures in
     let seen : (happens code s c.args.e.now.what).seen ≡ last_seen profile code (events c.push.new.self.entries) =
     seen_next profile code history c.args.e.now s c.continues_replay.ensures.seen c.self.invariant.state
     ∙ ap (λ (es : List Entry). last_seen profile code (events es)) (sym entries) in

@@ -1,9 +1,9 @@
 use Rattle.std.proofs.Common.{◌≡◌, List, [], ap, sym, ◌∙◌}
-use Rattle.plc_base.specs.declared.Profile.TheVariants.{Small}
+use Rattle.plc_base.specs.declared.Profile.{Profile}
 use Rattle.flat_code.specs.Programs.{Program}
 use Rattle.machine.specs.Code.{Code}
 use Rattle.machine.specs.Flat.{code_of}
-use Rattle.var_access.specs.Recorded.{Recorded as Kept}
+use Rattle.var_access.specs.History.{History}
 use Rattle.var_access.specs.declared.Entry.{Entry}
 use Rattle.controller.specs.Replay.{last_seen, replay}
 use Rattle.controller.specs.Shown.{nothing_shown, watched}
@@ -20,14 +20,16 @@ invariant_of-result c =
     let p : Program = c.args.program.program in
     let code : Code = code_of p in
     let s : State = state_of c.in_ok-cpu.cpu in
-    let started : s ≡ start Small code = c.in_ok-cpu.ensures in
-    let entries : c.new.result.entries ≡ [] = ap (λ (kept : Kept). kept.entries) c.new.ensures in
-    let seen : nothing_shown ≡ last_seen Small code (events c.new.result.entries) =
-    none_seen Small code ∙ ap (λ (es : List Entry). last_seen Small code (events es)) (sym entries) in
+    let profile : Profile = c.args.program.profile in
+    let started : s ≡ start profile code =
+    c.in_ok-cpu.ensures ∙ ap (λ (f : Profile). start f code) c.profile.ensures in
+    let entries : c.new.result.entries ≡ [] = ap (λ (kept : History). kept.entries) c.new.ensures in
+    let seen : nothing_shown ≡ last_seen profile code (events c.new.result.entries) =
+    none_seen profile code ∙ ap (λ (es : List Entry). last_seen profile code (events es)) (sym entries) in
     record {
       verifies = c.law_of_verifying.ensures;
-      state = started ∙ starts Small code ∙ ap (λ (es : List Entry). replay Small code (events es)) (sym entries);
-      fit = start_fits Small p s c.what_runs_goes_on.ensures.start c.law_of_verifying.ensures started;
+      state = started ∙ starts profile code ∙ ap (λ (es : List Entry). replay profile code (events es)) (sym entries);
+      fit = start_fits profile p s c.what_runs_goes_on.ensures.start c.law_of_verifying.ensures started;
       observer = c.new-observer.ensures ∙ ap (λ (o : Observed). watched s o) seen;
       numbers = c.in_ok-numbers.ensures;
     }

@@ -3,7 +3,7 @@ use Rattle.plc_base.specs.declared.Profile.{Profile}
 use Rattle.flat_code.specs.Programs.{Program}
 use Rattle.machine.specs.Code.{Code}
 use Rattle.machine.specs.Flat.{code_of}
-use Rattle.var_access.specs.Recorded.{Recorded as Kept}
+use Rattle.var_access.specs.History.{History}
 use Rattle.var_access.specs.declared.Entry.{Entry}
 use Rattle.var_access.specs.declared.What.TheVariants.{Step}
 use Rattle.controller.specs.Quiet.{ShowNothing, steps_quietly}
@@ -12,7 +12,7 @@ use Rattle.controller.specs.Shown.{watched}
 use Rattle.controller.specs.State.{State}
 use Rattle.controller.specs.Views.{state_of}
 use Rattle.controller.specs.declared.observing.Observed.{Observed}
-use Rattle.controller.specs.Recorded.{Recorded}
+use Rattle.controller.specs.Recording.{Recording}
 use Rattle.controller.specs.Replayed.{events, replayed}
 use Rattle.controller.proofs.history.QuietLemmas.{fits-behind, observer-behind, quiet-behind, replay-more, seen-behind, state-behind, steps-are}
 use Rattle.controller.proofs.controllers.Controller.step_quietly.Goals as goal
@@ -20,7 +20,7 @@ use Rattle.controller.proofs.controllers.Controller.step_quietly.Goals as goal
 pub invariant_of-self-2 : goal.invariant_of-self-2
 invariant_of-self-2 c =
     let p : Program = c.self.inside.program.program in
-    let profile : Profile = c.self.inside.profile in
+    let profile : Profile = c.self.inside.program.profile in
     let code : Code = code_of p in
     let history : List Entry = c.self.inside.history.entries in
     let made : ℕ = c.step_quietly-made.result in
@@ -28,7 +28,7 @@ invariant_of-self-2 c =
     let s : State = state_of c.self.inside.cpu in
     let t : State = state_of c.step_quietly-made.new.self in
     let steps : events more ≡ replicate made Step = steps-are c.args.step.now made c.requires.step in
-    let entries : c.push.new.self.entries ≡ history ++ more = ap (λ (kept : Kept). kept.entries) c.push.ensures in
+    let entries : c.push.new.self.entries ≡ history ++ more = ap (λ (kept : History). kept.entries) c.push.ensures in
     let some : 1 ≤ made = omega arith in
     record {
       verifies = c.self.invariant.verifies;
@@ -49,26 +49,26 @@ invariant_of-self-2 c =
 
 pub returns-clause-nothing : goal.returns-clause-nothing
 returns-clause-nothing c =
-    subst (λ (r : Recorded). ShowNothing (code_of r.program) (replayed r) (replicate c.step_quietly-made.result Step))
+    subst (λ (r : Recording). ShowNothing (code_of r.program) (replayed r) (replicate c.step_quietly-made.result Step))
     c.self.view_is
-    (quiet-behind c.self.inside.profile (code_of c.self.inside.program.program) c.self.inside.history.entries
+    (quiet-behind c.self.inside.program.profile (code_of c.self.inside.program.program) c.self.inside.history.entries
     (state_of c.self.inside.cpu) c.step_quietly-made.result c.self.invariant.state c.step_quietly-made.ensures.nothing)
 
 pub returns-clause-state : goal.returns-clause-state
 returns-clause-state c =
-    let profile : Profile = c.self.inside.profile in
+    let profile : Profile = c.self.inside.program.profile in
     let code : Code = code_of c.self.inside.program.program in
     let history : List Entry = c.self.inside.history.entries in
     let made : ℕ = c.step_quietly-made.result in
     let more : List Entry = replicate made c.args.step.now in
-    ap (λ (kept : Kept). replay profile code (events kept.entries)) c.push.ensures
+    ap (λ (kept : History). replay profile code (events kept.entries)) c.push.ensures
     ∙ replay-more c.continues_replay.ensures.more profile code history more
     ∙ ap (run_from code (replay profile code (events history))) (steps-are c.args.step.now made c.requires.step)
-    ∙ ap (λ (r : Recorded). run_from (code_of r.program) (replayed r) (replicate made Step)) c.self.view_is
+    ∙ ap (λ (r : Recording). run_from (code_of r.program) (replayed r) (replicate made Step)) c.self.view_is
 
 pub returns-clause-stops : goal.returns-clause-stops
 returns-clause-stops c = λ less.
-    let profile : Profile = c.self.inside.profile in
+    let profile : Profile = c.self.inside.program.profile in
     let code : Code = code_of c.self.inside.program.program in
     let history : List Entry = c.self.inside.history.entries in
     let made : ℕ = c.step_quietly-made.result in
@@ -76,7 +76,7 @@ returns-clause-stops c = λ less.
     let is : state_of c.step_quietly-made.new.self ≡ replay profile code (events c.push.new.self.entries) =
     state-behind c.continues_replay.ensures.more profile code history more (state_of c.self.inside.cpu) (state_of c.step_quietly-made.new.self) made c.self.invariant.state
     (steps-are c.args.step.now made c.requires.step) c.step_quietly-made.ensures.state
-    ∙ ap (λ (kept : Kept). replay profile code (events kept.entries)) (sym c.push.ensures) in
-    subst (λ (r : Recorded). steps_quietly (code_of r.program) (replay profile code (events c.push.new.self.entries)) ≡ false)
+    ∙ ap (λ (kept : History). replay profile code (events kept.entries)) (sym c.push.ensures) in
+    subst (λ (r : Recording). steps_quietly (code_of r.program) (replay profile code (events c.push.new.self.entries)) ≡ false)
     c.self.view_is
     (subst (λ (s : State). steps_quietly code s ≡ false) is (c.step_quietly-made.ensures.stops less))

@@ -1,27 +1,29 @@
-use Rattle.std.proofs.Common.{ℕ, List, Option, option_map, option_and_then, slice_get, ap, sym, ◌∙◌}
-use Rattle.std.specs.Borrow.{Bor}
-use Rattle.flat_code.specs.declared.ops.Op.{Op}
-use Rattle.flat_code.specs.Ops.{OpData}
+use Rattle.std.proofs.Common.{ap, sym, ◌∙◌}
 use Rattle.flat_code.specs.Placed.{op_placed}
 use Rattle.flat_code.specs.Programs.{CodeBlock}
-use Rattle.image_file.specs.declared.seats.Seat.{Seat}
-use Rattle.image_file.specs.Seats.{op_at}
-use Rattle.image_file.proofs.SeatLemmas.{op_by_table}
+use Rattle.image_file.proofs.MarkLemmas.{op_known, op_missing, op_nowhere, op_there}
 use Rattle.image_file.proofs.loaded_code.LoadedCode.op.Goals as goal
 
-pub returns-in_err-place : goal.returns-in_err-place
-returns-in_err-place c =
-    let missed = ap (λ (o : Option ℕ). option_and_then (λ place. op_at place c.self.inside.block.now.code c.self.inside.seating.now.seats.items) o) (sym c.in_err-place.was ∙ c.place_at.ensures ∙ ap (λ (t : List ℕ). slice_get t c.args.at) c.as_slice.ensures.value) in
-    ap (option_map {T = Bor Op × ℕ} {U = OpData × ℕ} (λ r. (r.0.now, r.1))) c.from_residual.ensures ∙ missed
-    ∙ op_by_table c.self.inside.block.now c.self.inside.seating.now c.args.at c.self.invariant
+pub returns-in_err-mark : goal.returns-in_err-mark
+returns-in_err-mark c =
+    let code = c.self.inside in
+    c.from_residual.ensures ∙ sym (op_missing code.block.now code.bytes.now code.marks.now code.lines.now c.args.at c.self.invariant (sym c.mark_at.ensures ∙ c.in_err-mark.was))
     ∙ ap (λ (b : CodeBlock). op_placed 0 b.code c.args.at) c.self.view_is
+
+pub returns-then-mark : goal.returns-then-mark
+returns-then-mark c =
+    let code = c.self.inside in
+    sym (op_nowhere code.block.now code.bytes.now code.marks.now code.lines.now c.args.at c.in_ok-mark.mark c.self.invariant (sym c.mark_at.ensures ∙ c.in_ok-mark.was) c.if-mark.true)
+    ∙ ap (λ (b : CodeBlock). op_placed 0 b.code c.args.at) c.self.view_is
+
+pub decode_op_unchecked-requires-clause-known : goal.decode_op_unchecked-requires-clause-known
+decode_op_unchecked-requires-clause-known c =
+    let code = c.self.inside in
+    op_known code.block.now code.bytes.now code.marks.now code.lines.now c.args.at c.in_ok-mark.mark c.self.invariant (sym c.mark_at.ensures ∙ c.in_ok-mark.was) c.if-mark.false
 
 pub returns : goal.returns
 returns c =
-    let met = ap (λ (o : Option ℕ). option_and_then (λ place. op_at place c.self.inside.block.now.code c.self.inside.seating.now.seats.items) o) (sym c.in_ok-place.was ∙ c.place_at.ensures ∙ ap (λ (t : List ℕ). slice_get t c.args.at) c.as_slice.ensures.value) in
-    c.op_at.ensures
-    ∙ ap (λ (ops : List OpData). op_at c.in_ok-place.place ops c.as_slice-2.result.now) c.ops_of.ensures
-    ∙ ap (λ (seats : List Seat). op_at c.in_ok-place.place c.self.inside.block.now.code seats) c.as_slice-2.ensures.value
-    ∙ met
-    ∙ op_by_table c.self.inside.block.now c.self.inside.seating.now c.args.at c.self.invariant
+    let code = c.self.inside in
+    c.decode_op_unchecked.ensures
+    ∙ sym (op_there code.block.now code.bytes.now code.marks.now code.lines.now c.args.at c.in_ok-mark.mark c.self.invariant (sym c.mark_at.ensures ∙ c.in_ok-mark.was) c.if-mark.false)
     ∙ ap (λ (b : CodeBlock). op_placed 0 b.code c.args.at) c.self.view_is

@@ -1,6 +1,6 @@
 use Rattle.std.proofs.Common.{◌∙◌, ap, map, List}
 use Rattle.flat_code.specs.Placed.{Spot}
-use Rattle.image_file.proofs.SeatLemmas.{finds_statements}
+use Rattle.image_file.proofs.TableLemmas.{finds_statements}
 use Rattle.image_file.proofs.statement_table.Statements.of.Goals as goal
 
 pub invariant_of-result : goal.invariant_of-result

@@ -1,5 +1,5 @@
 use Rattle.std.proofs.Common.{◌∙◌, ap, map, List, ℕ, arith}
-use Rattle.image_file.proofs.SeatLemmas.{finds_lens}
+use Rattle.image_file.proofs.TableLemmas.{finds_lens}
 use Rattle.image_file.proofs.surroundings.DataLens.new.Goals as goal
 
 pub invariant_of-result : goal.invariant_of-result

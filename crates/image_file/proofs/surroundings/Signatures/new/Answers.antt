@@ -1,7 +1,7 @@
 use Rattle.std.proofs.Common.{◌∙◌, ap, map, List}
 use Rattle.flat_code.specs.Blocks.{Signature}
-use Rattle.image_file.specs.Seats.{call_key}
-use Rattle.image_file.proofs.SeatLemmas.{finds_callees}
+use Rattle.image_file.specs.Tables.{call_key}
+use Rattle.image_file.proofs.TableLemmas.{finds_callees}
 use Rattle.image_file.proofs.surroundings.Signatures.new.Goals as goal
 
 pub invariant_of-result : goal.invariant_of-result

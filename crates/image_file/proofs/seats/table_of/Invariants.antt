@@ -1,5 +1,0 @@
-use Rattle.image_file.proofs.SeatLemmas.{Holds}
-use Rattle.image_file.proofs.seats.table_of.Given as goal
-
-abbrev pub invariant-loop-i : goal.invariant-loop-i
-invariant-loop-i l = Holds l.starts l.len l.i l.table.items

@@ -1,0 +1,38 @@
+-- An upgraded image beside the image that it was made of.
+use Rattle.std.specs.Prelude.{◌≡◌, ◌<◌, ℕ, List, get_or, Result}
+use Rattle.image_file.specs.Loaded.{LoadedProgram}
+use Rattle.image_file.specs.declared.faults.LoadFault.{LoadFault}
+use Rattle.sem_kept.specs.Agreement.{ImageKeepsSource}
+use Rattle.s7_cli.specs.Answer.{Answer}
+use Rattle.s7_cli.specs.LiveSays.{LiveSays}
+use Rattle.s7_cli.specs.Loads.{LoadsAs}
+use Rattle.s7_cli.specs.Says.{IsUpgraded, RunSays}
+
+-- both load as the same program with the same profile, so every replay of the one is that of the other
+abbrev pub UpgradesLoadAlike : Type 0
+UpgradesLoadAlike =
+    (upgraded image : List ℕ) → ((i : ℕ) → get_or upgraded i 0 < 256) → IsUpgraded upgraded image
+    → (loaded : Result LoadedProgram LoadFault)
+    → (LoadsAs upgraded loaded → LoadsAs image loaded) × (LoadsAs image loaded → LoadsAs upgraded loaded)
+
+-- so `run` with the one answers what it answers with the other
+abbrev pub UpgradesRunAlike : Type 0
+UpgradesRunAlike =
+    (upgraded image : List ℕ) → ((i : ℕ) → get_or upgraded i 0 < 256) → IsUpgraded upgraded image
+    → (history : List ℕ) (answer : Answer)
+    → (RunSays upgraded history answer → RunSays image history answer)
+    × (RunSays image history answer → RunSays upgraded history answer)
+
+-- and `live` too
+abbrev pub UpgradesLiveAlike : Type 0
+UpgradesLiveAlike =
+    (upgraded image : List ℕ) → ((i : ℕ) → get_or upgraded i 0 < 256) → IsUpgraded upgraded image
+    → (steps : ℕ) (stimuli : List ℕ) (scripts : List (List ℕ)) (answer : Answer)
+    → (LiveSays steps upgraded stimuli scripts answer → LiveSays steps image stimuli scripts answer)
+    × (LiveSays steps image stimuli scripts answer → LiveSays steps upgraded stimuli scripts answer)
+
+-- a source that the one keeps is kept by the other
+abbrev pub UpgradesKeepSources : Type 0
+UpgradesKeepSources =
+    (upgraded image source symbols : List ℕ) → IsUpgraded upgraded image
+    → ImageKeepsSource image source symbols → ImageKeepsSource upgraded source symbols

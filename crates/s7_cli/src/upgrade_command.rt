@@ -1,0 +1,52 @@
+ghost use Rattle.std.specs.Prelude.{Some};
+ghost use Rattle.s7_cli.specs.Command.{Upgrade};
+ghost use Rattle.s7_cli.specs.Ends.{Ended, taking};
+ghost use Rattle.s7_cli.specs.Inner.{Comes};
+ghost use Rattle.s7_cli.specs.Reading.{disk};
+ghost use Rattle.s7_cli.specs.StatusTable.{StatusTable};
+
+use crate::failures::{Failure, File, Status};
+use crate::files::{read_file, write_file};
+use crate::finish::{OK_LINE, end_command, write_text};
+use crate::judging::judge_upgrade;
+use plc_io::{Files, Sink};
+use std::alloc::Global;
+
+/// Reads an image, writes the image of version 2 of what it holds, and then `OK`.
+fn upgrade<F: Files, K: Sink>(
+    alloc: Global,
+    img: &str,
+    img2: &str,
+    files: &mut F,
+    out: &mut K,
+) -> Result<(), Failure>
+    ensures { let went = disk (F.shown files.old) (F.shown files.new) in
+        let took = taking (K.shown out.old) (K.shown out.new) in
+        Comes (Some (Upgrade img.now img2.now)) went took result }
+{
+    let image = read_file(alloc, files, File::Image, img)?;
+    let upgraded = judge_upgrade(alloc, &image)?;
+    write_file(files, img2, &upgraded)?;
+    write_text(out, OK_LINE)
+}
+
+/// Loads the image in the file `img`, makes the image of version 2 of its program, names and profile
+/// the whole of the file `img2`, and then writes `OK`; or writes the line of a refusal, and no file.
+/// Both may be the same file.
+pub fn cmd_upgrade<F: Files, K: Sink>(
+    alloc: Global,
+    img: &str,
+    img2: &str,
+    files: &mut F,
+    out: &mut K,
+) -> Status
+    ensures ends { let went = disk (F.shown files.old) (F.shown files.new) in
+        Ended (Some (Upgrade img.now img2.now)) went (taking (K.shown out.old) (K.shown out.new))
+        result.code }
+    ensures table { let went = disk (F.shown files.old) (F.shown files.new) in
+        StatusTable (Some (Upgrade img.now img2.now)) went
+        (taking (K.shown out.old) (K.shown out.new)) result.code }
+{
+    let came = upgrade(alloc, img, img2, files, out);
+    end_command(out, came)
+}

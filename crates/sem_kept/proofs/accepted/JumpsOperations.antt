@@ -1,0 +1,422 @@
+-- What the instruction of a statement does to open brackets and zones, and where it jumps.
+use Rattle.std.proofs.Common.{◌≡◌, ℕ, zero, suc, ◌+◌, ◌-◌, Bool, true, false, ◌&&◌, if◌then◌else◌, List, [], ◌∷◌, ◌++◌, length, map, take, Option, Some, None, refl, sym, ap, subst, ◌∙◌}
+use Rattle.std.specs.Prelude.{◌==◌, is_some, nat_le, nat_eq}
+use Rattle.std.specs.List.{AllByRecursion}
+use Rattle.std.specs.Option.{is_none}
+use Rattle.std.proofs.lemmas.List.{length-map}
+use Rattle.flat_code.specs.Instr.{Instr, Passing, Does, Jumps, JumpsByList, Calls, Returns}
+use Rattle.flat_code.specs.Kinds.{kind_of}
+use Rattle.flat_code.specs.OpCodes.{code_of}
+use Rattle.flat_code.specs.Ops.{OpData}
+use Rattle.flat_code.specs.Placed.{is_empty, opens}
+use Rattle.flat_code.specs.declared.kinds.JumpOperation.{JumpOperation}
+use Rattle.flat_code.specs.declared.kinds.JumpOperation.TheVariants as jump
+use Rattle.flat_code.specs.declared.operands.Operand.{Operand as FlatOperand}
+use Rattle.flat_code.specs.declared.operands.Operand.TheVariants as flat
+use Rattle.flat_code.specs.declared.operations.CallOperation.{CallOperation}
+use Rattle.flat_code.specs.declared.operations.CallOperation.TheVariants as calls
+use Rattle.flat_code.specs.declared.operations.EndOperation.{EndOperation}
+use Rattle.flat_code.specs.declared.operations.EndOperation.TheVariants as ends
+use Rattle.flat_code.specs.declared.operations.Operation.TheVariants as operation
+use Rattle.stl_ast.specs.declared.literals.Literal.TheVariants as literal
+use Rattle.stl_ast.specs.declared.mnemonics.Mnemonic.{Mnemonic}
+use Rattle.stl_ast.specs.declared.mnemonics.Mnemonic.TheVariants as code
+use Rattle.stl_ast.specs.declared.operands.Operand.{Operand}
+use Rattle.stl_ast.specs.declared.operands.Operand.TheVariants as operand
+use Rattle.stl_ast.specs.declared.statements.Statement.{Statement}
+use Rattle.stl_types.specs.Brackets.{behind, closes, closes_none, is_eighth, opened, opening}
+use Rattle.stl_types.specs.Context.{Context}
+use Rattle.stl_types.specs.Forms.{form_of}
+use Rattle.stl_types.specs.Operands.{operand_rule, rule_of, takes}
+use Rattle.stl_types.specs.Resolved.{resolved, seen_view}
+use Rattle.stl_types.specs.Seen.{seen}
+use Rattle.stl_types.specs.declared.brackets.Bracket.{Bracket}
+use Rattle.stl_types.specs.declared.forms.Form.{Form}
+use Rattle.stl_types.specs.declared.forms.Form.TheVariants as form
+use Rattle.stl_types.specs.declared.views.Register.TheVariants as register
+use Rattle.stl_types.specs.declared.views.View.{View}
+use Rattle.stl_types.specs.declared.views.View.TheVariants as view
+use Rattle.stl_codegen.specs.Emitted.{opening as opening_op, passing}
+use Rattle.stl_codegen.specs.Instruction.{call_instr, end_instr, instr_by, instruction, jump_instr, resolved_instr, target_of, view_instr}
+use Rattle.stl_codegen.specs.Operations.{add_operation, call_of, end_of, jump_of, load_pointer_operation, load_operation, or_operation, store_pointer_operation, transfer_operation, operation_for}
+use Rattle.sem_kept.specs.Back.{is_target}
+use Rattle.sem_kept.specs.Zones.{LeavesZones}
+use Rattle.sem_kept.proofs.compiled.Instructions.{no_target}
+use Rattle.sem_kept.proofs.compiled.Reading.{parted}
+use Rattle.sem_kept.proofs.accepted.JumpsCode.{IsQuiet, codes_behind, codes_fault}
+
+-- ---- the operands of jumps and of brackets
+
+-- an instruction that opens or closes a bracket
+abbrev pub is_bracket : Mnemonic → Bool
+is_bracket m = if is_some (opening m) then true else closes m
+
+-- a jump has a label, and a bracket nothing
+pub record TakesRight (s : Statement) : Type 0 where
+  pub jumps : (how : JumpOperation) → jump_of s.code ≡ Some how
+      → (name : List ℕ) × (s.operand ≡ operand.Label name)
+  pub bare : is_bracket s.code ≡ true → s.operand ≡ operand.Nothing
+
+-- ---- op codes
+
+-- the op code of an instruction, by what it does to brackets
+abbrev IsCodeBy : Option ℕ → Bool → (code : ℕ) → Type 0
+IsCodeBy (Some function) c code = (code ≡ 0x18 + function) × (opens code ≡ true)
+IsCodeBy None true code = code ≡ 0x1E
+IsCodeBy None false code = (opens code ≡ false) × ((code == 0x1E) ≡ false)
+
+abbrev IsCodeOf : Mnemonic → (code : ℕ) → Type 0
+IsCodeOf m code = IsCodeBy (opening m) (closes m) code
+
+-- that of an operation that has nothing to do with brackets
+abbrev IsOtherCode : ℕ → Type 0
+IsOtherCode code = (opens code ≡ false) × ((code == 0x1E) ≡ false)
+
+or_code : (v : View) → IsOtherCode (code_of (or_operation v))
+or_code view.Nothing = (refl, refl)
+or_code _ = (refl, refl)
+
+load_code : (v : View) → IsOtherCode (code_of (load_operation v))
+load_code (view.Register register.Stw) = (refl, refl)
+load_code (view.Register _) = (refl, refl)
+load_code _ = (refl, refl)
+
+transfer_code : (v : View) → IsOtherCode (code_of (transfer_operation v))
+transfer_code (view.Register which) = (refl, refl)
+transfer_code _ = (refl, refl)
+
+load_pointer_code : (v : View) → IsOtherCode (code_of (load_pointer_operation v))
+load_pointer_code (view.Register which) = (refl, refl)
+load_pointer_code _ = (refl, refl)
+
+store_pointer_code : (v : View) → IsOtherCode (code_of (store_pointer_operation v))
+store_pointer_code (view.Register which) = (refl, refl)
+store_pointer_code _ = (refl, refl)
+
+add_code : (o : Operand) → IsOtherCode (code_of (add_operation o))
+add_code (operand.Constant (literal.Long value)) = (refl, refl)
+add_code (operand.Constant _) = (refl, refl)
+add_code _ = (refl, refl)
+
+operation_code : (m : Mnemonic) (o : Operand) (v : View) → IsCodeOf m (code_of (operation_for m o v))
+unfolding operation_for opening closes
+operation_code code.AOpen o v = (refl, refl)
+operation_code code.AnOpen o v = (refl, refl)
+operation_code code.OOpen o v = (refl, refl)
+operation_code code.OnOpen o v = (refl, refl)
+operation_code code.XOpen o v = (refl, refl)
+operation_code code.XnOpen o v = (refl, refl)
+operation_code code.Close o v = refl
+operation_code code.O o v = or_code v
+operation_code code.L o v = load_code v
+operation_code code.T o v = transfer_code v
+operation_code code.Lar1 o v = load_pointer_code v
+operation_code code.Tar1 o v = store_pointer_code v
+operation_code code.Add o v = add_code o
+operation_code _ o v = (refl, refl)
+
+-- another code, of an instruction that is no bracket
+other_code : (m : Mnemonic) (code : ℕ) → is_bracket m ≡ false → IsOtherCode code → IsCodeOf m code
+other_code m code none other = by (opening m) (closes m) none
+  where
+    by : (o : Option ℕ) (c : Bool) → (if is_some o then true else c) ≡ false → IsCodeBy o c code
+    by (Some function) c h = absurd cc
+    by None true h = absurd cc
+    by None false h = other
+
+no_jump : (m : Mnemonic) (how : JumpOperation) → jump_of m ≡ Some how → is_bracket m ≡ false
+unfolding opening closes
+no_jump code.AOpen how e = absurd cc
+no_jump code.AnOpen how e = absurd cc
+no_jump code.OOpen how e = absurd cc
+no_jump code.OnOpen how e = absurd cc
+no_jump code.XOpen how e = absurd cc
+no_jump code.XnOpen how e = absurd cc
+no_jump code.Close how e = absurd cc
+no_jump _ how e = refl
+
+no_call : (m : Mnemonic) (how : CallOperation) → call_of m ≡ Some how → is_bracket m ≡ false
+unfolding opening closes
+no_call code.AOpen how e = absurd cc
+no_call code.AnOpen how e = absurd cc
+no_call code.OOpen how e = absurd cc
+no_call code.OnOpen how e = absurd cc
+no_call code.XOpen how e = absurd cc
+no_call code.XnOpen how e = absurd cc
+no_call code.Close how e = absurd cc
+no_call _ how e = refl
+
+no_end : (m : Mnemonic) (how : EndOperation) → end_of m ≡ Some how → is_bracket m ≡ false
+unfolding opening closes
+no_end code.AOpen how e = absurd cc
+no_end code.AnOpen how e = absurd cc
+no_end code.OOpen how e = absurd cc
+no_end code.OnOpen how e = absurd cc
+no_end code.XOpen how e = absurd cc
+no_end code.XnOpen how e = absurd cc
+no_end code.Close how e = absurd cc
+no_end _ how e = refl
+
+call_code : (how : CallOperation) → IsOtherCode (code_of (operation.Call how))
+call_code calls.Call = (refl, refl)
+call_code calls.Uc = (refl, refl)
+call_code calls.Cc = (refl, refl)
+
+end_code : (how : EndOperation) → IsOtherCode (code_of (operation.End how))
+end_code ends.Be = (refl, refl)
+end_code ends.Bec = (refl, refl)
+end_code ends.Beu = (refl, refl)
+
+-- ---- the last op of a statement
+
+abbrev pub last_op : Instr → OpData
+last_op i = (parted i).end
+
+-- what is known of the last op of a statement that doesn't jump
+record IsLast (m : Mnemonic) (op : OpData) : Type 0 where
+  code : IsCodeOf m op.code
+  stays : is_target op.operand ≡ false
+
+last_end : (s : Statement) (v : View) (e : Option EndOperation) → end_of s.code ≡ e
+    → IsLast s.code (last_op (end_instr s v e))
+last_end s v None is =
+    record { code = operation_code s.code s.operand v; stays = no_target s.operand v }
+last_end s v (Some how) is = record {
+  code = other_code s.code (code_of (operation.End how)) (no_end s.code how is) (end_code how);
+  stays = refl;
+}
+
+last_call : (c : Context) (s : Statement) (how : CallOperation) (v : View) → call_of s.code ≡ Some how
+    → IsLast s.code (last_op (call_instr c s how v))
+last_call c s how (view.Called id instance) is = record {
+  code = other_code s.code (code_of (operation.Call how)) (no_call s.code how is) (call_code how);
+  stays = refl;
+}
+last_call c s how _ is = record {
+  code = other_code s.code (code_of operation.Nop) (no_call s.code how is) (refl, refl);
+  stays = refl;
+}
+
+last_view : (c : Context) (s : Statement) (v : View) (call : Option CallOperation) → call_of s.code ≡ call
+    → IsLast s.code (last_op (view_instr c s v call))
+last_view c s v None is = last_end s v (end_of s.code) refl
+last_view c s v (Some how) is = last_call c s how v is
+
+-- a bracket stands with nothing, and is taken
+pub bracket_form : (m : Mnemonic) → is_bracket m ≡ true → form_of m ≡ form.Bare
+unfolding opening closes form_of
+bracket_form code.AOpen e = refl
+bracket_form code.AnOpen e = refl
+bracket_form code.OOpen e = refl
+bracket_form code.OnOpen e = refl
+bracket_form code.XOpen e = refl
+bracket_form code.XnOpen e = refl
+bracket_form code.Close e = refl
+bracket_form _ e = absurd cc
+
+abbrev resolved_by : Context → Form → Operand → Option View
+resolved_by c f o = if is_none (operand_rule c f o) then seen_view (seen c o) else None
+
+bare_resolved : (c : Context) → resolved_by c form.Bare operand.Nothing ≡ Some view.Nothing
+unfolding seen rule_of takes
+bare_resolved c = refl
+
+bracket_resolved : (c : Context) (s : Statement) → TakesRight s → is_bracket s.code ≡ true
+    → resolved c s ≡ Some view.Nothing
+unfolding resolved
+bracket_resolved c s h is =
+    ap (λ (f : Form). resolved_by c f s.operand) (bracket_form s.code is)
+    ∙ ap (resolved_by c form.Bare) (h.bare is) ∙ bare_resolved c
+
+last_resolved : (c : Context) (s : Statement) (v : Option View) → TakesRight s → resolved c s ≡ v
+    → IsLast s.code (last_op (resolved_instr c s v))
+last_resolved c s (Some v) h is = last_view c s v (call_of s.code) refl
+last_resolved c s None h is = by (is_bracket s.code) refl
+  where
+    by : (b : Bool) → is_bracket s.code ≡ b → IsLast s.code (last_op (resolved_instr c s None))
+    by true bracket = let found = bracket_resolved c s h bracket in absurd cc
+    by false bracket =
+        record { code = other_code s.code (code_of operation.Nop) bracket (refl, refl); stays = refl }
+
+jump_code : (how : JumpOperation) (n target : ℕ) → (last_op (jump_instr how n target)).code ≡ 0x6F
+jump_code jump.Jl n target = refl
+jump_code _ n target = refl
+
+-- where the last op of a statement jumps, if it does
+abbrev pub jumps_to : List Statement → Statement → Option JumpOperation → FlatOperand → Type 0
+jumps_to body s None o = is_target o ≡ false
+jumps_to body s (Some how) o = o ≡ flat.Jump (kind_of how) (target_of body s.operand)
+
+pub record IsLastOf (body : List Statement) (s : Statement) (op : OpData) : Type 0 where
+  code : IsCodeOf s.code op.code
+  pub jumps : jumps_to body s (jump_of s.code) op.operand
+
+jump_operand : (how : JumpOperation) (n target : ℕ)
+    → (last_op (jump_instr how n target)).operand ≡ flat.Jump (kind_of how) target
+jump_operand jump.Jl n target = refl
+jump_operand _ n target = refl
+
+pub last_of : (c : Context) (body : List Statement) (n : ℕ) (s : Statement) → TakesRight s
+    → IsLastOf body s (last_op (instruction c body n s))
+unfolding instruction
+last_of c body n s h =
+    let r = by (jump_of s.code) refl in record { code = r.0; jumps = r.1 }
+  where
+    by : (j : Option JumpOperation) → jump_of s.code ≡ j
+        → IsCodeOf s.code (last_op (instr_by c body n s j)).code
+        × jumps_to body s j (last_op (instr_by c body n s j)).operand
+    by None is =
+        let r = last_resolved c s (resolved c s) h refl in (r.code, r.stays)
+    by (Some how) is = (
+      subst (IsCodeOf s.code) (sym (jump_code how n (target_of body s.operand)))
+          (other_code s.code 0x6F (no_jump s.code how is) (refl, refl)),
+      jump_operand how n (target_of body s.operand),
+    )
+
+-- ---- brackets
+
+-- the codes of brackets
+abbrev pub codes_of : List Bracket → List ℕ
+codes_of bs = map (λ b. 0x18 + b.function) bs
+
+codes_one : (bs : List Bracket) (b : Bracket)
+    → codes_of (bs ++ b ∷ []) ≡ codes_of bs ++ (0x18 + b.function) ∷ []
+codes_one [] b = refl
+codes_one (x ∷ bs) b = ap (λ (z : List ℕ). (0x18 + x.function) ∷ z) (codes_one bs b)
+
+codes_take : (n : ℕ) (bs : List Bracket) → codes_of (take n bs) ≡ take n (codes_of bs)
+codes_take zero bs = refl
+codes_take (suc n) [] = refl
+codes_take (suc n) (b ∷ bs) = ap (λ (z : List ℕ). (0x18 + b.function) ∷ z) (codes_take n bs)
+
+codes_count : (bs : List Bracket) → length (codes_of bs) ≡ length bs
+codes_count bs = length-map bs (λ b. 0x18 + b.function)
+
+-- the brackets behind a statement, by what it is
+abbrev behind_by : List Bracket → (line : ℕ) → Option ℕ → Bool → List Bracket
+behind_by bs line None c = if c then take (length bs - 1) bs else bs
+behind_by bs line (Some function) c = bs ++ record { function = function; line = line } ∷ []
+
+behind_is : (bs : List Bracket) (s : Statement)
+    → behind bs s ≡ behind_by bs s.line (opening s.code) (closes s.code)
+behind_is bs s = by (opening s.code)
+  where
+    by : (o : Option ℕ) → opened bs s o ≡ behind_by bs s.line o (closes s.code)
+    by None = refl
+    by (Some function) = refl
+
+pub behind_codes : (bs : List Bracket) (body : List Statement) (s : Statement) (op : OpData)
+    → IsLastOf body s op → codes_behind op.code (codes_of bs) ≡ codes_of (behind bs s)
+behind_codes bs body s op h =
+    by (opening s.code) (closes s.code) h.code ∙ ap codes_of (sym (behind_is bs s))
+  where
+    by : (o : Option ℕ) (c : Bool) → IsCodeBy o c op.code
+        → codes_behind op.code (codes_of bs) ≡ codes_of (behind_by bs s.line o c)
+    by (Some function) c g =
+        ap (λ (t : Bool). if t then codes_of bs ++ op.code ∷ []
+        else if op.code == 0x1E then take (length (codes_of bs) - 1) (codes_of bs)
+        else codes_of bs) g.1
+        ∙ ap (λ (k : ℕ). codes_of bs ++ k ∷ []) g.0
+        ∙ sym (codes_one bs (record { function = function; line = s.line }))
+    by None true g =
+        ap (λ (k : ℕ). codes_behind k (codes_of bs)) g
+        ∙ ap (λ (k : ℕ). take (k - 1) (codes_of bs)) (codes_count bs)
+        ∙ sym (codes_take (length bs - 1) bs)
+    by None false g = rw g.0 (rw g.1 refl)
+
+none_there : (bs : List Bracket) → nat_eq (length bs) 0 ≡ false → is_empty (codes_of bs) ≡ false
+none_there [] e = absurd cc
+none_there (b ∷ bs) e = refl
+
+pub bracket_right : (bs : List Bracket) (body : List Statement) (s : Statement) (op : OpData)
+    → IsLastOf body s op → closes_none bs s ≡ false → is_eighth bs s ≡ false
+    → codes_fault op.code (codes_of bs) ≡ None
+bracket_right bs body s op h shut eighth = by (opening s.code) (closes s.code) h.code shut eighth
+  where
+    by : (o : Option ℕ) (c : Bool) → IsCodeBy o c op.code
+        → (c && nat_eq (length bs) 0) ≡ false → (is_some o && nat_le 7 (length bs)) ≡ false
+        → codes_fault op.code (codes_of bs) ≡ None
+    by (Some function) c g one more =
+        let few : nat_le 7 (length (codes_of bs)) ≡ false = ap (nat_le 7) (codes_count bs) ∙ more in
+        rw g.1 (rw few refl)
+    by None true g one more =
+        ap (λ (k : ℕ). codes_fault k (codes_of bs)) g
+        ∙ ap (λ (t : Bool). if t then Some 8 else None) (none_there bs one)
+    by None false g one more = rw g.0 (rw g.1 refl)
+
+-- ---- zones
+
+-- an op code that is none of `MCR(` and `)MCR`
+abbrev IsNoZone : ℕ → Type 0
+IsNoZone code = ((code == 0x07) ≡ false) × ((code == 0x08) ≡ false)
+
+operation_zones : (m : Mnemonic) (o : Operand) (v : View) → IsNoZone (code_of (operation_for m o v))
+unfolding operation_for
+operation_zones code.O o view.Nothing = (refl, refl)
+operation_zones code.O o _ = (refl, refl)
+operation_zones code.L o (view.Register register.Stw) = (refl, refl)
+operation_zones code.L o (view.Register _) = (refl, refl)
+operation_zones code.L o _ = (refl, refl)
+operation_zones code.T o (view.Register which) = (refl, refl)
+operation_zones code.T o _ = (refl, refl)
+operation_zones code.Lar1 o (view.Register which) = (refl, refl)
+operation_zones code.Lar1 o _ = (refl, refl)
+operation_zones code.Tar1 o (view.Register which) = (refl, refl)
+operation_zones code.Tar1 o _ = (refl, refl)
+operation_zones code.Add (operand.Constant (literal.Long value)) v = (refl, refl)
+operation_zones code.Add (operand.Constant _) v = (refl, refl)
+operation_zones code.Add _ v = (refl, refl)
+operation_zones _ o v = (refl, refl)
+
+end_zones : (s : Statement) (v : View) (e : Option EndOperation) → IsNoZone (last_op (end_instr s v e)).code
+end_zones s v None = operation_zones s.code s.operand v
+end_zones s v (Some ends.Be) = (refl, refl)
+end_zones s v (Some ends.Bec) = (refl, refl)
+end_zones s v (Some ends.Beu) = (refl, refl)
+
+call_zones : (c : Context) (s : Statement) (how : CallOperation) (v : View)
+    → IsNoZone (last_op (call_instr c s how v)).code
+call_zones c s calls.Call (view.Called id instance) = (refl, refl)
+call_zones c s calls.Uc (view.Called id instance) = (refl, refl)
+call_zones c s calls.Cc (view.Called id instance) = (refl, refl)
+call_zones c s how _ = (refl, refl)
+
+view_zones : (c : Context) (s : Statement) (v : View) (call : Option CallOperation)
+    → IsNoZone (last_op (view_instr c s v call)).code
+view_zones c s v None = end_zones s v (end_of s.code)
+view_zones c s v (Some how) = call_zones c s how v
+
+resolved_zones : (c : Context) (s : Statement) (v : Option View)
+    → IsNoZone (last_op (resolved_instr c s v)).code
+resolved_zones c s (Some v) = view_zones c s v (call_of s.code)
+resolved_zones c s None = (refl, refl)
+
+instr_zones : (c : Context) (body : List Statement) (n : ℕ) (s : Statement) (j : Option JumpOperation)
+    → IsNoZone (last_op (instr_by c body n s j)).code
+instr_zones c body n s None = resolved_zones c s (resolved c s)
+instr_zones c body n s (Some how) =
+    subst IsNoZone (sym (jump_code how n (target_of body s.operand))) (refl, refl)
+
+-- no statement opens or ends a zone
+pub last_leaves : (c : Context) (body : List Statement) (n : ℕ) (s : Statement)
+    → LeavesZones (last_op (instruction c body n s))
+unfolding instruction
+last_leaves c body n s =
+    let r = instr_zones c body n s (jump_of s.code) in record { opens_none = r.0; ends_none = r.1 }
+
+-- ---- ops that prepare
+
+passing_quiet : (ps : List Passing) → AllByRecursion IsQuiet (passing ps)
+passing_quiet [] = tt
+passing_quiet (p ∷ ps) = (record { opens = refl; closes = refl; zones = record { opens_none = refl; ends_none = refl }; stays = refl }, passing_quiet ps)
+
+opening_quiet : (use_db : Option ℕ) → AllByRecursion IsQuiet (opening_op use_db)
+opening_quiet None = tt
+opening_quiet (Some number) = (record { opens = refl; closes = refl; zones = record { opens_none = refl; ends_none = refl }; stays = refl }, tt)
+
+pub front_quiet : (i : Instr) → AllByRecursion IsQuiet (parted i).front
+front_quiet (Does use_db w o) = opening_quiet use_db
+front_quiet (Jumps how target) = tt
+front_quiet (JumpsByList targets otherwise) = tt
+front_quiet (Calls how block instance passings) = passing_quiet passings
+front_quiet (Returns how) = tt

@@ -1,0 +1,335 @@
+-- The operation of an instruction takes the width of its operand, writes no input, and prepares nothing.
+use Rattle.std.proofs.Common.{◌≡◌, ℕ, Bool, true, false, ◌&&◌, ◌||◌, not, Option, Some, None, refl, sym, ap, ◌∙◌}
+use Rattle.std.specs.Prelude.{if◌then◌else◌, nat_eq}
+use Rattle.plc_base.specs.declared.places.Area.{Area}
+use Rattle.plc_base.specs.declared.places.Area.TheVariants as area
+use Rattle.plc_base.specs.declared.places.Width.{Width}
+use Rattle.plc_base.specs.declared.places.Width.TheVariants as width
+use Rattle.flat_code.specs.Blocks.{Around, is_bad_place, is_input as is_input_parameter, lacks_own, lacks_width, own_parameter, prepares, writes as writes_code}
+use Rattle.flat_code.specs.OpCodes.{code_of}
+use Rattle.flat_code.specs.Table.{has_width as has_width_of, takes_of}
+use Rattle.flat_code.specs.Operations.{operation_of as operation_of_code}
+use Rattle.flat_code.specs.declared.table.Takes.{Takes}
+use Rattle.flat_code.specs.declared.operands.Operand.TheVariants as flat
+use Rattle.flat_code.specs.declared.operations.Operation.{Operation}
+use Rattle.stl_ast.specs.declared.blocks.PartKind.{PartKind}
+use Rattle.stl_ast.specs.declared.blocks.PartKind.TheVariants as part
+use Rattle.stl_ast.specs.declared.declarations.Simple.{Simple}
+use Rattle.stl_ast.specs.declared.literals.Literal.TheVariants as literal
+use Rattle.stl_ast.specs.declared.mnemonics.Mnemonic.{Mnemonic}
+use Rattle.stl_ast.specs.declared.mnemonics.Mnemonic.TheVariants as code
+use Rattle.stl_ast.specs.declared.operands.Numbered.{Numbered}
+use Rattle.stl_ast.specs.declared.operands.Numbered.TheVariants as numbered
+use Rattle.stl_ast.specs.declared.operands.Operand.{Operand}
+use Rattle.stl_ast.specs.declared.operands.Operand.TheVariants as operand
+use Rattle.block_layout.specs.Offsets.{width_of}
+use Rattle.stl_types.specs.Actuals.{is_input_section}
+use Rattle.stl_types.specs.Forms.{form_of}
+use Rattle.stl_types.specs.Kinds.{is_bit, is_composite, is_double_word, is_in_memory, width_in}
+use Rattle.stl_types.specs.Operands.{has_width, is_input, is_on_wrong_side, rule_of, takes, takes_width, writes}
+use Rattle.stl_types.specs.declared.forms.Form.{Form}
+use Rattle.stl_types.specs.declared.forms.Form.TheVariants as form
+use Rattle.stl_types.specs.declared.views.Register.{Register}
+use Rattle.stl_types.specs.declared.views.Register.TheVariants as register
+use Rattle.stl_types.specs.declared.views.Side.TheVariants as side
+use Rattle.stl_types.specs.declared.views.View.{View}
+use Rattle.stl_types.specs.declared.views.View.TheVariants as view
+use Rattle.stl_codegen.specs.Emitted.{ending}
+use Rattle.stl_codegen.specs.Operands.{is_db, numbered_operand, opened_by, operand_of, register_operand}
+use Rattle.stl_codegen.specs.Operations.{add_operation, load_pointer_operation, load_operation, or_operation, store_pointer_operation, transfer_operation, operation_for}
+use Rattle.sem_kept.specs.Operands.{IsOpenedFor, IsRightOperand}
+
+-- ---- what the rules of operands leave
+
+-- an operand that its instruction takes
+pub record IsAllowed (f : Form) (v : View) : Type 0 where
+  pub single : is_composite v ≡ false
+  pub taken : takes f v ≡ true
+  pub wide : has_width f (width_in v) ≡ true
+  pub side : is_on_wrong_side f v ≡ false
+  pub unwritten : (writes f && is_input v) ≡ false
+
+abbrev rule_by : (a b c d e : Bool) → Option ℕ
+rule_by a b c d e =
+    if a then Some 24
+    else if not b then Some 25
+    else if not c then Some 24
+    else if d then Some 25
+    else if e then Some 39
+    else None
+
+pub allowed : (f : Form) (v : View) → rule_of f v ≡ None → IsAllowed f v
+unfolding rule_of
+allowed f v e =
+    let all = chosen (is_composite v) (takes f v) (has_width f (width_in v)) (is_on_wrong_side f v) (writes f && is_input v) e in
+    record { single = all.0; taken = all.1; wide = all.2; side = all.3; unwritten = all.4 }
+  where
+    chosen : (a b c d e : Bool) → rule_by a b c d e ≡ None
+        → (a ≡ false) × (b ≡ true) × (c ≡ true) × (d ≡ false) × (e ≡ false)
+    chosen true b c d e h = absurd cc
+    chosen false false c d e h = absurd cc
+    chosen false true false d e h = absurd cc
+    chosen false true true true e h = absurd cc
+    chosen false true true false true h = absurd cc
+    chosen false true true false false h = (refl, refl, refl, refl, refl)
+
+-- ---- operations
+
+load_ordinary : (v : View) → prepares (code_of (load_operation v)) ≡ false
+load_ordinary (view.Register register.Stw) = refl
+load_ordinary (view.Register which) = refl
+load_ordinary _ = refl
+
+transfer_ordinary : (v : View) → prepares (code_of (transfer_operation v)) ≡ false
+transfer_ordinary (view.Register which) = refl
+transfer_ordinary _ = refl
+
+or_ordinary : (v : View) → prepares (code_of (or_operation v)) ≡ false
+or_ordinary view.Nothing = refl
+or_ordinary _ = refl
+
+load_pointer_ordinary : (v : View) → prepares (code_of (load_pointer_operation v)) ≡ false
+load_pointer_ordinary (view.Register which) = refl
+load_pointer_ordinary _ = refl
+
+store_pointer_ordinary : (v : View) → prepares (code_of (store_pointer_operation v)) ≡ false
+store_pointer_ordinary (view.Register which) = refl
+store_pointer_ordinary _ = refl
+
+add_ordinary : (o : Operand) → prepares (code_of (add_operation o)) ≡ false
+add_ordinary (operand.Constant (literal.Long value)) = refl
+add_ordinary _ = refl
+
+pub ordinary : (m : Mnemonic) (o : Operand) (v : View) → prepares (code_of (operation_for m o v)) ≡ false
+unfolding operation_for
+ordinary code.O o v = or_ordinary v
+ordinary code.L o v = load_ordinary v
+ordinary code.T o v = transfer_ordinary v
+ordinary code.Lar1 o v = load_pointer_ordinary v
+ordinary code.Tar1 o v = store_pointer_ordinary v
+ordinary code.Add o v = add_ordinary o
+ordinary _ o v = refl
+
+-- a place in memory stands for all of them
+abbrev in_memory : View
+in_memory = view.Direct (record { area = area.M; number = 0; byte = 0; bit = 0 }) width.Bit side.Both None
+
+or_same : (v : View) → is_in_memory v ≡ true → or_operation v ≡ or_operation in_memory
+or_same view.Nothing h = absurd cc
+or_same _ h = refl
+
+load_same : (v : View) → is_in_memory v ≡ true → load_operation v ≡ load_operation in_memory
+load_same (view.Register which) h = absurd cc
+load_same _ h = refl
+
+transfer_same : (v : View) → is_in_memory v ≡ true → transfer_operation v ≡ transfer_operation in_memory
+transfer_same (view.Register which) h = absurd cc
+transfer_same _ h = refl
+
+load_pointer_same : (v : View) → is_in_memory v ≡ true
+    → load_pointer_operation v ≡ load_pointer_operation in_memory
+load_pointer_same (view.Register which) h = absurd cc
+load_pointer_same _ h = refl
+
+store_pointer_same : (v : View) → is_in_memory v ≡ true
+    → store_pointer_operation v ≡ store_pointer_operation in_memory
+store_pointer_same (view.Register which) h = absurd cc
+store_pointer_same _ h = refl
+
+memory_word : (m : Mnemonic) (o : Operand) (v : View) → is_in_memory v ≡ true
+    → operation_for m o v ≡ operation_for m o in_memory
+unfolding operation_for
+memory_word code.O o v h = or_same v h
+memory_word code.L o v h = load_same v h
+memory_word code.T o v h = transfer_same v h
+memory_word code.Lar1 o v h = load_pointer_same v h
+memory_word code.Tar1 o v h = store_pointer_same v h
+memory_word _ o v h = refl
+
+or_true : (a b c d : Bool) → (a ≡ false) → (b ≡ true → d ≡ true) → (c ≡ true → d ≡ true)
+    → ((a || b) || c) ≡ true → d ≡ true
+or_true true b c d h k l e = absurd cc
+or_true false true c d h k l e = k refl
+or_true false false true d h k l e = l refl
+or_true false false false d h k l e = absurd cc
+
+-- what takes a place takes one with an address of its own
+memory_form : (f : Form) (v : View) → is_in_memory v ≡ true → takes f v ≡ true
+    → takes f in_memory ≡ true
+unfolding takes
+memory_form f (view.Direct place w s declared) h k = direct f k
+  where
+    direct : (f : Form) → takes f (view.Direct place w s declared) ≡ true → takes f in_memory ≡ true
+    direct form.Bare k = absurd cc
+    direct _ k = k
+memory_form f (view.Parameter index section declared) h k = other f k
+  where
+    other : (f : Form) → takes f (view.Parameter index section declared) ≡ true → takes f in_memory ≡ true
+    other form.LoadsAr1 k = refl
+    other form.LoadsAr2 k = refl
+    other form.StoresAr1 k = refl
+    other form.StoresAr2 k = refl
+    other _ k = k
+memory_form f (view.ByMemory a w from byte) h k = other f k
+  where
+    other : (f : Form) → takes f (view.ByMemory a w from byte) ≡ true → takes f in_memory ≡ true
+    other form.LoadsAr1 k = refl
+    other form.LoadsAr2 k = refl
+    other form.StoresAr1 k = refl
+    other form.StoresAr2 k = refl
+    other _ k = k
+memory_form f (view.ByRegister a w r bits) h k = other f k
+  where
+    other : (f : Form) → takes f (view.ByRegister a w r bits) ≡ true → takes f in_memory ≡ true
+    other form.LoadsAr1 k = refl
+    other form.LoadsAr2 k = refl
+    other form.StoresAr1 k = refl
+    other form.StoresAr2 k = refl
+    other _ k = k
+memory_form f _ h k = absurd cc
+
+bit_only : (t : Takes) → has_width_of t width.Bit ≡ true → (w : Width) → is_bit (Some w) ≡ true
+    → has_width_of t w ≡ true
+bit_only t e width.Bit k = e
+bit_only t e _ k = absurd cc
+
+no_bit : (t : Takes) → has_width_of t width.Byte ≡ true → has_width_of t width.Word ≡ true
+    → has_width_of t width.Dword ≡ true → (w : Width) → not (is_bit (Some w)) ≡ true
+    → has_width_of t w ≡ true
+no_bit t e f g width.Bit k = absurd cc
+no_bit t e f g width.Byte k = e
+no_bit t e f g width.Word k = f
+no_bit t e f g width.Dword k = g
+
+dword_only : (t : Takes) → has_width_of t width.Dword ≡ true → (w : Width)
+    → is_double_word (Some w) ≡ true → has_width_of t w ≡ true
+dword_only t e width.Dword k = e
+dword_only t e _ k = absurd cc
+
+-- what the operation of a mnemonic takes
+abbrev operation_takes : Mnemonic → Operand → Takes
+operation_takes m o = takes_of (code_of (operation_for m o in_memory))
+
+widths : (m : Mnemonic) (o : Operand) (w : Width) → takes (form_of m) in_memory ≡ true
+    → takes_width (form_of m) (Some w) ≡ true → has_width_of (operation_takes m o) w ≡ true
+unfolding takes takes_width form_of takes_of operation_for operation_of_code
+widths code.A o w h k = bit_only (operation_takes code.A o) refl w k
+widths code.An o w h k = bit_only (operation_takes code.An o) refl w k
+widths code.O o w h k = bit_only (operation_takes code.O o) refl w k
+widths code.On o w h k = bit_only (operation_takes code.On o) refl w k
+widths code.X o w h k = bit_only (operation_takes code.X o) refl w k
+widths code.Xn o w h k = bit_only (operation_takes code.Xn o) refl w k
+widths code.Assign o w h k = bit_only (operation_takes code.Assign o) refl w k
+widths code.Fp o w h k = bit_only (operation_takes code.Fp o) refl w k
+widths code.Fn o w h k = bit_only (operation_takes code.Fn o) refl w k
+widths code.S o w h k = bit_only (operation_takes code.S o) refl w k
+widths code.R o w h k = bit_only (operation_takes code.R o) refl w k
+widths code.L o w h k = no_bit (operation_takes code.L o) refl refl refl w k
+widths code.T o w h k = no_bit (operation_takes code.T o) refl refl refl w k
+widths code.Lar1 o w h k = dword_only (operation_takes code.Lar1 o) refl w k
+widths code.Lar2 o w h k = dword_only (operation_takes code.Lar2 o) refl w k
+widths code.Tar1 o w h k = dword_only (operation_takes code.Tar1 o) refl w k
+widths code.Tar2 o w h k = dword_only (operation_takes code.Tar2 o) refl w k
+widths _ o w h k = absurd cc
+
+no_lack : (m : Mnemonic) (o : Operand) (v : View) (w : Width) → is_in_memory v ≡ true
+    → width_in v ≡ Some w → IsAllowed (form_of m) v
+    → lacks_width (ending (operation_for m o v) (operand_of o v)) w ≡ false
+no_lack m o v w mem is h =
+    ap (λ (x : Operation). not (has_width_of (takes_of (code_of x)) w)) (memory_word m o v mem)
+    ∙ ap not (widths m o w (memory_form (form_of m) v mem h.taken)
+    (ap (λ (x : Option Width). has_width (form_of m) x) (sym is) ∙ h.wide))
+
+-- what writes has a form that writes
+unwritten : (m : Mnemonic) (o : Operand) (index : ℕ) (section : PartKind) (declared : Simple) (b : Bool)
+    → (writes (form_of m) && b) ≡ false
+    → (writes_code (code_of (operation_for m o (view.Parameter index section declared))) && b) ≡ false
+unfolding form_of operation_for
+unwritten code.T o index section declared b h = h
+unwritten code.Assign o index section declared b h = h
+unwritten code.S o index section declared b h = h
+unwritten code.R o index section declared b h = h
+unwritten code.Fp o index section declared b h = h
+unwritten code.Fn o index section declared b h = h
+unwritten code.Add o index section declared b h = added o
+  where
+    added : (o : Operand) → (writes_code (code_of (add_operation o)) && b) ≡ false
+    added (operand.Constant (literal.Long value)) = refl
+    added _ = refl
+unwritten _ o index section declared b h = refl
+
+input_section : (index : ℕ) (section : PartKind) (declared : Simple)
+    → is_input (view.Parameter index section declared) ≡ is_input_section section
+input_section index part.Input declared = refl
+input_section index _ declared = refl
+
+-- ---- operands
+
+-- what a view names fits what surrounds the block, whatever the instruction; a variable has the
+-- width of its type
+abbrev pub HasWidth : Width → Option Simple → Type 0
+HasWidth w None = Unit {0}
+HasWidth w (Some kind) = w ≡ width_of kind
+
+abbrev pub ViewFits : Around → View → Type 0
+ViewFits a (view.Direct place w s declared) =
+    (is_bad_place a place.area w place.byte place.bit ≡ false) × HasWidth w declared
+ViewFits a (view.Parameter index section declared) =
+    (lacks_own (own_parameter a index) (width_of declared) ≡ false)
+    × (is_input_parameter (own_parameter a index) ≡ is_input_section section)
+ViewFits a _ = Unit {0}
+
+numbered_fits : (a : Around) (w : Operation) (what : Numbered) (from : Area) (byte : ℕ)
+    → IsRightOperand a (ending w (numbered_operand what from byte)) (numbered_operand what from byte)
+numbered_fits a w numbered.Timer from byte = tt
+numbered_fits a w numbered.Counter from byte = tt
+numbered_fits a w numbered.Db from byte = tt
+numbered_fits a w numbered.Di from byte = tt
+
+register_fits : (a : Around) (w : Operation) (which : Register)
+    → IsRightOperand a (ending w (register_operand which)) (register_operand which)
+register_fits a w register.Dblg = tt
+register_fits a w register.Dbno = tt
+register_fits a w register.Dilg = tt
+register_fits a w register.Dino = tt
+register_fits a w _ = tt
+
+pub operand_fits : (a : Around) (m : Mnemonic) (o : Operand) (v : View) → IsAllowed (form_of m) v
+    → ViewFits a v
+    → IsRightOperand a (ending (operation_for m o v) (operand_of o v)) (operand_of o v)
+unfolding operand_of
+operand_fits a m o (view.Direct place w s declared) h fits =
+    (no_lack m o (view.Direct place w s declared) w refl refl h, fits.0)
+operand_fits a m o (view.Parameter index section declared) h fits = (
+  no_lack m o (view.Parameter index section declared) (width_of declared) refl refl h,
+  fits.0,
+  unwritten m o index section declared (is_input_parameter (own_parameter a index))
+      (ap (λ (b : Bool). writes (form_of m) && b)
+      (fits.1 ∙ sym (input_section index section declared)) ∙ h.unwritten),
+)
+operand_fits a m o (view.ByMemory ar w from byte) h fits =
+    no_lack m o (view.ByMemory ar w from byte) w refl refl h
+operand_fits a m o (view.ByRegister ar w r bits) h fits =
+    no_lack m o (view.ByRegister ar w r bits) w refl refl h
+operand_fits a m o (view.NumberBy what from byte) h fits =
+    numbered_fits a (operation_for m o (view.NumberBy what from byte)) what from byte
+operand_fits a m o (view.Register which) h fits =
+    register_fits a (operation_for m o (view.Register which)) which
+operand_fits a m o _ h fits = tt
+
+opened_for : (ar : Area) (w : Width) (number byte bit : ℕ)
+    → IsOpenedFor (flat.Direct ar w byte bit)
+    (if is_db ar && not (nat_eq number 0) then Some number else None)
+opened_for area.Db w number byte bit = by (nat_eq number 0)
+  where
+    by : (none : Bool) → IsOpenedFor (flat.Direct area.Db w byte bit)
+        (if true && not none then Some number else None)
+    by true = tt
+    by false = refl
+opened_for _ w number byte bit = tt
+
+pub opened_fits : (o : Operand) (v : View) → IsOpenedFor (operand_of o v) (opened_by v)
+unfolding operand_of
+opened_fits o (view.Direct place w s declared) =
+    opened_for place.area w place.number place.byte place.bit
+opened_fits o _ = tt

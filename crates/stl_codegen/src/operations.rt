@@ -1,0 +1,243 @@
+ghost use Rattle.std.specs.Prelude.{◌≡◌};
+ghost use Rattle.stl_codegen.specs.Operations.{
+  add_operation,
+  call_of,
+  end_of,
+  jump_of,
+  load_pointer_operation,
+  load_operation,
+  or_operation,
+  store_pointer_operation,
+  transfer_operation,
+  operation_for,
+};
+
+use flat_code::{
+    Adding, CallOperation, EndOperation, JumpOperation, Logic, Number, Operation, PointerOperation,
+    Shift,
+};
+use plc_base::{Check, Compare, TimerKind};
+use stl_ast::{Literal, Mnemonic, Operand};
+use stl_types::{Register, View};
+
+/// The jump that an instruction is, if it is one.
+pub(crate) fn jump_of(code: Mnemonic) -> Option<JumpOperation>
+    ensures { result ≡ jump_of code }
+{
+    match code {
+        Mnemonic::Ju => Some(JumpOperation::Ju),
+        Mnemonic::Jl => Some(JumpOperation::Jl),
+        Mnemonic::Jc => Some(JumpOperation::Jc),
+        Mnemonic::Jcn => Some(JumpOperation::Jcn),
+        Mnemonic::Jcb => Some(JumpOperation::Jcb),
+        Mnemonic::Jnb => Some(JumpOperation::Jnb),
+        Mnemonic::Jbi => Some(JumpOperation::Jbi),
+        Mnemonic::Jnbi => Some(JumpOperation::Jnbi),
+        Mnemonic::Jo => Some(JumpOperation::Jo),
+        Mnemonic::Jos => Some(JumpOperation::Jos),
+        Mnemonic::Jz => Some(JumpOperation::Jz),
+        Mnemonic::Jn => Some(JumpOperation::Jn),
+        Mnemonic::Jp => Some(JumpOperation::Jp),
+        Mnemonic::Jm => Some(JumpOperation::Jm),
+        Mnemonic::Jpz => Some(JumpOperation::Jpz),
+        Mnemonic::Jmz => Some(JumpOperation::Jmz),
+        Mnemonic::Juo => Some(JumpOperation::Juo),
+        Mnemonic::Loop => Some(JumpOperation::Loop),
+        _ => None,
+    }
+}
+
+/// The call that an instruction is, if it is one.
+pub(crate) fn call_of(code: Mnemonic) -> Option<CallOperation>
+    ensures { result ≡ call_of code }
+{
+    match code {
+        Mnemonic::Call => Some(CallOperation::Call),
+        Mnemonic::Uc => Some(CallOperation::Uc),
+        Mnemonic::Cc => Some(CallOperation::Cc),
+        _ => None,
+    }
+}
+
+/// The end of a block that an instruction is, if it is one.
+pub(crate) fn end_of(code: Mnemonic) -> Option<EndOperation>
+    ensures { result ≡ end_of code }
+{
+    match code {
+        Mnemonic::Be => Some(EndOperation::Be),
+        Mnemonic::Bec => Some(EndOperation::Bec),
+        Mnemonic::Beu => Some(EndOperation::Beu),
+        _ => None,
+    }
+}
+
+/// O without operand is AND before OR.
+fn or_operation(view: View) -> Operation
+    ensures { result ≡ or_operation view }
+{
+    match view {
+        View::Nothing => Operation::OrBare,
+        _ => Operation::Check(Check::O),
+    }
+}
+
+fn load_operation(view: View) -> Operation
+    ensures { result ≡ load_operation view }
+{
+    match view {
+        View::Register { which } => match which {
+            Register::Stw => Operation::LoadStatus,
+            _ => Operation::LoadOpenBlock,
+        },
+        _ => Operation::Load,
+    }
+}
+
+fn transfer_operation(view: View) -> Operation
+    ensures { result ≡ transfer_operation view }
+{
+    match view {
+        View::Register { .. } => Operation::TransferStatus,
+        _ => Operation::Transfer,
+    }
+}
+
+/// LAR1, with address register 2 too.
+fn load_pointer_operation(view: View) -> Operation
+    ensures { result ≡ load_pointer_operation view }
+{
+    match view {
+        View::Register { .. } => Operation::Pointer(PointerOperation::Lar1Ar2),
+        _ => Operation::Pointer(PointerOperation::Lar1),
+    }
+}
+
+/// TAR1, with address register 2 too.
+fn store_pointer_operation(view: View) -> Operation
+    ensures { result ≡ store_pointer_operation view }
+{
+    match view {
+        View::Register { .. } => Operation::Pointer(PointerOperation::Tar1Ar2),
+        _ => Operation::Pointer(PointerOperation::Tar1),
+    }
+}
+
+/// `+` with a constant of 16 or of 32 bits.
+fn add_operation(operand: &Operand) -> Operation
+    ensures { result ≡ add_operation operand.now }
+{
+    match operand {
+        Operand::Constant {
+            value: Literal::Long { .. },
+        } => Operation::Add(Adding::Dword),
+        _ => Operation::Add(Adding::Word),
+    }
+}
+
+/// The operation of an instruction that goes on to the next statement, by what its operand names.
+#[tactic(auto, unfolding(crate::specs::Operations::operation_for))]
+pub(crate) fn operation_for(code: Mnemonic, operand: &Operand, view: View) -> Operation
+    ensures { result ≡ operation_for code operand.now view }
+{
+    match code {
+        Mnemonic::Nop => Operation::Nop,
+        Mnemonic::Bld => Operation::Bld,
+        Mnemonic::A => Operation::Check(Check::A),
+        Mnemonic::An => Operation::Check(Check::An),
+        Mnemonic::O => or_operation(view),
+        Mnemonic::On => Operation::Check(Check::On),
+        Mnemonic::X => Operation::Check(Check::X),
+        Mnemonic::Xn => Operation::Check(Check::Xn),
+        Mnemonic::AOpen => Operation::Nest(Check::A),
+        Mnemonic::AnOpen => Operation::Nest(Check::An),
+        Mnemonic::OOpen => Operation::Nest(Check::O),
+        Mnemonic::OnOpen => Operation::Nest(Check::On),
+        Mnemonic::XOpen => Operation::Nest(Check::X),
+        Mnemonic::XnOpen => Operation::Nest(Check::Xn),
+        Mnemonic::Close => Operation::Unnest,
+        Mnemonic::L => load_operation(view),
+        Mnemonic::T => transfer_operation(view),
+        Mnemonic::Assign => Operation::Assign,
+        Mnemonic::S => Operation::Set,
+        Mnemonic::R => Operation::Reset,
+        Mnemonic::Fp => Operation::Edge { rising: true },
+        Mnemonic::Fn => Operation::Edge { rising: false },
+        Mnemonic::Set => Operation::SetRlo,
+        Mnemonic::Clr => Operation::ClearRlo,
+        Mnemonic::Not => Operation::NegateRlo,
+        Mnemonic::Save => Operation::SaveRlo,
+        Mnemonic::Lc => Operation::LoadBcd,
+        Mnemonic::Lar1 => load_pointer_operation(view),
+        Mnemonic::Lar2 => Operation::Pointer(PointerOperation::Lar2),
+        Mnemonic::Tar1 => store_pointer_operation(view),
+        Mnemonic::Tar2 => Operation::Pointer(PointerOperation::Tar2),
+        Mnemonic::Car => Operation::Pointer(PointerOperation::Car),
+        Mnemonic::AddAr1 => Operation::Pointer(PointerOperation::AddAr1),
+        Mnemonic::AddAr2 => Operation::Pointer(PointerOperation::AddAr2),
+        Mnemonic::Tak => Operation::Number(Number::Tak),
+        Mnemonic::Push => Operation::Number(Number::Push),
+        Mnemonic::Pop => Operation::Number(Number::Pop),
+        Mnemonic::Caw => Operation::Number(Number::Caw),
+        Mnemonic::Cad => Operation::Number(Number::Cad),
+        Mnemonic::Inc => Operation::Add(Adding::Inc),
+        Mnemonic::Dec => Operation::Add(Adding::Dec),
+        Mnemonic::Add => add_operation(operand),
+        Mnemonic::AddI => Operation::Number(Number::AddI),
+        Mnemonic::SubI => Operation::Number(Number::SubI),
+        Mnemonic::MulI => Operation::Number(Number::MulI),
+        Mnemonic::DivI => Operation::Number(Number::DivI),
+        Mnemonic::AddD => Operation::Number(Number::AddD),
+        Mnemonic::SubD => Operation::Number(Number::SubD),
+        Mnemonic::MulD => Operation::Number(Number::MulD),
+        Mnemonic::DivD => Operation::Number(Number::DivD),
+        Mnemonic::Mod => Operation::Number(Number::Mod),
+        Mnemonic::EqI => Operation::CompareInt(Compare::Eq),
+        Mnemonic::NeI => Operation::CompareInt(Compare::Ne),
+        Mnemonic::GtI => Operation::CompareInt(Compare::Gt),
+        Mnemonic::LtI => Operation::CompareInt(Compare::Lt),
+        Mnemonic::GeI => Operation::CompareInt(Compare::Ge),
+        Mnemonic::LeI => Operation::CompareInt(Compare::Le),
+        Mnemonic::EqD => Operation::CompareDint(Compare::Eq),
+        Mnemonic::NeD => Operation::CompareDint(Compare::Ne),
+        Mnemonic::GtD => Operation::CompareDint(Compare::Gt),
+        Mnemonic::LtD => Operation::CompareDint(Compare::Lt),
+        Mnemonic::GeD => Operation::CompareDint(Compare::Ge),
+        Mnemonic::LeD => Operation::CompareDint(Compare::Le),
+        Mnemonic::Bti => Operation::Number(Number::Bti),
+        Mnemonic::Itb => Operation::Number(Number::Itb),
+        Mnemonic::Btd => Operation::Number(Number::Btd),
+        Mnemonic::Dtb => Operation::Number(Number::Dtb),
+        Mnemonic::Itd => Operation::Number(Number::Itd),
+        Mnemonic::Invi => Operation::Number(Number::Invi),
+        Mnemonic::Invd => Operation::Number(Number::Invd),
+        Mnemonic::Negi => Operation::Number(Number::Negi),
+        Mnemonic::Negd => Operation::Number(Number::Negd),
+        Mnemonic::Aw => Operation::Logic(Logic::Aw),
+        Mnemonic::Ow => Operation::Logic(Logic::Ow),
+        Mnemonic::Xow => Operation::Logic(Logic::Xow),
+        Mnemonic::Ad => Operation::Logic(Logic::Ad),
+        Mnemonic::Od => Operation::Logic(Logic::Od),
+        Mnemonic::Xod => Operation::Logic(Logic::Xod),
+        Mnemonic::Ssi => Operation::Shift(Shift::Ssi),
+        Mnemonic::Ssd => Operation::Shift(Shift::Ssd),
+        Mnemonic::Slw => Operation::Shift(Shift::Slw),
+        Mnemonic::Srw => Operation::Shift(Shift::Srw),
+        Mnemonic::Sld => Operation::Shift(Shift::Sld),
+        Mnemonic::Srd => Operation::Shift(Shift::Srd),
+        Mnemonic::Rld => Operation::Shift(Shift::Rld),
+        Mnemonic::Rrd => Operation::Shift(Shift::Rrd),
+        Mnemonic::Rlda => Operation::Number(Number::Rlda),
+        Mnemonic::Rrda => Operation::Number(Number::Rrda),
+        Mnemonic::Sp => Operation::Start(TimerKind::Sp),
+        Mnemonic::Se => Operation::Start(TimerKind::Se),
+        Mnemonic::Sd => Operation::Start(TimerKind::Sd),
+        Mnemonic::Ss => Operation::Start(TimerKind::Ss),
+        Mnemonic::Sf => Operation::Start(TimerKind::Sf),
+        Mnemonic::Fr => Operation::Free,
+        Mnemonic::Cu => Operation::CountUp,
+        Mnemonic::Cd => Operation::CountDown,
+        Mnemonic::Opn => Operation::OpenBlock,
+        Mnemonic::Cdb => Operation::Exchange,
+        _ => Operation::NoOperation,
+    }
+}
