@@ -1,0 +1,28 @@
+-- The list of a board.
+use Rattle.std.specs.Prelude.{ℕ, ◌<◌, List, [], ◌∷◌, Option, None, IfSome}
+use Rattle.std.specs.List.{last_or}
+use Rattle.logbook.specs.Pages.{Book}
+use Rattle.watch_board.specs.declared.shown.Shown.{Shown}
+
+-- what a board shows at first: no entry, no reply
+abbrev pub opening : Shown
+opening = record { length = 0; reply = None }
+
+-- lengths rise from each item to the next
+abbrev pub Rising : List Shown → Type 0
+Rising [] = Unit {0}
+Rising (x ∷ []) = Unit {0}
+Rising (x ∷ y ∷ ys) = (x.length < y.length) × Rising (y ∷ ys)
+
+-- the last item, if there is one
+abbrev pub last_of : List Shown → Option Shown
+last_of list = last_or None list
+
+-- the item may be published behind this list: its length is above that of the last item
+abbrev pub MayFollow : List Shown → Shown → Type 0
+MayFollow list item = IfSome (last_of list) (λ last. last.length < item.length)
+
+-- What contracts see of a publisher, a viewer and a note: which board, and a list of what was published on it, the opening item first.
+pub record Known : Type 0 where
+  pub board : Book
+  pub list : List Shown

@@ -1,0 +1,3 @@
+pub mod BoardList
+pub mod ListRule
+pub mod Views

@@ -1,0 +1,48 @@
+//! What a board shows.
+ghost use Rattle.std.specs.Prelude.{◌≡◌};
+ghost use Rattle.watch_board.specs.BoardList.{opening};
+
+use var_access::Reply;
+
+/// An item of a board: the number of an entry in a history, from 1, and what it was answered.
+#[derive(Debug, Drop, PartialEq, Eq)]
+pub struct Shown {
+    pub length: u64,
+    pub reply: Option<Reply>,
+}
+
+impl Shown {
+    /// The item that a board begins with.
+    pub(crate) fn opening() -> Shown
+        ensures { result ≡ opening }
+    {
+        Shown {
+            length: 0,
+            reply: None,
+        }
+    }
+
+    /// The same item once more. It takes no memory.
+    pub(crate) fn copied(&self) -> Shown
+        ensures { result ≡ self.now }
+    {
+        let length = self.length;
+        // each case makes its item in one piece: a reply that is moved is moved with its room for records
+        match &self.reply {
+            None => Shown {
+                length,
+                reply: None,
+            },
+            Some(Reply::Values { values }) => Shown {
+                length,
+                reply: Some(Reply::Values {
+                    values: values.copied(),
+                }),
+            },
+            Some(reply) => Shown {
+                length,
+                reply: Some(reply.copied()),
+            },
+        }
+    }
+}
