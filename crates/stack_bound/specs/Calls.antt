@@ -1,0 +1,42 @@
+-- Which blocks of a program call which.
+use Rattle.std.specs.Prelude.{◌≡◌, ◌⊎◌, ℕ, List, [], ◌∷◌, Option, Some, None}
+use Rattle.std.specs.Option.{option_map}
+use Rattle.plc_base.specs.declared.blocks.BlockId.{BlockId}
+use Rattle.plc_base.specs.declared.blocks.BlockKind.{BlockKind}
+use Rattle.flat_code.specs.Forms.{kind_of_code}
+use Rattle.flat_code.specs.Operations.{operation_of}
+use Rattle.flat_code.specs.Ops.{OpData}
+use Rattle.flat_code.specs.Programs.{CodeBlock, Program}
+use Rattle.flat_code.specs.declared.operands.Operand.{Operand}
+use Rattle.flat_code.specs.declared.operands.Operand.TheVariants as operand
+use Rattle.flat_code.specs.declared.operations.Operation.{Operation}
+use Rattle.flat_code.specs.declared.operations.Operation.TheVariants as operation
+use Rattle.image_file.specs.Readers.{block_of}
+
+-- a block of a kind and number
+abbrev pub block_named : (number : ℕ) → BlockKind → BlockId
+block_named number kind = record { kind = kind; number = number }
+
+-- the block that CALL, UC or CC names; no other operation calls one
+abbrev pub callee_in : Operation → Operand → Option BlockId
+callee_in (operation.Call how) (operand.Called kind number instance) =
+    option_map (block_named number) (kind_of_code kind)
+callee_in _ _ = None
+
+-- the block that an op calls
+abbrev pub callee_of : OpData → Option BlockId
+callee_of op = callee_in (operation_of op.code) op.operand
+
+-- the code has CALL, UC or CC of this block
+abbrev pub CallsIn : List OpData → BlockId → Type 0
+CallsIn [] called = ⊥
+CallsIn (op ∷ ops) called = (callee_of op ≡ Some called) ⊎ CallsIn ops called
+
+-- a loaded block calls a loaded block, which may be itself, where its code has CALL, UC or CC of it. A
+-- system function is none: no program has code of it
+pub record Calls (p : Program) (caller called : BlockId) : Type 0 where
+  pub from : CodeBlock
+  pub to : CodeBlock
+  pub is_loaded : block_of caller p.code_blocks ≡ Some from
+  pub called_is_loaded : block_of called p.code_blocks ≡ Some to
+  pub calls : CallsIn from.code called

@@ -1,0 +1,126 @@
+-- The text of a certificate, both ways: a line `KIND n DEPTH d BYTES b` for each bound.
+use Rattle.std.specs.Prelude.{◌≡◌, ℕ, ◌==◌, ◌+◌, ◌&&◌, ◌||◌, Bool, true, false, bytes_eq, codes, decimal, is_some, length, nat_eq, if◌then◌else◌, List, [], ◌∷◌, ◌++◌, Option, Some, None, Result, Ok, Err}
+use Rattle.std.specs.List.{flat_map, starts_with}
+use Rattle.std.specs.Str.Lines.{lines}
+use Rattle.plc_base.specs.declared.blocks.BlockId.{BlockId}
+use Rattle.plc_base.specs.declared.blocks.BlockKind.{BlockKind}
+use Rattle.plc_base.specs.declared.blocks.BlockKind.TheVariants.{Ob, Fc, Fb}
+use Rattle.plc_base.specs.declared.refusals.Refusal.{Refusal}
+use Rattle.flat_code.specs.Programs.{Program}
+use Rattle.image_file.specs.Readers.{block_of}
+use Rattle.monitor.specs.LineText.{kind_text}
+use Rattle.var_access.specs.Readings.{Reading, address_number, both, no_line, reading_map, words_of}
+use Rattle.stack_bound.specs.Order.{is_before}
+use Rattle.stack_bound.specs.declared.certificates.Bound.{Bound}
+use Rattle.stack_bound.specs.declared.texts.CertificateFault.{CertificateFault}
+use Rattle.stack_bound.specs.declared.texts.CertificateFault.TheVariants.{BadLine, NoMemory}
+
+-- ---- written
+
+-- the line of a bound
+unfoldable pub bound_text : Bound → List ℕ
+bound_text b =
+    kind_text b.block.kind ++ (codes " " ++ (decimal b.block.number ++ (codes " DEPTH " ++ (decimal b.depth
+    ++ (codes " BYTES " ++ (decimal b.bytes ++ codes "\n"))))))
+
+-- those of a list, one behind the other
+abbrev pub certificate_text : List Bound → List ℕ
+certificate_text list = flat_map bound_text list
+
+-- ---- read
+
+-- the kind of a code block; another word isn't in the grammar
+abbrev pub kind_of_word : List ℕ → Reading BlockKind
+kind_of_word word =
+    if bytes_eq word (codes "OB") then Ok Ob
+    else if bytes_eq word (codes "FC") then Ok Fc
+    else if bytes_eq word (codes "FB") then Ok Fb
+    else no_line
+
+-- a bound of its kind, number, depth and bytes
+abbrev pub bound_of_parts : (BlockKind × ℕ) × (ℕ × ℕ) → Bound
+bound_of_parts p = record {
+  block = record { kind = p.0.0; number = p.0.1 };
+  depth = p.1.0;
+  bytes = p.1.1;
+}
+
+-- a block, and its two numbers; each number is one of 0 to 65,535, else rule 2
+abbrev pub parts_read : (kind number depth bytes : List ℕ) → Reading ((BlockKind × ℕ) × (ℕ × ℕ))
+parts_read kind number depth bytes =
+    both (both (kind_of_word kind) (address_number number)) (both (address_number depth) (address_number bytes))
+
+-- the words of a line: all six, with DEPTH and BYTES in their places
+unfoldable pub bound_words : List (List ℕ) → Reading Bound
+bound_words (kind ∷ number ∷ first ∷ depth ∷ second ∷ bytes ∷ []) =
+    if bytes_eq first (codes "DEPTH") && bytes_eq second (codes "BYTES")
+    then reading_map bound_of_parts (parts_read kind number depth bytes)
+    else no_line
+bound_words words = no_line
+
+-- a block stands behind the one of the line before, if there is one
+abbrev pub comes_behind : Option BlockId → BlockId → Bool
+comes_behind None block = true
+comes_behind (Some before) block = is_before before block
+
+-- rule 3: the block isn't loaded, or doesn't come behind the one before
+abbrev pub in_order : Program → Option BlockId → Reading Bound → Reading Bound
+in_order p before (Err rule) = Err rule
+in_order p before (Ok b) =
+    if is_some (block_of b.block p.code_blocks) && comes_behind before b.block then Ok b else Err 3
+
+-- the bound of a line behind one of a block
+abbrev pub bound_line : Program → Option BlockId → (line : List ℕ) → Reading Bound
+bound_line p before line = in_order p before (bound_words (words_of line))
+
+-- empty lines and lines that begin with `//` are skipped
+abbrev pub is_skipped : (line : List ℕ) → Bool
+is_skipped line = length line == 0 || starts_with nat_eq line (codes "//")
+
+-- bounds in front of those that follow, or the refusal of these
+abbrev pub in_front : List Bound → Result (List Bound) Refusal → Result (List Bound) Refusal
+in_front list (Ok more) = Ok (list ++ more)
+in_front list (Err refusal) = Err refusal
+
+-- a line's bound in front of those that follow, or the line's refusal
+abbrev pub line_first : (line : ℕ) → Reading Bound → (Bound → Result (List Bound) Refusal) → Result (List Bound) Refusal
+line_first line (Err rule) more = Err (record { line = line; rule = rule })
+line_first line (Ok b) more = in_front (b ∷ []) (more b)
+
+-- lines from one with this number on, behind one of a block
+unfoldable pub lines_read : Program → (line : ℕ) → Option BlockId → List (List ℕ) → Result (List Bound) Refusal
+lines_read p line before [] = Ok []
+lines_read p line before (text ∷ more) =
+    if is_skipped text then lines_read p (line + 1) before more
+    else line_first line (bound_line p before text) (λ b. lines_read p (line + 1) (Some b.block) more)
+
+-- a whole text, whose lines are counted from 1
+unfoldable pub certificate_of : Program → List ℕ → Result (List Bound) Refusal
+certificate_of p text = lines_read p 1 None (lines text)
+
+-- the first bad line with the least rule that it breaks; want of memory says nothing of the text
+abbrev pub IsFault : Result (List Bound) Refusal → CertificateFault → Type 0
+IsFault reading (BadLine line rule) = reading ≡ Err (record { line = line; rule = rule })
+IsFault reading NoMemory = Unit {0}
+
+-- what a right line leaves: the block and the bounds as they were, or its own block and its bound behind
+-- them
+abbrev pub IsTakenBy : Reading Bound → (after : Option BlockId) → (old new : List Bound) → Type 0
+IsTakenBy (Err rule) after old new = ⊥
+IsTakenBy (Ok b) after old new = (after ≡ Some b.block) × (new ≡ old ++ b ∷ [])
+
+-- by whether the line is skipped
+abbrev pub IsTakenIf : (skipped : Bool) → Reading Bound → (before after : Option BlockId) → (old new : List Bound) → Type 0
+IsTakenIf true reading before after old new = (after ≡ before) × (new ≡ old)
+IsTakenIf false reading before after old new = IsTakenBy reading after old new
+
+-- the same of a line of a program's certificate
+abbrev pub IsTaken : Program → (before after : Option BlockId) → (line : List ℕ) → (old new : List Bound) → Type 0
+IsTaken p before after line old new =
+    IsTakenIf (is_skipped line) (bound_line p before line) before after old new
+
+-- a line with this number that breaks the rule, and no lesser one
+abbrev pub IsLineFault : (number : ℕ) → Program → (before : Option BlockId) → (line : List ℕ) → CertificateFault → Type 0
+IsLineFault number p before line (BadLine at rule) =
+    (at ≡ number) × (is_skipped line ≡ false) × (bound_line p before line ≡ Err rule)
+IsLineFault number p before line NoMemory = Unit {0}

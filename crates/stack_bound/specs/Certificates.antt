@@ -1,0 +1,58 @@
+-- Certificates: for blocks, how deep calls go from each of them on, and how many local bytes that takes.
+use Rattle.std.specs.Prelude.{◌≡◌, ℕ, ◌+◌, ◌≤◌, if◌then◌else◌, List, [], ◌∷◌, Option, Some, None, IsSome}
+use Rattle.plc_base.specs.Profiles.{most_frames}
+use Rattle.plc_base.specs.declared.Profile.{Profile}
+use Rattle.plc_base.specs.declared.blocks.BlockId.{BlockId}
+use Rattle.plc_base.specs.declared.blocks.BlockKind.TheVariants.{Ob}
+use Rattle.flat_code.specs.Programs.{CodeBlock, Program}
+use Rattle.image_file.specs.Readers.{block_of, same_id}
+use Rattle.stack_bound.specs.Calls.{CallsIn}
+use Rattle.stack_bound.specs.Chains.{most_local_bytes}
+use Rattle.stack_bound.specs.declared.certificates.Bound.{Bound}
+
+-- what a certificate says of a block
+abbrev pub bound_of : BlockId → List Bound → Option Bound
+bound_of block [] = None
+bound_of block (b ∷ rest) = if same_id b.block block then Some b else bound_of block rest
+
+-- no block stands in the list twice
+abbrev pub AreOnce : List Bound → Type 0
+AreOnce [] = Unit {0}
+AreOnce (b ∷ rest) = (bound_of b.block rest ≡ None) × AreOnce rest
+
+-- each block of the list is a code block of the program
+abbrev pub AreLoaded : Program → List Bound → Type 0
+AreLoaded p [] = Unit {0}
+AreLoaded p (b ∷ rest) = IsSome (block_of b.block p.code_blocks) × AreLoaded p rest
+
+-- a bound that is there, and within the limits of an activation
+abbrev pub IsWithin : Profile → Option Bound → Type 0
+IsWithin profile None = ⊥
+IsWithin profile (Some b) = (b.depth ≤ most_frames profile) × (b.bytes ≤ most_local_bytes)
+
+-- a bound counts its block, and the local bytes of it
+abbrev pub CountsItself : (local_len : ℕ) → Option Bound → Type 0
+CountsItself local_len None = Unit {0}
+CountsItself local_len (Some b) = (1 ≤ b.depth) × (local_len ≤ b.bytes)
+
+-- and one block more than that of a called block, and its local bytes besides; a block that is called
+-- stands in the list too
+abbrev pub CountsCalled : (local_len : ℕ) → (caller called : Option Bound) → Type 0
+CountsCalled local_len None called = Unit {0}
+CountsCalled local_len (Some b) None = ⊥
+CountsCalled local_len (Some b) (Some d) =
+    (d.depth + 1 ≤ b.depth) × (local_len + d.bytes ≤ b.bytes)
+
+-- A CERTIFICATE HOLDS of a program: each block stands in it once and is loaded; it has every loaded
+-- organization block, within the limits, and with a block each loaded block that its code calls; depth
+-- and bytes count the block itself and what it calls
+pub record Holds (profile : Profile) (p : Program) (c : List Bound) : Type 0 where
+  pub once : AreOnce c
+  pub loaded : AreLoaded p c
+  pub obs : (b : CodeBlock) → block_of b.id p.code_blocks ≡ Some b → b.id.kind ≡ Ob
+      → IsWithin profile (bound_of b.id c)
+  pub own : (block : BlockId) (b : CodeBlock) → block_of block p.code_blocks ≡ Some b
+      → CountsItself b.local_len (bound_of block c)
+  pub calls : (block called : BlockId) (b d : CodeBlock)
+      → block_of block p.code_blocks ≡ Some b → block_of called p.code_blocks ≡ Some d
+      → CallsIn b.code called → CountsCalled b.local_len (bound_of block c) (bound_of called c)

@@ -1,0 +1,97 @@
+-- How a chain is found that is too deep: from an organization block of which the highest layer says more
+-- than an activation has, always on to a called block of which it says most.
+use Rattle.std.specs.Prelude.{◌≡◌, ℕ, ◌+◌, ◌<◌, ◌≤◌, nat_lt, Bool, ◌||◌, if◌then◌else◌, List, [], ◌∷◌, ◌++◌, length, Option, Some, None, IsSome}
+use Rattle.plc_base.specs.Kinds.{is_organization_block}
+use Rattle.plc_base.specs.Profiles.{most_frames}
+use Rattle.plc_base.specs.declared.Profile.{Profile}
+use Rattle.plc_base.specs.declared.blocks.BlockId.{BlockId}
+use Rattle.plc_base.specs.declared.blocks.BlockKind.TheVariants.{Ob}
+use Rattle.flat_code.specs.Ops.{OpData}
+use Rattle.flat_code.specs.Programs.{Program}
+use Rattle.image_file.specs.Readers.{block_of}
+use Rattle.stack_bound.specs.Calls.{CallsIn, callee_of}
+use Rattle.stack_bound.specs.Certificates.{bound_of}
+use Rattle.stack_bound.specs.Chains.{IsChain, bytes_of_chain, most_local_bytes}
+use Rattle.stack_bound.specs.Layers.{limit, most_called, number_in}
+use Rattle.stack_bound.specs.declared.certificates.Bound.{Bound}
+use Rattle.stack_bound.specs.declared.deepest.Best.{Best}
+use Rattle.stack_bound.specs.declared.deepest.Over.{Over}
+use Rattle.stack_bound.specs.declared.measures.Measure.{Measure}
+use Rattle.stack_bound.specs.declared.measures.Measure.TheVariants.{Depth, Bytes}
+
+-- ---- the called block of which a layer says most
+
+-- that of an op, where the layer says more of it
+abbrev pub better : Measure → List Bound → Best → OpData → Best
+better m layer best op =
+    if nat_lt best.most (number_in m layer (callee_of op))
+    then record { block = callee_of op; most = number_in m layer (callee_of op) }
+    else best
+
+-- the best of ops, or one from before
+abbrev pub best_from : Measure → List Bound → Best → List OpData → Best
+best_from m layer best [] = best
+best_from m layer best (op ∷ ops) = best_from m layer (better m layer best op) ops
+
+-- a called block of which a layer says most; none where it says nothing of any
+abbrev pub IsMostCalled : Measure → List Bound → List OpData → Option BlockId → Type 0
+IsMostCalled m layer ops None = most_called m layer ops ≡ 0
+IsMostCalled m layer ops (Some called) =
+    CallsIn ops called × (number_in m layer (Some called) ≡ most_called m layer ops)
+    × (0 < most_called m layer ops)
+
+-- ---- organization blocks
+
+-- in which measure a bound is above the limits
+abbrev pub measure_over : Profile → Option Bound → Option Measure
+measure_over profile None = None
+measure_over profile (Some b) =
+    if nat_lt (limit profile Depth) b.depth then Some Depth
+    else if nat_lt (limit profile Bytes) b.bytes then Some Bytes
+    else None
+
+-- the same of a block that is an organization block
+abbrev pub ob_over : Profile → List Bound → BlockId → Option Measure
+ob_over profile layer id =
+    if is_organization_block id.kind then measure_over profile (bound_of id layer) else None
+
+-- an organization block, if it is above the limits, else another one
+abbrev pub over_or : BlockId → Option Measure → Option Over → Option Over
+over_or id None more = more
+over_or id (Some m) more = Some (record { block = id; measure = m })
+
+-- the first organization block among blocks that is above the limits
+abbrev pub first_over : Profile → List Bound → List BlockId → Option Over
+first_over profile layer [] = None
+first_over profile layer (id ∷ ids) =
+    over_or id (ob_over profile layer id) (first_over profile layer ids)
+
+-- it is one that is loaded, and above the limits
+pub record IsOver (profile : Profile) (p : Program) (layer : List Bound) (over : Over) : Type 0 where
+  pub organization : over.block.kind ≡ Ob
+  pub loaded : IsSome (block_of over.block p.code_blocks)
+  pub is_over : limit profile over.measure < number_in over.measure layer (Some over.block)
+
+-- ---- the chain
+
+-- a chain of so many blocks and local bytes is too deep
+abbrev pub is_too_deep : Profile → (blocks bytes : ℕ) → Bool
+is_too_deep profile blocks bytes = nat_lt (most_frames profile) blocks || nat_lt most_local_bytes bytes
+
+-- what a chain has
+abbrev pub total : Measure → Program → List BlockId → ℕ
+total Depth p chain = length chain
+total Bytes p chain = bytes_of_chain p chain
+
+-- blocks before a loaded block make a chain with it, and have room; but with what the layer says of the block
+-- they would have more than an activation has
+pub record LeadsOver
+    (profile : Profile) (p : Program) (m : Measure) (layer : List Bound) (chain : List BlockId)
+    (block : BlockId) (bytes : ℕ)
+    : Type 0 where
+  pub is_chain : IsChain p (chain ++ block ∷ [])
+  pub loaded : IsSome (block_of block p.code_blocks)
+  pub total_is : bytes ≡ bytes_of_chain p chain
+  pub few : length chain ≤ most_frames profile
+  pub within : bytes ≤ most_local_bytes
+  pub over : limit profile m < total m p chain + number_in m layer (Some block)

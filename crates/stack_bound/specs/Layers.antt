@@ -1,0 +1,81 @@
+-- How the least bounds are found: layer by layer, each from the one below it. The bounds of a layer count
+-- chains of so many blocks at most.
+use Rattle.std.specs.Prelude.{ℕ, zero, suc, ◌+◌, ◌≤◌, max, List, [], ◌∷◌, Option, Some, None}
+use Rattle.std.specs.List.{AllByRecursion}
+use Rattle.std.specs.Option.{option_map}
+use Rattle.plc_base.specs.Profiles.{most_frames}
+use Rattle.plc_base.specs.declared.Profile.{Profile}
+use Rattle.plc_base.specs.declared.blocks.BlockId.{BlockId}
+use Rattle.flat_code.specs.Ops.{OpData}
+use Rattle.flat_code.specs.Programs.{CodeBlock, Program}
+use Rattle.image_file.specs.Readers.{block_of, ids_of}
+use Rattle.stack_bound.specs.Calls.{callee_of}
+use Rattle.stack_bound.specs.Certificates.{bound_of}
+use Rattle.stack_bound.specs.Chains.{most_local_bytes}
+use Rattle.stack_bound.specs.declared.certificates.Bound.{Bound}
+use Rattle.stack_bound.specs.declared.measures.Measure.{Measure}
+use Rattle.stack_bound.specs.declared.measures.Measure.TheVariants.{Depth, Bytes}
+
+-- what a block adds to a chain
+abbrev pub weight : Measure → CodeBlock → ℕ
+weight Depth b = 1
+weight Bytes b = b.local_len
+
+-- what an activation has at most
+abbrev pub limit : Profile → Measure → ℕ
+limit profile Depth = most_frames profile
+limit profile Bytes = most_local_bytes
+
+-- what a bound says
+abbrev pub number : Measure → Bound → ℕ
+number Depth b = b.depth
+number Bytes b = b.bytes
+
+-- nothing where no bound is there
+abbrev pub number_if : Measure → Option Bound → ℕ
+number_if m None = 0
+number_if m (Some b) = number m b
+
+-- what a layer says of a block that may be called
+abbrev pub number_in : Measure → List Bound → Option BlockId → ℕ
+number_in m layer None = 0
+number_in m layer (Some block) = number_if m (bound_of block layer)
+
+-- the most that it says of a block that ops call
+abbrev pub most_called : Measure → List Bound → List OpData → ℕ
+most_called m layer [] = 0
+most_called m layer (op ∷ ops) =
+    max (number_in m layer (callee_of op)) (most_called m layer ops)
+
+-- a block by itself, and above the called block of which a layer says most
+abbrev pub bound_above : List Bound → BlockId → CodeBlock → Bound
+bound_above layer block b = record {
+  block = block;
+  depth = weight Depth b + most_called Depth layer b.code;
+  bytes = weight Bytes b + most_called Bytes layer b.code;
+}
+
+-- a bound that may be there, in front of others
+abbrev pub with_bound : Option Bound → List Bound → List Bound
+with_bound None rest = rest
+with_bound (Some b) rest = b ∷ rest
+
+-- so for each block that is a code block
+abbrev pub bounds_above : Program → List Bound → List BlockId → List Bound
+bounds_above p layer [] = []
+bounds_above p layer (id ∷ ids) =
+    with_bound (option_map (bound_above layer id) (block_of id p.code_blocks))
+    (bounds_above p layer ids)
+
+-- the layer above another one
+abbrev pub layer_above : Program → List Bound → List Bound
+layer_above p layer = bounds_above p layer (ids_of p)
+
+-- the layers, the lowest of which is empty
+abbrev pub layers : ℕ → Program → List Bound
+layers zero p = []
+layers (suc k) p = layer_above p (layers k p)
+
+-- no number of a layer is above another one
+abbrev pub AreLow : ℕ → List Bound → Type 0
+AreLow n layer = AllByRecursion (λ (b : Bound). (b.depth ≤ n) × (b.bytes ≤ n)) layer

@@ -1,0 +1,12 @@
+pub mod Calls
+pub mod Chains
+pub mod CertificateText
+pub mod Certificates
+pub mod Deepest
+pub mod Finding
+pub mod Judging
+pub mod Layers
+pub mod Marks
+pub mod Order
+pub mod Overflow
+pub mod Walking

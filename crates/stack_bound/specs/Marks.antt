@@ -1,0 +1,61 @@
+-- Which blocks stand on chains: they are marked, round by round, in the places of the highest layer.
+use Rattle.std.specs.Prelude.{ℕ, zero, suc, Bool, true, ◌&&◌, ◌||◌, is_none, slice_set, if◌then◌else◌, List, [], ◌∷◌, ◌++◌, Option, Some, None}
+use Rattle.plc_base.specs.Kinds.{is_organization_block}
+use Rattle.plc_base.specs.declared.blocks.BlockId.{BlockId}
+use Rattle.flat_code.specs.Ops.{OpData}
+use Rattle.flat_code.specs.Programs.{CodeBlock, Program}
+use Rattle.image_file.specs.Readers.{block_of, same_id}
+use Rattle.stack_bound.specs.Calls.{callee_of}
+use Rattle.stack_bound.specs.Certificates.{bound_of}
+use Rattle.stack_bound.specs.declared.certificates.Bound.{Bound}
+
+-- a block is marked, where it stands in the list
+abbrev pub mark : List Bool → List Bound → BlockId → List Bool
+mark [] list block = []
+mark (m ∷ marks) [] block = m ∷ marks
+mark (m ∷ marks) (b ∷ list) block = (m || same_id b.block block) ∷ mark marks list block
+
+-- a place is marked, if a test passes
+abbrev pub set_at : Bool → (place : ℕ) → List Bool → List Bool
+set_at test place marks = if test then slice_set marks place true else marks
+
+-- what an op calls, if it calls a block
+abbrev pub mark_callee : List Bool → List Bound → Option BlockId → List Bool
+mark_callee marks list None = marks
+mark_callee marks list (Some block) = mark marks list block
+
+-- what ops call
+abbrev pub mark_ops : List Bool → List Bound → List OpData → List Bool
+mark_ops marks list [] = marks
+mark_ops marks list (op ∷ ops) = mark_ops (mark_callee marks list (callee_of op)) list ops
+
+-- what a block calls, if it is loaded
+abbrev pub mark_called : List Bool → List Bound → Option CodeBlock → List Bool
+mark_called marks list None = marks
+mark_called marks list (Some b) = mark_ops marks list b.code
+
+-- what the blocks call that had a mark before
+abbrev pub mark_all : Program → List Bound → List Bool → (before : List Bool) → (left : List Bound) → List Bool
+mark_all p list marks [] left = marks
+mark_all p list marks (m ∷ before) [] = marks
+mark_all p list marks (m ∷ before) (b ∷ left) =
+    mark_all p list (if m then mark_called marks list (block_of b.block p.code_blocks) else marks) before left
+
+-- the organization blocks of a list
+abbrev pub ob_marks : List Bound → List Bool
+ob_marks [] = []
+ob_marks (b ∷ list) = is_organization_block b.block.kind ∷ ob_marks list
+
+-- the marks of a round: organization blocks, and then what the marked blocks of the round before call
+abbrev pub marks : ℕ → Program → List Bound → List Bool
+marks zero p list = ob_marks list
+marks (suc k) p list = mark_all p list (ob_marks list) (marks k p list) list
+
+-- the bounds that are marked, each block once: behind those that were seen
+abbrev pub marked_behind : (seen : List Bound) → List Bool → List Bound → List Bound
+marked_behind seen [] list = []
+marked_behind seen (m ∷ marks) [] = []
+marked_behind seen (m ∷ marks) (b ∷ list) =
+    if m && is_none (bound_of b.block seen)
+    then b ∷ marked_behind (seen ++ b ∷ []) marks list
+    else marked_behind seen marks list

@@ -1,0 +1,39 @@
+-- Blocks in the order of an image: by kind, then by number.
+use Rattle.std.specs.Prelude.{◌≡◌, ℕ, ◌==◌, ◌&&◌, ◌||◌, nat_lt, Bool, true, false, if◌then◌else◌, List, [], ◌∷◌, slice_get, Option, Some, None}
+use Rattle.std.specs.List.Sorted.{IsPartitionPoint}
+use Rattle.plc_base.specs.Kinds.{kind_order}
+use Rattle.plc_base.specs.declared.blocks.BlockId.{BlockId}
+use Rattle.image_file.specs.Readers.{same_id}
+use Rattle.stack_bound.specs.declared.certificates.Bound.{Bound}
+
+-- a block stands before another one: organization blocks first, then functions, then function blocks,
+-- each by number
+abbrev pub is_before : BlockId → BlockId → Bool
+is_before a b =
+    nat_lt (kind_order a.kind) (kind_order b.kind)
+    || kind_order a.kind == kind_order b.kind && nat_lt a.number b.number
+
+-- a bound's block stands before that of the first of others
+abbrev pub comes_before : Bound → List Bound → Bool
+comes_before b [] = true
+comes_before b (d ∷ rest) = is_before b.block d.block
+
+-- each block of a list stands before the next one
+abbrev pub rise : List Bound → Bool
+rise [] = true
+rise (b ∷ rest) = comes_before b rest && rise rest
+
+-- the bound of a block, if it is the one of a bound that may be there
+abbrev pub bound_if_of : BlockId → Option Bound → Option Bound
+bound_if_of block None = None
+bound_if_of block (Some b) = if same_id b.block block then Some b else None
+
+-- the bound at a place of a list, if it is the block's
+abbrev pub bound_at : List Bound → (place : ℕ) → BlockId → Option Bound
+bound_at list place block = bound_if_of block (slice_get list place)
+
+-- a place in a list before which all blocks stand before the block, and from which on none does
+abbrev pub IsHalved : List Bound → BlockId → (place : ℕ) → Type 0
+IsHalved list block place =
+    IsPartitionPoint (λ (b : Bound). is_before b.block block ≡ true)
+    (λ (b : Bound). is_before b.block block ≡ false) list place

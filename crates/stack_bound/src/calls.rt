@@ -1,0 +1,22 @@
+//! The calls of a block.
+ghost use Rattle.std.specs.Prelude.{◌≡◌};
+ghost use Rattle.stack_bound.specs.Calls.{callee_of};
+
+use flat_code::{Op, Operand, Operation, kind_of_code};
+use plc_base::BlockId;
+
+/// The block that an op calls.
+pub(crate) fn callee_of(op: &Op) -> Option<BlockId>
+    ensures { result ≡ callee_of op.now }
+{
+    let Operation::Call(_) = op.operation() else {
+        return None;
+    };
+    let Operand::Called { kind, number, .. } = op.operand else {
+        return None;
+    };
+    Some(BlockId {
+        kind: kind_of_code(kind)?,
+        number,
+    })
+}

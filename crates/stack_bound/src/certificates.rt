@@ -1,0 +1,217 @@
+//! Bounds, and lists of them.
+ghost use Rattle.std.specs.Prelude.{◌≡◌, ◌<◌, true, length};
+ghost use Rattle.image_file.specs.Readers.{same_id};
+ghost use Rattle.stack_bound.specs.Certificates.{bound_of};
+ghost use Rattle.stack_bound.specs.Judging.{are_once};
+ghost use Rattle.stack_bound.specs.Marks.{mark, set_at};
+ghost use Rattle.stack_bound.specs.Order.{IsHalved, bound_at, comes_before, is_before, rise};
+
+use plc_base::BlockId;
+use std::marker::Model;
+
+/// What a certificate says of a block: in a chain of calls that begins with it stand at most so many
+/// blocks, itself among them, and they have at most so many local bytes together.
+#[derive(Clone, Copy, Debug, PartialEq, Eq)]
+pub struct Bound {
+    pub block: BlockId,
+    pub depth: u32,
+    pub bytes: u32,
+}
+
+pub(crate) fn is_same(a: BlockId, b: BlockId) -> bool
+    ensures { result ≡ same_id a b }
+{
+    a.kind.order() == b.kind.order() && a.number == b.number
+}
+
+/// Whether a block stands before another one in the order of an image.
+pub(crate) fn is_before(a: BlockId, b: BlockId) -> bool
+    ensures { result ≡ is_before a b }
+{
+    let (first, second) = (a.kind.order(), b.kind.order());
+    first < second || first == second && a.number < b.number
+}
+
+fn comes_before(b: &Bound, rest: &[Bound]) -> bool
+    ensures { result ≡ comes_before b.now rest.now }
+{
+    match rest {
+        [] => true,
+        [d, ..] => is_before(b.block, d.block),
+    }
+}
+
+/// Whether each block of a list stands before the next one.
+fn rise(list: &[Bound]) -> bool
+    ensures { result ≡ rise list.now }
+{
+    let mut left = list;
+    while let [b, rest @ ..] = left {
+        if !comes_before(b, rest) {
+            return false;
+        }
+        left = rest;
+    }
+    true
+}
+
+/// What a list says first of a block, by a walk.
+pub(crate) fn walked_to(list: &[Bound], block: BlockId) -> Option<Bound>
+    ensures { result ≡ bound_of block list.now }
+{
+    let mut left = list;
+    while let [b, rest @ ..] = left {
+        if is_same(b.block, block) {
+            return Some(*b);
+        }
+        left = rest;
+    }
+    None
+}
+
+/// The bound of a place, if it is of a block.
+fn bound_at(list: &[Bound], place: usize, block: BlockId) -> Option<Bound>
+    ensures { result ≡ bound_at list.now place block }
+{
+    let b = list.get(place)?;
+    if is_same(b.block, block) {
+        Some(*b)
+    } else {
+        None
+    }
+}
+
+/// The place of a block in a list whose blocks rise, by halving it.
+fn place_in(list: &[Bound], block: BlockId) -> usize
+    requires { rise list.now ≡ true }
+    ensures { IsHalved list.now block result }
+{
+    list.partition_point(|b| is_before(b.block, block))
+}
+
+/// What a list whose blocks rise says of a block, by halving it.
+#[tactic(auto, using(crate::proofs::OrderLemmas::halved))]
+fn searched(list: &[Bound], block: BlockId) -> Option<Bound>
+    requires { rise list.now ≡ true }
+    ensures { result ≡ bound_of block list.now }
+{
+    bound_at(list, place_in(list, block), block)
+}
+
+/// Marks a block of a list whose blocks rise.
+#[tactic(auto, using(crate::proofs::MarkLemmas::marked_at, crate::proofs::MarkLemmas::marked_nowhere, crate::proofs::MarkLemmas::mark_len))]
+fn mark_searched(list: &[Bound], block: BlockId, marks: &mut Vec<bool>)
+    requires rise { rise list.now ≡ true }
+    requires same { length marks.old.items ≡ length list.now }
+    ensures marks { marks.new.items ≡ mark marks.old.items list.now block }
+    ensures same { length marks.new.items ≡ length marks.old.items }
+{
+    let place = place_in(list, block);
+    if bound_at(list, place, block).is_some() {
+        marks[place] = true;
+    }
+}
+
+/// Marks a place, if a test passes.
+fn set_at(test: bool, place: usize, marks: &mut Vec<bool>)
+    requires { place < length marks.old.items }
+    ensures marks { marks.new.items ≡ set_at test place marks.old.items }
+    ensures same { length marks.new.items ≡ length marks.old.items }
+{
+    if test {
+        marks[place] = true;
+    }
+}
+
+/// Marks a block of a list, by a walk.
+#[tactic(auto, using(crate::proofs::MarkLemmas::one_more, crate::proofs::MarkLemmas::all_marked))]
+fn mark_walked(list: &[Bound], block: BlockId, marks: &mut Vec<bool>)
+    requires { length marks.old.items ≡ length list.now }
+    ensures marks { marks.new.items ≡ mark marks.old.items list.now block }
+    ensures same { length marks.new.items ≡ length marks.old.items }
+{
+    for i in 0..list.len() {
+        set_at(is_same(list[i].block, block), i, marks);
+    }
+}
+
+/// Bounds of blocks, in which a block is found by halving them, where the blocks rise.
+#[derive(Drop)]
+pub(crate) struct Bounds<'a> {
+    list: &'a [Bound],
+    rise: bool,
+}
+
+impl<'a> Model for Bounds<'a> {
+    ghost use Rattle.std.specs.Prelude.{◌≡◌, List};
+    ghost use Rattle.stack_bound.specs.Order.{rise as rise_of};
+    ghost use Rattle.stack_bound.specs.declared.certificates.Bound.{Bound};
+
+    ghost Value = { List Bound };
+
+    ghost view = { λ b. b.list.now };
+
+    ghost invariant = { λ b. b.rise ≡ rise_of b.list.now };
+}
+
+impl<'a> Bounds<'a> {
+    ghost use Rattle.std.specs.Prelude.{◌≡◌, length};
+    ghost use Rattle.stack_bound.specs.Marks.{mark};
+    ghost use Rattle.stack_bound.specs.Certificates.{bound_of};
+    ghost use Rattle.stack_bound.specs.Judging.{are_once};
+
+    /// The bounds of a list.
+    pub(crate) fn new(list: &'a [Bound]) -> Self
+        ensures { result ≡ list.now }
+    {
+        Bounds {
+            list,
+            rise: rise(list),
+        }
+    }
+
+    /// What they say first of a block.
+    pub(crate) fn of(&self, block: BlockId) -> Option<Bound>
+        ensures { result ≡ bound_of block self.now }
+    {
+        if self.rise {
+            searched(self.list, block)
+        } else {
+            walked_to(self.list, block)
+        }
+    }
+
+    /// Marks a block in its place among them.
+    pub(crate) fn mark(&self, block: BlockId, marks: &mut Vec<bool>)
+        requires { length marks.old.items ≡ length self.now }
+        ensures marks { marks.new.items ≡ mark marks.old.items self.now block }
+        ensures same { length marks.new.items ≡ length marks.old.items }
+    {
+        if self.rise {
+            mark_searched(self.list, block, marks);
+        } else {
+            mark_walked(self.list, block, marks);
+        }
+    }
+
+    /// Whether no block stands among them twice.
+    #[tactic(auto, using(crate::proofs::OrderLemmas::risen_once))]
+    pub(crate) fn are_once(&self) -> bool
+        ensures { result ≡ are_once self.now }
+    {
+        self.rise || are_once(self.list)
+    }
+}
+
+fn are_once(list: &[Bound]) -> bool
+    ensures { result ≡ are_once list.now }
+{
+    let mut left = list;
+    while let [b, rest @ ..] = left {
+        if walked_to(rest, b.block).is_some() {
+            return false;
+        }
+        left = rest;
+    }
+    true
+}

@@ -1,0 +1,14 @@
+//! Laws of certificates: each function does nothing, and its contract is the law.
+ghost use Rattle.std.specs.Prelude.{List};
+ghost use Rattle.plc_base.specs.declared.Profile.{Profile};
+ghost use Rattle.plc_base.specs.declared.blocks.BlockId.{BlockId};
+ghost use Rattle.flat_code.specs.Programs.{Program};
+ghost use Rattle.stack_bound.specs.Certificates.{Holds};
+ghost use Rattle.stack_bound.specs.Chains.{IsChain, IsTooDeep};
+ghost use Rattle.stack_bound.specs.declared.certificates.Bound.{Bound};
+
+/// Where a certificate holds no chain of calls is too deep.
+pub fn no_chain_is_too_deep()
+    ensures { (profile : Profile) (p : Program) (c : List Bound) (chain : List BlockId)
+        → Holds profile p c → IsChain p chain → IsTooDeep profile p chain → ⊥ }
+{}
