@@ -58,6 +58,17 @@ BEGIN
 L nix;
 END_FUNCTION
 """
+ZONES = """\
+ORGANIZATION_BLOCK OB 1
+BEGIN
+MCR(;
+)MCR;
+)MCR;
+JU x;
+MCR(;
+x: SET;
+END_ORGANIZATION_BLOCK
+"""
 
 
 class Refusals(ToolTest):
@@ -83,6 +94,9 @@ class Refusals(ToolTest):
 
     def test_statements(self):
         self.assertEqual(self.lines(FUNCTION), [(4, 21, 0), (7, 20, 0), (8, 24, 0), (9, 10, 0), (11, 26, 0), (12, 23, 0)])
+
+    def test_zones(self):
+        self.assertEqual(self.lines(ZONES), [(5, 47, 0), (6, 33, 0), (7, 48, 0)])
 
     def test_declarations(self):
         self.assertEqual(self.lines(DATA), [(3, 41, 0), (4, 42, 0), (8, 20, 4)])

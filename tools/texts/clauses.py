@@ -82,9 +82,15 @@ class Clause(NamedTuple):
         """What the clause may name behind its front and, in a body, its instruction: words and blocks."""
         behind = self.tokens[2 if self.has_front() else 0 :]
         is_setting = any(token.text == b":=" for token in behind) and behind[0].upper not in (b"CALL", b"UC", b"CC")
-        behind = behind[1 if self.is_in_body and not is_setting else 0 :]
+        behind = behind[instruction_length(behind) if self.is_in_body and not is_setting else 0 :]
         words = {token.upper.lstrip(b"#").strip(b'"') for token in behind if token.kind in ("word", "quoted")}
         return words | {block_at(behind[number:])[0] for number in range(len(behind))}
+
+
+def instruction_length(tokens):
+    """How many tokens the instruction word has that the tokens begin with. Of the words with a bracket, `)MCR` alone has a
+    second one that could be a name."""
+    return 2 if [token.upper for token in tokens[:2]] == [b")", b"MCR"] else 1
 
 
 def block_at(tokens):

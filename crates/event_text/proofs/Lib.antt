@@ -12,3 +12,4 @@ pub mod LineLemmas
 pub mod SizeLemmas
 pub mod ReplyLemmas
 pub mod WorkerLemmas
+pub mod WatchedVarsLemmas

@@ -7,3 +7,4 @@ pub mod HistoryText
 pub mod Regular
 pub mod RoundTrip
 pub mod Replies
+pub mod WatchedVars

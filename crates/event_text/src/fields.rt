@@ -13,7 +13,7 @@ fn law_of_var(var: &Var)
     let _byte = var.place.byte;
 }
 
-fn law_of_vars(vars: &[Var])
+pub(crate) fn law_of_vars(vars: &[Var])
     ensures { All FitsPlace vars.now }
 {
     for var in vars {

@@ -9,9 +9,11 @@ pub mod laws;
 mod lines;
 mod replies;
 mod texts;
+mod watched_vars;
 mod writing;
 
 pub use faults::TextFault;
-pub use replies::reply_lines;
+pub use replies::{outcome_lines, reply_lines};
 pub use texts::{read_history, read_script, read_stimuli};
+pub use watched_vars::read_vars;
 pub use writing::write_history;

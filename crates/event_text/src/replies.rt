@@ -80,6 +80,30 @@ fn append_outcome(
     }
 }
 
+/// Appends what the reply to entry `n` says, as `reply_lines` does, without the number of the entry and
+/// the operator in front.
+///
+/// # Errors
+///
+/// `NoMemory` for want of memory; the text is then as before.
+pub fn outcome_lines(
+    n: u64,
+    request: &Request,
+    reply: &Reply,
+    out: &mut Vec<u8>,
+) -> Result<(), NoMemory>
+    ensures ok { OnOk result
+        (out.new.items ≡ out.old.items ++ outcome_text n request.now reply.now) }
+    ensures err { OnErr result (out.new.items ≡ out.old.items) }
+{
+    let len = out.len();
+    let appended = append_outcome(n, request, reply, out);
+    if appended.is_err() {
+        out.truncate(len);
+    }
+    appended
+}
+
 /// Appends how a reply to entry `n` begins, with the operator who asked.
 fn append_head(n: u64, who: u8, out: &mut Vec<u8>) -> Result<(), NoMemory>
     ensures ok { OnOk result (out.new.items ≡ out.old.items ++ reply_head n who) }

@@ -44,7 +44,7 @@ Behind -- no word is an option, so a file may begin with a hyphen.
 Supported: organization blocks, functions, function blocks, data blocks and
 types of the whole-number subset of STL, nine system functions, interrupts,
 time and synchronous errors, timers and counters, requests of operators.
-Not supported: REAL, STRING, ANY, German mnemonics, the master control relay.
+Not supported: REAL, STRING, ANY, German mnemonics.
 
 Lines of a history (numbers are decimal, h is a hexadecimal digit):
   step               one step: one statement, or a cycle point
@@ -103,7 +103,7 @@ Rules of a source:
   30  a bracket is open at the block's end
   31  the eighth bracket is open
   32  a jump list isn't right
-  33  a jump leads out of brackets, or into them
+  33  a jump leads out of brackets or zones, or into them
   34  a called block has no such parameter
   35  a parameter is supplied twice
   36  a parameter isn't supplied
@@ -116,6 +116,9 @@ Rules of a source:
   43  a type contains itself
   44  a block has a number that isn't allowed
   46  a system function isn't one of the nine
+  47  a zone is ended that isn't open
+  48  a zone is open at the block's end
+  49  the ninth zone is open
   50  more than 1,024 bytes of local data
   51  a data block, type or instance has more than 16,384 bytes
   52  more than 60 parameters

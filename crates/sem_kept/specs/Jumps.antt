@@ -1,9 +1,9 @@
--- Jumps and brackets of the code of a block that have no fault.
+-- Jumps, brackets and zones of the code of a block that have no fault.
 use Rattle.std.specs.Prelude.{◌≡◌, ℕ, List, [], Option, Some, None}
 use Rattle.std.specs.List.{AllByRecursion}
-use Rattle.flat_code.specs.Blocks.{Around, block_faults, bracket_fault, jump_fault}
+use Rattle.flat_code.specs.Blocks.{Around, block_faults, bracket_fault, jump_fault, zone_fault}
 use Rattle.flat_code.specs.Ops.{OpData}
-use Rattle.flat_code.specs.Placed.{Placed, Spot, open_behind, places, spots}
+use Rattle.flat_code.specs.Placed.{Placed, Spot, open_behind, places, spots, zones_left}
 use Rattle.flat_code.specs.declared.operands.Operand.{Operand}
 use Rattle.flat_code.specs.declared.operands.Operand.TheVariants as operand
 use Rattle.stl_ast.specs.declared.blocks.Tree.{Tree}
@@ -13,23 +13,23 @@ use Rattle.stl_codegen.specs.Compiled.{code_in}
 use Rattle.stl_codegen.specs.Generated.{code_blocks_of}
 use Rattle.sem_kept.specs.Accepted.{IsAccepted}
 use Rattle.sem_kept.specs.Operands.{AreFine}
-use Rattle.sem_kept.specs.Zones.{LeavesZones}
 
 -- a jump, and nothing else, is checked by the statements of its block
 abbrev pub jump_fault_of : List Spot → Placed → Operand → Option ℕ
 jump_fault_of statements p (operand.Jump kind target) = jump_fault statements p kind target
 jump_fault_of statements p _ = None
 
--- an op whose jump and whose brackets have no fault
+-- an op whose jump, bracket and zone have no fault
 pub record LandsRight (statements : List Spot) (p : Placed) : Type 0 where
   pub jump : jump_fault_of statements p p.op.operand ≡ None
   pub brackets : bracket_fault p.op.code p.brackets ≡ None
+  pub zones : zone_fault p.op.code p.zones ≡ None
 
--- all ops of a block, behind which no bracket is open, and none of which is `MCR(` or `)MCR`
+-- all ops of a block, behind which no bracket and no zone is open
 pub record AllLandRight (ops : List OpData) : Type 0 where
   pub each : AllByRecursion (LandsRight (spots ops)) (places ops)
   pub closed : open_behind 0 [] ops ≡ []
-  pub leave : AllByRecursion LeavesZones ops
+  pub ended : zones_left 0 [] ops ≡ []
 
 -- the code of each block of an accepted source
 abbrev pub JumpsLandRight : Type 0

@@ -12,4 +12,3 @@ pub mod Sizes
 pub mod Stages
 pub mod Statements
 pub mod Verified
-pub mod Zones

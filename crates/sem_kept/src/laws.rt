@@ -17,7 +17,6 @@ ghost use Rattle.sem_kept.specs.Meaning.{
   NoFileHasNone,
 };
 ghost use Rattle.sem_kept.specs.Resumption.{SourcesResume, ImagesResume};
-ghost use Rattle.sem_kept.specs.Zones.{CodeHasNoZones};
 
 /// At the offset of each statement of a block stands the statement that was compiled, with offsets
 /// as its targets, and behind the last one none begins.
@@ -39,12 +38,6 @@ pub fn programs_follow()
 /// each block.
 pub fn verified_is_compilable()
     ensures { VerifiedIsCompilable }
-{}
-
-/// Code in which neither `MCR(` nor `)MCR` stands has no zones of the master control relay: none is
-/// open at any of its ops and statements nor behind them, and no op has a fault by one.
-pub fn code_has_no_zones()
-    ensures { CodeHasNoZones }
 {}
 
 /// The program of a source that breaks no rule has an image, and verifies: its records fit their

@@ -21,7 +21,7 @@ use Rattle.stack_bound.specs.declared.measures.Measure.{Measure}
 use Rattle.stack_bound.specs.declared.measures.Measure.TheVariants.{Depth, Bytes}
 use Rattle.stack_bound.proofs.BlockLemmas.{same_is, same_self}
 use Rattle.stack_bound.proofs.BoundLemmas.{is_above, last_there, none_deep, ob_bound}
-use Rattle.stack_bound.proofs.OnChainLemmas.{AllOf, EachMarked, NoneOver, counts_down, few_on_chain, highest, marked_on_chain, marks_sound, ob_on_chain, ob_within, on_chain_more}
+use Rattle.stack_bound.proofs.OnChainLemmas.{FirstOf, EachMarked, NoneOver, counts_down, few_on_chain, highest, marked_on_chain, marks_sound, ob_on_chain, ob_within, on_chain_more}
 use Rattle.stack_bound.proofs.RankLemmas.{above, layer_has}
 
 -- ---- lists one behind the other
@@ -171,15 +171,15 @@ marked_once seen (m ∷ ms) (b ∷ list) =
     by true next after = (not_again (seen ++ b ∷ []) ms list b.block (last_found seen b), after)
     by false next after = next
 
--- a block of which each entry is marked is there
+-- a block of which the first entry is marked is there
 marked_has : (seen : List Bound) (ms : List Bool) (list : List Bound) (x : BlockId) (e : Bound)
-    → AllOf ms list x → bound_of x list ≡ Some e → bound_of x seen ≡ None
+    → FirstOf ms list x → bound_of x list ≡ Some e → bound_of x seen ≡ None
     → bound_of x (marked_behind seen ms list) ≡ Some e
 marked_has seen ms [] x e all is none = absurd cc
 marked_has seen [] (b ∷ list) x e all is none = absurd all
 marked_has seen (m ∷ ms) (b ∷ list) x e all is none =
-    by (same_id b.block x) refl is (λ later. marked_has seen ms list x e all.1 later none)
-    (λ later unseen. marked_has (seen ++ b ∷ []) ms list x e all.1 later unseen)
+    by (same_id b.block x) refl is (λ apart later. marked_has seen ms list x e (all.1 apart) later none)
+    (λ apart later unseen. marked_has (seen ++ b ∷ []) ms list x e (all.1 apart) later unseen)
   where
     here : same_id b.block x ≡ true → Some b ≡ Some e
         → bound_of x (if m && is_none (bound_of b.block seen) then b ∷ marked_behind (seen ++ b ∷ []) ms list else marked_behind seen ms list) ≡ Some e
@@ -195,14 +195,14 @@ marked_has seen (m ∷ ms) (b ∷ list) x e all is none =
     kept false apart next after = next
 
     by : (test : Bool) → same_id b.block x ≡ test → (if test then Some b else bound_of x list) ≡ Some e
-        → (bound_of x list ≡ Some e → bound_of x (marked_behind seen ms list) ≡ Some e)
-        → (bound_of x list ≡ Some e → bound_of x (seen ++ b ∷ []) ≡ None
+        → (same_id b.block x ≡ false → bound_of x list ≡ Some e → bound_of x (marked_behind seen ms list) ≡ Some e)
+        → (same_id b.block x ≡ false → bound_of x list ≡ Some e → bound_of x (seen ++ b ∷ []) ≡ None
         → bound_of x (marked_behind (seen ++ b ∷ []) ms list) ≡ Some e)
         → bound_of x (if m && is_none (bound_of b.block seen) then b ∷ marked_behind (seen ++ b ∷ []) ms list else marked_behind seen ms list) ≡ Some e
     by true same first next after = here same first
     by false apart later next after =
-        kept (m && is_none (bound_of b.block seen)) apart (next later)
-        (after later (behind_none x seen b none apart))
+        kept (m && is_none (bound_of b.block seen)) apart (next apart later)
+        (after apart later (behind_none x seen b none apart))
 
 each_kept : (P : Bound → Type 0) (seen : List Bound) (ms : List Bool) (list : List Bound) → EachMarked P ms list
     → AllByRecursion P (marked_behind seen ms list)

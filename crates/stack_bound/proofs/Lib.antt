@@ -8,7 +8,6 @@ mod CallLemmas
 mod CertificateLemmas
 mod HoldLemmas
 mod JudgeLemmas
-pub mod LayerLemmas
 mod RankLemmas
 mod DeepestLemmas
 mod ChainLemmas
@@ -17,3 +16,4 @@ mod OnChainLemmas
 mod OrderLemmas
 pub mod TextLemmas
 mod WalkLemmas
+pub mod PlaceLemmas

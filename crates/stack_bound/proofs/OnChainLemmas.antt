@@ -1,6 +1,6 @@
 -- Blocks on chains: where no organization block is above the limits, none of them is deep, and all are marked.
 use Rattle.std.proofs.Common.{◌≡◌, ◌⊎◌, inl, inr, ℕ, zero, suc, ◌+◌, ◌<◌, ◌≤◌, Bool, true, false, List, [], ◌∷◌, ◌++◌, length, Option, Some, None, refl, sym, ap, ◌∙◌, subst, arith, if◌then◌else◌}
-use Rattle.std.specs.Prelude.{IsSome, ◌||◌, nat_lt}
+use Rattle.std.specs.Prelude.{IsSome, nat_lt}
 use Rattle.std.proofs.lemmas.Bool.Decides.{nat_tests}
 use Rattle.plc_base.specs.Kinds.{is_organization_block}
 use Rattle.plc_base.specs.Profiles.{most_frames}
@@ -17,7 +17,7 @@ use Rattle.stack_bound.specs.Chains.{CallEachOther, IsChain, most_local_bytes}
 use Rattle.stack_bound.specs.Deepest.{IsOver, first_over, measure_over, ob_over, over_or}
 use Rattle.stack_bound.specs.Finding.{IsOnChain, last_of}
 use Rattle.stack_bound.specs.Layers.{bound_above, layers, limit, most_called, number, number_if, number_in, weight}
-use Rattle.stack_bound.specs.Marks.{mark, mark_all, mark_called, mark_callee, mark_ops, marks, ob_marks}
+use Rattle.stack_bound.specs.Marks.{mark, mark_all, mark_called, mark_called_by, mark_callee, mark_ops, marks, ob_marks}
 use Rattle.stack_bound.specs.declared.certificates.Bound.{Bound}
 use Rattle.stack_bound.specs.declared.deepest.Over.{Over}
 use Rattle.stack_bound.specs.declared.measures.Measure.{Measure}
@@ -285,38 +285,45 @@ pub ob_on_chain : (p : Program) (ob : BlockId) → ob.kind ≡ Ob → IsSome (bl
 ob_on_chain p ob kind loaded =
     record { ob = ob; rest = []; is_chain = (kind, loaded, tt); ends = refl }
 
--- ---- each entry of a block is marked
+-- ---- the first entry of a block is marked
 
-abbrev pub AllOf : List Bool → List Bound → BlockId → Type 0
-AllOf marks [] x = Unit {0}
-AllOf [] (b ∷ list) x = ⊥
-AllOf (m ∷ marks) (b ∷ list) x = (same_id b.block x ≡ true → m ≡ true) × AllOf marks list x
+abbrev pub FirstOf : List Bool → List Bound → BlockId → Type 0
+FirstOf marks [] x = Unit {0}
+FirstOf [] (b ∷ list) x = ⊥
+FirstOf (m ∷ marks) (b ∷ list) x =
+    (same_id b.block x ≡ true → m ≡ true) × (same_id b.block x ≡ false → FirstOf marks list x)
 
-or_first : (m n : Bool) → m ≡ true → (m || n) ≡ true
-or_first m n is = rw is refl
+not_both : (test : Bool) → test ≡ true → test ≡ false → ⊥
+not_both test is isnt = let e : true ≡ false = sym is ∙ isnt in cc
 
-or_second : (m n : Bool) → n ≡ true → (m || n) ≡ true
-or_second true n is = refl
-or_second false n is = is
-
-mark_keeps : (marks : List Bool) (list : List Bound) (y x : BlockId) → AllOf marks list x
-    → AllOf (mark marks list y) list x
+mark_keeps : (marks : List Bool) (list : List Bound) (y x : BlockId) → FirstOf marks list x
+    → FirstOf (mark marks list y) list x
 mark_keeps [] [] y x all = tt
 mark_keeps [] (b ∷ list) y x all = all
 mark_keeps (m ∷ marks) [] y x all = tt
 mark_keeps (m ∷ marks) (b ∷ list) y x all =
-    (λ same. or_first m (same_id b.block y) (all.0 same), mark_keeps marks list y x all.1)
+    by (same_id b.block y) (λ apart. mark_keeps marks list y x (all.1 apart))
+  where
+    by : (test : Bool) → (same_id b.block x ≡ false → FirstOf (mark marks list y) list x)
+        → FirstOf (if test then true ∷ marks else m ∷ mark marks list y) (b ∷ list) x
+    by true rest = (λ same. refl, all.1)
+    by false rest = (all.0, rest)
 
 mark_marks : (marks : List Bool) (list : List Bound) (x : BlockId) → length marks ≡ length list
-    → AllOf (mark marks list x) list x
+    → FirstOf (mark marks list x) list x
 mark_marks [] [] x same = tt
 mark_marks [] (b ∷ list) x same = absurd (omega (arith, same))
 mark_marks (m ∷ marks) [] x same = tt
 mark_marks (m ∷ marks) (b ∷ list) x same =
-    (λ is. or_second m (same_id b.block x) is, mark_marks marks list x (omega (arith, same)))
+    by (same_id b.block x) refl (mark_marks marks list x (omega (arith, same)))
+  where
+    by : (test : Bool) → same_id b.block x ≡ test → FirstOf (mark marks list x) list x
+        → FirstOf (if test then true ∷ marks else m ∷ mark marks list x) (b ∷ list) x
+    by true is rest = (λ here. refl, λ apart. absurd (not_both (same_id b.block x) is apart))
+    by false apart rest = (λ here. absurd (not_both (same_id b.block x) here apart), λ isnt. rest)
 
 callee_keeps : (marks : List Bool) (list : List Bound) (callee : Option BlockId) (x : BlockId)
-    → AllOf marks list x → AllOf (mark_callee marks list callee) list x
+    → FirstOf marks list x → FirstOf (mark_callee marks list callee) list x
 callee_keeps marks list None x all = all
 callee_keeps marks list (Some y) x all = mark_keeps marks list y x all
 
@@ -325,8 +332,8 @@ callee_len : (marks : List Bool) (list : List Bound) (callee : Option BlockId)
 callee_len marks list None = refl
 callee_len marks list (Some block) = mark_len marks list block
 
-ops_keep : (marks : List Bool) (list : List Bound) (ops : List OpData) (x : BlockId) → AllOf marks list x
-    → AllOf (mark_ops marks list ops) list x
+ops_keep : (marks : List Bool) (list : List Bound) (ops : List OpData) (x : BlockId) → FirstOf marks list x
+    → FirstOf (mark_ops marks list ops) list x
 ops_keep marks list [] x all = all
 ops_keep marks list (op ∷ ops) x all =
     ops_keep (mark_callee marks list (callee_of op)) list ops x
@@ -339,21 +346,21 @@ ops_len marks list (op ∷ ops) =
     ops_len (mark_callee marks list (callee_of op)) list ops ∙ callee_len marks list (callee_of op)
 
 ops_mark : (marks : List Bool) (list : List Bound) (ops : List OpData) (x : BlockId)
-    → length marks ≡ length list → CallsIn ops x → AllOf (mark_ops marks list ops) list x
+    → length marks ≡ length list → CallsIn ops x → FirstOf (mark_ops marks list ops) list x
 ops_mark marks list [] x same calls = absurd calls
 ops_mark marks list (op ∷ ops) x same (inl here) =
     ops_keep (mark_callee marks list (callee_of op)) list ops x
-    (subst (λ (o : Option BlockId). AllOf (mark_callee marks list o) list x) (sym here)
+    (subst (λ (o : Option BlockId). FirstOf (mark_callee marks list o) list x) (sym here)
     (mark_marks marks list x same))
 ops_mark marks list (op ∷ ops) x same (inr later) =
     ops_mark (mark_callee marks list (callee_of op)) list ops x (callee_len marks list (callee_of op) ∙ same) later
 
 abbrev one_round : Program → List Bound → List Bool → Bool → Bound → List Bool
 one_round p list marks m b =
-    if m then mark_called marks list (block_of b.block p.code_blocks) else marks
+    if m then mark_called_by p marks list b else marks
 
-called_keeps : (marks : List Bool) (list : List Bound) (b : Option CodeBlock) (x : BlockId) → AllOf marks list x
-    → AllOf (mark_called marks list b) list x
+called_keeps : (marks : List Bool) (list : List Bound) (b : Option CodeBlock) (x : BlockId) → FirstOf marks list x
+    → FirstOf (mark_called marks list b) list x
 called_keeps marks list None x all = all
 called_keeps marks list (Some b) x all = ops_keep marks list b.code x all
 
@@ -363,7 +370,7 @@ called_len marks list None = refl
 called_len marks list (Some b) = ops_len marks list b.code
 
 round_keeps : (p : Program) (list : List Bound) (marks : List Bool) (m : Bool) (b : Bound) (x : BlockId)
-    → AllOf marks list x → AllOf (one_round p list marks m b) list x
+    → FirstOf marks list x → FirstOf (one_round p list marks m b) list x
 round_keeps p list marks true b x all = called_keeps marks list (block_of b.block p.code_blocks) x all
 round_keeps p list marks false b x all = all
 
@@ -373,7 +380,7 @@ round_len p list marks true b = called_len marks list (block_of b.block p.code_b
 round_len p list marks false b = refl
 
 all_keep : (p : Program) (list : List Bound) (marks before : List Bool) (left : List Bound) (x : BlockId)
-    → AllOf marks list x → AllOf (mark_all p list marks before left) list x
+    → FirstOf marks list x → FirstOf (mark_all p list marks before left) list x
 all_keep p list marks [] left x all = all
 all_keep p list marks (m ∷ before) [] x all = all
 all_keep p list marks (m ∷ before) (b ∷ left) x all =
@@ -381,35 +388,35 @@ all_keep p list marks (m ∷ before) (b ∷ left) x all =
 
 -- what a marked block calls is marked
 all_mark : (p : Program) (list : List Bound) (marks before : List Bool) (left : List Bound) (x y : BlockId)
-    (b : CodeBlock) (e : Bound) → length marks ≡ length list → AllOf before left x → bound_of x left ≡ Some e
-    → block_of x p.code_blocks ≡ Some b → CallsIn b.code y → AllOf (mark_all p list marks before left) list y
+    (b : CodeBlock) (e : Bound) → length marks ≡ length list → FirstOf before left x → bound_of x left ≡ Some e
+    → block_of x p.code_blocks ≡ Some b → CallsIn b.code y → FirstOf (mark_all p list marks before left) list y
 all_mark p list marks before [] x y b e same all found there calls = absurd cc
 all_mark p list marks [] (d ∷ left) x y b e same all found there calls = absurd all
 all_mark p list marks (m ∷ before) (d ∷ left) x y b e same all found there calls =
     by (same_id d.block x) refl found
-    (λ later. all_mark p list (one_round p list marks m d) before left x y b e
-    (round_len p list marks m d ∙ same) all.1 later there calls)
+    (λ apart later. all_mark p list (one_round p list marks m d) before left x y b e
+    (round_len p list marks m d ∙ same) (all.1 apart) later there calls)
   where
-    here : same_id d.block x ≡ true → AllOf (one_round p list marks m d) list y
+    here : same_id d.block x ≡ true → FirstOf (one_round p list marks m d) list y
     here is =
-        subst (λ (n : Bool). AllOf (one_round p list marks n d) list y) (sym (all.0 is))
-        (subst (λ (o : Option CodeBlock). AllOf (mark_called marks list o) list y)
+        subst (λ (n : Bool). FirstOf (one_round p list marks n d) list y) (sym (all.0 is))
+        (subst (λ (o : Option CodeBlock). FirstOf (mark_called marks list o) list y)
         (sym (ap (λ (z : BlockId). block_of z p.code_blocks) (same_is d.block x is) ∙ there))
         (ops_mark marks list b.code y same calls))
 
     by : (test : Bool) → same_id d.block x ≡ test → (if test then Some d else bound_of x left) ≡ Some e
-        → (bound_of x left ≡ Some e
-        → AllOf (mark_all p list (one_round p list marks m d) before left) list y)
-        → AllOf (mark_all p list (one_round p list marks m d) before left) list y
+        → (same_id d.block x ≡ false → bound_of x left ≡ Some e
+        → FirstOf (mark_all p list (one_round p list marks m d) before left) list y)
+        → FirstOf (mark_all p list (one_round p list marks m d) before left) list y
     by true is first next = all_keep p list (one_round p list marks m d) before left y (here is)
-    by false is later next = next later
+    by false is later next = next is later
 
-obs_mark : (list : List Bound) (ob : BlockId) → ob.kind ≡ Ob → AllOf (ob_marks list) list ob
+obs_mark : (list : List Bound) (ob : BlockId) → ob.kind ≡ Ob → FirstOf (ob_marks list) list ob
 obs_mark [] ob kind = tt
 obs_mark (b ∷ list) ob kind = (
   λ same. ap (λ (x : BlockId). is_organization_block x.kind) (same_is b.block ob same)
       ∙ ap is_organization_block kind,
-  obs_mark list ob kind,
+  λ apart. obs_mark list ob kind,
 )
 
 obs_len : (list : List Bound) → length (ob_marks list) ≡ length list
@@ -440,7 +447,7 @@ fewer a n k is less = omega (arith, is, less)
 
 -- after so many rounds the last block of a chain is marked
 rounds_mark : (p : Program) (j k : ℕ) (ob : BlockId) (rest : List BlockId) → IsChain p (ob ∷ rest)
-    → length rest ≤ k → AllOf (marks k p (layers (suc j) p)) (layers (suc j) p) (last_of ob rest)
+    → length rest ≤ k → FirstOf (marks k p (layers (suc j) p)) (layers (suc j) p) (last_of ob rest)
 rounds_mark p j zero ob [] is few = obs_mark (layers (suc j) p) ob is.0
 rounds_mark p j zero ob (d ∷ more) is few = absurd (omega (arith, few))
 rounds_mark p j (suc k) ob [] is few =
@@ -460,9 +467,9 @@ rounds_mark p j (suc k) ob (d ∷ more) is few =
 -- so is each block on a chain
 pub marked_on_chain : (profile : Profile) (p : Program) (x : BlockId) → IsOnChain p x
     → NoneOver profile p (highest profile p)
-    → AllOf (marks (most_frames profile) p (highest profile p)) (highest profile p) x
+    → FirstOf (marks (most_frames profile) p (highest profile p)) (highest profile p) x
 marked_on_chain profile p x on none =
-    subst (λ (y : BlockId). AllOf (marks (most_frames profile) p (highest profile p)) (highest profile p) y) on.ends
+    subst (λ (y : BlockId). FirstOf (marks (most_frames profile) p (highest profile p)) (highest profile p) y) on.ends
     (rounds_mark p (most_frames profile) (most_frames profile) on.ob on.rest on.is_chain
     (rest_of (number_in Depth (highest profile p) (Some x)) (length on.rest) (most_frames profile)
     (chain_few profile p x on none)))
@@ -485,15 +492,16 @@ mark_sound p [] [] x on loaded sound = tt
 mark_sound p [] (b ∷ list) x on loaded sound = tt
 mark_sound p (m ∷ marks) [] x on loaded sound = tt
 mark_sound p (m ∷ marks) (b ∷ list) x on loaded sound =
-    (λ is. by m (same_id b.block x) refl is sound.0, mark_sound p marks list x on loaded.1 sound.1)
+    by (same_id b.block x) refl (mark_sound p marks list x on loaded.1 sound.1)
   where
-    by : (n test : Bool) → same_id b.block x ≡ test → (n || test) ≡ true
-        → (n ≡ true → IsOnChain p b.block) → IsOnChain p b.block
-    by true test same is before = before refl
-    by false true same is before =
-        subst (λ (y : BlockId). IsOnChain p y) (sym (same_is b.block x same))
-        (on (subst (λ (y : BlockId). IsSome (block_of y p.code_blocks)) (same_is b.block x same) loaded.0))
-    by false false same is before = absurd cc
+    by : (test : Bool) → same_id b.block x ≡ test → AreOnChains p (mark marks list x) list
+        → AreOnChains p (if test then true ∷ marks else m ∷ mark marks list x) (b ∷ list)
+    by true same rest = (
+      λ is. subst (λ (y : BlockId). IsOnChain p y) (sym (same_is b.block x same))
+          (on (subst (λ (y : BlockId). IsSome (block_of y p.code_blocks)) (same_is b.block x same) loaded.0)),
+      sound.1,
+    )
+    by false apart rest = (sound.0, rest)
 
 ops_sound : (p : Program) (marks : List Bool) (list : List Bound) (ops : List OpData) (x : BlockId) (b : CodeBlock)
     → block_of x p.code_blocks ≡ Some b → IsOnChain p x

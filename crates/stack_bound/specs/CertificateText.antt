@@ -50,11 +50,15 @@ abbrev pub parts_read : (kind number depth bytes : List ℕ) → Reading ((Block
 parts_read kind number depth bytes =
     both (both (kind_of_word kind) (address_number number)) (both (address_number depth) (address_number bytes))
 
+-- the bound of the four words that aren't fixed
+abbrev pub bound_read : (kind number depth bytes : List ℕ) → Reading Bound
+bound_read kind number depth bytes = reading_map bound_of_parts (parts_read kind number depth bytes)
+
 -- the words of a line: all six, with DEPTH and BYTES in their places
 unfoldable pub bound_words : List (List ℕ) → Reading Bound
 bound_words (kind ∷ number ∷ first ∷ depth ∷ second ∷ bytes ∷ []) =
     if bytes_eq first (codes "DEPTH") && bytes_eq second (codes "BYTES")
-    then reading_map bound_of_parts (parts_read kind number depth bytes)
+    then bound_read kind number depth bytes
     else no_line
 bound_words words = no_line
 
@@ -97,6 +101,10 @@ lines_read p line before (text ∷ more) =
 -- a whole text, whose lines are counted from 1
 unfoldable pub certificate_of : Program → List ℕ → Result (List Bound) Refusal
 certificate_of p text = lines_read p 1 None (lines text)
+
+-- a text spells bounds
+abbrev pub Spells : Program → List ℕ → List Bound → Type 0
+Spells p text list = certificate_of p text ≡ Ok list
 
 -- the first bad line with the least rule that it breaks; want of memory says nothing of the text
 abbrev pub IsFault : Result (List Bound) Refusal → CertificateFault → Type 0

@@ -41,11 +41,15 @@ counts_block p c b None = false
 counts_block p c b (Some block) =
     nat_le 1 b.depth && nat_le block.local_len b.bytes && counts_ops p c block.local_len b block.code
 
+-- so does a bound of the list, of its own block
+abbrev pub counts_its_block : Program → List Bound → Bound → Bool
+counts_its_block p c b = counts_block p c b (block_of b.block p.code_blocks)
+
 -- so does each of some bounds of a list
 abbrev pub each_counts : Program → List Bound → List Bound → Bool
 each_counts p c [] = true
 each_counts p c (b ∷ rest) =
-    counts_block p c b (block_of b.block p.code_blocks) && each_counts p c rest
+    counts_its_block p c b && each_counts p c rest
 
 -- a bound that is there, and within the limits of an activation
 abbrev pub is_within : Profile → Option Bound → Bool

@@ -55,17 +55,20 @@ bound_above layer block b = record {
   bytes = weight Bytes b + most_called Bytes layer b.code;
 }
 
+-- so for a block of a program, if it is a code block
+abbrev pub bound_above_in : Program → List Bound → BlockId → Option Bound
+bound_above_in p layer id = option_map (bound_above layer id) (block_of id p.code_blocks)
+
 -- a bound that may be there, in front of others
 abbrev pub with_bound : Option Bound → List Bound → List Bound
 with_bound None rest = rest
 with_bound (Some b) rest = b ∷ rest
 
--- so for each block that is a code block
+-- so for each of some blocks
 abbrev pub bounds_above : Program → List Bound → List BlockId → List Bound
 bounds_above p layer [] = []
 bounds_above p layer (id ∷ ids) =
-    with_bound (option_map (bound_above layer id) (block_of id p.code_blocks))
-    (bounds_above p layer ids)
+    with_bound (bound_above_in p layer id) (bounds_above p layer ids)
 
 -- the layer above another one
 abbrev pub layer_above : Program → List Bound → List Bound
@@ -76,6 +79,10 @@ abbrev pub layers : ℕ → Program → List Bound
 layers zero p = []
 layers (suc k) p = layer_above p (layers k p)
 
--- no number of a layer is above another one
+-- no number of a bound is above another one
+abbrev pub IsLow : ℕ → Bound → Type 0
+IsLow n b = (b.depth ≤ n) × (b.bytes ≤ n)
+
+-- none of a layer is
 abbrev pub AreLow : ℕ → List Bound → Type 0
-AreLow n layer = AllByRecursion (λ (b : Bound). (b.depth ≤ n) × (b.bytes ≤ n)) layer
+AreLow n layer = AllByRecursion (IsLow n) layer

@@ -1,4 +1,5 @@
 pub mod Calls
+pub mod ChainText
 pub mod Chains
 pub mod CertificateText
 pub mod Certificates
@@ -9,4 +10,5 @@ pub mod Layers
 pub mod Marks
 pub mod Order
 pub mod Overflow
+pub mod Places
 pub mod Walking

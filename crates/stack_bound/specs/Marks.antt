@@ -1,5 +1,5 @@
 -- Which blocks stand on chains: they are marked, round by round, in the places of the highest layer.
-use Rattle.std.specs.Prelude.{ℕ, zero, suc, Bool, true, ◌&&◌, ◌||◌, is_none, slice_set, if◌then◌else◌, List, [], ◌∷◌, ◌++◌, Option, Some, None}
+use Rattle.std.specs.Prelude.{ℕ, zero, suc, Bool, true, ◌&&◌, is_none, if◌then◌else◌, List, [], ◌∷◌, ◌++◌, Option, Some, None}
 use Rattle.plc_base.specs.Kinds.{is_organization_block}
 use Rattle.plc_base.specs.declared.blocks.BlockId.{BlockId}
 use Rattle.flat_code.specs.Ops.{OpData}
@@ -9,15 +9,12 @@ use Rattle.stack_bound.specs.Calls.{callee_of}
 use Rattle.stack_bound.specs.Certificates.{bound_of}
 use Rattle.stack_bound.specs.declared.certificates.Bound.{Bound}
 
--- a block is marked, where it stands in the list
+-- a block is marked, where it stands first in the list
 abbrev pub mark : List Bool → List Bound → BlockId → List Bool
 mark [] list block = []
 mark (m ∷ marks) [] block = m ∷ marks
-mark (m ∷ marks) (b ∷ list) block = (m || same_id b.block block) ∷ mark marks list block
-
--- a place is marked, if a test passes
-abbrev pub set_at : Bool → (place : ℕ) → List Bool → List Bool
-set_at test place marks = if test then slice_set marks place true else marks
+mark (m ∷ marks) (b ∷ list) block =
+    if same_id b.block block then true ∷ marks else m ∷ mark marks list block
 
 -- what an op calls, if it calls a block
 abbrev pub mark_callee : List Bool → List Bound → Option BlockId → List Bool
@@ -34,12 +31,16 @@ abbrev pub mark_called : List Bool → List Bound → Option CodeBlock → List 
 mark_called marks list None = marks
 mark_called marks list (Some b) = mark_ops marks list b.code
 
+-- what the block of a bound calls
+abbrev pub mark_called_by : Program → List Bool → List Bound → Bound → List Bool
+mark_called_by p marks list b = mark_called marks list (block_of b.block p.code_blocks)
+
 -- what the blocks call that had a mark before
 abbrev pub mark_all : Program → List Bound → List Bool → (before : List Bool) → (left : List Bound) → List Bool
 mark_all p list marks [] left = marks
 mark_all p list marks (m ∷ before) [] = marks
 mark_all p list marks (m ∷ before) (b ∷ left) =
-    mark_all p list (if m then mark_called marks list (block_of b.block p.code_blocks) else marks) before left
+    mark_all p list (if m then mark_called_by p marks list b else marks) before left
 
 -- the organization blocks of a list
 abbrev pub ob_marks : List Bound → List Bool

@@ -1,10 +1,11 @@
 //! Bounds, and lists of them.
-ghost use Rattle.std.specs.Prelude.{◌≡◌, ◌<◌, true, length};
+ghost use Rattle.std.specs.Prelude.{◌≡◌, true};
+ghost use Rattle.std.specs.List.{position_from};
 ghost use Rattle.image_file.specs.Readers.{same_id};
 ghost use Rattle.stack_bound.specs.Certificates.{bound_of};
 ghost use Rattle.stack_bound.specs.Judging.{are_once};
-ghost use Rattle.stack_bound.specs.Marks.{mark, set_at};
 ghost use Rattle.stack_bound.specs.Order.{IsHalved, bound_at, comes_before, is_before, rise};
+ghost use Rattle.stack_bound.specs.Places.{place_of};
 
 use plc_base::BlockId;
 use std::marker::Model;
@@ -98,41 +99,25 @@ fn searched(list: &[Bound], block: BlockId) -> Option<Bound>
     bound_at(list, place_in(list, block), block)
 }
 
-/// Marks a block of a list whose blocks rise.
-#[tactic(auto, using(crate::proofs::MarkLemmas::marked_at, crate::proofs::MarkLemmas::marked_nowhere, crate::proofs::MarkLemmas::mark_len))]
-fn mark_searched(list: &[Bound], block: BlockId, marks: &mut Vec<bool>)
-    requires rise { rise list.now ≡ true }
-    requires same { length marks.old.items ≡ length list.now }
-    ensures marks { marks.new.items ≡ mark marks.old.items list.now block }
-    ensures same { length marks.new.items ≡ length marks.old.items }
+/// The place of a block in a list whose blocks rise, by halving it.
+#[tactic(auto, using(crate::proofs::PlaceLemmas::found_here, crate::proofs::PlaceLemmas::found_nowhere))]
+fn place_searched(list: &[Bound], block: BlockId) -> Option<usize>
+    requires { rise list.now ≡ true }
+    ensures { result ≡ place_of block list.now }
 {
     let place = place_in(list, block);
     if bound_at(list, place, block).is_some() {
-        marks[place] = true;
+        Some(place)
+    } else {
+        None
     }
 }
 
-/// Marks a place, if a test passes.
-fn set_at(test: bool, place: usize, marks: &mut Vec<bool>)
-    requires { place < length marks.old.items }
-    ensures marks { marks.new.items ≡ set_at test place marks.old.items }
-    ensures same { length marks.new.items ≡ length marks.old.items }
+/// The place where a block stands first in a list, by a walk.
+fn place_walked(list: &[Bound], block: BlockId) -> Option<usize>
+    ensures { result ≡ position_from (λ b. same_id b.block block) 0 list.now }
 {
-    if test {
-        marks[place] = true;
-    }
-}
-
-/// Marks a block of a list, by a walk.
-#[tactic(auto, using(crate::proofs::MarkLemmas::one_more, crate::proofs::MarkLemmas::all_marked))]
-fn mark_walked(list: &[Bound], block: BlockId, marks: &mut Vec<bool>)
-    requires { length marks.old.items ≡ length list.now }
-    ensures marks { marks.new.items ≡ mark marks.old.items list.now block }
-    ensures same { length marks.new.items ≡ length marks.old.items }
-{
-    for i in 0..list.len() {
-        set_at(is_same(list[i].block, block), i, marks);
-    }
+    list.iter().position(|b| is_same(b.block, block))
 }
 
 /// Bounds of blocks, in which a block is found by halving them, where the blocks rise.
@@ -155,8 +140,8 @@ impl<'a> Model for Bounds<'a> {
 }
 
 impl<'a> Bounds<'a> {
-    ghost use Rattle.std.specs.Prelude.{◌≡◌, length};
-    ghost use Rattle.stack_bound.specs.Marks.{mark};
+    ghost use Rattle.std.specs.Prelude.{◌≡◌};
+    ghost use Rattle.stack_bound.specs.Places.{place_of};
     ghost use Rattle.stack_bound.specs.Certificates.{bound_of};
     ghost use Rattle.stack_bound.specs.Judging.{are_once};
 
@@ -181,16 +166,15 @@ impl<'a> Bounds<'a> {
         }
     }
 
-    /// Marks a block in its place among them.
-    pub(crate) fn mark(&self, block: BlockId, marks: &mut Vec<bool>)
-        requires { length marks.old.items ≡ length self.now }
-        ensures marks { marks.new.items ≡ mark marks.old.items self.now block }
-        ensures same { length marks.new.items ≡ length marks.old.items }
+    /// The place where a block stands first among them.
+    #[tactic(auto, using(crate::proofs::PlaceLemmas::walked_to))]
+    pub(crate) fn place_of(&self, block: BlockId) -> Option<usize>
+        ensures { result ≡ place_of block self.now }
     {
         if self.rise {
-            mark_searched(self.list, block, marks);
+            place_searched(self.list, block)
         } else {
-            mark_walked(self.list, block, marks);
+            place_walked(self.list, block)
         }
     }
 

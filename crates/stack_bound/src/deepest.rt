@@ -1,8 +1,8 @@
 //! A chain that is too deep.
-ghost use Rattle.std.specs.Prelude.{◌≡◌, ◌<◌, ◌++◌, ◌∷◌, [], suc, Some, IfOk, IsSome};
+ghost use Rattle.std.specs.Prelude.{◌≡◌, suc, IfOk};
 ghost use Rattle.plc_base.specs.Profiles.{most_frames};
 ghost use Rattle.plc_base.specs.declared.blocks.BlockKind.TheVariants.{Ob};
-ghost use Rattle.image_file.specs.Readers.{block_of, ids_of};
+ghost use Rattle.image_file.specs.Readers.{ids_of};
 ghost use Rattle.stack_bound.specs.Deepest.{IsMostCalled, IsOver, better, first_over, is_too_deep, measure_over, ob_over};
 ghost use Rattle.stack_bound.specs.Finding.{IsDeepChain};
 ghost use Rattle.stack_bound.specs.Layers.{layers, limit, number_in};

@@ -2,9 +2,10 @@
 ghost use Rattle.std.specs.Prelude.{IfOk};
 ghost use Rattle.stack_bound.specs.Finding.{Finds};
 
+use crate::callers::callers;
 use crate::certificates::{Bound, Bounds};
 use crate::deepest::{chain_from, first_over};
-use crate::layers::highest_layer;
+use crate::layers::{first_layer, highest_layer};
 use crate::marks::{marked, marks};
 use image_file::Loaded;
 use plc_base::{BlockId, NoMemory};
@@ -26,13 +27,15 @@ pub fn find(alloc: Global, l: &Loaded) -> Result<Found, NoMemory>
     ensures { IfOk result (λ found. Finds l.now.profile l.now.program found) }
 {
     let most = l.profile().most_frames() as u32;
-    let layer = highest_layer(alloc, l, most)?;
+    let first = first_layer(alloc, l)?;
+    let callers = callers(alloc, l, &Bounds::new(first.as_slice()))?;
+    let layer = highest_layer(alloc, callers.as_slice(), first, most)?;
     let bounds = Bounds::new(layer.as_slice());
     if let Some(over) = first_over(l, &bounds) {
         let chain = chain_from(alloc, l, &bounds, over)?;
         return Ok(Found::Deep { chain });
     }
-    let marks = marks(alloc, l, layer.as_slice(), most)?;
+    let marks = marks(alloc, callers.as_slice(), layer.as_slice(), most)?;
     let list = marked(alloc, layer.as_slice(), marks.as_slice())?;
     Ok(Found::Fits { list })
 }

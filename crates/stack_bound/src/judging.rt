@@ -2,9 +2,8 @@
 ghost use Rattle.std.specs.Prelude.{◌≡◌, ◌↔◌, IsTrue};
 ghost use Rattle.image_file.specs.Readers.{ids_of};
 ghost use Rattle.stack_bound.specs.Certificates.{Holds};
-ghost use Rattle.stack_bound.specs.Judging.{counts_called, counts_callee, counts_ops, counts_block, each_counts, is_within, obs_within, is_certificate};
+ghost use Rattle.stack_bound.specs.Judging.{counts_called, counts_callee, counts_ops, counts_its_block, each_counts, is_within, obs_within, is_certificate};
 ghost use Rattle.stack_bound.specs.Overflow.{NeverOverflows};
-ghost use Rattle.image_file.specs.Readers.{block_of};
 ghost use Rattle.plc_base.specs.Kinds.{is_organization_block};
 
 use crate::calls::callee_of;
@@ -59,7 +58,7 @@ fn counts_ops(l: &Loaded, c: &Bounds<'_>, b: &Bound, code: &LoadedCode<'_>) -> b
 
 /// Whether a bound is of a loaded block, and counts the block itself and what it calls.
 fn counts_block(l: &Loaded, c: &Bounds<'_>, b: &Bound) -> bool
-    ensures { result ≡ counts_block l.now.program c.now b.now (block_of b.now.block l.now.program.code_blocks) }
+    ensures { result ≡ counts_its_block l.now.program c.now b.now }
 {
     match l.block(b.block) {
         Some(code) => b.depth >= 1

@@ -1,16 +1,14 @@
 //! The least bounds, layer by layer.
-ghost use Rattle.std.specs.Prelude.{◌≡◌, ◌≤◌, ◌*◌, ◌+◌, max, suc, IfOk, IfSome};
-ghost use Rattle.std.specs.Option.{option_map};
-ghost use Rattle.plc_base.specs.Profiles.{most_frames};
-ghost use Rattle.image_file.specs.Readers.{block_of};
-ghost use Rattle.stack_bound.specs.Calls.{callee_of};
-ghost use Rattle.stack_bound.specs.Layers.{AreLow, bound_above, layer_above, layers, most_called, number_in};
+ghost use Rattle.std.specs.Prelude.{◌≡◌, ◌≤◌, ◌*◌, ◌+◌, map, max, IfOk, IfSome};
+ghost use Rattle.image_file.specs.Readers.{ids_of};
+ghost use Rattle.stack_bound.specs.Layers.{AreLow, IsLow, number_if, number_in};
+ghost use Rattle.stack_bound.specs.Places.{bound_alone_in, bound_by, bounds_alone, layers_by, most_at};
+ghost use Rattle.stack_bound.specs.declared.measures.Measure.TheVariants.{Depth, Bytes};
 
-use crate::calls::callee_of;
+use crate::callers::Caller;
 use crate::certificates::{Bound, Bounds};
 use crate::measures::Measure;
-use flat_code::Op;
-use image_file::{Loaded, LoadedCode};
+use image_file::Loaded;
 use plc_base::{BlockId, NoMemory};
 use std::alloc::Global;
 
@@ -27,63 +25,29 @@ pub(crate) fn number_in(measure: Measure, layer: &Bounds<'_>, callee: Option<Blo
     }
 }
 
-/// The most so far, and of what an op calls.
-fn most_with(measure: Measure, layer: &Bounds<'_>, most: u32, op: &Op) -> u32
-    ensures { result ≡ max most (number_in measure layer.now (callee_of op.now)) }
-{
-    let number = number_in(measure, layer, callee_of(op));
-    if most < number { number } else { most }
-}
-
-/// The most that a layer says of a block that a block calls.
-#[tactic(auto, using(crate::proofs::WalkLemmas::walks, crate::proofs::WalkLemmas::walked, crate::proofs::WalkLemmas::all_behind, crate::proofs::LayerLemmas::most_of_all))]
-fn most_called(measure: Measure, layer: &Bounds<'_>, code: &LoadedCode<'_>) -> u32
-    ensures { result ≡ most_called measure layer.now code.now.code }
-{
-    let mut most = 0;
-    let mut at = 0;
-    while let Some((op, next)) = code.op(at) {
-        most = most_with(measure, layer, most, &op);
-        at = next;
-    }
-    most
-}
-
-/// The bound of a block above a layer, none of whose numbers is above another one.
-#[tactic(auto, using(crate::proofs::LayerLemmas::low_most))]
-fn bound_above(l: &Loaded, layer: &Bounds<'_>, block: BlockId, highest: u32) -> Option<Bound>
-    requires low { AreLow highest layer.now }
-    requires room { highest + 65536 ≤ 0xFFFFFFFF }
-    ensures bound { result ≡ option_map (bound_above layer.now block) (block_of block l.now.program.code_blocks) }
-    ensures low { IfSome result (λ b. (b.depth ≤ highest + 65536) × (b.bytes ≤ highest + 65536)) }
+/// The bound of a block that calls none.
+fn bound_alone(l: &Loaded, block: BlockId) -> Option<Bound>
+    ensures bound { result ≡ bound_alone_in l.now.program block }
+    ensures low { IfSome result (IsLow 65536) }
 {
     let code = l.block(block)?;
-    let depth = most_called(Measure::Depth, layer, &code);
-    let bytes = most_called(Measure::Bytes, layer, &code);
     Some(Bound {
         block,
-        depth: 1 + depth,
-        bytes: u32::from(code.local_len()) + bytes,
+        depth: 1,
+        bytes: u32::from(code.local_len()),
     })
 }
 
-/// The layer above another one, none of whose numbers is above another number.
-fn layer_above(
-    alloc: Global,
-    l: &Loaded,
-    below: &[Bound],
-    highest: u32,
-) -> Result<Vec<Bound>, NoMemory>
-    requires low { AreLow highest below.now }
-    requires room { highest + 65536 ≤ 0xFFFFFFFF }
-    ensures layer { IfOk result (λ v. v.items ≡ layer_above l.now.program below.now) }
-    ensures low { IfOk result (λ v. AreLow (highest + 65536) v.items) }
+/// The lowest layer that has blocks: each of them by itself.
+pub(crate) fn first_layer(alloc: Global, l: &Loaded) -> Result<Vec<Bound>, NoMemory>
+    ensures layer { IfOk result
+        (λ v. v.items ≡ bounds_alone l.now.program (ids_of l.now.program)) }
+    ensures low { IfOk result (λ v. AreLow 65536 v.items) }
 {
-    let below = Bounds::new(below);
     let mut layer = Vec::new(alloc);
     let mut left = l.blocks();
     while let [block, rest @ ..] = left {
-        if let Some(b) = bound_above(l, &below, *block, highest) {
+        if let Some(b) = bound_alone(l, *block) {
             layer.push(b)?;
         }
         left = rest;
@@ -91,16 +55,93 @@ fn layer_above(
     Ok(layer)
 }
 
-/// The bounds of all blocks, if no chain has more than so many blocks and one.
-pub(crate) fn highest_layer(alloc: Global, l: &Loaded, most: u32) -> Result<Vec<Bound>, NoMemory>
-    requires { most ≤ 24 }
-    ensures { IfOk result (λ v. v.items ≡ layers (suc most) l.now.program) }
+/// The greatest numbers so far.
+#[derive(Clone, Copy)]
+struct Most {
+    depth: u32,
+    bytes: u32,
+}
+
+/// The greatest numbers so far, and of a bound that may be there.
+fn most_with(most: &Most, b: Option<Bound>) -> Most
+    ensures depth { result.depth ≡ max most.now.depth (number_if Depth b) }
+    ensures bytes { result.bytes ≡ max most.now.bytes (number_if Bytes b) }
 {
-    let mut layer = layer_above(alloc, l, &[], 0)?;
+    match b {
+        Some(b) => Most {
+            depth: most.depth.max(b.depth),
+            bytes: most.bytes.max(b.bytes),
+        },
+        None => *most,
+    }
+}
+
+/// The greatest numbers that a layer has in some places.
+fn most_at(layer: &[Bound], places: &[usize]) -> Most
+    ensures depth { result.depth ≡ most_at Depth layer.now places.now }
+    ensures bytes { result.bytes ≡ most_at Bytes layer.now places.now }
+{
+    let mut most = Most { depth: 0, bytes: 0 };
+    let mut left = places;
+    while let [place, rest @ ..] = left {
+        most = most_with(&most, layer.get(*place).copied());
+        left = rest;
+    }
+    most
+}
+
+/// The bound of a caller above a layer, none of whose numbers is above another one.
+fn bound_above(layer: &[Bound], caller: &Caller, highest: u32) -> Bound
+    requires low { AreLow highest layer.now }
+    requires room { highest + 65536 ≤ 0xFFFFFFFF }
+    ensures bound { result ≡ bound_by layer.now caller.now }
+    ensures low { IsLow (highest + 65536) result }
+{
+    let most = most_at(layer, caller.called.as_slice());
+    Bound {
+        block: caller.block,
+        depth: 1 + most.depth,
+        bytes: u32::from(caller.local_len()) + most.bytes,
+    }
+}
+
+/// The layer above another one, none of whose numbers is above another number.
+fn layer_above(
+    alloc: Global,
+    callers: &[Caller],
+    below: &[Bound],
+    highest: u32,
+) -> Result<Vec<Bound>, NoMemory>
+    requires low { AreLow highest below.now }
+    requires room { highest + 65536 ≤ 0xFFFFFFFF }
+    ensures layer { IfOk result (λ v. v.items ≡ map (bound_by below.now) callers.now) }
+    ensures low { IfOk result (λ v. AreLow (highest + 65536) v.items) }
+{
+    let mut layer = Vec::with_capacity(alloc, callers.len())?;
+    let mut left = callers;
+    while let [caller, rest @ ..] = left {
+        layer.push(bound_above(below, caller, highest))?;
+        left = rest;
+    }
+    Ok(layer)
+}
+
+/// So many layers above the first one.
+pub(crate) fn highest_layer(
+    alloc: Global,
+    callers: &[Caller],
+    first: Vec<Bound>,
+    most: u32,
+) -> Result<Vec<Bound>, NoMemory>
+    requires low { AreLow 65536 first.items }
+    requires few { most ≤ 24 }
+    ensures { IfOk result (λ v. v.items ≡ layers_by callers.now first.items most) }
+{
+    let mut layer = first;
     let mut number = 0;
     while number < most {
         number += 1;
-        layer = layer_above(alloc, l, layer.as_slice(), 65_536 * number)?;
+        layer = layer_above(alloc, callers, layer.as_slice(), 65_536 * number)?;
     }
     Ok(layer)
 }

@@ -1,8 +1,10 @@
 //! Bounds of stacks: how deep the calls of a program go, and how many local bytes they take.
 #![tactic(auto)]
 
+mod callers;
 mod calls;
 mod certificates;
+mod chain_text;
 mod deepest;
 mod finding;
 mod judging;
@@ -13,6 +15,7 @@ mod measures;
 mod texts;
 
 pub use certificates::Bound;
+pub use chain_text::write_chain;
 pub use finding::{Found, find};
 pub use judging::holds;
 pub use texts::{CertificateFault, read_certificate, write_certificate};

@@ -1,56 +1,46 @@
 //! The blocks that stand on chains.
-ghost use Rattle.std.specs.Prelude.{◌≡◌, true, [], length, IfOk};
-ghost use Rattle.image_file.specs.Readers.{block_of};
-ghost use Rattle.stack_bound.specs.Calls.{callee_of};
-ghost use Rattle.stack_bound.specs.Marks.{mark_all, mark_called, mark_callee, mark_ops, marked_behind, marks, ob_marks};
+ghost use Rattle.std.specs.Prelude.{◌≡◌, [], length, slice_set, true, IfOk};
+ghost use Rattle.stack_bound.specs.Marks.{marked_behind, ob_marks};
+ghost use Rattle.stack_bound.specs.Places.{mark_callers, mark_if, mark_places, marks_by};
 
-use crate::calls::callee_of;
-use crate::certificates::{Bound, Bounds, walked_to};
-use flat_code::Op;
-use image_file::{Loaded, LoadedCode};
+use crate::callers::Caller;
+use crate::certificates::{Bound, walked_to};
 use plc_base::{BlockKind, NoMemory};
 use std::alloc::Global;
 
-/// Marks what an op calls.
-fn mark_callee(list: &Bounds<'_>, op: &Op, marks: &mut Vec<bool>)
-    requires { length marks.old.items ≡ length list.now }
-    ensures marks { marks.new.items ≡ mark_callee marks.old.items list.now (callee_of op.now) }
-    ensures same { length marks.new.items ≡ length marks.old.items }
+/// Marks a place.
+#[tactic(auto, using(crate::proofs::PlaceLemmas::no_place))]
+fn mark_place(marks: &mut Vec<bool>, place: usize)
+    ensures { marks.new.items ≡ slice_set marks.old.items place true }
 {
-    if let Some(block) = callee_of(op) {
-        list.mark(block, marks);
+    if place < marks.len() {
+        marks[place] = true;
     }
 }
 
-/// Marks what a block calls.
-#[tactic(auto, using(crate::proofs::WalkLemmas::walks, crate::proofs::WalkLemmas::walked, crate::proofs::WalkLemmas::all_behind))]
-fn mark_ops(list: &Bounds<'_>, code: &LoadedCode<'_>, marks: &mut Vec<bool>)
-    requires { length marks.old.items ≡ length list.now }
-    ensures marks { marks.new.items ≡ mark_ops marks.old.items list.now code.now.code }
-    ensures same { length marks.new.items ≡ length marks.old.items }
+/// Marks places.
+fn mark_places(marks: &mut Vec<bool>, places: &[usize])
+    ensures { marks.new.items ≡ mark_places marks.old.items places.now }
 {
-    let mut at = 0;
-    while let Some((op, next)) = code.op(at) {
-        mark_callee(list, &op, marks);
-        at = next;
+    let mut left = places;
+    while let [place, rest @ ..] = left {
+        mark_place(marks, *place);
+        left = rest;
     }
 }
 
-/// Marks what a block calls, if it is loaded.
-fn mark_called(l: &Loaded, list: &Bounds<'_>, b: &Bound, marks: &mut Vec<bool>)
-    requires { length marks.old.items ≡ length list.now }
-    ensures marks { marks.new.items ≡ mark_called marks.old.items list.now (block_of b.now.block l.now.program.code_blocks) }
-    ensures same { length marks.new.items ≡ length marks.old.items }
+/// Marks what a caller calls, if the caller had a mark.
+fn mark_if(m: bool, marks: &mut Vec<bool>, caller: &Caller)
+    ensures { marks.new.items ≡ mark_if m marks.old.items caller.now }
 {
-    if let Some(code) = l.block(b.block) {
-        mark_ops(list, &code, marks);
+    if m {
+        mark_places(marks, caller.called.as_slice());
     }
 }
 
 /// The marks of the organization blocks.
 fn ob_marks(alloc: Global, list: &[Bound]) -> Result<Vec<bool>, NoMemory>
-    ensures marks { IfOk result (λ v. v.items ≡ ob_marks list.now) }
-    ensures same { IfOk result (λ v. length v.items ≡ length list.now) }
+    ensures { IfOk result (λ v. v.items ≡ ob_marks list.now) }
 {
     let mut marks = Vec::new(alloc);
     let mut left = list;
@@ -62,26 +52,24 @@ fn ob_marks(alloc: Global, list: &[Bound]) -> Result<Vec<bool>, NoMemory>
 }
 
 /// The marks of the round after one with these marks.
+#[tactic(auto, using(crate::proofs::PlaceLemmas::no_caller))]
 fn next_marks(
     alloc: Global,
-    l: &Loaded,
+    callers: &[Caller],
     list: &[Bound],
     before: &[bool],
 ) -> Result<Vec<bool>, NoMemory>
-    ensures { IfOk result (λ v. v.items
-        ≡ mark_all l.now.program list.now (ob_marks list.now) before.now list.now) }
+    ensures { IfOk result
+        (λ v. v.items ≡ mark_callers (ob_marks list.now) before.now callers.now) }
 {
-    let bounds = Bounds::new(list);
     let mut marks = ob_marks(alloc, list)?;
-    let mut left = list;
+    let mut left = callers;
     let mut marked = before;
-    while let [b, rest @ ..] = left {
+    while let [caller, rest @ ..] = left {
         let [m, more @ ..] = marked else {
             return Ok(marks);
         };
-        if *m {
-            mark_called(l, &bounds, b, &mut marks);
-        }
+        mark_if(*m, &mut marks, caller);
         left = rest;
         marked = more;
     }
@@ -91,16 +79,16 @@ fn next_marks(
 /// The marks after so many rounds.
 pub(crate) fn marks(
     alloc: Global,
-    l: &Loaded,
+    callers: &[Caller],
     list: &[Bound],
     rounds: u32,
 ) -> Result<Vec<bool>, NoMemory>
-    ensures { IfOk result (λ v. v.items ≡ marks rounds l.now.program list.now) }
+    ensures { IfOk result (λ v. v.items ≡ marks_by callers.now list.now rounds) }
 {
     let mut marks = ob_marks(alloc, list)?;
     let mut round = 0;
     while round < rounds {
-        marks = next_marks(alloc, l, list, marks.as_slice())?;
+        marks = next_marks(alloc, callers, list, marks.as_slice())?;
         round += 1;
     }
     Ok(marks)

@@ -1,7 +1,7 @@
 //! The text of a certificate, both ways.
-ghost use Rattle.std.specs.Prelude.{◌≡◌, ◌≤◌, ◌++◌, Ok, Err, length, IfErr, IfOk, OnErr, OnOk};
-ghost use Rattle.var_access.specs.Readings.{reading_map, words_of};
-ghost use Rattle.stack_bound.specs.CertificateText.{IsFault, IsLineFault, IsTaken, bound_line, bound_of_parts, bound_text, bound_words, certificate_of, certificate_text, comes_behind as comes_behind_of, in_order, is_skipped as is_skipped_line, kind_of_word, parts_read};
+ghost use Rattle.std.specs.Prelude.{◌≡◌, ◌≤◌, ◌++◌, length, IfErr, IfOk, OnOk};
+ghost use Rattle.var_access.specs.Readings.{words_of};
+ghost use Rattle.stack_bound.specs.CertificateText.{IsFault, IsLineFault, IsTaken, Spells, bound_line, bound_read, bound_text, bound_words, certificate_of, certificate_text, comes_behind as comes_behind_of, is_skipped as is_skipped_line, kind_of_word};
 
 use crate::certificates::{Bound, is_before};
 use image_file::Loaded;
@@ -81,7 +81,7 @@ fn kind_of_word(word: &[u8]) -> Result<BlockKind, u16>
 
 /// What the four words say that aren't fixed.
 fn parts_read(kind: &[u8], number: &[u8], depth: &[u8], bytes: &[u8]) -> Result<Bound, u16>
-    ensures { result ≡ reading_map bound_of_parts (parts_read kind.now number.now depth.now bytes.now) }
+    ensures { result ≡ bound_read kind.now number.now depth.now bytes.now }
 {
     let ((kind, number), (depth, bytes)) = both(
         both(kind_of_word(kind), address_number(number)),
@@ -159,7 +159,8 @@ fn take_line(
     line: &[u8],
     list: &mut Vec<Bound>,
 ) -> Result<(), CertificateFault>
-    ensures taken { OnOk result (IsTaken l.now.program before.old before.new line.now list.old.items list.new.items) }
+    ensures taken { OnOk result
+        (IsTaken l.now.program before.old before.new line.now list.old.items list.new.items) }
     ensures bad { IfErr result (IsLineFault number l.now.program before.old line.now) }
 {
     if is_skipped(line) {
@@ -188,7 +189,7 @@ pub fn read_certificate(
     bytes: &[u8],
 ) -> Result<Vec<Bound>, CertificateFault>
     requires { length bytes.now ≤ 4194304 }
-    ensures spelled { IfOk result (λ list. certificate_of l.now.program bytes.now ≡ Ok list.items) }
+    ensures spelled { IfOk result (λ list. Spells l.now.program bytes.now list.items) }
     ensures refused { IfErr result (IsFault (certificate_of l.now.program bytes.now)) }
 {
     let mut list = Vec::new(alloc);

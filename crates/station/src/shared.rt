@@ -79,7 +79,8 @@ impl Shared {
     fn make_room(&mut self) -> Result<(), StationFault>
         ensures opened { self.new.opened ≡ self.old.opened }
         ensures ok { OnOk result ((length self.old.controller.value.history < FULL)
-            × (self.new.controller.value ≡ record self.old.controller.value { spare = self.new.controller.value.spare })
+            × (self.new.controller.value
+            ≡ record self.old.controller.value { spare = self.new.controller.value.spare })
             × (0 < self.new.controller.value.spare)) }
         ensures err { IfErr result (λ f. (self.new ≡ self.old)
             × MayFail f (length self.old.controller.value.history)) }

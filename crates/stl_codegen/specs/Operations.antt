@@ -12,6 +12,7 @@ use Rattle.plc_base.specs.declared.Check.TheVariants as check
 use Rattle.flat_code.specs.declared.operations.Logic.TheVariants as logic
 use Rattle.flat_code.specs.declared.operations.Number.TheVariants as number
 use Rattle.flat_code.specs.declared.operations.PointerOperation.TheVariants as pointers
+use Rattle.flat_code.specs.declared.operations.RelayOperation.TheVariants as relay
 use Rattle.flat_code.specs.declared.operations.Shift.TheVariants as shifts
 use Rattle.plc_base.specs.declared.TimerKind.TheVariants as starts
 use Rattle.flat_code.specs.declared.operations.Operation.{Operation}
@@ -111,6 +112,10 @@ operation_for code.OnOpen o v = operation.Nest check.On
 operation_for code.XOpen o v = operation.Nest check.X
 operation_for code.XnOpen o v = operation.Nest check.Xn
 operation_for code.Close o v = operation.Unnest
+operation_for code.Mcra o v = operation.Relay relay.Activate
+operation_for code.Mcrd o v = operation.Relay relay.Deactivate
+operation_for code.McrOpen o v = operation.Relay relay.Open
+operation_for code.McrClose o v = operation.Relay relay.Close
 operation_for code.L o v = load_operation v
 operation_for code.T o v = transfer_operation v
 operation_for code.Assign o v = operation.Assign

@@ -14,7 +14,7 @@ ghost use Rattle.stl_codegen.specs.Operations.{
 
 use flat_code::{
     Adding, CallOperation, EndOperation, JumpOperation, Logic, Number, Operation, PointerOperation,
-    Shift,
+    RelayOperation, Shift,
 };
 use plc_base::{Check, Compare, TimerKind};
 use stl_ast::{Literal, Mnemonic, Operand};
@@ -155,6 +155,10 @@ pub(crate) fn operation_for(code: Mnemonic, operand: &Operand, view: View) -> Op
         Mnemonic::XOpen => Operation::Nest(Check::X),
         Mnemonic::XnOpen => Operation::Nest(Check::Xn),
         Mnemonic::Close => Operation::Unnest,
+        Mnemonic::Mcra => Operation::Relay(RelayOperation::Activate),
+        Mnemonic::Mcrd => Operation::Relay(RelayOperation::Deactivate),
+        Mnemonic::McrOpen => Operation::Relay(RelayOperation::Open),
+        Mnemonic::McrClose => Operation::Relay(RelayOperation::Close),
         Mnemonic::L => load_operation(view),
         Mnemonic::T => transfer_operation(view),
         Mnemonic::Assign => Operation::Assign,

@@ -25,10 +25,11 @@ use Rattle.stl_ast.specs.Operands.{IsNameOf, IsAnyName, IsDataBlockName, IsInsta
 use Rattle.stl_ast.specs.Sizes.{op_size, code_size, statement_size}
 use Rattle.stl_ast.specs.Statements.{is_jump, is_call, has_actuals, is_empty, is_nothing, is_label, is_called, has_instance, IsTarget, IsLabelOf, IsActual, AreActuals, IsStatement}
 use Rattle.stl_lexer.specs.declared.marks.Mark.TheVariants as mark
+use Rattle.stl_parser.specs.declared.keywords.Key.TheVariants as key
 use Rattle.stl_parser.specs.declared.statements.BareStatement.{BareStatement}
 use Rattle.stl_parser.specs.declared.tables.Form.{Form}
 use Rattle.stl_parser.specs.declared.tables.Form.TheVariants as form
-use Rattle.stl_parser.specs.Terminals.{has_kind, is_mark}
+use Rattle.stl_parser.specs.Terminals.{has_kind, is_mark, is_key}
 use Rattle.stl_parser.specs.Tables.{look_up, mnemonics, opening_mnemonics}
 use Rattle.stl_parser.specs.Parts.{parts_from, whole}
 use Rattle.stl_parser.specs.Literals.{unquoted}
@@ -368,6 +369,15 @@ opening_holds source t rest =
     (not-true (is_empty m) (and_second (not (is_call m)) _ h)))
     (λ i l. roomier (length behind) (length rest) i (omega (arith, k)) l)))
 
+zone_end_holds : (source : List ℕ) (t : Token) (rest : List Token) → IfSome (spec.zone_end_of source t rest) (IsInstruction (length rest))
+unfolding spec.zone_end_of
+zone_end_holds source t [] = tt
+zone_end_holds source t (w ∷ rest) =
+    passed (is_mark source t mark.CloseParen && is_key source w key.Mcr) _ (IsInstruction (length (w ∷ rest)))
+    (λ test. weakened (spec.with_operand source mnemonic.McrClose rest) (IsInstruction (length rest)) (IsInstruction (length (w ∷ rest)))
+    (with_operand_holds source mnemonic.McrClose rest refl refl)
+    (λ i h. roomier (length rest) (length (w ∷ rest)) i (omega arith) h))
+
 closed_holds : (source : List ℕ) (t : Token) (rest : List Token) → IfSome (spec.closed_of source t rest) (IsInstruction (length rest))
 unfolding spec.closed_of
 closed_holds source t rest =
@@ -385,7 +395,8 @@ instruction_holds : (source : List ℕ) (tokens : List Token) → IfSome (spec.i
 unfolding spec.instruction_of
 instruction_holds source [] = tt
 instruction_holds source (t ∷ rest) =
-    either (spec.opening_of source t rest) _ (IsInstruction (length rest)) (opening_holds source t rest) (closed_holds source t rest)
+    either (spec.opening_of source t rest) _ (IsInstruction (length rest)) (opening_holds source t rest)
+    (either (spec.zone_end_of source t rest) _ (IsInstruction (length rest)) (zone_end_holds source t rest) (closed_holds source t rest))
 
 most_size : (code : Mnemonic) (o : Operand) (n : ℕ) → code_size code o n ≤ 4 + op_size o + 11 * n
 most_size mnemonic.Empty o n = omega arith

@@ -15,10 +15,11 @@ use Rattle.stl_ast.specs.declared.operands.Operand.TheVariants as operand
 use Rattle.stl_ast.specs.declared.statements.Actual.{Actual}
 use Rattle.stl_ast.specs.declared.statements.Statement.{Statement}
 use Rattle.stl_lexer.specs.declared.marks.Mark.TheVariants as mark
+use Rattle.stl_parser.specs.declared.keywords.Key.TheVariants as key
 use Rattle.stl_parser.specs.declared.statements.BareStatement.{BareStatement}
 use Rattle.stl_parser.specs.declared.tables.Form.{Form}
 use Rattle.stl_parser.specs.declared.tables.Form.TheVariants as form
-use Rattle.stl_parser.specs.Terminals.{has_kind, is_mark}
+use Rattle.stl_parser.specs.Terminals.{has_kind, is_mark, is_key}
 use Rattle.stl_parser.specs.Tables.{look_up, mnemonics, opening_mnemonics}
 use Rattle.stl_parser.specs.Parts.{parts_from, whole}
 use Rattle.stl_parser.specs.Literals.{unquoted}
@@ -139,20 +140,27 @@ unfoldable pub after_paren : List ℕ → List Token → Option (List Token)
 after_paren source [] = None
 after_paren source (t ∷ rest) = if is_mark source t mark.OpenParen then Some rest else None
 
--- an instruction word that opens a bracket: the word and a `(`
+-- an instruction word that opens a bracket or a zone: the word and a `(`
 unfoldable pub opening_of : List ℕ → Token → List Token → Option BareStatement
 opening_of source t rest =
     option_and_then (λ code. option_and_then (λ behind. with_operand source code behind) (after_paren source rest))
     (look_up opening_mnemonics (text_of source t))
 
--- an instruction that opens no bracket
+-- `)MCR`, which ends a zone: a `)` and the word
+unfoldable pub zone_end_of : List ℕ → Token → List Token → Option BareStatement
+zone_end_of source t [] = None
+zone_end_of source t (w ∷ rest) =
+    if is_mark source t mark.CloseParen && is_key source w key.Mcr then with_operand source mnemonic.McrClose rest else None
+
+-- an instruction whose word is one token
 unfoldable pub closed_of : List ℕ → Token → List Token → Option BareStatement
 closed_of source t rest = option_and_then (λ m. behind_word source m.1 m.0 rest) (look_up mnemonics (text_of source t))
 
 -- an instruction that is all of the tokens
 unfoldable pub instruction_of : List ℕ → List Token → Option BareStatement
 instruction_of source [] = None
-instruction_of source (t ∷ rest) = option_or (opening_of source t rest) (closed_of source t rest)
+instruction_of source (t ∷ rest) =
+    option_or (opening_of source t rest) (option_or (zone_end_of source t rest) (closed_of source t rest))
 
 -- an instruction as a statement, with its line and its label
 abbrev pub statement : ℕ → Option (List ℕ) → BareStatement → Statement

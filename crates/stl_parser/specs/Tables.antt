@@ -140,6 +140,8 @@ mnemonics =
     ∷ (codes "X", (mnemonic.X, form.Operand))
     ∷ (codes "XN", (mnemonic.Xn, form.Operand))
     ∷ (codes ")", (mnemonic.Close, form.Operand))
+    ∷ (codes "MCRA", (mnemonic.Mcra, form.Operand))
+    ∷ (codes "MCRD", (mnemonic.Mcrd, form.Operand))
     ∷ (codes "L", (mnemonic.L, form.Operand))
     ∷ (codes "T", (mnemonic.T, form.Operand))
     ∷ (codes "=", (mnemonic.Assign, form.Operand))
@@ -249,7 +251,8 @@ mnemonics =
     ∷ (codes "CDB", (mnemonic.Cdb, form.Operand))
     ∷ []
 
--- the instruction words that open a bracket, without the `(` behind them
+-- the instruction words that open a bracket, or a zone of the master control relay, without the `(`
+-- behind them
 unfoldable pub opening_mnemonics : List (List ℕ × Mnemonic)
 opening_mnemonics =
     (codes "A", mnemonic.AOpen)
@@ -258,6 +261,7 @@ opening_mnemonics =
     ∷ (codes "ON", mnemonic.OnOpen)
     ∷ (codes "X", mnemonic.XOpen)
     ∷ (codes "XN", mnemonic.XnOpen)
+    ∷ (codes "MCR", mnemonic.McrOpen)
     ∷ []
 
 -- the conditions of the status word that stand as an operand

@@ -24,6 +24,7 @@ key_text key.Ar2 = codes "AR2"
 key_text key.B = codes "B"
 key_text key.W = codes "W"
 key_text key.D = codes "D"
+key_text key.Mcr = codes "MCR"
 
 -- the place of a kind in the table of tokens
 abbrev pub kind_rank : TokenKind → ℕ

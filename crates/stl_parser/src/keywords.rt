@@ -18,6 +18,7 @@ pub enum Key {
     B,
     W,
     D,
+    Mcr,
 }
 
 /// How a word of the language is written.
@@ -38,6 +39,7 @@ fn key_text(key: Key) -> &'static [u8]
         Key::B => b"B",
         Key::W => b"W",
         Key::D => b"D",
+        Key::Mcr => b"MCR",
     }
 }
 

@@ -15,6 +15,7 @@ ghost use Rattle.stl_parser.specs.Statements.{
   behind_word,
   after_paren,
   opening_of,
+  zone_end_of,
   closed_of,
   instruction_of,
   statement,
@@ -24,7 +25,7 @@ ghost use Rattle.stl_parser.specs.Statements.{
 };
 
 use crate::addresses::block;
-use crate::keywords::{has_kind, is_mark};
+use crate::keywords::{Key, has_kind, is_key, is_mark};
 use crate::literals::unquoted;
 use crate::lookups::{mnemonic_of, opening_mnemonic_of};
 use crate::operands::operand;
@@ -280,7 +281,7 @@ fn after_paren<'a>(source: &[u8], tokens: &'a [Token]) -> Option<&'a [Token]>
     }
 }
 
-/// An instruction word that opens a bracket: the word and a `(`.
+/// An instruction word that opens a bracket or a zone: the word and a `(`.
 #[tactic(auto, unfolding(crate::specs::Statements::opening_of))]
 fn opening(
     alloc: Global,
@@ -299,7 +300,26 @@ fn opening(
     with_operand(alloc, source, code, behind)
 }
 
-/// An instruction that opens no bracket.
+/// `)MCR`, which ends a zone: a `)` and the word.
+#[tactic(auto, unfolding(crate::specs::Statements::zone_end_of))]
+fn zone_end(
+    alloc: Global,
+    source: &[u8],
+    token: &Token,
+    rest: &[Token],
+) -> Result<Option<BareStatement>, AllocError>
+    ensures { IfOk result (λ found. found ≡ zone_end_of source.now token.now rest.now) }
+{
+    match rest {
+        [word, behind @ ..]
+            if is_mark(source, token, Mark::CloseParen) && is_key(source, word, Key::Mcr) => {
+            with_operand(alloc, source, Mnemonic::McrClose, behind)
+        }
+        _ => Ok(None),
+    }
+}
+
+/// An instruction whose word is one token.
 #[tactic(auto, unfolding(crate::specs::Statements::closed_of))]
 fn closed(
     alloc: Global,
@@ -329,6 +349,9 @@ fn whole_instruction(
     };
     if let Some(opening) = opening(alloc, source, token, rest)? {
         return Ok(Some(opening));
+    }
+    if let Some(end) = zone_end(alloc, source, token, rest)? {
+        return Ok(Some(end));
     }
     closed(alloc, source, token, rest)
 }

@@ -396,7 +396,7 @@ pub static ADDRESSES: [(&[u8], Address); 34] = [
 /// The instruction words, with the marks and sign words that are instructions, and what may stand
 /// behind each. A second language's
 /// words would stand in a table of their own beside this one.
-pub static MNEMONICS: [(&[u8], (Mnemonic, Form)); 116] = [
+pub static MNEMONICS: [(&[u8], (Mnemonic, Form)); 118] = [
     (b"NOP", (Mnemonic::Nop, Form::Operand)),
     (b"BLD", (Mnemonic::Bld, Form::Operand)),
     (b"A", (Mnemonic::A, Form::Operand)),
@@ -406,6 +406,8 @@ pub static MNEMONICS: [(&[u8], (Mnemonic, Form)); 116] = [
     (b"X", (Mnemonic::X, Form::Operand)),
     (b"XN", (Mnemonic::Xn, Form::Operand)),
     (b")", (Mnemonic::Close, Form::Operand)),
+    (b"MCRA", (Mnemonic::Mcra, Form::Operand)),
+    (b"MCRD", (Mnemonic::Mcrd, Form::Operand)),
     (b"L", (Mnemonic::L, Form::Operand)),
     (b"T", (Mnemonic::T, Form::Operand)),
     (b"=", (Mnemonic::Assign, Form::Operand)),
@@ -515,14 +517,16 @@ pub static MNEMONICS: [(&[u8], (Mnemonic, Form)); 116] = [
     (b"CDB", (Mnemonic::Cdb, Form::Operand)),
 ];
 
-/// The instruction words that open a bracket, with the `(` behind them.
-pub static OPENING_MNEMONICS: [(&[u8], Mnemonic); 6] = [
+/// The instruction words that open a bracket, or a zone of the master control relay, with the `(`
+/// behind them.
+pub static OPENING_MNEMONICS: [(&[u8], Mnemonic); 7] = [
     (b"A", Mnemonic::AOpen),
     (b"AN", Mnemonic::AnOpen),
     (b"O", Mnemonic::OOpen),
     (b"ON", Mnemonic::OnOpen),
     (b"X", Mnemonic::XOpen),
     (b"XN", Mnemonic::XnOpen),
+    (b"MCR", Mnemonic::McrOpen),
 ];
 
 /// The conditions of the status word that stand as an operand.

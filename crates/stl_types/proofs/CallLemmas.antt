@@ -9,7 +9,7 @@ use Rattle.stl_ast.specs.declared.statements.Actual.{Actual}
 use Rattle.stl_ast.specs.declared.statements.Statement.{Statement}
 use Rattle.plc_base.specs.Least.{broken_if, least, lesser}
 use Rattle.plc_base.proofs.LeastLemmas.{least-append, lesser_assoc, lesser_nothing}
-use Rattle.stl_types.specs.Joined.{broken_call, broken_statement, dates_of, in_statements, rules_of_calls, rules_of_jumps}
+use Rattle.stl_types.specs.Joined.{broken_call, broken_statement, dates_of, in_statements, rules_of_calls, rules_of_jumps, rules_of_zones}
 use Rattle.stl_types.specs.Actuals.{formal_named}
 use Rattle.stl_types.specs.Calls.{by_callee, call_37, calls_unknown, has_wrong_instance, is_bare_call, lacks_actual, misfits, rule_24_of_actuals, rule_34, rule_35, rule_36, rule_37, rule_38, rule_40, rule_46, sees_date, supplied_twice, unnamed}
 use Rattle.stl_types.specs.Seen.{seen}
@@ -202,21 +202,24 @@ jumps_joined blocks a b c d e f g labels closed left eighth list whole is_a is_b
     two_lists _ (rule_33 blocks) list g whole six is_g is_whole
 
 -- all rules of statements
-pub table_joined : (c : Context) (blocks : List Block) (unknown operand jump call first second whole : Option Refusal) → unknown ≡ least (rule_20 c blocks) →
-    operand ≡ least (rules_24_25_39 c blocks) → jump ≡ least (rules_of_jumps blocks) → call ≡ least (rules_of_calls c blocks) → first ≡ lesser unknown operand → second ≡ lesser first jump →
-    whole ≡ lesser second call → whole ≡ least (refusals_by c blocks)
-unfolding rules_of_jumps rules_of_calls refusals_by
-table_joined c blocks unknown operand jump call first second whole is_unknown is_operand is_jump is_call is_first is_second is_whole =
+pub table_joined : (c : Context) (blocks : List Block) (unknown operand jump call zone first second third whole : Option Refusal) → unknown ≡ least (rule_20 c blocks) →
+    operand ≡ least (rules_24_25_39 c blocks) → jump ≡ least (rules_of_jumps blocks) → call ≡ least (rules_of_calls c blocks) → zone ≡ least (rules_of_zones blocks) →
+    first ≡ lesser unknown operand → second ≡ lesser first jump → third ≡ lesser second call → whole ≡ lesser third zone → whole ≡ least (refusals_by c blocks)
+unfolding rules_of_jumps rules_of_calls rules_of_zones refusals_by
+table_joined c blocks unknown operand jump call zone first second third whole is_unknown is_operand is_jump is_call is_zone is_first is_second is_third is_whole =
     let heads : List Refusal = rule_20 c blocks ++ rules_24_25_39 c blocks in
     let jumps : List Refusal = rules_of_jumps blocks in
     let dates : List Refusal = rule_24_of_actuals c blocks in
     let others : List Refusal = rule_34 c blocks ++ rule_35 c blocks ++ rule_36 c blocks ++ rule_37 c blocks ++ rule_38 c blocks ++ rule_40 c blocks ++ rule_46 c blocks in
-    let table : (heads ++ dates) ++ (jumps ++ others) ≡ refusals_by c blocks = simp (append_assoc) refl in
+    let zones : List Refusal = rules_of_zones blocks in
+    let table : ((heads ++ dates) ++ (jumps ++ others)) ++ zones ≡ refusals_by c blocks = simp (append_assoc) refl in
     let head : first ≡ least heads = two_lists (rule_20 c blocks) (rules_24_25_39 c blocks) unknown operand first is_unknown is_operand is_first in
-    is_whole ∙ ap (λ (o : Option Refusal). lesser o call) (is_second ∙ ap (λ (o : Option Refusal). lesser o jump) head ∙ ap (λ (o : Option Refusal). lesser (least heads) o) is_jump)
+    let without_zones : third ≡ least ((heads ++ dates) ++ (jumps ++ others)) =
+    is_third ∙ ap (λ (o : Option Refusal). lesser o call) (is_second ∙ ap (λ (o : Option Refusal). lesser o jump) head ∙ ap (λ (o : Option Refusal). lesser (least heads) o) is_jump)
     ∙ ap (λ (o : Option Refusal). lesser (lesser (least heads) (least jumps)) o) (is_call ∙ least-append others dates)
     ∙ ap (λ (o : Option Refusal). lesser (lesser (least heads) (least jumps)) o) (lesser_comm (least others) (least dates))
     ∙ lesser_crossed (least heads) (least jumps) (least dates) (least others)
     ∙ ap (λ (o : Option Refusal). lesser o (lesser (least jumps) (least others))) (sym (least-append heads dates))
     ∙ ap (λ (o : Option Refusal). lesser (least (heads ++ dates)) o) (sym (least-append jumps others))
-    ∙ sym (least-append (heads ++ dates) (jumps ++ others)) ∙ ap (λ (rs : List Refusal). least rs) table
+    ∙ sym (least-append (heads ++ dates) (jumps ++ others)) in
+    two_lists ((heads ++ dates) ++ (jumps ++ others)) zones third zone whole without_zones is_zone is_whole ∙ ap (λ (rs : List Refusal). least rs) table

@@ -8,8 +8,9 @@ use Rattle.plc_base.specs.Least.{broken_if, least, lesser}
 use Rattle.plc_base.proofs.LeastLemmas.{least-append, lesser_assoc, lesser_nothing}
 use Rattle.stl_types.specs.Brackets.{behind, behind_all}
 use Rattle.stl_types.specs.Labels.{label_of}
-use Rattle.stl_types.specs.Landings.{list_here, lists_at_labels}
+use Rattle.stl_types.specs.Landings.{Landing, Nesting, landing_here, landings_at_labels, nesting_behind}
 use Rattle.stl_types.specs.Lists.{is_wrong_list, lists_from}
+use Rattle.stl_types.specs.Zones.{zones_behind, zones_behind_all}
 use Rattle.stl_types.specs.declared.brackets.Bracket.{Bracket}
 
 -- one statement more
@@ -22,7 +23,17 @@ behind_turn brackets after whole body i s within is_s is_after so_far =
 pub behind_end : (brackets whole : List Bracket) (body : List Statement) (i : ℕ) → length body ≤ i → behind_all brackets (drop i body) ≡ whole → brackets ≡ whole
 behind_end brackets whole body i over so_far = ap (λ (l : List Statement). behind_all brackets l) (sym (drop_of_length-le body over)) ∙ so_far
 
--- the same of the refusals by jump lists
+-- the same of zones
+pub zones_turn : (zones after whole : List ℕ) (body : List Statement) (i : ℕ) (s : Statement) → i < length body → s ≡ get_or body i s → after ≡ zones_behind zones s →
+    zones_behind_all zones (drop i body) ≡ whole → zones_behind_all after (drop (i + 1) body) ≡ whole
+zones_turn zones after whole body i s within is_s is_after so_far =
+    let split : drop i body ≡ s ∷ drop (i + 1) body = drop_more body i s within ∙ ap (λ (y : Statement). y ∷ drop (i + 1) body) (sym is_s) in
+    ap (λ (z : List ℕ). zones_behind_all z (drop (i + 1) body)) is_after ∙ ap (λ (l : List Statement). zones_behind_all zones l) (sym split) ∙ so_far
+
+pub zones_end : (zones whole : List ℕ) (body : List Statement) (i : ℕ) → length body ≤ i → zones_behind_all zones (drop i body) ≡ whole → zones ≡ whole
+zones_end zones whole body i over so_far = ap (λ (l : List Statement). zones_behind_all zones l) (sym (drop_of_length-le body over)) ∙ so_far
+
+-- and of the refusals by jump lists
 pub lists_turn : (before after : List (List ℕ)) (body : List Statement) (i : ℕ) (s : Statement) (found one next whole : Option Refusal) → i < length body → s ≡ get_or body i s →
     after ≡ before ++ label_of s.label → one ≡ least (broken_if (is_wrong_list after s (drop (i + 1) body)) s.line 32) → next ≡ lesser found one →
     lesser found (least (lists_from before (drop i body))) ≡ whole → lesser next (least (lists_from after (drop (i + 1) body))) ≡ whole
@@ -41,18 +52,18 @@ pub lists_end : (before : List (List ℕ)) (body : List Statement) (i : ℕ) (fo
 lists_end before body i found whole over so_far =
     sym (lesser_nothing found) ∙ ap (λ (l : List Statement). lesser found (least (lists_from before l))) (sym (drop_of_length-le body over)) ∙ so_far
 
--- and of the lists of brackets at labels
-pub landings_turn : (brackets after : List Bracket) (lists more whole : List (List ℕ)) (body : List Statement) (i : ℕ) (s : Statement) → i < length body → s ≡ get_or body i s →
-    after ≡ behind brackets s → more ≡ lists ++ list_here brackets s.label → lists ++ lists_at_labels brackets (drop i body) ≡ whole →
-    more ++ lists_at_labels after (drop (i + 1) body) ≡ whole
-landings_turn brackets after lists more whole body i s within is_s is_after is_more so_far =
+-- and of what is open at labels
+pub landings_turn : (n after : Nesting) (landings more whole : List Landing) (body : List Statement) (i : ℕ) (s : Statement) → i < length body → s ≡ get_or body i s →
+    after ≡ nesting_behind n s → more ≡ landings ++ landing_here n s.label → landings ++ landings_at_labels n (drop i body) ≡ whole →
+    more ++ landings_at_labels after (drop (i + 1) body) ≡ whole
+landings_turn n after landings more whole body i s within is_s is_after is_more so_far =
     let rest : List Statement = drop (i + 1) body in
     let split : drop i body ≡ s ∷ rest = drop_more body i s within ∙ ap (λ (y : Statement). y ∷ rest) (sym is_s) in
-    ap (λ (l : List (List ℕ)). l ++ lists_at_labels after rest) is_more
-    ∙ ap (λ (b : List Bracket). (lists ++ list_here brackets s.label) ++ lists_at_labels b rest) is_after
-    ∙ append_assoc lists (list_here brackets s.label) (lists_at_labels (behind brackets s) rest)
-    ∙ ap (λ (l : List Statement). lists ++ lists_at_labels brackets l) (sym split) ∙ so_far
+    ap (λ (l : List Landing). l ++ landings_at_labels after rest) is_more
+    ∙ ap (λ (m : Nesting). (landings ++ landing_here n s.label) ++ landings_at_labels m rest) is_after
+    ∙ append_assoc landings (landing_here n s.label) (landings_at_labels (nesting_behind n s) rest)
+    ∙ ap (λ (l : List Statement). landings ++ landings_at_labels n l) (sym split) ∙ so_far
 
-pub landings_end : (brackets : List Bracket) (lists whole : List (List ℕ)) (body : List Statement) (i : ℕ) → length body ≤ i → lists ++ lists_at_labels brackets (drop i body) ≡ whole → lists ≡ whole
-landings_end brackets lists whole body i over so_far =
-    sym (append-nil lists) ∙ ap (λ (l : List Statement). lists ++ lists_at_labels brackets l) (sym (drop_of_length-le body over)) ∙ so_far
+pub landings_end : (n : Nesting) (landings whole : List Landing) (body : List Statement) (i : ℕ) → length body ≤ i → landings ++ landings_at_labels n (drop i body) ≡ whole → landings ≡ whole
+landings_end n landings whole body i over so_far =
+    sym (append-nil landings) ∙ ap (λ (l : List Statement). landings ++ landings_at_labels n l) (sym (drop_of_length-le body over)) ∙ so_far

@@ -14,6 +14,7 @@ use Rattle.stl_types.specs.Landings.{rule_33}
 use Rattle.stl_types.specs.Lists.{rule_32}
 use Rattle.stl_types.specs.Parameters.{Callee, callee_of}
 use Rattle.stl_types.specs.Seen.{seen}
+use Rattle.stl_types.specs.Zones.{rule_47, rule_48, rule_49}
 
 -- what each statement breaks by itself, in all bodies
 abbrev pub in_statements : (Context → Statement → List Refusal) → Context → List Block
@@ -50,3 +51,7 @@ unfoldable pub rules_of_jumps : List Block → List Refusal
 rules_of_jumps blocks =
     rule_26 blocks ++ rule_27 blocks ++ rule_29 blocks ++ rule_30 blocks ++ rule_31 blocks
     ++ rule_32 blocks ++ rule_33 blocks
+
+-- and those of zones
+unfoldable pub rules_of_zones : List Block → List Refusal
+rules_of_zones blocks = rule_47 blocks ++ rule_48 blocks ++ rule_49 blocks

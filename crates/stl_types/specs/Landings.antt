@@ -1,5 +1,6 @@
--- Rule 33: a jump and its label have equal lists of open brackets. The line is that of the jump.
-use Rattle.std.specs.Prelude.{ℕ, ◌&&◌, nat_eq, Bool, false, not, List, [], ◌∷◌, ◌++◌, length, map, take, Option, Some, None}
+-- Rule 33: a jump and its label have equal lists of open brackets and equal numbers of open zones.
+-- The line is that of the jump.
+use Rattle.std.specs.Prelude.{ℕ, ◌&&◌, ◌||◌, nat_eq, Bool, false, not, List, [], ◌∷◌, ◌++◌, length, map, take, Option, Some, None}
 use Rattle.std.specs.List.{slice_get}
 use Rattle.std.specs.Option.{option_and_then}
 use Rattle.std.specs.Str.{bytes_eq}
@@ -8,55 +9,89 @@ use Rattle.stl_ast.specs.declared.blocks.Block.{Block}
 use Rattle.stl_ast.specs.declared.operands.Operand.{Operand}
 use Rattle.stl_ast.specs.declared.operands.Operand.TheVariants as operand
 use Rattle.stl_ast.specs.declared.statements.Statement.{Statement}
+use Rattle.plc_base.specs.Gathered.{gathered}
 use Rattle.plc_base.specs.Least.{broken_if}
 use Rattle.stl_symbols.specs.Names.{place_of}
 use Rattle.stl_types.specs.Bodies.{in_bodies}
-use Rattle.stl_types.specs.Brackets.{behind, with_brackets}
+use Rattle.stl_types.specs.Brackets.{behind}
 use Rattle.stl_types.specs.Labels.{labels_of}
+use Rattle.stl_types.specs.Zones.{zones_behind}
 use Rattle.stl_types.specs.declared.brackets.Bracket.{Bracket}
+
+-- the brackets and the zones that are open before a statement
+pub record Nesting : Type 0 where
+  pub brackets : List Bracket
+  pub zones : List ℕ
+
+-- and behind it
+abbrev pub nesting_behind : Nesting → Statement → Nesting
+nesting_behind n s = record {
+  brackets = behind n.brackets s;
+  zones = zones_behind n.zones s;
+}
+
+-- what is open before the first statement of a body
+abbrev pub outside : Nesting
+outside = record { brackets = []; zones = [] }
+
+-- what a jump and its label have alike: the function codes of the open brackets, and how many zones
+-- are open
+pub record Landing : Type 0 where
+  pub functions : List ℕ
+  pub zones : ℕ
 
 -- the function codes of open brackets. Of more than seven eight are kept: the eighth has broken rule 31
 abbrev pub functions_of : List Bracket → List ℕ
 functions_of brackets = map (λ b. b.function) (take 8 brackets)
 
--- the list that is open before a statement, where it has a label
-abbrev pub list_here : List Bracket → Option (List ℕ) → List (List ℕ)
-list_here brackets None = []
-list_here brackets (Some label) = functions_of brackets ∷ []
+abbrev pub landing_of : Nesting → Landing
+landing_of n = record { functions = functions_of n.brackets; zones = length n.zones }
 
--- the lists that are open before the statements with labels, in their order
-abbrev pub lists_at_labels : List Bracket → List Statement → List (List ℕ)
-lists_at_labels brackets [] = []
-lists_at_labels brackets (s ∷ ss) =
-    list_here brackets s.label ++ lists_at_labels (behind brackets s) ss
+-- what is open before a statement, where it has a label
+abbrev pub landing_here : Nesting → Option (List ℕ) → List Landing
+landing_here n None = []
+landing_here n (Some label) = landing_of n ∷ []
 
--- the list at a label: of one that stands twice the first is meant
-abbrev pub list_at : (labels lists : List (List ℕ)) → List ℕ → Option (List ℕ)
-list_at labels lists name = option_and_then (slice_get lists) (place_of name labels)
+-- what is open before the statements with labels, in their order
+abbrev pub landings_at_labels : Nesting → List Statement → List Landing
+landings_at_labels n [] = []
+landings_at_labels n (s ∷ ss) =
+    landing_here n s.label ++ landings_at_labels (nesting_behind n s) ss
+
+-- what is open at a label: of one that stands twice the first is meant
+abbrev pub landing_at : (labels : List (List ℕ)) → List Landing → List ℕ → Option Landing
+landing_at labels landings name = option_and_then (slice_get landings) (place_of name labels)
 
 -- lists that aren't equal; two of more than seven brackets aren't compared
 abbrev pub are_unequal : (here there : List ℕ) → Bool
 are_unequal here there =
     not (nat_eq (length here) 8 && nat_eq (length there) 8) && not (bytes_eq here there)
 
--- a jump goes from one list to another
-abbrev pub lands_elsewhere : (here : List ℕ) → Option (List ℕ) → Bool
-lands_elsewhere here None = false
-lands_elsewhere here (Some there) = are_unequal here there
+-- other brackets, or another number of zones
+abbrev pub differ : (here there : Landing) → Bool
+differ here there =
+    are_unequal here.functions there.functions || not (nat_eq here.zones there.zones)
 
--- an operand is a label with another list
-abbrev pub crosses : (labels lists : List (List ℕ)) → List Bracket → Operand → Bool
-crosses labels lists brackets (operand.Label name) =
-    lands_elsewhere (functions_of brackets) (list_at labels lists name)
-crosses labels lists brackets _ = false
+-- a jump goes elsewhere than where such brackets and zones are open
+abbrev pub lands_elsewhere : (here : Landing) → Option Landing → Bool
+lands_elsewhere here None = false
+lands_elsewhere here (Some there) = differ here there
+
+-- an operand is a label at which others are open
+abbrev pub crosses : (labels : List (List ℕ)) → List Landing → Nesting → Operand → Bool
+crosses labels landings n (operand.Label name) =
+    lands_elsewhere (landing_of n) (landing_at labels landings name)
+crosses labels landings n _ = false
 
 -- rule 33 in a body
-abbrev pub crossing_jumps : (labels lists : List (List ℕ)) → List Statement → List Refusal
-crossing_jumps labels lists body =
-    with_brackets (λ brackets s. broken_if (crosses labels lists brackets s.operand) s.line 33) []
-    body
+abbrev pub crossing_jumps : (labels : List (List ℕ)) → List Landing → List Statement
+    → List Refusal
+crossing_jumps labels landings body =
+    gathered (λ s. false) (λ n s. broken_if (crosses labels landings n s.operand) s.line 33)
+    nesting_behind outside body
 
 -- rule 33, in all bodies
 unfoldable pub rule_33 : List Block → List Refusal
 rule_33 blocks =
-    in_bodies (λ body. crossing_jumps (labels_of body) (lists_at_labels [] body) body) blocks
+    in_bodies (λ body. crossing_jumps (labels_of body) (landings_at_labels outside body) body)
+    blocks

@@ -10,6 +10,7 @@ pub mod Unknown
 pub mod Operands
 pub mod Labels
 pub mod Brackets
+pub mod Zones
 pub mod Lists
 pub mod Landings
 pub mod Parameters

@@ -13,7 +13,7 @@ use Rattle.stl_types.specs.Bodies.{in_contexts}
 use Rattle.stl_types.specs.Constants.{takes_constant}
 use Rattle.stl_types.specs.Context.{Context}
 use Rattle.stl_types.specs.Forms.{form_of}
-use Rattle.stl_types.specs.Kinds.{is_nothing, is_direct, is_in_memory, is_timer, is_counter, is_opened, is_condition, is_pointer, is_label, is_status_word, is_second_register, is_loaded, is_called, is_composite, width_in, is_bit, is_double_word, is_peripheral, is_peripheral_area}
+use Rattle.stl_types.specs.Kinds.{is_nothing, is_direct, is_in_memory, is_timer, is_counter, is_opened, is_condition, is_pointer, is_label, is_status_word, is_second_register, is_loaded, is_called, is_composite, is_date, width_in, is_bit, is_double_word, is_peripheral, is_peripheral_area}
 use Rattle.stl_types.specs.Seen.{seen}
 use Rattle.stl_types.specs.declared.forms.Form.{Form}
 use Rattle.stl_types.specs.declared.forms.Form.TheVariants as form
@@ -50,6 +50,21 @@ takes form.Enables v = is_timer v || is_counter v
 takes form.StepsCounter v = is_counter v
 takes form.Calls v = is_called v
 takes form.Opens v = is_opened v
+
+-- what takes a place in memory, of whatever width
+unfoldable pub takes_places : Form → Bool
+takes_places form.ReadsBit = true
+takes_places form.ReadsBitOrBare = true
+takes_places form.WritesBit = true
+takes_places form.Sets = true
+takes_places form.Resets = true
+takes_places form.Loads = true
+takes_places form.Transfers = true
+takes_places form.LoadsAr1 = true
+takes_places form.LoadsAr2 = true
+takes_places form.StoresAr1 = true
+takes_places form.StoresAr2 = true
+takes_places _ = false
 
 -- bit instructions take a bit, L and T a byte, a word or a double word, those of address registers a double word
 unfoldable pub takes_width : Form → Option Width → Bool
@@ -94,11 +109,14 @@ abbrev pub is_input : View → Bool
 is_input (view.Parameter index part.Input declared) = true
 is_input _ = false
 
--- the rule that an instruction breaks by its operand: a structure, an array or a DATE_AND_TIME has no width that fits; of
--- an operand that the form takes, the width comes before the side
+-- a structure or an array has no width that fits, where the form takes places at all; a DATE_AND_TIME never has one
+abbrev pub composite_rule : Form → View → ℕ
+composite_rule f v = if is_date v || takes_places f then 24 else 25
+
+-- the rule that an instruction breaks by its operand: of one that the form takes, the width comes before the side
 unfoldable pub rule_of : Form → View → Option ℕ
 rule_of f v =
-    if is_composite v then Some 24
+    if is_composite v then Some (composite_rule f v)
     else if not (takes f v) then Some 25
     else if not (has_width f (width_in v)) then Some 24
     else if is_on_wrong_side f v then Some 25

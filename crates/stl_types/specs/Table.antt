@@ -16,6 +16,7 @@ use Rattle.stl_types.specs.Landings.{rule_33}
 use Rattle.stl_types.specs.Lists.{rule_32}
 use Rattle.stl_types.specs.Operands.{rules_24_25_39}
 use Rattle.stl_types.specs.Unknown.{rule_20}
+use Rattle.stl_types.specs.Zones.{rule_47, rule_48, rule_49}
 
 -- what all bodies and settings break
 unfoldable pub refusals_by : Context → List Block → List Refusal
@@ -29,7 +30,7 @@ refusals_by c blocks =
     ++ rule_30 blocks  -- a bracket open at the block's end
     ++ rule_31 blocks  -- the eighth open bracket
     ++ rule_32 blocks  -- a JL without a right jump list
-    ++ rule_33 blocks  -- a jump and its label with unequal lists of open brackets
+    ++ rule_33 blocks  -- unequal open brackets or zones at a jump and its label
     ++ rule_34 c blocks  -- a call that names no such parameter
     ++ rule_35 c blocks  -- a parameter supplied twice
     ++ rule_36 c blocks  -- a parameter of a function that isn't supplied
@@ -37,6 +38,9 @@ refusals_by c blocks =
     ++ rule_38 c blocks  -- a data block that isn't an instance of the function block
     ++ rule_40 c blocks  -- UC or CC of a block with parameters, CALL without data block
     ++ rule_46 c blocks  -- a system function that isn't one of the nine
+    ++ rule_47 blocks  -- a )MCR without open zone
+    ++ rule_48 blocks  -- a zone open at the block's end
+    ++ rule_49 blocks  -- the ninth open zone
 
 -- what a tree breaks, with its symbols and the layouts of its blocks
 unfoldable pub statement_refusals : Tree → List Symbol → List BlockLayout → List Refusal

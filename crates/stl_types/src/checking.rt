@@ -1,6 +1,6 @@
 ghost use Rattle.std.specs.Prelude.{◌≡◌, IfOk};
 ghost use Rattle.plc_base.specs.Least.{least};
-ghost use Rattle.stl_types.specs.Joined.{rules_of_jumps};
+ghost use Rattle.stl_types.specs.Joined.{rules_of_jumps, rules_of_zones};
 ghost use Rattle.stl_types.specs.Table.{Checks, statement_refusals};
 
 use crate::brackets::{least_closed_without, least_eighth, least_left_open};
@@ -10,6 +10,7 @@ use crate::landings::least_crossing_jump;
 use crate::lists::least_wrong_list;
 use crate::resolving::least_wrong_operand;
 use crate::unknown::least_unknown;
+use crate::zones::{least_ended_without, least_ninth, least_zone_left_open};
 use block_layout::Layouts;
 use plc_base::{Refusal, SourceFault, lesser};
 use std::alloc::{AllocError, Global};
@@ -56,6 +57,16 @@ fn least_wrong_jump(alloc: Global, blocks: &[Block]) -> Result<Option<Refusal>, 
     Ok(lesser(lesser(lesser(brackets, eighth), list), crossing))
 }
 
+/// The least refusal by the rules of zones.
+fn least_wrong_zone(alloc: Global, blocks: &[Block]) -> Result<Option<Refusal>, AllocError>
+    ensures { IfOk result (λ found. found ≡ least (rules_of_zones blocks.now)) }
+{
+    let ended = least_ended_without(alloc, blocks)?;
+    let left_open = least_zone_left_open(alloc, blocks)?;
+    let ninth = least_ninth(alloc, blocks)?;
+    Ok(lesser(lesser(ended, left_open), ninth))
+}
+
 /// The least refusal by the rules of statements.
 fn least_refusal(
     alloc: Global,
@@ -70,7 +81,8 @@ fn least_refusal(
     let operand = least_wrong_operand(alloc, symbols, tree, layouts)?;
     let jump = least_wrong_jump(alloc, tree.blocks.as_slice())?;
     let call = least_wrong_call(alloc, symbols, tree, layouts)?;
-    Ok(lesser(lesser(lesser(unknown, operand), jump), call))
+    let zone = least_wrong_zone(alloc, tree.blocks.as_slice())?;
+    Ok(lesser(lesser(lesser(lesser(unknown, operand), jump), call), zone))
 }
 
 /// Checks the statements of a source by the rules on them, with its symbols and the layouts of its

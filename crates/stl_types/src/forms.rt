@@ -6,7 +6,7 @@ use stl_ast::{Mnemonic, Simple};
 /// The operands that an instruction takes; instructions of one form take the same ones.
 #[derive(Clone, Copy, Debug, PartialEq, Eq)]
 pub enum Form {
-    /// No operand: the empty statement, `A(` to `)`, SET, +I, BEU and many others.
+    /// No operand: the empty statement, `A(` to `)`, SET, `MCR(`, +I, BEU and many others.
     Bare,
     /// A, AN, ON, X, XN.
     ReadsBit,
@@ -116,6 +116,7 @@ pub(crate) fn form_of(code: Mnemonic) -> Form
         | Mnemonic::Clr
         | Mnemonic::Not
         | Mnemonic::Save => Form::Bare,
+        Mnemonic::Mcra | Mnemonic::Mcrd | Mnemonic::McrOpen | Mnemonic::McrClose => Form::Bare,
         Mnemonic::Car
         | Mnemonic::Tak
         | Mnemonic::Push

@@ -7,6 +7,7 @@ ghost use Rattle.stl_types.specs.Kinds.{
   is_composite,
   is_condition,
   is_counter,
+  is_date,
   is_direct,
   is_double_word,
   is_in_memory,
@@ -146,6 +147,12 @@ pub(crate) fn is_composite(view: View) -> bool
     ensures { result ≡ is_composite view }
 {
     matches!(view, View::Composite | View::Date)
+}
+
+pub(crate) fn is_date(view: View) -> bool
+    ensures { result ≡ is_date view }
+{
+    matches!(view, View::Date)
 }
 
 /// The width of a place in memory.

@@ -1,21 +1,25 @@
-ghost use Rattle.std.specs.Prelude.{◌≡◌, ◌++◌, [], IfOk, map, take};
-ghost use Rattle.plc_base.specs.Least.{broken_if, least};
-ghost use Rattle.stl_types.specs.Brackets.{with_brackets};
+ghost use Rattle.std.specs.Prelude.{◌≡◌, ◌++◌, IfOk, take};
+ghost use Rattle.plc_base.specs.Least.{least};
 ghost use Rattle.stl_types.specs.Labels.{labels_of};
 ghost use Rattle.stl_types.specs.Landings.{
   are_unequal,
   crosses,
   crossing_jumps,
+  differ,
   functions_of,
+  landing_at,
+  landing_here,
+  landing_of,
+  landings_at_labels,
   lands_elsewhere,
-  list_at,
-  list_here,
-  lists_at_labels,
+  nesting_behind,
+  outside,
   rule_33,
 };
 
 use crate::brackets::{Bracket, pass};
 use crate::labels::add_label;
+use crate::zones::pass_zones;
 use plc_base::{Refusal, broken_if, lesser, try_least_of};
 use std::alloc::{AllocError, Global};
 use std::marker::Model;
@@ -25,25 +29,62 @@ use stl_symbols::Names;
 /// Of more open brackets than seven so many are kept: the eighth has broken a rule.
 const MOST_KEPT: usize = 8;
 
-/// The function codes of open brackets, the outermost first. Contracts see the list.
+/// The brackets that are open, and the zones by the lines of their `MCR(`.
 #[derive(Drop)]
-struct Functions {
-    codes: Vec<u8>,
+struct Nesting {
+    brackets: Vec<Bracket>,
+    zones: Vec<u32>,
 }
 
-impl Model for Functions {
-    ghost use Rattle.std.specs.Prelude.{ℕ, List};
+impl Model for Nesting {
+    ghost use Rattle.stl_types.specs.Landings.{Nesting as NestingData};
 
-    ghost Value = { List ℕ };
+    ghost Value = { NestingData };
 
-    ghost view = { λ f. f.codes.items };
+    ghost view = { λ n. record { brackets = n.brackets.items; zones = n.zones.items } };
 }
 
-/// The labels of a body, and the brackets that are open before the statement of each.
+impl Nesting {
+    /// What is open before the first statement of a body.
+    fn new(alloc: Global) -> Nesting
+        ensures { result ≡ outside }
+    {
+        Nesting {
+            brackets: Vec::new(alloc),
+            zones: Vec::new(alloc),
+        }
+    }
+
+    /// Opens or closes a bracket or a zone by a statement.
+    fn pass(&mut self, statement: &Statement) -> Result<(), AllocError>
+        ensures { IfOk result (λ _. self.new ≡ nesting_behind self.old statement.now) }
+    {
+        pass(&mut self.brackets, statement)?;
+        pass_zones(&mut self.zones, statement)
+    }
+}
+
+/// What a jump and its label have alike: the function codes of the open brackets, the outermost
+/// first, and how many zones are open.
 #[derive(Drop)]
-struct Landings {
+struct Landing {
+    functions: Vec<u8>,
+    zones: usize,
+}
+
+impl Model for Landing {
+    ghost use Rattle.stl_types.specs.Landings.{Landing as LandingData};
+
+    ghost Value = { LandingData };
+
+    ghost view = { λ l. record { functions = l.functions.items; zones = l.zones } };
+}
+
+/// The labels of a body, and what is open before the statement of each.
+#[derive(Drop)]
+struct Targets {
     labels: Names,
-    lists: Vec<Functions>,
+    landings: Vec<Landing>,
 }
 
 fn kept(brackets: &[Bracket]) -> &[Bracket]
@@ -56,112 +97,127 @@ fn kept(brackets: &[Bracket]) -> &[Bracket]
     }
 }
 
-fn functions_of(alloc: Global, brackets: &[Bracket]) -> Result<Functions, AllocError>
-    ensures { IfOk result (λ functions. functions ≡ functions_of brackets.now) }
+fn functions_of(alloc: Global, brackets: &[Bracket]) -> Result<Vec<u8>, AllocError>
+    ensures { IfOk result (λ functions. functions.items ≡ functions_of brackets.now) }
 {
-    let mut codes = Vec::new(alloc);
+    let mut functions = Vec::new(alloc);
     for bracket in kept(brackets) {
-        codes.push(bracket.function)?;
+        functions.push(bracket.function)?;
     }
-    Ok(Functions { codes })
+    Ok(functions)
 }
 
-fn add_list(
-    lists: &mut Vec<Functions>,
+fn landing_of(alloc: Global, nesting: &Nesting) -> Result<Landing, AllocError>
+    ensures { IfOk result (λ landing. landing ≡ landing_of nesting.now) }
+{
+    Ok(Landing {
+        functions: functions_of(alloc, nesting.brackets.as_slice())?,
+        zones: nesting.zones.len(),
+    })
+}
+
+fn add_landing(
+    landings: &mut Vec<Landing>,
     alloc: Global,
-    brackets: &[Bracket],
+    nesting: &Nesting,
     label: &Option<Name>,
 ) -> Result<(), AllocError>
-    ensures { IfOk result (λ _. lists.new.items
-        ≡ lists.old.items ++ list_here brackets.now label.now) }
+    ensures { IfOk result (λ _. landings.new.items
+        ≡ landings.old.items ++ landing_here nesting.now label.now) }
 {
     if label.is_some() {
-        lists.push(functions_of(alloc, brackets)?)?;
+        landings.push(landing_of(alloc, nesting)?)?;
     }
     Ok(())
 }
 
-fn landings_of(alloc: Global, body: &[Statement]) -> Result<Landings, AllocError>
-    ensures labels { IfOk result (λ l. l.labels ≡ labels_of body.now) }
-    ensures lists { IfOk result (λ l. l.lists.items ≡ lists_at_labels [] body.now) }
+fn targets_of(alloc: Global, body: &[Statement]) -> Result<Targets, AllocError>
+    ensures labels { IfOk result (λ t. t.labels ≡ labels_of body.now) }
+    ensures landings { IfOk result (λ t. t.landings.items ≡ landings_at_labels outside body.now) }
 {
     let mut labels = Names::new(alloc);
-    let mut lists = Vec::new(alloc);
-    let mut brackets = Vec::new(alloc);
+    let mut landings = Vec::new(alloc);
+    let mut nesting = Nesting::new(alloc);
     for statement in body {
         add_label(&mut labels, alloc, &statement.label)?;
-        add_list(&mut lists, alloc, brackets.as_slice(), &statement.label)?;
-        pass(&mut brackets, statement)?;
+        add_landing(&mut landings, alloc, &nesting, &statement.label)?;
+        nesting.pass(statement)?;
     }
-    Ok(Landings { labels, lists })
+    Ok(Targets { labels, landings })
 }
 
-fn are_unequal(here: &Functions, there: &Functions) -> bool
+fn are_unequal(here: &[u8], there: &[u8]) -> bool
     ensures { result ≡ are_unequal here.now there.now }
 {
-    let too_many = here.codes.len() == MOST_KEPT && there.codes.len() == MOST_KEPT;
-    !too_many && here.codes.as_slice() != there.codes.as_slice()
+    let too_many = here.len() == MOST_KEPT && there.len() == MOST_KEPT;
+    !too_many && here != there
 }
 
-/// Whether a jump to this label goes from one list of open brackets to another.
+fn differ(here: &Landing, there: &Landing) -> bool
+    ensures { result ≡ differ here.now there.now }
+{
+    are_unequal(here.functions.as_slice(), there.functions.as_slice()) || here.zones != there.zones
+}
+
+/// Whether other brackets or zones are open at this label.
 fn lands_elsewhere(
-    landings: &Landings,
+    targets: &Targets,
     alloc: Global,
-    brackets: &[Bracket],
+    nesting: &Nesting,
     name: &Name,
 ) -> Result<bool, AllocError>
-    ensures { IfOk result (λ wrong. wrong ≡ lands_elsewhere (functions_of brackets.now)
-        (list_at landings.now.labels landings.now.lists.items name.now)) }
+    ensures { IfOk result (λ wrong. wrong ≡ lands_elsewhere (landing_of nesting.now)
+        (landing_at targets.now.labels targets.now.landings.items name.now)) }
 {
-    let Some(place) = landings.labels.place(name.as_bytes()) else {
+    let Some(place) = targets.labels.place(name.as_bytes()) else {
         return Ok(false);
     };
-    let Some(there) = landings.lists.get(place) else {
+    let Some(there) = targets.landings.get(place) else {
         return Ok(false);
     };
-    let here = functions_of(alloc, brackets)?;
-    Ok(are_unequal(&here, there))
+    let here = landing_of(alloc, nesting)?;
+    Ok(differ(&here, there))
 }
 
 fn crosses(
-    landings: &Landings,
+    targets: &Targets,
     alloc: Global,
-    brackets: &[Bracket],
+    nesting: &Nesting,
     operand: &Operand,
 ) -> Result<bool, AllocError>
-    ensures { IfOk result (λ wrong. wrong ≡ crosses landings.now.labels landings.now.lists.items
-        brackets.now operand.now) }
+    ensures { IfOk result (λ wrong. wrong ≡ crosses targets.now.labels targets.now.landings.items
+        nesting.now operand.now) }
 {
     match operand {
-        Operand::Label { name } => lands_elsewhere(landings, alloc, brackets, name),
+        Operand::Label { name } => lands_elsewhere(targets, alloc, nesting, name),
         _ => Ok(false),
     }
 }
 
 fn crossing_jumps(
-    landings: &Landings,
+    targets: &Targets,
     alloc: Global,
     body: &[Statement],
 ) -> Result<Option<Refusal>, AllocError>
-    ensures { IfOk result (λ found. found ≡ least (crossing_jumps landings.now.labels
-        landings.now.lists.items body.now)) }
+    ensures { IfOk result (λ found. found ≡ least (crossing_jumps targets.now.labels
+        targets.now.landings.items body.now)) }
 {
-    let mut brackets = Vec::new(alloc);
+    let mut nesting = Nesting::new(alloc);
     let mut found = None;
     for statement in body {
-        let wrong = crosses(landings, alloc, brackets.as_slice(), &statement.operand)?;
+        let wrong = crosses(targets, alloc, &nesting, &statement.operand)?;
         found = lesser(found, broken_if(wrong, statement.line, 33));
-        pass(&mut brackets, statement)?;
+        nesting.pass(statement)?;
     }
     Ok(found)
 }
 
 fn crossing_in(alloc: Global, body: &[Statement]) -> Result<Option<Refusal>, AllocError>
     ensures { IfOk result (λ found. found ≡ least (crossing_jumps (labels_of body.now)
-        (lists_at_labels [] body.now) body.now)) }
+        (landings_at_labels outside body.now) body.now)) }
 {
-    let landings = landings_of(alloc, body)?;
-    crossing_jumps(&landings, alloc, body)
+    let targets = targets_of(alloc, body)?;
+    crossing_jumps(&targets, alloc, body)
 }
 
 /// The least refusal by rule 33.

@@ -1,5 +1,5 @@
 //! The rules of statements: what an operand names, which operands an instruction takes, labels,
-//! brackets, jumps and calls.
+//! brackets, zones, jumps and calls.
 #![tactic(auto)]
 
 mod actuals;
@@ -25,6 +25,7 @@ mod system_functions;
 mod unknown;
 mod variables;
 mod views;
+mod zones;
 
 pub use brackets::Bracket;
 pub use checking::{Checked, check};

@@ -5,14 +5,14 @@ ghost use Rattle.std.specs.Str.{bytes_eq};
 ghost use Rattle.plc_base.specs.Least.{broken_if, least};
 ghost use Rattle.stl_types.specs.Actuals.{fits_operand, fits_seen, formal_named};
 ghost use Rattle.stl_types.specs.Calls.{misfits, sees_date};
-ghost use Rattle.stl_types.specs.Kinds.{is_date};
 ghost use Rattle.stl_types.specs.Seen.{seen};
 
 use crate::actuals::{fits_view, is_input_section};
 use crate::calls::is_named;
+use crate::kinds::is_date;
 use crate::parameters::Formal;
 use crate::scopes::Scope;
-use crate::views::{Seen, View};
+use crate::views::Seen;
 use block_layout::fits;
 use plc_base::{Refusal, broken_if, try_least_of};
 use std::alloc::{AllocError, Global};
@@ -96,12 +96,6 @@ pub(crate) fn least_misfit(
         actuals.now)) }
 {
     try_least_of(actuals, |a: &Actual| misfit_here(scope, alloc, formals, a))
-}
-
-fn is_date(view: View) -> bool
-    ensures { result ≡ is_date view }
-{
-    matches!(view, View::Date)
 }
 
 fn sees_date(seen: Seen) -> bool

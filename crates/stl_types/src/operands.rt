@@ -1,18 +1,20 @@
 ghost use Rattle.std.specs.Prelude.{◌≡◌};
 ghost use Rattle.stl_types.specs.Kinds.{is_peripheral, is_peripheral_area};
 ghost use Rattle.stl_types.specs.Operands.{
+  composite_rule,
   has_width,
   is_input,
   is_on_wrong_side,
   rule_of,
   takes,
+  takes_places,
   takes_width,
   writes,
 };
 
 use crate::forms::Form;
 use crate::kinds::{
-    is_bit, is_called, is_composite, is_condition, is_counter, is_direct, is_double_word,
+    is_bit, is_called, is_composite, is_condition, is_counter, is_date, is_direct, is_double_word,
     is_in_memory, is_label, is_loaded, is_nothing, is_opened, is_pointer, is_second_register,
     is_status_word, is_timer, width_in,
 };
@@ -63,6 +65,27 @@ fn takes(form: Form, view: View) -> bool
         Form::Calls => is_called(view),
         Form::Opens => is_opened(view),
     }
+}
+
+/// Whether a form takes a place in memory, of whatever width.
+#[tactic(auto, unfolding(crate::specs::Operands::takes_places))]
+fn takes_places(form: Form) -> bool
+    ensures { result ≡ takes_places form }
+{
+    matches!(
+        form,
+        Form::ReadsBit
+            | Form::ReadsBitOrBare
+            | Form::WritesBit
+            | Form::Sets
+            | Form::Resets
+            | Form::Loads
+            | Form::Transfers
+            | Form::LoadsAr1
+            | Form::LoadsAr2
+            | Form::StoresAr1
+            | Form::StoresAr2
+    )
 }
 
 #[tactic(auto, unfolding(crate::specs::Operands::takes_width))]
@@ -144,13 +167,23 @@ fn is_input(view: View) -> bool
     }
 }
 
+fn composite_rule(form: Form, view: View) -> u16
+    ensures { result ≡ composite_rule form view }
+{
+    if is_date(view) || takes_places(form) {
+        24
+    } else {
+        25
+    }
+}
+
 /// The rule that an instruction breaks by an operand that is no constant.
 #[tactic(auto, unfolding(crate::specs::Operands::rule_of))]
 pub(crate) fn rule_of(form: Form, view: View) -> Option<u16>
     ensures { result ≡ rule_of form view }
 {
     if is_composite(view) {
-        return Some(24);
+        return Some(composite_rule(form, view));
     }
     if !takes(form, view) {
         return Some(25);

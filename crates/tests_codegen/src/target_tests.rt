@@ -1,6 +1,6 @@
 //! The targets of jumps, from the number of a statement to its offset in the code.
 use crate::compare::same;
-use flat_code::{EndOperation, Op, Operand, Operation};
+use flat_code::{EndOperation, Op, Operand, Operation, RelayOperation};
 use plc_base::{Area, Width};
 use std::alloc::Global;
 use std::process::Abort;
@@ -39,14 +39,36 @@ fn ops(alloc: Global) -> Result<Vec<Op>, Fail> {
     Ok(ops)
 }
 
-/// A jump leads to its offset, and all else stays.
-fn are_placed(rt: &impl Abort, ops: &[Op], placed: &[Op]) {
+/// MCRA and `MCR(` of 2 bytes each, two jumps of 7 each, `)MCR` and MCRD of 2 each, and BE. So the
+/// second statement begins at 2, and MCRD, the sixth one, at 20.
+fn relay_ops(alloc: Global) -> Result<Vec<Op>, Fail> {
+    let mut ops = Vec::new(alloc);
+    for (word, operand) in [
+        (Operation::Relay(RelayOperation::Activate), Operand::Nothing),
+        (Operation::Relay(RelayOperation::Open), Operand::Nothing),
+        (Operation::Jump, jump_to(1)),
+        (Operation::Jump, jump_to(5)),
+        (Operation::Relay(RelayOperation::Close), Operand::Nothing),
+        (
+            Operation::Relay(RelayOperation::Deactivate),
+            Operand::Nothing,
+        ),
+        (Operation::End(EndOperation::Be), Operand::Nothing),
+    ] {
+        ops.push(Op::taken(word, true, operand).ok_or("no op")?)?;
+    }
+    Ok(ops)
+}
+
+/// A jump to the second statement leads to the offset `second`, another one to `other`, and all else
+/// stays.
+fn are_placed(rt: &impl Abort, ops: &[Op], placed: &[Op], second: u32, other: u32) {
     same(rt, "ops", placed.len(), ops.len());
     for (op, before) in placed.iter().zip(ops.iter()) {
         let operand = match before.operand {
-            Operand::Jump { target: 1, .. } => jump_to(6),
-            Operand::Jump { .. } => jump_to(31),
-            other => other,
+            Operand::Jump { target: 1, .. } => jump_to(second),
+            Operand::Jump { .. } => jump_to(other),
+            still => still,
         };
         let found = (op.code, op.last, op.operand);
         same(rt, before.code, found, (before.code, before.last, operand));
@@ -57,6 +79,19 @@ fn are_placed(rt: &impl Abort, ops: &[Op], placed: &[Op]) {
 fn targets_are_offsets(rt: HostRuntime) -> Result<(), Fail> {
     let ops = ops(rt.alloc())?;
     let placed = place_targets(rt.alloc(), ops.as_slice())?.ok_or("no targets")?;
-    are_placed(&rt, ops.as_slice(), placed.as_slice());
+    are_placed(&rt, ops.as_slice(), placed.as_slice(), 6, 31);
+    Ok(())
+}
+
+/// By the table of op codes, and with two bytes for each instruction of the relay.
+#[test]
+fn targets_among_the_relay(rt: HostRuntime) -> Result<(), Fail> {
+    let ops = relay_ops(rt.alloc())?;
+    let codes = [0x05, 0x07, 0x6F, 0x6F, 0x08, 0x06, 0x7B];
+    for (op, code) in ops.iter().zip(codes.iter()) {
+        same(&rt, *code, op.code, *code);
+    }
+    let placed = place_targets(rt.alloc(), ops.as_slice())?.ok_or("no targets")?;
+    are_placed(&rt, ops.as_slice(), placed.as_slice(), 2, 20);
     Ok(())
 }

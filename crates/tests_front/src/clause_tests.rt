@@ -245,6 +245,64 @@ static INSTRUCTIONS: [Row; 24] = [
     (Frame::Body, "beu; Ju x;", "2 Beu Nothing\n2 Ju Label x\n"),
 ];
 
+/// The master control relay.
+static RELAY: [Row; 10] = [
+    (
+        Frame::Body,
+        "MCRA; MCRD; MCR(; )MCR;",
+        "2 Mcra Nothing\n2 Mcrd Nothing\n2 McrOpen Nothing\n2 McrClose Nothing\n",
+    ),
+    (
+        Frame::Body,
+        "mcra; Mcrd; mcr(; )mCr;",
+        "2 Mcra Nothing\n2 Mcrd Nothing\n2 McrOpen Nothing\n2 McrClose Nothing\n",
+    ),
+    // With blanks, line ends and comments between their tokens.
+    (
+        Frame::Body,
+        "MCR (; ) MCR; MCR\t( ; )\tMCR ;",
+        "2 McrOpen Nothing\n2 McrClose Nothing\n2 McrOpen Nothing\n2 McrClose Nothing\n",
+    ),
+    (
+        Frame::Source,
+        "FUNCTION FC 1 : VOID BEGIN\nMCR // a zone\n( // begins\n; ) // and\n// ends\nMCR;\nEND_FUNCTION",
+        "1 to 7 Fc Fc 1\n2 McrOpen Nothing\n4 McrClose Nothing\n",
+    ),
+    // With labels.
+    (
+        Frame::Body,
+        "a: MCRA; b: MCRD; c1: MCR(; _d: )MCR;",
+        "2 a: Mcra Nothing\n2 b: Mcrd Nothing\n2 c1: McrOpen Nothing\n2 _d: McrClose Nothing\n",
+    ),
+    (
+        Frame::Body,
+        "MCR: MCR(; MCRA: )MCR; JU MCR;",
+        "2 MCR: McrOpen Nothing\n2 MCRA: McrClose Nothing\n2 Ju Label MCR\n",
+    ),
+    // With an operand; that they take none is checked later.
+    (
+        Frame::Body,
+        "MCRA 1; MCRD M 0.0;",
+        "2 Mcra Number 1\n2 Mcrd Direct M Bit 0.0\n",
+    ),
+    (
+        Frame::Body,
+        "MCR( I 0.0; )MCR a;",
+        "2 McrOpen Direct I Bit 0.0\n2 McrClose Local a\n",
+    ),
+    // Variables of these names.
+    (
+        Frame::Body,
+        "A MCR; A mcra; A MCR.x;",
+        "2 A Local MCR\n2 A Local mcra\n2 A Local MCR.x\n",
+    ),
+    (
+        Frame::Body,
+        ") #MCR; ) MCRA; ) MCR1; ) MCR.x; ) MCR[2];",
+        "2 Close Local MCR\n2 Close Local MCRA\n2 Close Local MCR1\n2 Close Local MCR.x\n2 Close Local MCR[2]\n",
+    ),
+];
+
 #[test]
 fn addresses(rt: HostRuntime) -> Result<(), Fail> {
     all_agree(&rt, rt.alloc(), &ADDRESSES)
@@ -268,4 +326,9 @@ fn constants_conditions_registers(rt: HostRuntime) -> Result<(), Fail> {
 #[test]
 fn labels_calls_and_words(rt: HostRuntime) -> Result<(), Fail> {
     all_agree(&rt, rt.alloc(), &INSTRUCTIONS)
+}
+
+#[test]
+fn relay(rt: HostRuntime) -> Result<(), Fail> {
+    all_agree(&rt, rt.alloc(), &RELAY)
 }

@@ -1,5 +1,5 @@
 use crate::compare::same;
-use crate::rows::verdict;
+use crate::rows::{Frame, joined, verdict};
 use std::alloc::{AllocError, Global};
 use std::process::Abort;
 use std::test::Fail;
@@ -248,6 +248,36 @@ fn names_the_first_violation(rt: HostRuntime) {
     }
     law_of_clauses();
     law_of_components();
+}
+
+/// Statements that are near to those of the master control relay, with the rule that each breaks:
+/// `MCR` alone is no instruction word.
+static NEAR_RELAY: [(&str, u16); 10] = [
+    ("MCR;", 10),
+    ("MCR 1;", 10),
+    ("x: MCR;", 10),
+    ("MCR();", 10),
+    ("MCR((;", 10),
+    ("MCR(MCR(;", 10),
+    ("MCRA(;", 10),
+    (")MCR(;", 10),
+    ("#MCR(;", 10),
+    ("abcde: )MCR;", 12),
+];
+
+#[test]
+fn statements_near_the_relay(rt: HostRuntime) -> Result<(), Fail> {
+    for (statement, rule) in NEAR_RELAY.iter() {
+        let source = joined(
+            rt.alloc(),
+            Frame::Body.before(),
+            statement,
+            Frame::Body.behind(),
+        )?;
+        let got = verdict(rt.alloc(), source.as_bytes());
+        same(&rt, *statement, got, (2, *rule));
+    }
+    Ok(())
 }
 
 /// What stands before the nesting, what opens and what closes each of so many levels, what stands

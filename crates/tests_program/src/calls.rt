@@ -74,10 +74,10 @@ pub(crate) fn answers<R: Abort + Threads + Wait + Sync>(
 }
 
 /// A source, a history, the status, and what is written, worked out by hand.
-type Row = (&'static [u8], &'static [u8], u8, &'static [u8]);
+pub(crate) type Row = (&'static [u8], &'static [u8], u8, &'static [u8]);
 
 /// Calls with these words over each row's source and history. The sink takes one byte of each piece.
-fn are_told<R: Abort + Threads + Wait + Sync>(
+pub(crate) fn are_told<R: Abort + Threads + Wait + Sync>(
     rt: &R,
     alloc: Global,
     words: &[&str],

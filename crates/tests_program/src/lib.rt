@@ -33,6 +33,8 @@ mod long_history_tests;
 #[cfg(test)]
 mod outside_tests;
 #[cfg(test)]
+mod relay_tests;
+#[cfg(test)]
 mod request_tests;
 #[cfg(test)]
 mod run_tests;

@@ -191,6 +191,117 @@ static BRACKETS: [Row; 20] = [
     (b"A(;\nJU a1;\n);\na1: );", 3, 33),
 ];
 
+static ZONES: [Row; 17] = [
+    (b"MCRA;\nMCR(;\nSET;\n)MCR;\nMCRD;", 0, 0),
+    (b"MCRD;\nMCRA;\nMCRA;", 0, 0),
+    (b"MCR (;\n) MCR;", 0, 0),
+    (b"MCR(;\nMCR(;\n)MCR;\n)MCR;", 0, 0),
+    (b")MCR;", 2, 47),
+    (b"MCRA;\n)MCR;", 3, 47),
+    (b"MCR(;\n)MCR;\n)MCR;", 4, 47),
+    (b"MCR(;\nSET;", 2, 48),
+    (b"MCR(;\nMCR(;\n)MCR;", 2, 48),
+    (b"MCR(;\n)MCR;\nMCR(;\nMCRD;", 4, 48),
+    (b")MCR;\nMCR(;", 2, 47),
+    (
+        b"MCR(; MCR(; MCR(; MCR(; MCR(; MCR(; MCR(; MCR(;\n)MCR; )MCR; )MCR; )MCR; )MCR; )MCR; )MCR; )MCR;",
+        0,
+        0,
+    ),
+    (
+        b"MCR(;\nMCR(;\nMCR(;\nMCR(;\nMCR(;\nMCR(;\nMCR(;\nMCR(;\nMCR(;\n)MCR;\n)MCR;\n)MCR;\n)MCR;\n)MCR;\n)MCR;\n)MCR;\n)MCR;\n)MCR;",
+        10,
+        49,
+    ),
+    (
+        b"MCR(; MCR(; MCR(; MCR(; MCR(; MCR(; MCR(; MCR(;\nMCR(;\nMCR(;\n)MCR; )MCR; )MCR; )MCR; )MCR; )MCR; )MCR; )MCR; )MCR; )MCR;",
+        3,
+        49,
+    ),
+    (
+        b"MCR(; MCR(; MCR(; MCR(; MCR(; MCR(; MCR(; MCR(;\nMCR(;\n)MCR; )MCR; )MCR; )MCR; )MCR; )MCR; )MCR; )MCR;",
+        2,
+        48,
+    ),
+    (
+        b"MCR(; MCR(; MCR(; MCR(; MCR(; MCR(; MCR(; MCR(; )MCR;\nMCR(;\n)MCR; )MCR; )MCR; )MCR; )MCR; )MCR; )MCR; )MCR;",
+        0,
+        0,
+    ),
+    (b"JL a9;\nMCRA;\na9: SET;", 2, 32),
+];
+
+static ZONES_AND_BRACKETS: [Row; 11] = [
+    // Brackets and zones may end in any order.
+    (b"MCR(;\nA(;\n)MCR;\n);", 0, 0),
+    (b"A(;\nMCR(;\n);\n)MCR;", 0, 0),
+    (b"A(;\n)MCR;\n);", 3, 47),
+    (b"A(;\nMCR(;\n);", 3, 48),
+    (b"MCR(;\nA(;\n)MCR;", 3, 30),
+    (b"MCR(;\n);\n)MCR;", 3, 29),
+    (
+        b"A(; A(; A(; A(; A(; A(; A(;\nMCR(; MCR(; MCR(; MCR(; MCR(; MCR(; MCR(; MCR(;\n)MCR; )MCR; )MCR; )MCR; )MCR; )MCR; )MCR; )MCR;\n); ); ); ); ); ); );",
+        0,
+        0,
+    ),
+    (
+        b"MCR(; MCR(; MCR(; MCR(; MCR(; MCR(; MCR(; MCR(;\nA(; A(; A(; A(; A(; A(; A(;\nA(;\n); ); ); ); ); ); ); );\n)MCR; )MCR; )MCR; )MCR; )MCR; )MCR; )MCR; )MCR;",
+        4,
+        31,
+    ),
+    (
+        b"A(; A(; A(; A(; A(; A(; A(;\nMCR(; MCR(; MCR(; MCR(; MCR(; MCR(; MCR(; MCR(;\nMCR(;\n)MCR; )MCR; )MCR; )MCR; )MCR; )MCR; )MCR; )MCR; )MCR;\n); ); ); ); ); ); );",
+        4,
+        49,
+    ),
+    // Each by itself on one line, the least rule is named.
+    (b"MCR(; )MCR; )MCR; A(;", 2, 30),
+    (b")MCR; );", 2, 29),
+];
+
+static JUMPS_AND_ZONES: [Row; 17] = [
+    // A jump and its label have as many zones open.
+    (b"JU a1;\nMCR(;\na1: SET;\n)MCR;", 2, 33),
+    (b"MCR(;\nJU a1;\n)MCR;\na1: SET;", 3, 33),
+    (b"MCR(;\nJC a1;\na1: SET;\n)MCR;", 0, 0),
+    (b"MCR(;\nJU a1;\n)MCR;\nMCR(;\na1: SET;\n)MCR;", 0, 0),
+    (b"MCR(;\nMCR(;\na1: SET;\n)MCR;\nJU a1;\n)MCR;", 6, 33),
+    (b"MCR(;\nJU a1;\na1: )MCR;", 0, 0),
+    (b"MCR(;\nJU a1;\n)MCR;\na1: MCR(;\n)MCR;", 3, 33),
+    (b"JU a1;\na1: MCR(;\n)MCR;", 0, 0),
+    (b"JL a9;\nJU a1;\na9: MCR(;\na1: SET;\n)MCR;", 3, 33),
+    (
+        b"MCR(;\nJU a1;\n)MCR;\na1: SET;\nMCR(;\na1: SET;\n)MCR;",
+        3,
+        33,
+    ),
+    // The list of brackets and the number of zones both.
+    (b"A(;\nJU a1;\nMCR(;\na1: O M 0.0;\n)MCR;\n);", 3, 33),
+    (b"MCR(;\nJU a1;\nA(;\na1: O M 0.0;\n);\n)MCR;", 3, 33),
+    (b"A(;\nJU a1;\n);\nMCR(;\na1: SET;\n)MCR;", 3, 33),
+    (
+        b"A(;\nMCR(;\nJU a1;\n)MCR;\n);\nMCR(;\nA(;\na1: O M 0.0;\n);\n)MCR;",
+        0,
+        0,
+    ),
+    (
+        b"A(;\nMCR(;\nJU a1;\n)MCR;\n);\nMCR(;\nO(;\na1: O M 0.0;\n);\n)MCR;",
+        4,
+        33,
+    ),
+    // Of more zones than eight too: 33 comes before 49.
+    (
+        b"MCR(; MCR(; MCR(; MCR(; MCR(; MCR(; MCR(; MCR(;\nMCR(; JU a1; MCR(;\na1: SET;\n)MCR; )MCR; )MCR; )MCR; )MCR; )MCR; )MCR; )MCR; )MCR; )MCR;",
+        3,
+        33,
+    ),
+    (
+        b"MCR(; MCR(; MCR(; MCR(; MCR(; MCR(; MCR(; MCR(;\nMCR(; JU a1;\na1: SET;\n)MCR; )MCR; )MCR; )MCR; )MCR; )MCR; )MCR; )MCR; )MCR;",
+        3,
+        49,
+    ),
+];
+
 #[test]
 fn names(rt: HostRuntime) -> Result<(), Fail> {
     bodies_agree(&rt, rt.alloc(), &NAMES)
@@ -224,6 +335,21 @@ fn labels(rt: HostRuntime) -> Result<(), Fail> {
 #[test]
 fn brackets(rt: HostRuntime) -> Result<(), Fail> {
     bodies_agree(&rt, rt.alloc(), &BRACKETS)
+}
+
+#[test]
+fn zones(rt: HostRuntime) -> Result<(), Fail> {
+    bodies_agree(&rt, rt.alloc(), &ZONES)
+}
+
+#[test]
+fn zones_and_brackets(rt: HostRuntime) -> Result<(), Fail> {
+    bodies_agree(&rt, rt.alloc(), &ZONES_AND_BRACKETS)
+}
+
+#[test]
+fn jumps_and_zones(rt: HostRuntime) -> Result<(), Fail> {
+    bodies_agree(&rt, rt.alloc(), &JUMPS_AND_ZONES)
 }
 
 /// A body with a jump list of so many jumps.

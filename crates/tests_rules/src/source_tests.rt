@@ -1,7 +1,7 @@
 use crate::calls::{Row, sources_agree};
 use std::test::Fail;
 
-static BLOCKS: [Row; 17] = [
+static BLOCKS: [Row; 20] = [
     // A component of a user-defined data type among the temporary variables of each kind of block.
     (
         b"TYPE UDT 1\nSTRUCT\nnum : INT;\nEND_STRUCT\nEND_TYPE\nORGANIZATION_BLOCK OB 1\nVAR_TEMP\nown : UDT 1;\nEND_VAR\nBEGIN\nL #own.num;\nEND_ORGANIZATION_BLOCK",
@@ -95,6 +95,23 @@ static BLOCKS: [Row; 17] = [
         b"FUNCTION FC 1 : VOID\nBEGIN\nUC FC 2;\nCALL SFC 99;\nEND_FUNCTION\nFUNCTION FC 2 : INT\nBEGIN\nL M 0.0;\nEND_FUNCTION",
         3,
         40,
+    ),
+    // Nine zones in an organization block.
+    (
+        b"ORGANIZATION_BLOCK OB 1\nBEGIN\nMCR(;\nMCR(;\nMCR(;\nMCR(;\nMCR(;\nMCR(;\nMCR(;\nMCR(;\nMCR(;\n)MCR;\n)MCR;\n)MCR;\n)MCR;\n)MCR;\n)MCR;\n)MCR;\n)MCR;\n)MCR;\nEND_ORGANIZATION_BLOCK",
+        11,
+        49,
+    ),
+    // Zones are counted in each block from none.
+    (
+        b"FUNCTION FC 1 : VOID\nBEGIN\nMCR(;\nEND_FUNCTION\nORGANIZATION_BLOCK OB 1\nBEGIN\n)MCR;\nEND_ORGANIZATION_BLOCK",
+        3,
+        48,
+    ),
+    (
+        b"FUNCTION FC 1 : VOID\nBEGIN\nMCR(;\n)MCR;\nEND_FUNCTION\nORGANIZATION_BLOCK OB 1\nBEGIN\n)MCR;\nEND_ORGANIZATION_BLOCK",
+        8,
+        47,
     ),
 ];
 

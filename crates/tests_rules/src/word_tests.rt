@@ -111,7 +111,7 @@ static READING: [Words; 8] = [
         &[b"LC", b"FR"],
         b"",
         b"",
-        b"fn fffffffffff fffff fffffww ....fff ffff ffffffffff",
+        b"fn fffffffffff fffff ffffffw ....fff ffff ffffffffff",
     ),
     (
         &[b"LAR1"],
@@ -129,13 +129,13 @@ static READING: [Words; 8] = [
         &[b"+AR1", b"+AR2"],
         b"",
         b"",
-        b".n fffffffffff fffff fffffww fffffff ffff .fffffffff",
+        b".n fffffffffff fffff ffffffw fffffff ffff .fffffffff",
     ),
     (
         &[b"OPN"],
         b"",
         b"",
-        b"fn ffffff-ffff fffff fffffww ffff..- ffff ffffffffff",
+        b"fn ffffff-ffff fffff ffffffw ffff..- ffff ffffffffff",
     ),
 ];
 
@@ -180,13 +180,13 @@ static WRITING: [Words; 8] = [
         &[b"SP", b"SE", b"SD", b"SS", b"SF"],
         b"",
         b"",
-        b"fn fffffffffff fffff fffffww .f.ffff ffff ffffffffff",
+        b"fn fffffffffff fffff ffffffw .f.ffff ffff ffffffffff",
     ),
     (
         &[b"CU", b"CD"],
         b"",
         b"",
-        b"fn fffffffffff fffff fffffww f.f.fff ffff ffffffffff",
+        b"fn fffffffffff fffff ffffffw f.f.fff ffff ffffffffff",
     ),
 ];
 
@@ -195,19 +195,19 @@ static COUNTING: [Words; 6] = [
         &[b"NOP"],
         b"",
         b"",
-        b"fn fffffffffff fffff fffffww fffffff ffff f.ffffffff",
+        b"fn fffffffffff fffff ffffffw fffffff ffff f.ffffffff",
     ),
     (
         &[b"BLD", b"INC", b"DEC"],
         b"",
         b"",
-        b"fn fffffffffff fffff fffffww fffffff ffff f..fffffff",
+        b"fn fffffffffff fffff ffffffw fffffff ffff f..fffffff",
     ),
     (
         &[b"+"],
         b"",
         b"",
-        b"fn fffffffffff fffff fffffww fffffff ffff f....fffff",
+        b"fn fffffffffff fffff ffffffw fffffff ffff f....fffff",
     ),
     (
         &[
@@ -215,19 +215,19 @@ static COUNTING: [Words; 6] = [
         ],
         b"",
         b"",
-        b".n fffffffffff fffff fffffww fffffff ffff f.ffffffff",
+        b".n fffffffffff fffff ffffffw fffffff ffff f.ffffffff",
     ),
     (
         &[b"AW", b"OW", b"XOW"],
         b"",
         b"",
-        b".n fffffffffff fffff fffffww fffffff ffff f...f.f.ff",
+        b".n fffffffffff fffff ffffffw fffffff ffff f...f.f.ff",
     ),
     (
         &[b"AD", b"OD", b"XOD"],
         b"",
         b"",
-        b".n fffffffffff fffff fffffww fffffff ffff ffffff.fff",
+        b".n fffffffffff fffff ffffffw fffffff ffff ffffff.fff",
     ),
 ];
 
@@ -235,10 +235,11 @@ static BARE: [Words; 1] = [(
     &[
         b"SET", b"CLR", b"NOT", b"SAVE", b"CAR", b"TAK", b"PUSH", b"POP", b"CAW", b"CAD", b"+I",
         b"-I", b"*I", b"/I", b"+D", b"-D", b"*D", b"/D", b"MOD", b"BE", b"BEC", b"BEU", b"CDB",
+        b"MCRA", b"MCRD",
     ],
     b"",
     b"",
-    b".n fffffffffff fffff fffffww fffffff ffff ffffffffff",
+    b".n fffffffffff fffff ffffffw fffffff ffff ffffffffff",
 )];
 
 static COMPARING: [Words; 1] = [(
@@ -249,21 +250,33 @@ static COMPARING: [Words; 1] = [(
     ],
     b"",
     b"",
-    b".n fffffffffff fffff fffffww fffffff ffff ffffffffff",
+    b".n fffffffffff fffff ffffffw fffffff ffff ffffffffff",
 )];
 
-static BRACKETS: [Words; 2] = [
+static BRACKETS: [Words; 4] = [
     (
         &[b"A(", b"AN(", b"O(", b"ON(", b"X(", b"XN("],
         b"",
         b" );",
-        b".n fffffffffff fffff fffffww fffffff ffff ffffffffff",
+        b".n fffffffffff fffff ffffffw fffffff ffff ffffffffff",
     ),
     (
         &[b")"],
         b"A(; ",
         b"",
-        b".n fffffffffff fffff fffffww fffffff ffff ffffffffff",
+        b".n fffffffffff fffff ffffffw fffffff ffff ffffffffff",
+    ),
+    (
+        &[b"MCR("],
+        b"",
+        b" )MCR;",
+        b".n fffffffffff fffff ffffffw fffffff ffff ffffffffff",
+    ),
+    (
+        &[b")MCR"],
+        b"MCR(; ",
+        b"",
+        b".n fffffffffff fffff ffffffw fffffff ffff ffffffffff",
     ),
 ];
 
@@ -274,7 +287,7 @@ static JUMPS: [Words; 1] = [(
     ],
     b"",
     b" a1: SET;",
-    b"f. fffffffffff fffff fffffww fffffff llll fffffffflf",
+    b"f. fffffffffff fffff ffffffw fffffff llll fffffffflf",
 )];
 
 fn rule_of(letter: u8) -> u16 {
@@ -370,7 +383,7 @@ fn words_that_compare_and_convert(rt: HostRuntime) -> Result<(), Fail> {
 }
 
 #[test]
-fn brackets(rt: HostRuntime) -> Result<(), Fail> {
+fn brackets_and_zones(rt: HostRuntime) -> Result<(), Fail> {
     words_agree(&rt, rt.alloc(), &BRACKETS)
 }
 

@@ -1,6 +1,7 @@
 -- The list of a board.
-use Rattle.std.specs.Prelude.{ℕ, ◌<◌, List, [], ◌∷◌, Option, None, IfSome}
+use Rattle.std.specs.Prelude.{◌<◌, Bool, List, [], ◌∷◌, MatchBool, Option, None, IfSome}
 use Rattle.std.specs.List.{last_or}
+use mathlib.Core.List.{IsPrefix}
 use Rattle.logbook.specs.Pages.{Book}
 use Rattle.watch_board.specs.declared.shown.Shown.{Shown}
 
@@ -21,6 +22,10 @@ last_of list = last_or None list
 -- the item may be published behind this list: its length is above that of the last item
 abbrev pub MayFollow : List Shown → Shown → Type 0
 MayFollow list item = IfSome (last_of list) (λ last. last.length < item.length)
+
+-- of two prefixes of one list the shorter is a prefix of the longer: whether the other one is longer, decides
+abbrev pub ShorterBegins : Bool → (list other : List Shown) → Type 0
+ShorterBegins is_shorter list other = MatchBool is_shorter (IsPrefix list other) (IsPrefix other list)
 
 -- What contracts see of a publisher, a viewer and a note: which board, and a list of what was published on it, the opening item first.
 pub record Known : Type 0 where

@@ -60,7 +60,8 @@ fn show_first<R: Wait>(
 /// Notes what is to be shown next.
 pub fn append(copies: &mut BoardWriter, item: LastItem) -> Result<(), NoMemory>
     requires { drop copies.old.behind copies.old.log.items ≡ [] }
-    ensures ok { OnOk result (Pends item.prefix.board (drop copies.new.behind copies.new.log.items)) }
+    ensures ok { OnOk result
+        (Pends item.prefix.board (drop copies.new.behind copies.new.log.items)) }
     ensures err { OnErr result (drop copies.new.behind copies.new.log.items ≡ []) }
     ensures same { copies.new.desk ≡ copies.old.desk }
 {

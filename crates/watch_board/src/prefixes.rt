@@ -1,7 +1,6 @@
 //! The list of a board, which exists in proofs alone: what threads share of it is its length.
-ghost use Rattle.std.specs.Prelude.{◌≡◌, ◌++◌, ◌∷◌, [], MatchBool, IfSome};
-ghost use mathlib.Core.List.{IsPrefix};
-ghost use Rattle.watch_board.specs.BoardList.{MayFollow, Rising, opening};
+ghost use Rattle.std.specs.Prelude.{◌≡◌, ◌++◌, ◌∷◌, [], IfSome};
+ghost use Rattle.watch_board.specs.BoardList.{MayFollow, Rising, ShorterBegins, opening};
 
 use crate::shown::Shown;
 use logbook::{Gain, Offer, Plain, Play, Rule, Seen, Start, Word};
@@ -115,7 +114,7 @@ impl Prefix {
     /// Whether the other one is longer. Of two prefixes of one list the shorter is a prefix of the longer.
     pub fn is_shorter(&self, other: &Prefix) -> bool
         requires { self.now.board ≡ other.now.board }
-        ensures { MatchBool result (IsPrefix self.now.list other.now.list) (IsPrefix other.now.list self.now.list) }
+        ensures { ShorterBegins result self.now.list other.now.list }
     {
         let mut both = self.seen.again();
         both.learn(&other.seen);

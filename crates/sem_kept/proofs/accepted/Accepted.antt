@@ -50,13 +50,14 @@ use Rattle.stl_types.specs.Brackets.{closes_none, is_eighth, left_open, rule_29,
 use Rattle.stl_types.specs.Calls.{by_callee, call_37, calls_unknown, dates_in, has_wrong_instance, is_bare_call, lacks_actual, misfits, names_none, rule_24_of_actuals, rule_34, rule_35, rule_36, rule_37, rule_38, rule_40, rule_46, sees_date, supplied_twice, unnamed}
 use Rattle.stl_types.specs.Context.{Context}
 use Rattle.stl_types.specs.Labels.{labels_of, labels_twice, rule_26, rule_27, unknown_labels}
-use Rattle.stl_types.specs.Landings.{crossing_jumps, lists_at_labels, rule_33}
+use Rattle.stl_types.specs.Landings.{crossing_jumps, landings_at_labels, outside, rule_33}
 use Rattle.stl_types.specs.Lists.{lists_from, rule_32}
 use Rattle.stl_types.specs.Operands.{at_line, operands_24, rules_24_25_39, statement_rule}
 use Rattle.stl_types.specs.Parameters.{Callee, callee_of}
 use Rattle.stl_types.specs.Seen.{seen}
 use Rattle.stl_types.specs.Table.{refusals_by as statement_refusals_by, statement_refusals}
 use Rattle.stl_types.specs.Unknown.{is_unknown, operand_20, rule_20, sets_unknown}
+use Rattle.stl_types.specs.Zones.{ends_none, is_ninth, rule_47, rule_48, rule_49, with_zones, zones_left_open}
 use Rattle.stl_codegen.specs.Compiled.{StatedBlock}
 use Rattle.stl_codegen.specs.Generated.{code_block, code_block_of, code_blocks_of, data_block, data_block_of, data_blocks_of, each_block}
 use Rattle.stl_codegen.specs.Order.{inserted, is_code_before, is_data_before, sorted}
@@ -162,6 +163,9 @@ pub record StatesRight (c : Context) (blocks : List Block) : Type 0 where
   pub by_38 : rule_38 c blocks ≡ []
   pub by_40 : rule_40 c blocks ≡ []
   pub by_46 : rule_46 c blocks ≡ []
+  pub by_47 : rule_47 blocks ≡ []
+  pub by_48 : rule_48 blocks ≡ []
+  pub by_49 : rule_49 blocks ≡ []
 
 lays_out_right : (y : Types) (l : List BlockLayout) (blocks : List Block)
     → layout_refusals_by y l blocks ≡ [] → LaysOutRight y l blocks
@@ -199,7 +203,10 @@ lays_out_right y l blocks e56 =
 states_right : (c : Context) (blocks : List Block) → statement_refusals_by c blocks ≡ []
     → StatesRight c blocks
 unfolding statement_refusals_by
-states_right c blocks e46 =
+states_right c blocks e49 =
+    let e48 = none_left _ (rule_49 blocks) e49 in
+    let e47 = none_left _ (rule_48 blocks) e48 in
+    let e46 = none_left _ (rule_47 blocks) e47 in
     let e40 = none_left _ (rule_46 c blocks) e46 in
     let e38 = none_left _ (rule_40 c blocks) e40 in
     let e37 = none_left _ (rule_38 c blocks) e38 in
@@ -233,6 +240,9 @@ states_right c blocks e46 =
       by_38 = none_right _ (rule_38 c blocks) e38;
       by_40 = none_right _ (rule_40 c blocks) e40;
       by_46 = none_right _ (rule_46 c blocks) e46;
+      by_47 = none_right _ (rule_47 blocks) e47;
+      by_48 = none_right _ (rule_48 blocks) e48;
+      by_49 = none_right _ (rule_49 blocks) e49;
     }
 
 -- ---- at each place of the source
@@ -351,7 +361,7 @@ pub record IsSoundStatement (y : Types) (c : Context) (s : Statement) : Type 0 w
   pub actuals : AllByRecursion (IsSoundActual y c) s.actuals
   pub calls : (callee : Callee) → callee_of c s.operand ≡ Some callee → IsSoundCall c callee s
 
--- a body, by its labels and brackets: rules 26, 27, 29 to 33
+-- a body, by its labels, brackets and zones: rules 26, 27, 29 to 33, 47 to 49
 pub record IsSoundBody (body : List Statement) : Type 0 where
   pub by_26 : unknown_labels (labels_of body) body ≡ []
   pub by_27 : labels_twice [] body ≡ []
@@ -359,7 +369,10 @@ pub record IsSoundBody (body : List Statement) : Type 0 where
   pub by_30 : left_open body ≡ []
   pub by_31 : with_brackets (λ brackets s. broken_if (is_eighth brackets s) s.line 31) [] body ≡ []
   pub by_32 : lists_from [] body ≡ []
-  pub by_33 : crossing_jumps (labels_of body) (lists_at_labels [] body) body ≡ []
+  pub by_33 : crossing_jumps (labels_of body) (landings_at_labels outside body) body ≡ []
+  pub by_47 : with_zones (λ zones s. broken_if (ends_none zones s) s.line 47) [] body ≡ []
+  pub by_48 : zones_left_open body ≡ []
+  pub by_49 : with_zones (λ zones s. broken_if (is_ninth zones s) s.line 49) [] body ≡ []
 
 -- the head of a block behind others, and the whole of it
 pub record IsSoundHead (y : Types) (blocks before : List Block) (b : Block) : Type 0 where
@@ -654,7 +667,13 @@ record AreClean (symbols : List Symbol) (t : Tree) (k : ℕ) (before bs : List B
   by_30 : AllByRecursion (λ b. left_open b.body ≡ []) bs
   by_31 : AllByRecursion (λ b. with_brackets (λ brackets s. broken_if (is_eighth brackets s) s.line 31) [] b.body ≡ []) bs
   by_32 : AllByRecursion (λ b. lists_from [] b.body ≡ []) bs
-  by_33 : AllByRecursion (λ b. crossing_jumps (labels_of b.body) (lists_at_labels [] b.body) b.body ≡ []) bs
+  by_33 : AllByRecursion
+      (λ b. crossing_jumps (labels_of b.body) (landings_at_labels outside b.body) b.body ≡ []) bs
+  by_47 : AllByRecursion
+      (λ b. with_zones (λ zones s. broken_if (ends_none zones s) s.line 47) [] b.body ≡ []) bs
+  by_48 : AllByRecursion (λ b. zones_left_open b.body ≡ []) bs
+  by_49 : AllByRecursion
+      (λ b. with_zones (λ zones s. broken_if (is_ninth zones s) s.line 49) [] b.body ≡ []) bs
 
 rest_blocks : (symbols : List Symbol) (t : Tree) (k : ℕ) (before : List Block) (b : Block)
     (bs : List Block) → AreClean symbols t k before (b ∷ bs)
@@ -689,6 +708,9 @@ rest_blocks symbols t k before b bs h = record {
   by_31 = h.by_31.1;
   by_32 = h.by_32.1;
   by_33 = h.by_33.1;
+  by_47 = h.by_47.1;
+  by_48 = h.by_48.1;
+  by_49 = h.by_49.1;
 }
 
 -- an element behind a list
@@ -753,6 +775,9 @@ block_sound symbols t k before b bs h n there laid = record {
     by_31 = h.by_31.0;
     by_32 = h.by_32.0;
     by_33 = h.by_33.0;
+    by_47 = h.by_47.0;
+    by_48 = h.by_48.0;
+    by_49 = h.by_49.0;
   };
   statements = statements_sound (types_of symbols t.blocks) (context_at symbols t k) b.body (record {
     well = h.well.0.runs.0;
@@ -861,7 +886,7 @@ heads_clean symbols t l p =
 blocks_clean : (symbols : List Symbol) (t : Tree) → IsWellFormed t
     → LaysOutRight (types_of symbols t.blocks) (layouts_of t symbols) t.blocks
     → StatesRight (context_at symbols t 0) t.blocks → AreClean symbols t 0 [] t.blocks
-unfolding rule_21 rule_56 rules_24_25_39 rule_24_of_actuals rule_26 rule_27 rule_29 rule_30 rule_31 rule_32 rule_33 rule_34 rule_35 rule_36 rule_37 rule_38 rule_40 rule_46
+unfolding rule_21 rule_56 rules_24_25_39 rule_24_of_actuals rule_26 rule_27 rule_29 rule_30 rule_31 rule_32 rule_33 rule_34 rule_35 rule_36 rule_37 rule_38 rule_40 rule_46 rule_47 rule_48 rule_49
 blocks_clean symbols t well l s = record {
   well = well;
   heads = heads_clean symbols t l p;
@@ -891,7 +916,14 @@ blocks_clean symbols t well l s = record {
   by_30 = each_none (λ b. left_open b.body) t.blocks s.by_30;
   by_31 = each_none (λ b. with_brackets (λ brackets s. broken_if (is_eighth brackets s) s.line 31) [] b.body) t.blocks s.by_31;
   by_32 = each_none (λ b. lists_from [] b.body) t.blocks s.by_32;
-  by_33 = each_none (λ b. crossing_jumps (labels_of b.body) (lists_at_labels [] b.body) b.body) t.blocks s.by_33;
+  by_33 = each_none
+      (λ b. crossing_jumps (labels_of b.body) (landings_at_labels outside b.body) b.body) t.blocks
+      s.by_33;
+  by_47 = each_none (λ b. with_zones (λ zones s. broken_if (ends_none zones s) s.line 47) [] b.body)
+      t.blocks s.by_47;
+  by_48 = each_none (λ b. zones_left_open b.body) t.blocks s.by_48;
+  by_49 = each_none (λ b. with_zones (λ zones s. broken_if (is_ninth zones s) s.line 49) [] b.body)
+      t.blocks s.by_49;
 }
   where
     y : Types

@@ -22,6 +22,7 @@ use Rattle.stl_ast.specs.declared.blocks.Block.{Block}
 use Rattle.stl_ast.specs.declared.blocks.Tree.{Tree}
 use Rattle.stl_ast.specs.declared.literals.Literal.{Literal}
 use Rattle.stl_ast.specs.declared.mnemonics.Mnemonic.{Mnemonic}
+use Rattle.stl_ast.specs.declared.mnemonics.Mnemonic.TheVariants as mnemonic
 use Rattle.stl_ast.specs.declared.names.BlockName.{BlockName}
 use Rattle.stl_ast.specs.declared.names.BlockName.TheVariants as block
 use Rattle.stl_ast.specs.declared.operands.Letters.{Letters}
@@ -531,6 +532,14 @@ opening_has source t rest h =
     (λ m. then_made (states.after_paren source rest) _ BareHas
     (λ behind. with_operand_has source m behind h))
 
+zone_end_has : (source : List ℕ) (t : Token) (rest : List Token) → AreBytes source
+    → IfSome (states.zone_end_of source t rest) BareHas
+unfolding states.zone_end_of
+zone_end_has source t [] h = tt
+zone_end_has source t (w ∷ rest) h =
+    passed (is_mark source t mark.CloseParen && is_key source w key.Mcr) _ BareHas
+    (λ test. with_operand_has source mnemonic.McrClose rest h)
+
 closed_has : (source : List ℕ) (t : Token) (rest : List Token) → AreBytes source
     → IfSome (states.closed_of source t rest) BareHas
 unfolding states.closed_of
@@ -544,7 +553,8 @@ unfolding states.instruction_of
 instruction_has source [] h = tt
 instruction_has source (t ∷ rest) h =
     either (states.opening_of source t rest) _ BareHas (opening_has source t rest h)
-    (closed_has source t rest h)
+    (either (states.zone_end_of source t rest) _ BareHas (zone_end_has source t rest h)
+    (closed_has source t rest h))
 
 abbrev ReadHas : Statement × Bool → Type 0
 ReadHas r = StatementHasBytes r.0

@@ -1,4 +1,4 @@
--- The code of a block whose labels, brackets and jumps break no rule has no fault in them.
+-- The code of a block whose labels, brackets, zones and jumps break no rule has no fault in them.
 use Rattle.std.proofs.Common.{◌≡◌, ℕ, zero, suc, ◌+◌, ◌-◌, Bool, true, false, ◌&&◌, if◌then◌else◌, eqb, List, [], ◌∷◌, ◌++◌, length, map, append_assoc, Option, Some, None, refl, sym, ap, ap₂, subst, ◌∙◌, arith}
 use Rattle.std.specs.Prelude.{nat_le, nat_lt, not}
 use Rattle.std.specs.List.{AllByRecursion, flat_map}
@@ -9,7 +9,7 @@ use Rattle.flat_code.specs.Codes.{size}
 use Rattle.flat_code.specs.Instr.{Instr, Jumps, Returns}
 use Rattle.flat_code.specs.Kinds.{kind_of}
 use Rattle.flat_code.specs.Ops.{OpData}
-use Rattle.flat_code.specs.Placed.{Placed, Spot, bracket_codes, few, open_behind, opened, placed, spot_at, spots}
+use Rattle.flat_code.specs.Placed.{Placed, Spot, bracket_codes, few, open_behind, opened, placed, spot_at, spots, zones_behind as zones_past, zones_left}
 use Rattle.flat_code.specs.declared.image_fields.OpenBracket.{OpenBracket}
 use Rattle.flat_code.specs.declared.kinds.JumpOperation.{JumpOperation}
 use Rattle.flat_code.specs.declared.kinds.JumpOperation.TheVariants as jump
@@ -24,12 +24,13 @@ use Rattle.stl_ast.specs.declared.operands.Operand.TheVariants as operand
 use Rattle.stl_ast.specs.declared.blocks.Block.{Block}
 use Rattle.stl_ast.specs.declared.statements.Statement.{Statement}
 use Rattle.plc_base.specs.Least.{broken_if}
-use Rattle.plc_base.proofs.ListLemmas.{all_append, all_front}
+use Rattle.plc_base.proofs.ListLemmas.{all_front}
 use Rattle.stl_types.specs.Brackets.{behind, behind_all, closes, left_open, opening}
 use Rattle.stl_types.specs.Context.{Context}
 use Rattle.stl_types.specs.Labels.{is_unknown_label, labels_of, unknown_labels}
-use Rattle.stl_types.specs.Landings.{crossing_jumps, lists_at_labels}
+use Rattle.stl_types.specs.Landings.{crossing_jumps, landings_at_labels, outside}
 use Rattle.stl_types.specs.Lists.{goes_on, has_label, is_list_jump, is_list_to, is_plain_jump, left_behind, lists_from}
+use Rattle.stl_types.specs.Zones.{ends_zone, opens_zone, zones_behind, zones_behind_all, zones_left_open}
 use Rattle.stl_types.specs.declared.brackets.Bracket.{Bracket}
 use Rattle.stl_codegen.specs.Bodies.{count_of}
 use Rattle.stl_codegen.specs.Compiled.{Stated, aimed, aimed_op, code_in}
@@ -41,11 +42,10 @@ use Rattle.sem_kept.specs.Back.{is_target}
 use Rattle.sem_kept.proofs.compiled.Reading.{aimed_append, aimed_are, aimed_bytes, aimed_extent, aimed_is, aimed_part, aimed_parts, ends_append, ends_at, is_statement, parted, parts, parts_append, parts_are, position, position_is, the_code, the_code_is}
 use Rattle.sem_kept.proofs.compiled.Runs.{Parted, bytes_of, flat as flat_parts, size_aimed, total}
 use Rattle.sem_kept.specs.Jumps.{AllLandRight, LandsRight, jump_fault_of}
-use Rattle.sem_kept.specs.Zones.{LeavesZones}
 use Rattle.plc_base.proofs.TruthLemmas.{or_met_behind}
-use Rattle.sem_kept.proofs.accepted.JumpsCode.{AreQuiet, IsFound, IsQuiet, IsQuietPart, codes_after, codes_behind, codes_fault, codes_opened, fault_is, few_codes, few_is, found_by, none_left, open_after, placed_all, spot_there}
-use Rattle.sem_kept.proofs.accepted.JumpsRules.{AreRightFrom, HasList, IsRightAt, IsTarget, behind_more, by_29, by_31, few_open, functions, has_list, right_body, same_lists, target_is, target_past}
-use Rattle.sem_kept.proofs.accepted.JumpsOperations.{IsLastOf, TakesRight, behind_codes, bracket_right, codes_of, front_quiet, jumps_to, last_leaves, last_of, last_op}
+use Rattle.sem_kept.proofs.accepted.JumpsCode.{AreQuiet, IsFound, IsQuiet, codes_after, codes_behind, codes_fault, codes_opened, count_after, count_behind, count_fault, count_is, fault_is, few_codes, few_is, found_by, left_after, no_zones, none_left, open_after, placed_all, spot_there, zone_fault_is}
+use Rattle.sem_kept.proofs.accepted.JumpsRules.{AreAlike, AreRightFrom, HasList, IsRightAt, IsTarget, behind_more, by_29, by_31, by_47, by_49, few_open, functions, has_list, right_body, same_landings, target_is, target_past, zones_more}
+use Rattle.sem_kept.proofs.accepted.JumpsOperations.{IsLastOf, TakesRight, behind_codes, behind_count, bracket_right, codes_of, front_quiet, jumps_to, last_of, last_op, zone_right}
 
 -- ---- small facts
 
@@ -58,6 +58,18 @@ empty_code _ e = absurd cc
 empty_behind : (bs : List Bracket) (s : Statement) → is_empty s.code ≡ true → behind bs s ≡ bs
 empty_behind bs s e =
     let none = empty_code s.code e in
+    rw none.0 (rw none.1 refl)
+
+empty_zone : (m : Mnemonic) → is_empty m ≡ true → (opens_zone m ≡ false) × (ends_zone m ≡ false)
+unfolding opens_zone ends_zone
+empty_zone code.Empty e = (refl, refl)
+empty_zone _ e = absurd cc
+
+-- and zones
+empty_zones : (zones : List ℕ) (s : Statement) → is_empty s.code ≡ true
+    → zones_behind zones s ≡ zones
+empty_zones zones s e =
+    let none = empty_zone s.code e in
     rw none.0 (rw none.1 refl)
 
 same_as_itself : (xs : List ℕ) → same_codes xs xs ≡ true
@@ -104,6 +116,11 @@ codes_more : (ps qs : List Parted) (codes : List ℕ)
 codes_more [] qs codes = refl
 codes_more (p ∷ ps) qs codes = codes_more ps qs (codes_behind p.end.code codes)
 
+counts_more : (ps qs : List Parted) (count : ℕ)
+    → count_after (ps ++ qs) count ≡ count_after qs (count_after ps count)
+counts_more [] qs count = refl
+counts_more (p ∷ ps) qs count = counts_more ps qs (count_behind p.end.code count)
+
 -- ---- what prepares
 
 aimed_quiet : (f : ℕ → ℕ) (ops : List OpData) → AllByRecursion IsQuiet ops
@@ -116,30 +133,20 @@ aimed_quiet f (op ∷ ops) h = (one op h.0, aimed_quiet f ops h.1)
     stays _ e = e
 
     one : (op : OpData) → IsQuiet op → IsQuiet (aimed_op f op)
-    one op q = record { opens = q.opens; closes = q.closes; zones = record { opens_none = q.zones.opens_none; ends_none = q.zones.ends_none }; stays = stays op.operand q.stays }
+    one op q = record {
+      opens = q.opens;
+      closes = q.closes;
+      opens_zone = q.opens_zone;
+      ends_zone = q.ends_zone;
+      stays = stays op.operand q.stays;
+    }
 
--- the last op leaves zones as they are
-abbrev EndLeaves : Stated → Type 0
-EndLeaves s = LeavesZones (last_op s.instr)
+part_quiet : (f : ℕ → ℕ) (i : Instr) → AllByRecursion IsQuiet (aimed_part f (parted i)).front
+part_quiet f i = aimed_quiet f (parted i).front (front_quiet i)
 
-part_quiet : (f : ℕ → ℕ) (s : Stated) → EndLeaves s → IsQuietPart (aimed_part f (parted s.instr))
-part_quiet f s h = record {
-  front = aimed_quiet f (parted s.instr).front (front_quiet s.instr);
-  end = record { opens_none = h.opens_none; ends_none = h.ends_none };
-}
-
-parts_quiet : (f : ℕ → ℕ) (ss : List Stated) → AllByRecursion EndLeaves ss
-    → AreQuiet (aimed_parts f (parts ss))
-parts_quiet f [] h = tt
-parts_quiet f (s ∷ ss) h = (part_quiet f s h.0, parts_quiet f ss h.1)
-
-all_leave : (ps : List Parted) → AreQuiet ps → AllByRecursion LeavesZones (flat_parts ps)
-all_leave [] h = tt
-all_leave (p ∷ ps) h = all_append LeavesZones p.front (p.end ∷ flat_parts ps) (front p.front h.0.front) (h.0.end, all_leave ps h.1)
-  where
-    front : (ops : List OpData) → AllByRecursion IsQuiet ops → AllByRecursion LeavesZones ops
-    front [] h = tt
-    front (op ∷ ops) h = (h.0.zones, front ops h.1)
+parts_quiet : (f : ℕ → ℕ) (ss : List Stated) → AreQuiet (aimed_parts f (parts ss))
+parts_quiet f [] = tt
+parts_quiet f (s ∷ ss) = (part_quiet f s.instr, parts_quiet f ss)
 
 -- ---- the statements of a body
 
@@ -187,19 +194,6 @@ stated_count c body n (x ∷ xs) =
         ≡ (if e then 0 else 1) + count_of xs
     by true same next = omega (arith, same)
     by false same next = omega (arith, next)
-
--- none of them opens or ends a zone
-stated_leave : (c : Context) (body : List Statement) (n : ℕ) (xs : List Statement)
-    → AllByRecursion EndLeaves (stated_from c body n xs)
-stated_leave c body n [] = tt
-stated_leave c body n (x ∷ xs) =
-    by (is_empty x.code) (stated_leave c body n xs) (stated_leave c body (suc n) xs)
-  where
-    by : (e : Bool) → AllByRecursion EndLeaves (stated_from c body n xs)
-        → AllByRecursion EndLeaves (stated_from c body (suc n) xs)
-        → AllByRecursion EndLeaves (if e then stated_from c body n xs else stated c body n x ∷ stated_from c body (suc n) xs)
-    by true same next = same
-    by false same next = (last_leaves c body n x, next)
 
 -- where the statements before end
 abbrev ends_of : Context → (body : List Statement) → (pre : List Statement) → ℕ
@@ -270,6 +264,36 @@ stated_codes f c body n bs (x ∷ xs) h =
         ap (codes_after (aimed_parts f (parts (stated_from c body (suc n) xs))))
         (behind_codes bs body x (last_op (instruction c body n x)) (last_of c body n x h.0)) ∙ next
 
+-- and how many zones are
+stated_zones : (f : ℕ → ℕ) (c : Context) (body : List Statement) (n : ℕ) (zones : List ℕ)
+    (xs : List Statement) → AllByRecursion TakesRight xs
+    → count_after (aimed_parts f (parts (stated_from c body n xs))) (length zones)
+    ≡ length (zones_behind_all zones xs)
+stated_zones f c body n zones [] h = refl
+stated_zones f c body n zones (x ∷ xs) h =
+    by (is_empty x.code) refl (stated_zones f c body n (zones_behind zones x) xs h.1)
+    (stated_zones f c body (suc n) (zones_behind zones x) xs h.1)
+  where
+    counted_after : List Stated → ℕ → ℕ
+    counted_after ss count = count_after (aimed_parts f (parts ss)) count
+
+    by : (e : Bool) → is_empty x.code ≡ e
+        → counted_after (stated_from c body n xs) (length (zones_behind zones x))
+        ≡ length (zones_behind_all (zones_behind zones x) xs)
+        → counted_after (stated_from c body (suc n) xs) (length (zones_behind zones x))
+        ≡ length (zones_behind_all (zones_behind zones x) xs)
+        → counted_after
+        (if e then stated_from c body n xs else stated c body n x ∷ stated_from c body (suc n) xs)
+        (length zones)
+        ≡ length (zones_behind_all (zones_behind zones x) xs)
+    by true is same next =
+        ap (λ (z : List ℕ). counted_after (stated_from c body n xs) (length z))
+        (sym (empty_zones zones x is)) ∙ same
+    by false is same next =
+        ap (counted_after (stated_from c body (suc n) xs))
+        (behind_count zones body x (last_op (instruction c body n x)) (last_of c body n x h.0))
+        ∙ next
+
 -- ---- where a label is
 
 -- some statement, and those behind it
@@ -307,19 +331,19 @@ place_is c body ret pre rest e =
     (sym (stated_count c body 0 pre))
     ∙ position_is (stated_from c body 0 pre) (stated_from c body (count_of pre) rest ++ ret ∷ [])
 
--- the statement behind statements, and the brackets that are open there
+-- the statement behind statements, and what is open there
 spot_behind : (f : ℕ → ℕ) (front : List Stated) (s : Stated) (rest : List Stated)
-    → AllByRecursion EndLeaves front → EndLeaves s
     → IsFound (spot_at (spots (the_code f (front ++ s ∷ rest))) (ends_at front))
-    (few_codes (codes_after (aimed_parts f (parts front)) [])) 0
-spot_behind f front s rest leave leaves =
-    found_by _ _ _ _ 0
+    (few_codes (codes_after (aimed_parts f (parts front)) []))
+    (count_after (aimed_parts f (parts front)) 0)
+spot_behind f front s rest =
+    found_by _ _ _ _ _ _
     (ap (λ (z : List Parted). spot_at (spots (flat_parts z)) (ends_at front)) cut
     ∙ ap (spot_at (spots (flat_parts (ps ++ aimed_part f (parted s.instr) ∷ aimed_parts f (parts rest)))))
     (sym (aimed_extent f (parts front)) ∙ omega arith))
-    refl
+    refl refl
     (spot_there 0 [] [] ps (aimed_part f (parted s.instr)) (aimed_parts f (parts rest))
-    (aimed_are f (parts front) (parts_are front)) (parts_quiet f front leave) (part_quiet f s leaves)
+    (aimed_are f (parts front) (parts_are front)) (parts_quiet f front) (part_quiet f s.instr)
     (aimed_is f (parted s.instr) (is_statement s.instr)))
   where
     ps : List Parted
@@ -331,19 +355,17 @@ spot_behind f front s rest leave leaves =
         ∙ aimed_append f (parts front) (parts (s ∷ rest))
 
 spot_of : (c : Context) (body : List Statement) (ret : Stated) (f : ℕ → ℕ) (pre rest : List Statement)
-    → body ≡ pre ++ rest → EndLeaves ret → AllByRecursion TakesRight pre
+    → body ≡ pre ++ rest → AllByRecursion TakesRight pre
     → IsFound (spot_at (spots (the_code f (whole c body ret))) (ends_of c body pre))
-    (few_codes (codes_of (behind_all [] pre))) 0
-spot_of c body ret f pre rest e leaves takes =
+    (few_codes (codes_of (behind_all [] pre))) (length (zones_behind_all [] pre))
+spot_of c body ret f pre rest e takes =
     let h = has_first (stated_from c body (count_of pre) rest) ret in
-    let leave = subst (AllByRecursion EndLeaves) h.is
-    (all_append EndLeaves (stated_from c body (count_of pre) rest) (ret ∷ [])
-    (stated_leave c body (count_of pre) rest) (leaves, tt)) in
-    found_by _ _ _ _ 0
+    found_by _ _ _ _ _ _
     (ap (λ (z : List Stated). spot_at (spots (the_code f z)) (ends_of c body pre))
     (whole_cut c body ret pre rest e ∙ ap (λ (z : List Stated). stated_from c body 0 pre ++ z) h.is))
     (ap few_codes (stated_codes f c body 0 [] pre takes))
-    (spot_behind f (stated_from c body 0 pre) h.first h.rest (stated_leave c body 0 pre) leave.0)
+    (stated_zones f c body 0 [] pre takes)
+    (spot_behind f (stated_from c body 0 pre) h.first h.rest)
 
 -- ---- the list of a JL
 
@@ -462,13 +484,14 @@ stays_right : (ss : List Spot) (p : Placed) (f : ℕ → ℕ) (o : FlatOperand) 
 stays_right ss p f (flat.Jump kind target) e = absurd cc
 stays_right ss p f _ e = refl
 
-jump_right : (ss : List Spot) (p : Placed) (kind target : ℕ) (codes : List ℕ)
-    → is_bad_list p kind target ≡ false → few p.brackets ≡ few_codes codes
-    → IsFound (spot_at ss target) (few_codes codes) (length p.zones) → jump_fault ss p kind target ≡ None
-jump_right ss p kind target codes list here there =
+jump_right : (ss : List Spot) (p : Placed) (kind target : ℕ) (codes : List ℕ) (count : ℕ)
+    → is_bad_list p kind target ≡ false → few p.brackets ≡ few_codes codes → length p.zones ≡ count
+    → IsFound (spot_at ss target) (few_codes codes) count → jump_fault ss p kind target ≡ None
+jump_right ss p kind target codes count list here zones there =
     ap (λ (t : Bool). if t then Some 6 else target_fault (few p.brackets) (length p.zones) (spot_at ss target)) list
     ∙ ap (target_fault (few p.brackets) (length p.zones)) there.is
-    ∙ no_difference codes (few p.brackets) (length p.zones) there.spot here there.codes_are there.zones_are
+    ∙ no_difference codes (few p.brackets) (length p.zones) there.spot here there.codes_are
+    (there.zones_are ∙ sym zones)
 
 -- only a JL has a list
 list_right : (how : JumpOperation) (p : Placed) (target : ℕ)
@@ -485,39 +508,44 @@ pub record IsRightBody (body : List Statement) : Type 0 where
   pub by_30 : left_open body ≡ []
   pub by_31 : by_31 [] body ≡ []
   pub by_32 : lists_from [] body ≡ []
-  pub by_33 : crossing_jumps (labels_of body) (lists_at_labels [] body) body ≡ []
+  pub by_33 : crossing_jumps (labels_of body) (landings_at_labels outside body) body ≡ []
+  pub by_47 : by_47 [] body ≡ []
+  pub by_48 : zones_left_open body ≡ []
+  pub by_49 : by_49 [] body ≡ []
 
--- a label is where its jump leads, with the same brackets
+-- a label is where its jump leads, with the same brackets and as many zones
 abbrev Lands : Context → (body : List Statement) → (ret : Stated) → (pre : List Statement) → (name : List ℕ)
     → Type 0
 Lands c body ret pre name =
     IsFound (spot_at (spots (the_code (place c body ret) (whole c body ret)))
-    (place c body ret (target_in name body))) (few_codes (codes_of (behind_all [] pre))) 0
+    (place c body ret (target_in name body))) (few_codes (codes_of (behind_all [] pre)))
+    (length (zones_behind_all [] pre))
 
 lands : (c : Context) (body : List Statement) (ret : Stated) (pre : List Statement) (s : Statement)
     (post : List Statement) (name : List ℕ)
-    → IsRightBody body → EndLeaves ret → body ≡ pre ++ s ∷ post → IsRightAt body pre s post
+    → IsRightBody body → body ≡ pre ++ s ∷ post → IsRightAt body pre s post
     → s.operand ≡ operand.Label name → Lands c body ret pre name
-lands c body ret pre s post name all leaves e right label =
-    found_by _ _ _ _ 0
+lands c body ret pre s post name all e right label =
+    found_by _ _ _ _ _ _
     (ap (spot_at (spots (the_code f (whole c body ret))))
     (ap f there.count ∙ place_is c body ret there.before there.rest there.whole))
-    (ap few_codes (sym same))
-    (spot_of c body ret f there.before there.rest there.whole leaves
+    (ap few_codes
+    (sym (same_functions (behind_all [] pre) (behind_all [] there.before) same.functions)))
+    (sym same.zones)
+    (spot_of c body ret f there.before there.rest there.whole
     (all_front TakesRight there.before there.rest
     (subst (AllByRecursion TakesRight) there.whole all.takes)))
   where
     f : ℕ → ℕ
     f = place c body ret
 
-    there : IsTarget body [] name
+    there : IsTarget body outside name
     there = target_is body name (ap (is_unknown_label (labels_of body)) (sym label) ∙ right.known)
 
-    same : codes_of (behind_all [] pre) ≡ codes_of (behind_all [] there.before)
-    same = same_functions (behind_all [] pre) (behind_all [] there.before)
-        (same_lists body pre there.before s post name right label
+    same : AreAlike pre there.before
+    same = same_landings body pre there.before s post name right label
         (few_open body pre (s ∷ post) e all.by_31)
-        (few_open body there.before there.rest there.whole all.by_31) there.list)
+        (few_open body there.before there.rest there.whole all.by_31) there.landing
 
 -- the list of a JL is there
 listed : (c : Context) (body : List Statement) (ret : Stated) (pre : List Statement) (s : Statement)
@@ -538,14 +566,20 @@ listed c body ret pre s post name at n e is is_at is_n has =
     target = ap (target_in name) cut ∙ target_past name (pre ++ s ∷ []) post has.new
         ∙ ap (λ (k : ℕ). k + target_in name post) (sym is_n)
 
--- a statement at its place
-record IsHere (c : Context) (body pre : List Statement) (s : Statement) (post : List Statement)
-    (at n : ℕ) (bs : List OpenBracket) : Type 0 where
-  whole : body ≡ pre ++ s ∷ post
-  full : is_empty s.code ≡ false
+-- a place in the code: where statements end, and what is open there
+record IsPlace (c : Context) (body pre : List Statement) (at n : ℕ) (bs : List OpenBracket)
+    (zones : List ℕ) : Type 0 where
   is_at : at ≡ ends_of c body pre
   is_n : n ≡ count_of pre
   codes : bracket_codes bs ≡ codes_of (behind_all [] pre)
+  count : length zones ≡ length (zones_behind_all [] pre)
+
+-- a statement at its place
+record IsHere (c : Context) (body pre : List Statement) (s : Statement) (post : List Statement)
+    (at n : ℕ) (bs : List OpenBracket) (zones : List ℕ) : Type 0 where
+  whole : body ≡ pre ++ s ∷ post
+  full : is_empty s.code ≡ false
+  stands : IsPlace c body pre at n bs zones
   takes : TakesRight s
   right : IsRightAt body pre s post
 
@@ -557,11 +591,11 @@ abbrev end_of : Context → List Statement → Stated → (n : ℕ) → Statemen
 end_of c body ret n s = (aimed_part (place c body ret) (parted (instruction c body n s))).end
 
 abbrev placed_end : Context → List Statement → Stated → Statement → List Statement → (at n : ℕ)
-    → List OpenBracket → List OpData → Placed
-placed_end c body ret s post at n bs done = record {
+    → List OpenBracket → (zones : List ℕ) → List OpData → Placed
+placed_end c body ret s post at n bs zones done = record {
   at = at + total (front_of c body ret n s);
   brackets = bs;
-  zones = [];
+  zones = zones;
   before = done;
   op = end_of c body ret n s;
   rest = code_from c body ret (place c body ret) (suc n) post;
@@ -569,47 +603,52 @@ placed_end c body ret s post at n bs done = record {
 
 -- where it ends
 ends_here : (c : Context) (body : List Statement) (ret : Stated) (pre : List Statement) (s : Statement)
-    (post : List Statement) (at n : ℕ) (bs : List OpenBracket) → IsHere c body pre s post at n bs
+    (post : List Statement) (at n : ℕ) (bs : List OpenBracket) (zones : List ℕ)
+    → IsHere c body pre s post at n bs zones
     → at + total (front_of c body ret n s) + size (end_of c body ret n s) ≡ ends_of c body (pre ++ s ∷ [])
-ends_here c body ret pre s post at n bs h =
-    let end = ends_more c body pre n s h.full h.is_n in
+ends_here c body ret pre s post at n bs zones h =
+    let end = ends_more c body pre n s h.full h.stands.is_n in
     let long = aimed_bytes (place c body ret) (parted (instruction c body n s)) in
-    let here = h.is_at in
+    let here = h.stands.is_at in
     omega (arith, end, long, here)
 
 jump_lands : (c : Context) (body : List Statement) (ret : Stated) (pre : List Statement) (s : Statement)
-    (post : List Statement) (at n : ℕ) (bs : List OpenBracket) (done : List OpData)
-    → IsRightBody body → EndLeaves ret → IsHere c body pre s post at n bs
+    (post : List Statement) (at n : ℕ) (bs : List OpenBracket) (zones : List ℕ) (done : List OpData)
+    → IsRightBody body → IsHere c body pre s post at n bs zones
     → (how : JumpOperation) → jump_of s.code ≡ Some how
     → jump_fault (spots (the_code (place c body ret) (whole c body ret)))
-    (placed_end c body ret s post at n bs done) (kind_of how) (place c body ret (target_of body s.operand))
+    (placed_end c body ret s post at n bs zones done) (kind_of how)
+    (place c body ret (target_of body s.operand))
     ≡ None
-jump_lands c body ret pre s post at n bs done all leaves h how is =
+jump_lands c body ret pre s post at n bs zones done all h how is =
     let label = h.takes.jumps how is in
     let name = label.0 in
     let target : ℕ = place c body ret (target_in name body) in
-    let p = placed_end c body ret s post at n bs done in
+    let p = placed_end c body ret s post at n bs zones done in
     let ss = spots (the_code (place c body ret) (whole c body ret)) in
     let number = count_more pre s h.full in
-    let same = h.is_n in
+    let same = h.stands.is_n in
     ap (λ (o : Operand). jump_fault ss p (kind_of how) (place c body ret (target_of body o))) label.1
     ∙ jump_right ss p (kind_of how) target (codes_of (behind_all [] pre))
+    (length (zones_behind_all [] pre))
     (list_right how p target (λ jl.
     listed c body ret pre s post name (p.at + size p.op) (suc n) h.whole h.full
-    (ends_here c body ret pre s post at n bs h) (omega (arith, number, same))
+    (ends_here c body ret pre s post at n bs zones h) (omega (arith, number, same))
     (has_list body pre s name post h.right (jl_code s.code (is ∙ ap (λ (j : JumpOperation). Some j) jl)) label.1)))
-    (few_is bs ∙ ap few_codes h.codes)
-    (lands c body ret pre s post name all leaves h.whole h.right label.1)
+    (few_is bs ∙ ap few_codes h.stands.codes) h.stands.count
+    (lands c body ret pre s post name all h.whole h.right label.1)
 
 last_lands : (c : Context) (body : List Statement) (ret : Stated) (pre : List Statement) (s : Statement)
-    (post : List Statement) (at n : ℕ) (bs : List OpenBracket) (done : List OpData)
-    → IsRightBody body → EndLeaves ret → IsHere c body pre s post at n bs
+    (post : List Statement) (at n : ℕ) (bs : List OpenBracket) (zones : List ℕ) (done : List OpData)
+    → IsRightBody body → IsHere c body pre s post at n bs zones
     → LandsRight (spots (the_code (place c body ret) (whole c body ret)))
-    (placed_end c body ret s post at n bs done)
-last_lands c body ret pre s post at n bs done all leaves h = record {
+    (placed_end c body ret s post at n bs zones done)
+last_lands c body ret pre s post at n bs zones done all h = record {
   jump = by (jump_of s.code) refl last.jumps;
-  brackets = fault_is op.code bs ∙ ap (codes_fault op.code) h.codes
+  brackets = fault_is op.code bs ∙ ap (codes_fault op.code) h.stands.codes
       ∙ bracket_right (behind_all [] pre) body s op last h.right.closes h.right.few;
+  zones = zone_fault_is op.code zones ∙ ap (count_fault op.code) h.stands.count
+      ∙ zone_right (zones_behind_all [] pre) body s op last h.right.ends h.right.ninth;
 }
   where
     op : OpData
@@ -622,56 +661,101 @@ last_lands c body ret pre s post at n bs done all leaves h = record {
     ss = spots (the_code (place c body ret) (whole c body ret))
 
     p : Placed
-    p = placed_end c body ret s post at n bs done
+    p = placed_end c body ret s post at n bs zones done
 
     by : (j : Option JumpOperation) → jump_of s.code ≡ j → jumps_to body s j op.operand
         → jump_fault_of ss p (aimed (place c body ret) op.operand) ≡ None
     by None is stays = stays_right ss p (place c body ret) op.operand stays
     by (Some how) is there =
         ap (λ (o : FlatOperand). jump_fault_of ss p (aimed (place c body ret) o)) there
-        ∙ jump_lands c body ret pre s post at n bs done all leaves h how is
+        ∙ jump_lands c body ret pre s post at n bs zones done all h how is
 
 -- ---- the ops of a body
 
 quiet_lands : (ss : List Spot) (q : Placed) → IsQuiet q.op → LandsRight ss q
-quiet_lands ss q h = record { jump = by q.op.operand h.stays; brackets = rw h.opens (rw h.closes refl) }
+quiet_lands ss q h = record {
+  jump = by q.op.operand h.stays;
+  brackets = rw h.opens (rw h.closes refl);
+  zones = rw h.opens_zone (rw h.ends_zone refl);
+}
   where
     by : (o : FlatOperand) → is_target o ≡ false → jump_fault_of ss q o ≡ None
     by (flat.Jump kind target) e = absurd cc
     by _ e = refl
 
-abbrev AllLand : Context → List Statement → Stated → (at : ℕ) → List OpenBracket → List OpData → Type 0
-AllLand c body ret at bs ops =
-    AllByRecursion (LandsRight (spots (the_code (place c body ret) (whole c body ret)))) (placed at bs [] [] ops)
+abbrev AllLand : Context → List Statement → Stated → (at : ℕ) → List OpenBracket → (zones : List ℕ)
+    → List OpData → Type 0
+AllLand c body ret at bs zones ops =
+    AllByRecursion (LandsRight (spots (the_code (place c body ret) (whole c body ret))))
+    (placed at bs zones [] ops)
+
+-- behind an empty statement it is the same
+past_empty : (c : Context) (body pre : List Statement) (s : Statement) (at n : ℕ)
+    (bs : List OpenBracket) (zones : List ℕ) → is_empty s.code ≡ true
+    → IsPlace c body pre at n bs zones
+    → IsPlace c body (pre ++ s ∷ []) at n bs zones
+past_empty c body pre s at n bs zones is h = record {
+  is_at = h.is_at ∙ sym (ends_empty c body pre s is);
+  is_n = h.is_n ∙ sym (count_empty pre s is);
+  codes = h.codes
+      ∙ ap codes_of
+      (sym (behind_more [] pre (s ∷ []) ∙ empty_behind (behind_all [] pre) s is));
+  count = h.count
+      ∙ ap (λ (z : List ℕ). length z)
+      (sym (zones_more [] pre (s ∷ []) ∙ empty_zones (zones_behind_all [] pre) s is));
+}
+
+-- and behind another one what its last op leaves
+past_end : (c : Context) (body : List Statement) (ret : Stated) (pre : List Statement)
+    (s : Statement) (post : List Statement) (at n : ℕ) (bs : List OpenBracket) (zones : List ℕ)
+    → IsHere c body pre s post at n bs zones
+    → IsPlace c body (pre ++ s ∷ [])
+    (at + total (front_of c body ret n s) + size (end_of c body ret n s)) (suc n)
+    (opened (at + total (front_of c body ret n s)) (end_of c body ret n s).code bs)
+    (zones_past (at + total (front_of c body ret n s)) (end_of c body ret n s).code zones)
+past_end c body ret pre s post at n bs zones h = record {
+  is_at = ends_here c body ret pre s post at n bs zones h;
+  is_n = let number = count_more pre s h.full in let is_n = h.stands.is_n in
+      omega (arith, number, is_n);
+  codes = codes_opened from op.code bs ∙ ap (codes_behind op.code) h.stands.codes
+      ∙ behind_codes (behind_all [] pre) body s (last_op (instruction c body n s)) last
+      ∙ ap codes_of (sym (behind_more [] pre (s ∷ [])));
+  count = count_is from op.code zones ∙ ap (count_behind op.code) h.stands.count
+      ∙ behind_count (zones_behind_all [] pre) body s (last_op (instruction c body n s)) last
+      ∙ ap (λ (z : List ℕ). length z) (sym (zones_more [] pre (s ∷ [])));
+}
+  where
+    op : OpData
+    op = end_of c body ret n s
+
+    from : ℕ
+    from = at + total (front_of c body ret n s)
+
+    last : IsLastOf body s (last_op (instruction c body n s))
+    last = last_of c body n s h.takes
 
 -- a statement, and those behind it
 next_lands : (c : Context) (body : List Statement) (ret : Stated) (pre : List Statement) (s : Statement)
-    (post : List Statement) (at n : ℕ) (bs : List OpenBracket) → IsRightBody body → EndLeaves ret
-    → body ≡ pre ++ s ∷ post → at ≡ ends_of c body pre → n ≡ count_of pre
-    → bracket_codes bs ≡ codes_of (behind_all [] pre) → TakesRight s → IsRightAt body pre s post
-    → ((at n : ℕ) (bs : List OpenBracket) → at ≡ ends_of c body (pre ++ s ∷ [])
-    → n ≡ count_of (pre ++ s ∷ []) → bracket_codes bs ≡ codes_of (behind_all [] (pre ++ s ∷ []))
-    → AllLand c body ret at bs (code_from c body ret (place c body ret) n post))
+    (post : List Statement) (at n : ℕ) (bs : List OpenBracket) (zones : List ℕ) → IsRightBody body
+    → body ≡ pre ++ s ∷ post → IsPlace c body pre at n bs zones → TakesRight s
+    → IsRightAt body pre s post
+    → ((at n : ℕ) (bs : List OpenBracket) (zones : List ℕ)
+    → IsPlace c body (pre ++ s ∷ []) at n bs zones
+    → AllLand c body ret at bs zones (code_from c body ret (place c body ret) n post))
     → (empty : Bool) → is_empty s.code ≡ empty
-    → AllLand c body ret at bs (the_code (place c body ret) ((if empty then stated_from c body n post
+    → AllLand c body ret at bs zones
+    (the_code (place c body ret) ((if empty then stated_from c body n post
     else stated c body n s ∷ stated_from c body (suc n) post) ++ ret ∷ []))
-next_lands c body ret pre s post at n bs all leaves e is_at is_n codes takes right more true is =
-    more at n bs (is_at ∙ sym (ends_empty c body pre s is)) (is_n ∙ sym (count_empty pre s is))
-    (codes ∙ ap codes_of (sym (behind_more [] pre (s ∷ []) ∙ empty_behind (behind_all [] pre) s is)))
-next_lands c body ret pre s post at n bs all leaves e is_at is_n codes takes right more false is =
-    placed_all (LandsRight (spots (the_code f (whole c body ret)))) at bs [] [] front op
-    (code_from c body ret f (suc n) post) (aimed_quiet f (parted i).front (front_quiet i))
-    (part_quiet f (stated c body n s) (last_leaves c body n s)).end
+next_lands c body ret pre s post at n bs zones all e h takes right more true is =
+    more at n bs zones (past_empty c body pre s at n bs zones is h)
+next_lands c body ret pre s post at n bs zones all e h takes right more false is =
+    placed_all (LandsRight (spots (the_code f (whole c body ret)))) at bs zones [] front op
+    (code_from c body ret f (suc n) post) (part_quiet f i)
     (aimed_is f (parted i) (is_statement i)).front (aimed_is f (parted i) (is_statement i)).end
     (quiet_lands (spots (the_code f (whole c body ret))))
-    (λ done. last_lands c body ret pre s post at n bs done all leaves here)
-    (more (at + (total front + size op)) (suc n) (opened (at + total front) op.code bs)
-    (omega arith ∙ ends_here c body ret pre s post at n bs here)
-    (let number = count_more pre s is in omega (arith, number, is_n))
-    (codes_opened (at + total front) op.code bs
-    ∙ ap (codes_behind op.code) codes
-    ∙ behind_codes (behind_all [] pre) body s (last_op i) (last_of c body n s takes)
-    ∙ ap codes_of (sym (behind_more [] pre (s ∷ [])))))
+    (λ done. last_lands c body ret pre s post at n bs zones done all here)
+    (more (from + size op) (suc n) (opened from op.code bs) (zones_past from op.code zones)
+    (past_end c body ret pre s post at n bs zones here))
   where
     f : ℕ → ℕ
     f = place c body ret
@@ -685,13 +769,14 @@ next_lands c body ret pre s post at n bs all leaves e is_at is_n codes takes rig
     op : OpData
     op = end_of c body ret n s
 
-    here : IsHere c body pre s post at n bs
+    from : ℕ
+    from = at + total front
+
+    here : IsHere c body pre s post at n bs zones
     here = record {
       whole = e;
       full = is;
-      is_at = is_at;
-      is_n = is_n;
-      codes = codes;
+      stands = h;
       takes = takes;
       right = right;
     }
@@ -699,30 +784,19 @@ next_lands c body ret pre s post at n bs all leaves e is_at is_n codes takes rig
 abbrev returning_at : ℕ → Stated
 returning_at line = record { instr = Returns ends.Be; line = line }
 
-return_leaves : (line : ℕ) → EndLeaves (returning_at line)
-return_leaves line = record { opens_none = refl; ends_none = refl }
-
--- no statement of a block opens or ends a zone
-whole_leaves : (c : Context) (body : List Statement) (line : ℕ)
-    → AllByRecursion EndLeaves (whole c body (returning_at line))
-whole_leaves c body line =
-    all_append EndLeaves (stated_from c body 0 body) (returning_at line ∷ [])
-    (stated_leave c body 0 body) (return_leaves line, tt)
-
 body_lands : (c : Context) (body : List Statement) (line : ℕ) (pre post : List Statement) (at n : ℕ)
-    (bs : List OpenBracket) → IsRightBody body
-    → body ≡ pre ++ post → at ≡ ends_of c body pre → n ≡ count_of pre
-    → bracket_codes bs ≡ codes_of (behind_all [] pre)
+    (bs : List OpenBracket) (zones : List ℕ) → IsRightBody body
+    → body ≡ pre ++ post → IsPlace c body pre at n bs zones
     → AllByRecursion TakesRight post → AreRightFrom body pre post
-    → AllLand c body (returning_at line) at bs
+    → AllLand c body (returning_at line) at bs zones
     (code_from c body (returning_at line) (place c body (returning_at line)) n post)
-body_lands c body line pre [] at n bs all e is_at is_n codes takes right =
-    (record { jump = refl; brackets = refl }, tt)
-body_lands c body line pre (s ∷ post) at n bs all e is_at is_n codes takes right =
-    next_lands c body (returning_at line) pre s post at n bs all (return_leaves line) e is_at is_n codes takes.0 right.0
-    (λ at n bs is_at is_n codes.
-    body_lands c body line (pre ++ s ∷ []) post at n bs all
-    (e ∙ sym (append_assoc pre (s ∷ []) post)) is_at is_n codes takes.1 right.1)
+body_lands c body line pre [] at n bs zones all e h takes right =
+    (record { jump = refl; brackets = refl; zones = refl }, tt)
+body_lands c body line pre (s ∷ post) at n bs zones all e h takes right =
+    next_lands c body (returning_at line) pre s post at n bs zones all e h takes.0 right.0
+    (λ at n bs zones h.
+    body_lands c body line (pre ++ s ∷ []) post at n bs zones all
+    (e ∙ sym (append_assoc pre (s ∷ []) post)) h takes.1 right.1)
     (is_empty s.code) refl
 
 -- ---- a block
@@ -731,28 +805,59 @@ none_open : (bs : List Bracket) → flat_map (λ b. broken_if true b.line 30) bs
 none_open [] e = refl
 none_open (b ∷ bs) e = absurd cc
 
+all_ended : (lines : List ℕ) → flat_map (λ line. broken_if true line 48) lines ≡ [] → lines ≡ []
+all_ended [] e = refl
+all_ended (line ∷ lines) e = absurd cc
+
+-- the parts of a body's statements, and of the one that returns
+whole_parts : (c : Context) (body : List Statement) (line : ℕ) (f : ℕ → ℕ)
+    → aimed_parts f (parts (whole c body (returning_at line)))
+    ≡ aimed_parts f (parts (stated_from c body 0 body))
+    ++ aimed_parts f (parts (returning_at line ∷ []))
+whole_parts c body line f =
+    ap (aimed_parts f) (parts_append (stated_from c body 0 body) (returning_at line ∷ []))
+    ∙ aimed_append f (parts (stated_from c body 0 body)) (parts (returning_at line ∷ []))
+
 all_closed : (c : Context) (body : List Statement) (line : ℕ) (f : ℕ → ℕ) → IsRightBody body
     → open_behind 0 [] (the_code f (whole c body (returning_at line))) ≡ []
 all_closed c body line f all =
     none_left (open_behind 0 [] (the_code f (whole c body (returning_at line))))
     (open_after 0 [] (aimed_parts f (parts (whole c body (returning_at line))))
-    (parts_quiet f (whole c body (returning_at line)) (whole_leaves c body line))
-    ∙ ap (λ (z : List Parted). codes_after (aimed_parts f z) [])
-    (parts_append (stated_from c body 0 body) (returning_at line ∷ []))
-    ∙ ap (λ (z : List Parted). codes_after z [])
-    (aimed_append f (parts (stated_from c body 0 body)) (parts (returning_at line ∷ [])))
+    (parts_quiet f (whole c body (returning_at line)))
+    ∙ ap (λ (z : List Parted). codes_after z []) (whole_parts c body line f)
     ∙ codes_more (aimed_parts f (parts (stated_from c body 0 body)))
     (aimed_parts f (parts (returning_at line ∷ []))) []
     ∙ stated_codes f c body 0 [] body all.takes
     ∙ ap codes_of (none_open (behind_all [] body) all.by_30))
 
+zones_closed : (c : Context) (body : List Statement) (line : ℕ) (f : ℕ → ℕ) → IsRightBody body
+    → zones_left 0 [] (the_code f (whole c body (returning_at line))) ≡ []
+zones_closed c body line f all =
+    no_zones (zones_left 0 [] (the_code f (whole c body (returning_at line))))
+    (left_after 0 [] (aimed_parts f (parts (whole c body (returning_at line))))
+    (parts_quiet f (whole c body (returning_at line)))
+    ∙ ap (λ (z : List Parted). count_after z 0) (whole_parts c body line f)
+    ∙ counts_more (aimed_parts f (parts (stated_from c body 0 body)))
+    (aimed_parts f (parts (returning_at line ∷ []))) 0
+    ∙ stated_zones f c body 0 [] body all.takes
+    ∙ ap (λ (z : List ℕ). length z) (all_ended (zones_behind_all [] body) all.by_48))
+
 whole_lands : (c : Context) (body : List Statement) (line : ℕ) → IsRightBody body
     → AllLandRight (the_code (place c body (returning_at line)) (whole c body (returning_at line)))
 whole_lands c body line all = record {
-  each = body_lands c body line [] body 0 0 [] all refl refl refl refl all.takes
-      (right_body body all.by_26 all.by_29 all.by_31 all.by_32 all.by_33);
+  each = body_lands c body line [] body 0 0 [] [] all refl
+      (record { is_at = refl; is_n = refl; codes = refl; count = refl }) all.takes
+      (right_body body (record {
+        by_26 = all.by_26;
+        by_29 = all.by_29;
+        by_31 = all.by_31;
+        by_32 = all.by_32;
+        by_33 = all.by_33;
+        by_47 = all.by_47;
+        by_49 = all.by_49;
+      }));
   closed = all_closed c body line (place c body (returning_at line)) all;
-  leave = all_leave _ (parts_quiet (place c body (returning_at line)) (whole c body (returning_at line)) (whole_leaves c body line));
+  ended = zones_closed c body line (place c body (returning_at line)) all;
 }
 
 -- the code of a block

@@ -1,16 +1,15 @@
--- Brackets and jumps of code that lies statement by statement, and has no zones.
-use Rattle.std.proofs.Common.{◌≡◌, ℕ, zero, suc, ◌+◌, ◌-◌, Bool, true, false, if◌then◌else◌, eqb, List, [], ◌∷◌, ◌++◌, length, take, Option, Some, None, refl, sym, ap, subst, ◌∙◌, arith}
-use Rattle.std.specs.Prelude.{nat_le, ◌==◌}
+-- Brackets, zones and jumps of code that lies statement by statement.
+use Rattle.std.proofs.Common.{◌≡◌, ℕ, zero, suc, ◌+◌, ◌-◌, Bool, true, false, if◌then◌else◌, eqb, List, [], ◌∷◌, ◌++◌, length, length-append, take, Option, Some, None, refl, sym, ap, subst, ◌∙◌, arith}
+use Rattle.std.specs.Prelude.{nat_eq, nat_le, ◌==◌}
 use Rattle.std.proofs.lemmas.Bool.{eq-eqb, ne_eqb}
+use Rattle.std.proofs.lemmas.List.{length-take-le}
 use Rattle.std.specs.List.{AllByRecursion}
-use Rattle.flat_code.specs.Blocks.{bracket_fault}
+use Rattle.flat_code.specs.Blocks.{bracket_fault, zone_fault}
 use Rattle.flat_code.specs.Codes.{size}
 use Rattle.flat_code.specs.Ops.{OpData}
-use Rattle.flat_code.specs.Placed.{Placed, Spot, before_next, bracket_codes, few, inner, is_empty, open_behind, opened, opens, placed, spot_at, spots_from, zones_behind}
+use Rattle.flat_code.specs.Placed.{Placed, Spot, before_next, bracket_codes, few, inner, is_empty, open_behind, opened, opens, placed, spot_at, spots_from, zones_behind, zones_left}
 use Rattle.flat_code.specs.declared.image_fields.OpenBracket.{OpenBracket}
 use Rattle.sem_kept.specs.Back.{is_target}
-use Rattle.sem_kept.specs.Zones.{LeavesZones}
-use Rattle.sem_kept.proofs.ZoneLemmas.{zones_stay}
 use Rattle.sem_kept.proofs.compiled.Runs.{total, Parted, IsPreparing, IsStatement, AreStatements, flat, bytes_of, bytes_long, extent}
 
 -- ---- the codes of open brackets
@@ -87,75 +86,135 @@ pub none_left : (bs : List OpenBracket) → bracket_codes bs ≡ [] → bs ≡ [
 none_left [] e = refl
 none_left (b ∷ bs) e = absurd cc
 
+-- ---- how many zones are open
+
+abbrev pub count_behind : (code count : ℕ) → ℕ
+count_behind code count =
+    if code == 0x07 then suc count else if code == 0x08 then count - 1 else count
+
+abbrev pub count_fault : (code count : ℕ) → Option ℕ
+count_fault code count =
+    if code == 0x07 then (if nat_le 8 count then Some 8 else None)
+    else if code == 0x08 then (if nat_eq count 0 then Some 8 else None)
+    else None
+
+pub count_opened : (at : ℕ) (zones : List ℕ) → length (zones ++ at ∷ []) ≡ suc (length zones)
+count_opened at zones = let all = length-append zones (at ∷ []) in omega (arith, all)
+
+pub count_ended : (zones : List ℕ) → length (take (length zones - 1) zones) ≡ length zones - 1
+count_ended zones = length-take-le (length zones - 1) zones (omega arith)
+
+pub count_is : (at code : ℕ) (zones : List ℕ)
+    → length (zones_behind at code zones) ≡ count_behind code (length zones)
+count_is at code zones = by (code == 0x07) (code == 0x08)
+  where
+    by : (o c : Bool)
+        → length (if o then zones ++ at ∷ []
+        else if c then take (length zones - 1) zones
+        else zones)
+        ≡ (if o then suc (length zones) else if c then length zones - 1 else length zones)
+    by true c = count_opened at zones
+    by false true = count_ended zones
+    by false false = refl
+
+no_zone : (zones : List ℕ) → is_empty zones ≡ nat_eq (length zones) 0
+no_zone [] = refl
+no_zone (at ∷ zones) = sym (ne_eqb (suc (length zones)) 0 (λ e. omega (arith, e)))
+
+pub zone_fault_is : (code : ℕ) (zones : List ℕ)
+    → zone_fault code zones ≡ count_fault code (length zones)
+zone_fault_is code zones =
+    ap (λ (none : Bool). if code == 0x07 then (if nat_le 8 (length zones) then Some 8 else None)
+    else if code == 0x08 then (if none then Some 8 else None)
+    else None) (no_zone zones)
+
+pub no_zones : (zones : List ℕ) → length zones ≡ 0 → zones ≡ []
+no_zones [] e = refl
+no_zones (at ∷ zones) e = absurd (omega (arith, e))
+
 -- ---- ops that prepare
 
 -- an op that has nothing to do with brackets and zones and doesn't jump
 pub record IsQuiet (op : OpData) : Type 0 where
   pub opens : opens op.code ≡ false
   pub closes : (op.code == 0x1E) ≡ false
-  pub zones : LeavesZones op
+  pub opens_zone : (op.code == 0x07) ≡ false
+  pub ends_zone : (op.code == 0x08) ≡ false
   pub stays : is_target op.operand ≡ false
 
--- a statement without zones, of which only the last op may have to do with brackets, or jump
-pub record IsQuietPart (p : Parted) : Type 0 where
-  pub front : AllByRecursion IsQuiet p.front
-  pub end : LeavesZones p.end
-
+-- statements of which only the last op may have to do with brackets and zones, or jump
 abbrev pub AreQuiet : List Parted → Type 0
-AreQuiet ps = AllByRecursion IsQuietPart ps
+AreQuiet ps = AllByRecursion (λ p. AllByRecursion IsQuiet p.front) ps
 
 quiet_opens : (at : ℕ) (op : OpData) (bs : List OpenBracket) → IsQuiet op
     → opened at op.code bs ≡ bs
 quiet_opens at op bs h = rw h.opens (rw h.closes refl)
 
+quiet_zones : (at : ℕ) (op : OpData) (zones : List ℕ) → IsQuiet op
+    → zones_behind at op.code zones ≡ zones
+quiet_zones at op zones h = rw h.opens_zone (rw h.ends_zone refl)
+
 -- ---- the statements
+
+-- what follows an op that stands at an offset
+abbrev spots_past : (at : ℕ) → List OpenBracket → (zones : List ℕ) → OpData → (rest : List OpData)
+    → List Spot
+spots_past at bs zones op rest =
+    spots_from (at + size op) true (opened at op.code bs) (zones_behind at op.code zones) rest
 
 spots_inside : (at : ℕ) (bs : List OpenBracket) (zones : List ℕ) (front : List OpData) (op : OpData)
     (rest : List OpData)
-    → AllByRecursion IsQuiet front → LeavesZones op → AllByRecursion IsPreparing front → op.last ≡ true
+    → AllByRecursion IsQuiet front → AllByRecursion IsPreparing front → op.last ≡ true
     → spots_from at false bs zones (front ++ op ∷ rest)
-    ≡ spots_from (at + (total front + size op)) true (opened (at + total front) op.code bs) zones rest
-spots_inside at bs zones [] op rest quiet leaves fs last =
-    let here : at + size op ≡ at + (total [] + size op) = omega arith in
-    let there : at ≡ at + total [] = omega arith in
-    ap (λ (t : Bool). spots_from (at + size op) t (opened at op.code bs) (zones_behind at op.code zones) rest) last
-    ∙ ap (λ (z : List ℕ). spots_from (at + size op) true (opened at op.code bs) z rest) (zones_stay at op zones leaves)
-    ∙ ap (λ (k : ℕ). spots_from k true (opened at op.code bs) zones rest) here
-    ∙ ap (λ (k : ℕ). spots_from (at + (total [] + size op)) true (opened k op.code bs) zones rest) there
-spots_inside at bs zones (x ∷ front) op rest quiet leaves fs last =
-    let here : at + size x + (total front + size op) ≡ at + (size x + total front + size op) = omega arith in
-    let there : at + size x + total front ≡ at + (size x + total front) = omega arith in
-    ap (λ (t : Bool). spots_from (at + size x) t (opened at x.code bs) (zones_behind at x.code zones) (front ++ op ∷ rest)) fs.0
-    ∙ ap (λ (z : List OpenBracket). spots_from (at + size x) false z (zones_behind at x.code zones) (front ++ op ∷ rest))
+    ≡ spots_past (at + total front) bs zones op rest
+spots_inside at bs zones [] op rest quiet fs last =
+    ap (λ (t : Bool).
+    spots_from (at + size op) t (opened at op.code bs) (zones_behind at op.code zones) rest) last
+    ∙ ap (λ (k : ℕ). spots_past k bs zones op rest) (omega arith)
+spots_inside at bs zones (x ∷ front) op rest quiet fs last =
+    ap (λ (t : Bool). next t (opened at x.code bs) (zones_behind at x.code zones)) fs.0
+    ∙ ap (λ (z : List OpenBracket). next false z (zones_behind at x.code zones))
     (quiet_opens at x bs quiet.0)
-    ∙ ap (λ (z : List ℕ). spots_from (at + size x) false bs z (front ++ op ∷ rest)) (zones_stay at x zones quiet.0.zones)
-    ∙ spots_inside (at + size x) bs zones front op rest quiet.1 leaves fs.1 last
-    ∙ ap (λ (k : ℕ). spots_from k true (opened (at + size x + total front) op.code bs) zones rest) here
-    ∙ ap (λ (k : ℕ). spots_from (at + (size x + total front + size op)) true (opened k op.code bs) zones rest) there
+    ∙ ap (next false bs) (quiet_zones at x zones quiet.0)
+    ∙ spots_inside (at + size x) bs zones front op rest quiet.1 fs.1 last
+    ∙ ap (λ (k : ℕ). spots_past k bs zones op rest) (omega arith)
+  where
+    next : Bool → List OpenBracket → (zones : List ℕ) → List Spot
+    next begin bs zones = spots_from (at + size x) begin bs zones (front ++ op ∷ rest)
 
 -- a statement, and those behind it
 spots_next : (at : ℕ) (bs : List OpenBracket) (zones : List ℕ) (p : Parted) (rest : List OpData)
-    → IsQuietPart p → IsStatement p
+    → AllByRecursion IsQuiet p.front → IsStatement p
     → spots_from at true bs zones (p.front ++ p.end ∷ rest)
     ≡ record { at = at; codes = few bs; zones = length zones }
-    ∷ spots_from (at + bytes_of p) true (opened (at + total p.front) p.end.code bs) zones rest
-spots_next at bs zones p rest quiet h = by p.front quiet.front h.front
+    ∷ spots_from (at + bytes_of p) true (opened (at + total p.front) p.end.code bs)
+    (zones_behind (at + total p.front) p.end.code zones) rest
+spots_next at bs zones p rest quiet h =
+    by p.front quiet h.front
+    ∙ ap (λ (k : ℕ). here ∷ spots_from k true (opened (at + total p.front) p.end.code bs)
+    (zones_behind (at + total p.front) p.end.code zones) rest) (omega arith)
   where
     here : Spot
     here = record { at = at; codes = few bs; zones = length zones }
 
     by : (front : List OpData) → AllByRecursion IsQuiet front → AllByRecursion IsPreparing front
         → spots_from at true bs zones (front ++ p.end ∷ rest)
-        ≡ here ∷ spots_from (at + (total front + size p.end)) true (opened (at + total front) p.end.code bs) zones rest
+        ≡ here ∷ spots_past (at + total front) bs zones p.end rest
     by [] q fs =
-        ap (λ (z : List Spot). here ∷ z) (spots_inside at bs zones [] p.end rest q quiet.end fs h.end)
+        ap (λ (z : List Spot). here ∷ z) (spots_inside at bs zones [] p.end rest q fs h.end)
     by (x ∷ front) q fs =
-        ap (λ (z : List Spot). here ∷ z) (spots_inside at bs zones (x ∷ front) p.end rest q quiet.end fs h.end)
+        ap (λ (z : List Spot). here ∷ z)
+        (spots_inside at bs zones (x ∷ front) p.end rest q fs h.end)
 
 -- the codes of the brackets that are open behind statements
 abbrev pub codes_after : List Parted → List ℕ → List ℕ
 codes_after [] codes = codes
 codes_after (p ∷ ps) codes = codes_after ps (codes_behind p.end.code codes)
+
+-- and how many zones are
+abbrev pub count_after : List Parted → ℕ → ℕ
+count_after [] count = count
+count_after (p ∷ ps) count = count_after ps (count_behind p.end.code count)
 
 -- a statement is found, at which these brackets and so many zones are open
 pub record IsFound (found : Option Spot) (codes : Option (List ℕ)) (zones : ℕ) : Type 0 where
@@ -164,17 +223,21 @@ pub record IsFound (found : Option Spot) (codes : Option (List ℕ)) (zones : �
   pub codes_are : spot.codes ≡ codes
   pub zones_are : spot.zones ≡ zones
 
-pub found_by : (a b : Option Spot) (codes others : Option (List ℕ)) (zones : ℕ) → a ≡ b → codes ≡ others
-    → IsFound b codes zones → IsFound a others zones
-found_by a b codes others zones e same h =
-    record { spot = h.spot; is = e ∙ h.is; codes_are = h.codes_are ∙ same; zones_are = h.zones_are }
+pub found_by : (a b : Option Spot) (codes others : Option (List ℕ)) (zones more : ℕ)
+    → a ≡ b → codes ≡ others → zones ≡ more → IsFound b codes zones → IsFound a others more
+found_by a b codes others zones more e same count h = record {
+  spot = h.spot;
+  is = e ∙ h.is;
+  codes_are = h.codes_are ∙ same;
+  zones_are = h.zones_are ∙ count;
+}
 
 -- the statement behind others is found by its offset
 pub spot_there : (at : ℕ) (bs : List OpenBracket) (zones : List ℕ) (ps : List Parted) (p : Parted)
     (qs : List Parted)
-    → AreStatements ps → AreQuiet ps → IsQuietPart p → IsStatement p
+    → AreStatements ps → AreQuiet ps → AllByRecursion IsQuiet p.front → IsStatement p
     → IsFound (spot_at (spots_from at true bs zones (flat (ps ++ p ∷ qs))) (at + extent ps))
-    (few_codes (codes_after ps (bracket_codes bs))) (length zones)
+    (few_codes (codes_after ps (bracket_codes bs))) (count_after ps (length zones))
 spot_there at bs zones [] p qs hs quiets quiet h = record {
   spot = record { at = at; codes = few bs; zones = length zones };
   is = rw (spots_next at bs zones p (flat qs) quiet h) (rw (eq-eqb at (at + 0) (omega arith)) refl);
@@ -187,13 +250,16 @@ spot_there at bs zones (q ∷ ps) p qs hs quiets quiet h =
     ne_eqb at (at + (bytes_of q + extent ps)) (λ e. omega (arith, e, long)) in
     let moved : at + (bytes_of q + extent ps) ≡ at + bytes_of q + extent ps = omega arith in
     let next : List OpenBracket = opened (at + total q.front) q.end.code bs in
-    found_by _ _ _ _ (length zones)
+    let left : List ℕ = zones_behind (at + total q.front) q.end.code zones in
+    found_by _ _ _ _ _ _
     (rw (spots_next at bs zones q (flat (ps ++ p ∷ qs)) quiets.0 hs.0)
-    (rw other (ap (spot_at (spots_from (at + bytes_of q) true next zones (flat (ps ++ p ∷ qs)))) moved)))
+    (rw other
+    (ap (spot_at (spots_from (at + bytes_of q) true next left (flat (ps ++ p ∷ qs)))) moved)))
     (ap (λ (z : List ℕ). few_codes (codes_after ps z)) (codes_opened (at + total q.front) q.end.code bs))
-    (spot_there (at + bytes_of q) next zones ps p qs hs.1 quiets.1 quiet h)
+    (ap (count_after ps) (count_is (at + total q.front) q.end.code zones))
+    (spot_there (at + bytes_of q) next left ps p qs hs.1 quiets.1 quiet h)
 
--- ---- brackets open behind all
+-- ---- brackets and zones open behind all
 
 open_inside : (at : ℕ) (bs : List OpenBracket) (front rest : List OpData)
     → AllByRecursion IsQuiet front
@@ -209,45 +275,62 @@ pub open_after : (at : ℕ) (bs : List OpenBracket) (ps : List Parted) → AreQu
     → bracket_codes (open_behind at bs (flat ps)) ≡ codes_after ps (bracket_codes bs)
 open_after at bs [] quiets = refl
 open_after at bs (p ∷ ps) quiets =
-    ap bracket_codes (open_inside at bs p.front (p.end ∷ flat ps) quiets.0.front)
+    ap bracket_codes (open_inside at bs p.front (p.end ∷ flat ps) quiets.0)
     ∙ open_after (at + total p.front + size p.end) (opened (at + total p.front) p.end.code bs) ps quiets.1
     ∙ ap (codes_after ps) (codes_opened (at + total p.front) p.end.code bs)
 
+left_inside : (at : ℕ) (zones : List ℕ) (front rest : List OpData) → AllByRecursion IsQuiet front
+    → zones_left at zones (front ++ rest) ≡ zones_left (at + total front) zones rest
+left_inside at zones [] rest quiet = ap (λ (k : ℕ). zones_left k zones rest) (omega arith)
+left_inside at zones (x ∷ front) rest quiet =
+    ap (λ (z : List ℕ). zones_left (at + size x) z (front ++ rest)) (quiet_zones at x zones quiet.0)
+    ∙ left_inside (at + size x) zones front rest quiet.1
+    ∙ ap (λ (k : ℕ). zones_left k zones rest) (omega arith)
+
+pub left_after : (at : ℕ) (zones : List ℕ) (ps : List Parted) → AreQuiet ps
+    → length (zones_left at zones (flat ps)) ≡ count_after ps (length zones)
+left_after at zones [] quiets = refl
+left_after at zones (p ∷ ps) quiets =
+    ap (λ (z : List ℕ). length z) (left_inside at zones p.front (p.end ∷ flat ps) quiets.0)
+    ∙ left_after (at + total p.front + size p.end)
+    (zones_behind (at + total p.front) p.end.code zones) ps quiets.1
+    ∙ ap (count_after ps) (count_is (at + total p.front) p.end.code zones)
+
 -- ---- each op
+
+-- the ops behind one that ends its statement at an offset
+abbrev pub placed_past : (at : ℕ) → List OpenBracket → (zones : List ℕ) → OpData
+    → (rest : List OpData) → List Placed
+placed_past at bs zones op rest =
+    placed (at + size op) (opened at op.code bs) (zones_behind at op.code zones) [] rest
 
 -- what holds of each op of a statement, and of those behind it
 pub placed_all : (P : Placed → Type 0) (at : ℕ) (bs : List OpenBracket) (zones : List ℕ)
     (before front : List OpData) (op : OpData) (rest : List OpData)
-    → AllByRecursion IsQuiet front → LeavesZones op → AllByRecursion IsPreparing front → op.last ≡ true
+    → AllByRecursion IsQuiet front → AllByRecursion IsPreparing front → op.last ≡ true
     → ((q : Placed) → IsQuiet q.op → P q)
     → ((done : List OpData)
     → P (record { at = at + total front; brackets = bs; zones = zones; before = done; op = op; rest = rest }))
-    → AllByRecursion P (placed (at + (total front + size op)) (opened (at + total front) op.code bs) zones [] rest)
+    → AllByRecursion P (placed_past (at + total front) bs zones op rest)
     → AllByRecursion P (placed at bs zones before (front ++ op ∷ rest))
-placed_all P at bs zones before [] op rest quiet leaves fs last one end more =
+placed_all P at bs zones before [] op rest quiet fs last one end more =
     let here : at + total [] ≡ at = omega arith in
-    let there : at + (total [] + size op) ≡ at + size op = omega arith in
-    let same : zones ≡ zones_behind at op.code zones = sym (zones_stay at op zones leaves) in
     let none : [] ≡ before_next op before =
     ap (λ (t : Bool). if t then [] else before ++ op ∷ []) (sym last) in (
       subst (λ (k : ℕ). P (record { at = k; brackets = bs; zones = zones; before = before; op = op; rest = rest })) here (end before),
       subst (λ (z : List OpData). AllByRecursion P (placed (at + size op) (opened at op.code bs) (zones_behind at op.code zones) z rest)) none
-          (subst (λ (z : List ℕ). AllByRecursion P (placed (at + size op) (opened at op.code bs) z [] rest)) same
-          (subst (λ (k : ℕ). AllByRecursion P (placed (at + size op) (opened k op.code bs) zones [] rest)) here
-          (subst (λ (k : ℕ). AllByRecursion P (placed k (opened (at + total []) op.code bs) zones [] rest)) there more))),
+          (subst (λ (k : ℕ). AllByRecursion P (placed_past k bs zones op rest)) here more),
     )
-placed_all P at bs zones before (x ∷ front) op rest quiet leaves fs last one end more =
+placed_all P at bs zones before (x ∷ front) op rest quiet fs last one end more =
     let here : at + (size x + total front) ≡ at + size x + total front = omega arith in
-    let there : at + (size x + total front + size op) ≡ at + size x + (total front + size op) = omega arith in
     let same : bs ≡ opened at x.code bs = sym (quiet_opens at x bs quiet.0) in
-    let stay : zones ≡ zones_behind at x.code zones = sym (zones_stay at x zones quiet.0.zones) in (
+    let stay : zones ≡ zones_behind at x.code zones = sym (quiet_zones at x zones quiet.0) in (
       one (record { at = at; brackets = bs; zones = zones; before = before; op = x; rest = front ++ op ∷ rest }) quiet.0,
       subst (λ (z : List OpenBracket). AllByRecursion P
           (placed (at + size x) z (zones_behind at x.code zones) (before_next x before) (front ++ op ∷ rest))) same
           (subst (λ (z : List ℕ). AllByRecursion P
           (placed (at + size x) bs z (before_next x before) (front ++ op ∷ rest))) stay
-          (placed_all P (at + size x) bs zones (before_next x before) front op rest quiet.1 leaves fs.1 last one
+          (placed_all P (at + size x) bs zones (before_next x before) front op rest quiet.1 fs.1 last one
           (λ done. subst (λ (k : ℕ). P (record { at = k; brackets = bs; zones = zones; before = done; op = op; rest = rest })) here (end done))
-          (subst (λ (k : ℕ). AllByRecursion P (placed (at + size x + (total front + size op)) (opened k op.code bs) zones [] rest)) here
-          (subst (λ (k : ℕ). AllByRecursion P (placed k (opened (at + (size x + total front)) op.code bs) zones [] rest)) there more)))),
+          (subst (λ (k : ℕ). AllByRecursion P (placed_past k bs zones op rest)) here more))),
     )

@@ -1,4 +1,4 @@
--- In an accepted source a jump has a label, and a bracket no operand.
+-- In an accepted source a jump has a label, and a bracket or a zone no operand.
 use Rattle.std.proofs.Common.{◌≡◌, ℕ, Bool, true, false, if◌then◌else◌, length, slice_get, List, Option, Some, None, refl, sym, ap, ◌∙◌}
 use Rattle.plc_base.specs.declared.places.Area.TheVariants as area
 use Rattle.plc_base.specs.declared.places.Place.{Place}
@@ -37,6 +37,7 @@ use Rattle.stl_types.specs.Operands.{operand_rule, rule_of, rule_seen, takes}
 use Rattle.stl_types.specs.Seen.{direct_seen, opened_seen, path_seen, seen, symbol_seen, target_view}
 use Rattle.stl_types.specs.Unknown.{is_unknown}
 use Rattle.stl_types.specs.Variables.{composite, data_at, data_path, data_walked, date_or_composite, in_area, is_temporary, own_at, own_elementary, own_walked, parameter, parameter_at, parameter_index}
+use Rattle.stl_types.specs.Zones.{ends_zone, opens_zone}
 use Rattle.stl_types.specs.declared.forms.Form.{Form}
 use Rattle.stl_types.specs.declared.forms.Form.TheVariants as form
 use Rattle.stl_types.specs.declared.views.Seen.{Seen}
@@ -45,7 +46,7 @@ use Rattle.stl_types.specs.declared.views.View.{View}
 use Rattle.stl_types.specs.declared.views.View.TheVariants as view
 use Rattle.stl_codegen.specs.Operations.{jump_of}
 use Rattle.sem_kept.proofs.accepted.Accepted.{IsSoundStatement}
-use Rattle.sem_kept.proofs.accepted.JumpsOperations.{TakesRight, is_bracket, bracket_form}
+use Rattle.sem_kept.proofs.accepted.JumpsOperations.{TakesRight, nests, nests_form}
 use Rattle.sem_kept.proofs.accepted.Shared.{jump_form}
 
 -- an operand is judged: it stands on nothing that breaks a rule itself or is absent
@@ -193,23 +194,23 @@ label_of_jump c (operand.OpenBlock di name) none h known e =
 label_of_jump c (operand.Called name instance) none h known e = absurd cc
 label_of_jump c _ none h known e = absurd cc
 
-nothing_of_bracket : (c : Context) (o : Operand) → is_called o ≡ false
+nothing_of_bare : (c : Context) (o : Operand) → is_called o ≡ false
     → (is_called o ≡ false → Settles (seen c o)) → is_unknown (seen c o) ≡ false
     → operand_rule c form.Bare o ≡ None → o ≡ operand.Nothing
 unfolding seen rule_of takes takes_constant
-nothing_of_bracket c operand.Nothing none h known e = refl
-nothing_of_bracket c (operand.Label name) none h known e = absurd cc
-nothing_of_bracket c (operand.Constant value) none h known e = absurd cc
-nothing_of_bracket c (operand.Direct name a width byte bit) none h known e =
+nothing_of_bare c operand.Nothing none h known e = refl
+nothing_of_bare c (operand.Label name) none h known e = absurd cc
+nothing_of_bare c (operand.Constant value) none h known e = absurd cc
+nothing_of_bare c (operand.Direct name a width byte bit) none h known e =
     absurd (none_other form.Bare bare_view (direct_seen c name a width byte bit)
     (of_direct c name a width byte bit) (h none) known e)
-nothing_of_bracket c (operand.Named path steps) none h known e =
+nothing_of_bare c (operand.Named path steps) none h known e =
     absurd (none_other form.Bare bare_view (path_seen c path steps) (of_path c path steps) (h none) known e)
-nothing_of_bracket c (operand.OpenBlock di name) none h known e =
+nothing_of_bare c (operand.OpenBlock di name) none h known e =
     absurd (none_other form.Bare bare_view (opened_seen di (data_number c name))
     (of_opened di (data_number c name)) (h none) known e)
-nothing_of_bracket c (operand.Called name instance) none h known e = absurd cc
-nothing_of_bracket c _ none h known e = absurd cc
+nothing_of_bare c (operand.Called name instance) none h known e = absurd cc
+nothing_of_bare c _ none h known e = absurd cc
 
 -- ---- a statement
 
@@ -219,12 +220,12 @@ jump_calls code.Uc how e = absurd cc
 jump_calls code.Cc how e = absurd cc
 jump_calls _ how e = refl
 
-bracket_calls : (m : Mnemonic) → is_bracket m ≡ true → is_call m ≡ false
-unfolding opening closes
-bracket_calls code.Call e = absurd cc
-bracket_calls code.Uc e = absurd cc
-bracket_calls code.Cc e = absurd cc
-bracket_calls _ e = refl
+nests_calls : (m : Mnemonic) → nests m ≡ true → is_call m ≡ false
+unfolding opening closes opens_zone ends_zone
+nests_calls code.Call e = absurd cc
+nests_calls code.Uc e = absurd cc
+nests_calls code.Cc e = absurd cc
+nests_calls _ e = refl
 
 pub takes_right : (y : Types) (c : Context) (s : Statement) → IsSoundStatement y c s
     → (is_called s.operand ≡ false → Settles (seen c s.operand)) → TakesRight s
@@ -233,6 +234,6 @@ takes_right y c s sound h = record {
       label_of_jump c s.operand (sound.well_formed.called ∙ jump_calls s.code how is) h sound.known
       (ap (λ (f : Form). operand_rule c f s.operand) (sym (jump_form s.code how is)) ∙ sound.allowed);
   bare = λ is.
-      nothing_of_bracket c s.operand (sound.well_formed.called ∙ bracket_calls s.code is) h sound.known
-      (ap (λ (f : Form). operand_rule c f s.operand) (sym (bracket_form s.code is)) ∙ sound.allowed);
+      nothing_of_bare c s.operand (sound.well_formed.called ∙ nests_calls s.code is) h sound.known
+      (ap (λ (f : Form). operand_rule c f s.operand) (sym (nests_form s.code is)) ∙ sound.allowed);
 }

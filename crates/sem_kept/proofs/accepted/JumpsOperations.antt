@@ -30,6 +30,7 @@ use Rattle.stl_types.specs.Forms.{form_of}
 use Rattle.stl_types.specs.Operands.{operand_rule, rule_of, takes}
 use Rattle.stl_types.specs.Resolved.{resolved, seen_view}
 use Rattle.stl_types.specs.Seen.{seen}
+use Rattle.stl_types.specs.Zones.{ends_none, ends_zone, is_ninth, opens_zone, zones_behind}
 use Rattle.stl_types.specs.declared.brackets.Bracket.{Bracket}
 use Rattle.stl_types.specs.declared.forms.Form.{Form}
 use Rattle.stl_types.specs.declared.forms.Form.TheVariants as form
@@ -40,22 +41,23 @@ use Rattle.stl_codegen.specs.Emitted.{opening as opening_op, passing}
 use Rattle.stl_codegen.specs.Instruction.{call_instr, end_instr, instr_by, instruction, jump_instr, resolved_instr, target_of, view_instr}
 use Rattle.stl_codegen.specs.Operations.{add_operation, call_of, end_of, jump_of, load_pointer_operation, load_operation, or_operation, store_pointer_operation, transfer_operation, operation_for}
 use Rattle.sem_kept.specs.Back.{is_target}
-use Rattle.sem_kept.specs.Zones.{LeavesZones}
 use Rattle.sem_kept.proofs.compiled.Instructions.{no_target}
 use Rattle.sem_kept.proofs.compiled.Reading.{parted}
-use Rattle.sem_kept.proofs.accepted.JumpsCode.{IsQuiet, codes_behind, codes_fault}
+use Rattle.sem_kept.proofs.accepted.JumpsCode.{IsQuiet, codes_behind, codes_fault, count_behind, count_ended, count_fault, count_opened}
 
--- ---- the operands of jumps and of brackets
+-- ---- the operands of jumps, of brackets and of zones
 
--- an instruction that opens or closes a bracket
-abbrev pub is_bracket : Mnemonic → Bool
-is_bracket m = if is_some (opening m) then true else closes m
+-- an instruction that opens or closes a bracket or a zone
+abbrev pub nests : Mnemonic → Bool
+nests m =
+    if is_some (opening m) then true else if closes m then true
+    else if opens_zone m then true else ends_zone m
 
--- a jump has a label, and a bracket nothing
+-- a jump has a label, and a bracket or a zone nothing
 pub record TakesRight (s : Statement) : Type 0 where
   pub jumps : (how : JumpOperation) → jump_of s.code ≡ Some how
       → (name : List ℕ) × (s.operand ≡ operand.Label name)
-  pub bare : is_bracket s.code ≡ true → s.operand ≡ operand.Nothing
+  pub bare : nests s.code ≡ true → s.operand ≡ operand.Nothing
 
 -- ---- op codes
 
@@ -65,67 +67,80 @@ IsCodeBy (Some function) c code = (code ≡ 0x18 + function) × (opens code ≡ 
 IsCodeBy None true code = code ≡ 0x1E
 IsCodeBy None false code = (opens code ≡ false) × ((code == 0x1E) ≡ false)
 
-abbrev IsCodeOf : Mnemonic → (code : ℕ) → Type 0
-IsCodeOf m code = IsCodeBy (opening m) (closes m) code
+-- and by what it does to zones
+abbrev IsZoneCodeBy : (opened ended : Bool) → (code : ℕ) → Type 0
+IsZoneCodeBy true ended code = code ≡ 0x07
+IsZoneCodeBy false true code = code ≡ 0x08
+IsZoneCodeBy false false code = ((code == 0x07) ≡ false) × ((code == 0x08) ≡ false)
 
--- that of an operation that has nothing to do with brackets
+abbrev IsCodeOf : Mnemonic → (code : ℕ) → Type 0
+IsCodeOf m code =
+    IsCodeBy (opening m) (closes m) code × IsZoneCodeBy (opens_zone m) (ends_zone m) code
+
+-- that of an operation that has nothing to do with brackets and zones
 abbrev IsOtherCode : ℕ → Type 0
-IsOtherCode code = (opens code ≡ false) × ((code == 0x1E) ≡ false)
+IsOtherCode code = IsCodeBy None false code × IsZoneCodeBy false false code
 
 or_code : (v : View) → IsOtherCode (code_of (or_operation v))
-or_code view.Nothing = (refl, refl)
-or_code _ = (refl, refl)
+or_code view.Nothing = ((refl, refl), (refl, refl))
+or_code _ = ((refl, refl), (refl, refl))
 
 load_code : (v : View) → IsOtherCode (code_of (load_operation v))
-load_code (view.Register register.Stw) = (refl, refl)
-load_code (view.Register _) = (refl, refl)
-load_code _ = (refl, refl)
+load_code (view.Register register.Stw) = ((refl, refl), (refl, refl))
+load_code (view.Register _) = ((refl, refl), (refl, refl))
+load_code _ = ((refl, refl), (refl, refl))
 
 transfer_code : (v : View) → IsOtherCode (code_of (transfer_operation v))
-transfer_code (view.Register which) = (refl, refl)
-transfer_code _ = (refl, refl)
+transfer_code (view.Register which) = ((refl, refl), (refl, refl))
+transfer_code _ = ((refl, refl), (refl, refl))
 
 load_pointer_code : (v : View) → IsOtherCode (code_of (load_pointer_operation v))
-load_pointer_code (view.Register which) = (refl, refl)
-load_pointer_code _ = (refl, refl)
+load_pointer_code (view.Register which) = ((refl, refl), (refl, refl))
+load_pointer_code _ = ((refl, refl), (refl, refl))
 
 store_pointer_code : (v : View) → IsOtherCode (code_of (store_pointer_operation v))
-store_pointer_code (view.Register which) = (refl, refl)
-store_pointer_code _ = (refl, refl)
+store_pointer_code (view.Register which) = ((refl, refl), (refl, refl))
+store_pointer_code _ = ((refl, refl), (refl, refl))
 
 add_code : (o : Operand) → IsOtherCode (code_of (add_operation o))
-add_code (operand.Constant (literal.Long value)) = (refl, refl)
-add_code (operand.Constant _) = (refl, refl)
-add_code _ = (refl, refl)
+add_code (operand.Constant (literal.Long value)) = ((refl, refl), (refl, refl))
+add_code (operand.Constant _) = ((refl, refl), (refl, refl))
+add_code _ = ((refl, refl), (refl, refl))
 
 operation_code : (m : Mnemonic) (o : Operand) (v : View) → IsCodeOf m (code_of (operation_for m o v))
-unfolding operation_for opening closes
-operation_code code.AOpen o v = (refl, refl)
-operation_code code.AnOpen o v = (refl, refl)
-operation_code code.OOpen o v = (refl, refl)
-operation_code code.OnOpen o v = (refl, refl)
-operation_code code.XOpen o v = (refl, refl)
-operation_code code.XnOpen o v = (refl, refl)
-operation_code code.Close o v = refl
+unfolding operation_for opening closes opens_zone ends_zone
+operation_code code.AOpen o v = ((refl, refl), (refl, refl))
+operation_code code.AnOpen o v = ((refl, refl), (refl, refl))
+operation_code code.OOpen o v = ((refl, refl), (refl, refl))
+operation_code code.OnOpen o v = ((refl, refl), (refl, refl))
+operation_code code.XOpen o v = ((refl, refl), (refl, refl))
+operation_code code.XnOpen o v = ((refl, refl), (refl, refl))
+operation_code code.Close o v = (refl, (refl, refl))
+operation_code code.McrOpen o v = ((refl, refl), refl)
+operation_code code.McrClose o v = ((refl, refl), refl)
 operation_code code.O o v = or_code v
 operation_code code.L o v = load_code v
 operation_code code.T o v = transfer_code v
 operation_code code.Lar1 o v = load_pointer_code v
 operation_code code.Tar1 o v = store_pointer_code v
 operation_code code.Add o v = add_code o
-operation_code _ o v = (refl, refl)
+operation_code _ o v = ((refl, refl), (refl, refl))
 
--- another code, of an instruction that is no bracket
-other_code : (m : Mnemonic) (code : ℕ) → is_bracket m ≡ false → IsOtherCode code → IsCodeOf m code
-other_code m code none other = by (opening m) (closes m) none
+-- another code, of an instruction that is neither bracket nor zone
+other_code : (m : Mnemonic) (code : ℕ) → nests m ≡ false → IsOtherCode code → IsCodeOf m code
+other_code m code none other = by (opening m) (closes m) (opens_zone m) (ends_zone m) none
   where
-    by : (o : Option ℕ) (c : Bool) → (if is_some o then true else c) ≡ false → IsCodeBy o c code
-    by (Some function) c h = absurd cc
-    by None true h = absurd cc
-    by None false h = other
+    by : (o : Option ℕ) (c opened ended : Bool)
+        → (if is_some o then true else if c then true else if opened then true else ended) ≡ false
+        → IsCodeBy o c code × IsZoneCodeBy opened ended code
+    by (Some function) c opened ended h = absurd cc
+    by None true opened ended h = absurd cc
+    by None false true ended h = absurd cc
+    by None false false true h = absurd cc
+    by None false false false h = other
 
-no_jump : (m : Mnemonic) (how : JumpOperation) → jump_of m ≡ Some how → is_bracket m ≡ false
-unfolding opening closes
+no_jump : (m : Mnemonic) (how : JumpOperation) → jump_of m ≡ Some how → nests m ≡ false
+unfolding opening closes opens_zone ends_zone
 no_jump code.AOpen how e = absurd cc
 no_jump code.AnOpen how e = absurd cc
 no_jump code.OOpen how e = absurd cc
@@ -133,10 +148,12 @@ no_jump code.OnOpen how e = absurd cc
 no_jump code.XOpen how e = absurd cc
 no_jump code.XnOpen how e = absurd cc
 no_jump code.Close how e = absurd cc
+no_jump code.McrOpen how e = absurd cc
+no_jump code.McrClose how e = absurd cc
 no_jump _ how e = refl
 
-no_call : (m : Mnemonic) (how : CallOperation) → call_of m ≡ Some how → is_bracket m ≡ false
-unfolding opening closes
+no_call : (m : Mnemonic) (how : CallOperation) → call_of m ≡ Some how → nests m ≡ false
+unfolding opening closes opens_zone ends_zone
 no_call code.AOpen how e = absurd cc
 no_call code.AnOpen how e = absurd cc
 no_call code.OOpen how e = absurd cc
@@ -144,10 +161,12 @@ no_call code.OnOpen how e = absurd cc
 no_call code.XOpen how e = absurd cc
 no_call code.XnOpen how e = absurd cc
 no_call code.Close how e = absurd cc
+no_call code.McrOpen how e = absurd cc
+no_call code.McrClose how e = absurd cc
 no_call _ how e = refl
 
-no_end : (m : Mnemonic) (how : EndOperation) → end_of m ≡ Some how → is_bracket m ≡ false
-unfolding opening closes
+no_end : (m : Mnemonic) (how : EndOperation) → end_of m ≡ Some how → nests m ≡ false
+unfolding opening closes opens_zone ends_zone
 no_end code.AOpen how e = absurd cc
 no_end code.AnOpen how e = absurd cc
 no_end code.OOpen how e = absurd cc
@@ -155,17 +174,19 @@ no_end code.OnOpen how e = absurd cc
 no_end code.XOpen how e = absurd cc
 no_end code.XnOpen how e = absurd cc
 no_end code.Close how e = absurd cc
+no_end code.McrOpen how e = absurd cc
+no_end code.McrClose how e = absurd cc
 no_end _ how e = refl
 
 call_code : (how : CallOperation) → IsOtherCode (code_of (operation.Call how))
-call_code calls.Call = (refl, refl)
-call_code calls.Uc = (refl, refl)
-call_code calls.Cc = (refl, refl)
+call_code calls.Call = ((refl, refl), (refl, refl))
+call_code calls.Uc = ((refl, refl), (refl, refl))
+call_code calls.Cc = ((refl, refl), (refl, refl))
 
 end_code : (how : EndOperation) → IsOtherCode (code_of (operation.End how))
-end_code ends.Be = (refl, refl)
-end_code ends.Bec = (refl, refl)
-end_code ends.Beu = (refl, refl)
+end_code ends.Be = ((refl, refl), (refl, refl))
+end_code ends.Bec = ((refl, refl), (refl, refl))
+end_code ends.Beu = ((refl, refl), (refl, refl))
 
 -- ---- the last op of a statement
 
@@ -193,7 +214,8 @@ last_call c s how (view.Called id instance) is = record {
   stays = refl;
 }
 last_call c s how _ is = record {
-  code = other_code s.code (code_of operation.Nop) (no_call s.code how is) (refl, refl);
+  code = other_code s.code (code_of operation.Nop) (no_call s.code how is)
+      ((refl, refl), (refl, refl));
   stays = refl;
 }
 
@@ -202,17 +224,19 @@ last_view : (c : Context) (s : Statement) (v : View) (call : Option CallOperatio
 last_view c s v None is = last_end s v (end_of s.code) refl
 last_view c s v (Some how) is = last_call c s how v is
 
--- a bracket stands with nothing, and is taken
-pub bracket_form : (m : Mnemonic) → is_bracket m ≡ true → form_of m ≡ form.Bare
-unfolding opening closes form_of
-bracket_form code.AOpen e = refl
-bracket_form code.AnOpen e = refl
-bracket_form code.OOpen e = refl
-bracket_form code.OnOpen e = refl
-bracket_form code.XOpen e = refl
-bracket_form code.XnOpen e = refl
-bracket_form code.Close e = refl
-bracket_form _ e = absurd cc
+-- a bracket or a zone stands with nothing, and is taken
+pub nests_form : (m : Mnemonic) → nests m ≡ true → form_of m ≡ form.Bare
+unfolding opening closes opens_zone ends_zone form_of
+nests_form code.AOpen e = refl
+nests_form code.AnOpen e = refl
+nests_form code.OOpen e = refl
+nests_form code.OnOpen e = refl
+nests_form code.XOpen e = refl
+nests_form code.XnOpen e = refl
+nests_form code.Close e = refl
+nests_form code.McrOpen e = refl
+nests_form code.McrClose e = refl
+nests_form _ e = absurd cc
 
 abbrev resolved_by : Context → Form → Operand → Option View
 resolved_by c f o = if is_none (operand_rule c f o) then seen_view (seen c o) else None
@@ -221,22 +245,24 @@ bare_resolved : (c : Context) → resolved_by c form.Bare operand.Nothing ≡ So
 unfolding seen rule_of takes
 bare_resolved c = refl
 
-bracket_resolved : (c : Context) (s : Statement) → TakesRight s → is_bracket s.code ≡ true
+nests_resolved : (c : Context) (s : Statement) → TakesRight s → nests s.code ≡ true
     → resolved c s ≡ Some view.Nothing
 unfolding resolved
-bracket_resolved c s h is =
-    ap (λ (f : Form). resolved_by c f s.operand) (bracket_form s.code is)
+nests_resolved c s h is =
+    ap (λ (f : Form). resolved_by c f s.operand) (nests_form s.code is)
     ∙ ap (resolved_by c form.Bare) (h.bare is) ∙ bare_resolved c
 
 last_resolved : (c : Context) (s : Statement) (v : Option View) → TakesRight s → resolved c s ≡ v
     → IsLast s.code (last_op (resolved_instr c s v))
 last_resolved c s (Some v) h is = last_view c s v (call_of s.code) refl
-last_resolved c s None h is = by (is_bracket s.code) refl
+last_resolved c s None h is = by (nests s.code) refl
   where
-    by : (b : Bool) → is_bracket s.code ≡ b → IsLast s.code (last_op (resolved_instr c s None))
-    by true bracket = let found = bracket_resolved c s h bracket in absurd cc
-    by false bracket =
-        record { code = other_code s.code (code_of operation.Nop) bracket (refl, refl); stays = refl }
+    by : (b : Bool) → nests s.code ≡ b → IsLast s.code (last_op (resolved_instr c s None))
+    by true nested = let found = nests_resolved c s h nested in absurd cc
+    by false other = record {
+      code = other_code s.code (code_of operation.Nop) other ((refl, refl), (refl, refl));
+      stays = refl;
+    }
 
 jump_code : (how : JumpOperation) (n target : ℕ) → (last_op (jump_instr how n target)).code ≡ 0x6F
 jump_code jump.Jl n target = refl
@@ -269,7 +295,7 @@ last_of c body n s h =
         let r = last_resolved c s (resolved c s) h refl in (r.code, r.stays)
     by (Some how) is = (
       subst (IsCodeOf s.code) (sym (jump_code how n (target_of body s.operand)))
-          (other_code s.code 0x6F (no_jump s.code how is) (refl, refl)),
+          (other_code s.code 0x6F (no_jump s.code how is) ((refl, refl), (refl, refl))),
       jump_operand how n (target_of body s.operand),
     )
 
@@ -308,7 +334,7 @@ behind_is bs s = by (opening s.code)
 pub behind_codes : (bs : List Bracket) (body : List Statement) (s : Statement) (op : OpData)
     → IsLastOf body s op → codes_behind op.code (codes_of bs) ≡ codes_of (behind bs s)
 behind_codes bs body s op h =
-    by (opening s.code) (closes s.code) h.code ∙ ap codes_of (sym (behind_is bs s))
+    by (opening s.code) (closes s.code) h.code.0 ∙ ap codes_of (sym (behind_is bs s))
   where
     by : (o : Option ℕ) (c : Bool) → IsCodeBy o c op.code
         → codes_behind op.code (codes_of bs) ≡ codes_of (behind_by bs s.line o c)
@@ -331,7 +357,7 @@ none_there (b ∷ bs) e = refl
 pub bracket_right : (bs : List Bracket) (body : List Statement) (s : Statement) (op : OpData)
     → IsLastOf body s op → closes_none bs s ≡ false → is_eighth bs s ≡ false
     → codes_fault op.code (codes_of bs) ≡ None
-bracket_right bs body s op h shut eighth = by (opening s.code) (closes s.code) h.code shut eighth
+bracket_right bs body s op h shut eighth = by (opening s.code) (closes s.code) h.code.0 shut eighth
   where
     by : (o : Option ℕ) (c : Bool) → IsCodeBy o c op.code
         → (c && nat_eq (length bs) 0) ≡ false → (is_some o && nat_le 7 (length bs)) ≡ false
@@ -346,73 +372,51 @@ bracket_right bs body s op h shut eighth = by (opening s.code) (closes s.code) h
 
 -- ---- zones
 
--- an op code that is none of `MCR(` and `)MCR`
-abbrev IsNoZone : ℕ → Type 0
-IsNoZone code = ((code == 0x07) ≡ false) × ((code == 0x08) ≡ false)
+pub behind_count : (zones : List ℕ) (body : List Statement) (s : Statement) (op : OpData)
+    → IsLastOf body s op → count_behind op.code (length zones) ≡ length (zones_behind zones s)
+behind_count zones body s op h = by (opens_zone s.code) (ends_zone s.code) h.code.1
+  where
+    by : (opened ended : Bool) → IsZoneCodeBy opened ended op.code
+        → count_behind op.code (length zones)
+        ≡ length (if opened then zones ++ s.line ∷ []
+        else if ended then take (length zones - 1) zones
+        else zones)
+    by true ended g =
+        ap (λ (k : ℕ). count_behind k (length zones)) g ∙ sym (count_opened s.line zones)
+    by false true g =
+        ap (λ (k : ℕ). count_behind k (length zones)) g ∙ sym (count_ended zones)
+    by false false g = rw g.0 (rw g.1 refl)
 
-operation_zones : (m : Mnemonic) (o : Operand) (v : View) → IsNoZone (code_of (operation_for m o v))
-unfolding operation_for
-operation_zones code.O o view.Nothing = (refl, refl)
-operation_zones code.O o _ = (refl, refl)
-operation_zones code.L o (view.Register register.Stw) = (refl, refl)
-operation_zones code.L o (view.Register _) = (refl, refl)
-operation_zones code.L o _ = (refl, refl)
-operation_zones code.T o (view.Register which) = (refl, refl)
-operation_zones code.T o _ = (refl, refl)
-operation_zones code.Lar1 o (view.Register which) = (refl, refl)
-operation_zones code.Lar1 o _ = (refl, refl)
-operation_zones code.Tar1 o (view.Register which) = (refl, refl)
-operation_zones code.Tar1 o _ = (refl, refl)
-operation_zones code.Add (operand.Constant (literal.Long value)) v = (refl, refl)
-operation_zones code.Add (operand.Constant _) v = (refl, refl)
-operation_zones code.Add _ v = (refl, refl)
-operation_zones _ o v = (refl, refl)
-
-end_zones : (s : Statement) (v : View) (e : Option EndOperation) → IsNoZone (last_op (end_instr s v e)).code
-end_zones s v None = operation_zones s.code s.operand v
-end_zones s v (Some ends.Be) = (refl, refl)
-end_zones s v (Some ends.Bec) = (refl, refl)
-end_zones s v (Some ends.Beu) = (refl, refl)
-
-call_zones : (c : Context) (s : Statement) (how : CallOperation) (v : View)
-    → IsNoZone (last_op (call_instr c s how v)).code
-call_zones c s calls.Call (view.Called id instance) = (refl, refl)
-call_zones c s calls.Uc (view.Called id instance) = (refl, refl)
-call_zones c s calls.Cc (view.Called id instance) = (refl, refl)
-call_zones c s how _ = (refl, refl)
-
-view_zones : (c : Context) (s : Statement) (v : View) (call : Option CallOperation)
-    → IsNoZone (last_op (view_instr c s v call)).code
-view_zones c s v None = end_zones s v (end_of s.code)
-view_zones c s v (Some how) = call_zones c s how v
-
-resolved_zones : (c : Context) (s : Statement) (v : Option View)
-    → IsNoZone (last_op (resolved_instr c s v)).code
-resolved_zones c s (Some v) = view_zones c s v (call_of s.code)
-resolved_zones c s None = (refl, refl)
-
-instr_zones : (c : Context) (body : List Statement) (n : ℕ) (s : Statement) (j : Option JumpOperation)
-    → IsNoZone (last_op (instr_by c body n s j)).code
-instr_zones c body n s None = resolved_zones c s (resolved c s)
-instr_zones c body n s (Some how) =
-    subst IsNoZone (sym (jump_code how n (target_of body s.operand))) (refl, refl)
-
--- no statement opens or ends a zone
-pub last_leaves : (c : Context) (body : List Statement) (n : ℕ) (s : Statement)
-    → LeavesZones (last_op (instruction c body n s))
-unfolding instruction
-last_leaves c body n s =
-    let r = instr_zones c body n s (jump_of s.code) in record { opens_none = r.0; ends_none = r.1 }
+pub zone_right : (zones : List ℕ) (body : List Statement) (s : Statement) (op : OpData)
+    → IsLastOf body s op → ends_none zones s ≡ false → is_ninth zones s ≡ false
+    → count_fault op.code (length zones) ≡ None
+zone_right zones body s op h none ninth =
+    by (opens_zone s.code) (ends_zone s.code) h.code.1 none ninth
+  where
+    by : (opened ended : Bool) → IsZoneCodeBy opened ended op.code
+        → (ended && nat_eq (length zones) 0) ≡ false → (opened && nat_le 8 (length zones)) ≡ false
+        → count_fault op.code (length zones) ≡ None
+    by true ended g none more =
+        ap (λ (k : ℕ). count_fault k (length zones)) g
+        ∙ ap (λ (t : Bool). if t then Some 8 else None) more
+    by false true g none more =
+        ap (λ (k : ℕ). count_fault k (length zones)) g
+        ∙ ap (λ (t : Bool). if t then Some 8 else None) none
+    by false false g none more = rw g.0 (rw g.1 refl)
 
 -- ---- ops that prepare
 
 passing_quiet : (ps : List Passing) → AllByRecursion IsQuiet (passing ps)
 passing_quiet [] = tt
-passing_quiet (p ∷ ps) = (record { opens = refl; closes = refl; zones = record { opens_none = refl; ends_none = refl }; stays = refl }, passing_quiet ps)
+passing_quiet (p ∷ ps) = (
+  record { opens = refl; closes = refl; opens_zone = refl; ends_zone = refl; stays = refl },
+  passing_quiet ps,
+)
 
 opening_quiet : (use_db : Option ℕ) → AllByRecursion IsQuiet (opening_op use_db)
 opening_quiet None = tt
-opening_quiet (Some number) = (record { opens = refl; closes = refl; zones = record { opens_none = refl; ends_none = refl }; stays = refl }, tt)
+opening_quiet (Some number) =
+    (record { opens = refl; closes = refl; opens_zone = refl; ends_zone = refl; stays = refl }, tt)
 
 pub front_quiet : (i : Instr) → AllByRecursion IsQuiet (parted i).front
 front_quiet (Does use_db w o) = opening_quiet use_db

@@ -19,8 +19,6 @@ use Rattle.flat_code.specs.declared.operands.Operand.{Operand as FlatOperand}
 use Rattle.flat_code.specs.declared.operands.Operand.TheVariants as flat
 use Rattle.sem_kept.specs.Jumps.{AllLandRight, FineIsFaultless, JumpsLandRight, LandsRight, jump_fault_of}
 use Rattle.sem_kept.specs.Operands.{AreFine, IsFine}
-use Rattle.sem_kept.specs.Zones.{IsOutsideZones}
-use Rattle.sem_kept.proofs.ZoneLemmas.{code_has_no_zones}
 use Rattle.sem_kept.proofs.accepted.Accepted.{IsSound, IsSoundStatement, context_at, right_tree, sound_code_blocks}
 use Rattle.sem_kept.proofs.accepted.Jumps.{IsRightBody, lands_right}
 use Rattle.sem_kept.proofs.accepted.JumpsOperands.{Settles, takes_right}
@@ -44,6 +42,9 @@ right_block symbols t k b l h settle = record {
   by_31 = h.body.by_31;
   by_32 = h.body.by_32;
   by_33 = h.body.by_33;
+  by_47 = h.body.by_47;
+  by_48 = h.body.by_48;
+  by_49 = h.body.by_49;
 }
 
 pub jumps_land_right : JumpsLandRight
@@ -64,27 +65,25 @@ all_operands a ss p (flat.Jump kind target) still jump = jump
 all_operands a ss p _ still jump = still tt
 
 op_faultless : (a : Around) (lens : List (ℕ × ℕ)) (ss : List Spot) (start : ℕ) (p : Placed)
-    → a.data_lens ≡ Some lens → IsFine a lens ss p → LandsRight ss p → IsOutsideZones p
-    → op_faults a ss start p ≡ []
+    → a.data_lens ≡ Some lens → IsFine a lens ss p → LandsRight ss p → op_faults a ss start p ≡ []
 unfolding op_faults
-op_faultless a lens ss start p e fine lands outside =
+op_faultless a lens ss start p e fine lands =
     let calls : call_fault a a.data_lens p ≡ None =
     ap (λ (z : Option (List (ℕ × ℕ))). call_fault a z p) e ∙ fine.call in
     rw (all_operands a ss p p.op.operand fine.operand lands.jump)
-    (rw calls (rw fine.mark (rw lands.brackets (rw outside.faultless refl))))
+    (rw calls (rw fine.mark (rw lands.brackets (rw lands.zones refl))))
 
 all_faultless : (a : Around) (lens : List (ℕ × ℕ)) (ss : List Spot) (start : ℕ) (ps : List Placed)
     → a.data_lens ≡ Some lens → AreFine a lens ss ps → AllByRecursion (LandsRight ss) ps
-    → AllByRecursion IsOutsideZones ps → faults_over a ss start ps ≡ []
-all_faultless a lens ss start [] e fine lands outside = refl
-all_faultless a lens ss start (p ∷ ps) e fine lands outside =
+    → faults_over a ss start ps ≡ []
+all_faultless a lens ss start [] e fine lands = refl
+all_faultless a lens ss start (p ∷ ps) e fine lands =
     ap (λ (z : List (ℕ × ℕ)). z ++ faults_over a ss start ps)
-    (op_faultless a lens ss start p e fine.0 lands.0 outside.0)
-    ∙ all_faultless a lens ss start ps e fine.1 lands.1 outside.1
+    (op_faultless a lens ss start p e fine.0 lands.0)
+    ∙ all_faultless a lens ss start ps e fine.1 lands.1
 
 pub fine_is_faultless : FineIsFaultless
 unfolding block_faults
 fine_is_faultless a lens start ops e fine lands =
-    let zones = code_has_no_zones ops lands.leave in
-    rw (all_faultless a lens (spots ops) start (places ops) e fine lands.each zones.at_ops)
-    (rw lands.closed (rw zones.behind refl))
+    rw (all_faultless a lens (spots ops) start (places ops) e fine lands.each)
+    (rw lands.closed (rw lands.ended refl))

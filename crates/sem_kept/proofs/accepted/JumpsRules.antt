@@ -1,6 +1,6 @@
--- What the rules of labels, brackets and jumps leave of a body: each of its statements, with those
--- before and behind it.
-use Rattle.std.proofs.Common.{◌≡◌, ℕ, suc, ◌+◌, ◌-◌, ◌<◌, ◌≤◌, Bool, true, false, ◌&&◌, if◌then◌else◌, List, [], ◌∷◌, ◌++◌, length, length-append, map, take, append_assoc, Option, Some, None, option_map, option_and_then, refl, sym, ap, ◌∙◌, arith}
+-- What the rules of labels, brackets, zones and jumps leave of a body: each of its statements, with
+-- those before and behind it.
+use Rattle.std.proofs.Common.{◌≡◌, ℕ, suc, ◌+◌, ◌-◌, ◌<◌, ◌≤◌, Bool, true, false, ◌&&◌, ◌||◌, if◌then◌else◌, List, [], ◌∷◌, ◌++◌, length, length-append, map, take, append_assoc, Option, Some, None, option_map, option_and_then, refl, sym, ap, ◌∙◌, arith}
 use Rattle.std.specs.Prelude.{is_some, nat_le, nat_eq, not}
 use Rattle.std.specs.List.{slice_get}
 use Rattle.std.specs.Option.{is_none}
@@ -12,12 +12,14 @@ use Rattle.plc_base.specs.declared.refusals.Refusal.{Refusal}
 use Rattle.stl_ast.specs.declared.operands.Operand.{Operand}
 use Rattle.stl_ast.specs.declared.operands.Operand.TheVariants as operand
 use Rattle.stl_ast.specs.declared.statements.Statement.{Statement}
+use Rattle.plc_base.specs.Gathered.{gathered}
 use Rattle.plc_base.specs.Least.{broken_if}
 use Rattle.stl_symbols.specs.Names.{place_of}
 use Rattle.stl_types.specs.Brackets.{behind, behind_all, closes, closes_none, is_eighth, opened, opening, with_brackets}
 use Rattle.stl_types.specs.Labels.{is_unknown_label, label_of, labels_of, unknown_labels}
-use Rattle.stl_types.specs.Landings.{are_unequal, crosses, crossing_jumps, functions_of, lands_elsewhere, list_at, list_here, lists_at_labels}
+use Rattle.stl_types.specs.Landings.{Landing, Nesting, are_unequal, crosses, differ, functions_of, landing_at, landing_here, landing_of, landings_at_labels, lands_elsewhere, nesting_behind, outside}
 use Rattle.stl_types.specs.Lists.{has_label, is_list_jump, is_list_to, is_wrong_list, lacks_list, lists_from}
+use Rattle.stl_types.specs.Zones.{ends_none, is_ninth, with_zones, zones_behind, zones_behind_all}
 use Rattle.stl_types.specs.declared.brackets.Bracket.{Bracket}
 use Rattle.stl_codegen.specs.Bodies.{count_of}
 use Rattle.stl_codegen.specs.Instruction.{counted, target_in}
@@ -29,6 +31,28 @@ pub behind_more : (bs : List Bracket) (xs ys : List Statement)
     → behind_all bs (xs ++ ys) ≡ behind_all (behind_all bs xs) ys
 behind_more bs [] ys = refl
 behind_more bs (x ∷ xs) ys = behind_more (behind bs x) xs ys
+
+pub zones_more : (zones : List ℕ) (xs ys : List Statement)
+    → zones_behind_all zones (xs ++ ys) ≡ zones_behind_all (zones_behind_all zones xs) ys
+zones_more zones [] ys = refl
+zones_more zones (x ∷ xs) ys = zones_more (zones_behind zones x) xs ys
+
+-- what is open behind statements
+abbrev pub nesting_after : Nesting → List Statement → Nesting
+nesting_after n ss = record {
+  brackets = behind_all n.brackets ss;
+  zones = zones_behind_all n.zones ss;
+}
+
+nesting_more : (pre : List Statement) (s : Statement)
+    → nesting_behind (nesting_after outside pre) s ≡ nesting_after outside (pre ++ s ∷ [])
+nesting_more pre s =
+    ap (λ (z : List Bracket). nested z (zones_behind (zones_behind_all [] pre) s))
+    (sym (behind_more [] pre (s ∷ [])))
+    ∙ ap (nested (behind_all [] (pre ++ s ∷ []))) (sym (zones_more [] pre (s ∷ [])))
+  where
+    nested : List Bracket → (zones : List ℕ) → Nesting
+    nested brackets zones = record { brackets = brackets; zones = zones }
 
 pub labels_more : (xs ys : List Statement) → labels_of (xs ++ ys) ≡ labels_of xs ++ labels_of ys
 labels_more [] ys = refl
@@ -50,7 +74,10 @@ pub record IsRightAt (body pre : List Statement) (s : Statement) (post : List St
   pub known : is_unknown_label (labels_of body) s.operand ≡ false
   pub closes : closes_none (behind_all [] pre) s ≡ false
   pub few : is_eighth (behind_all [] pre) s ≡ false
-  pub lands : crosses (labels_of body) (lists_at_labels [] body) (behind_all [] pre) s.operand ≡ false
+  pub ends : ends_none (zones_behind_all [] pre) s ≡ false
+  pub ninth : is_ninth (zones_behind_all [] pre) s ≡ false
+  pub lands : crosses (labels_of body) (landings_at_labels outside body) (nesting_after outside pre)
+      s.operand ≡ false
   pub listed : is_wrong_list (labels_of (pre ++ s ∷ [])) s post ≡ false
 
 abbrev pub AreRightFrom : (body pre : List Statement) → List Statement → Type 0
@@ -63,54 +90,104 @@ by_29 bs body = with_brackets (λ brackets s. broken_if (closes_none brackets s)
 abbrev pub by_31 : List Bracket → List Statement → List Refusal
 by_31 bs body = with_brackets (λ brackets s. broken_if (is_eighth brackets s) s.line 31) bs body
 
-abbrev pub by_33 : (labels lists : List (List ℕ)) → List Bracket → List Statement → List Refusal
-by_33 labels lists bs body =
-    with_brackets (λ brackets s. broken_if (crosses labels lists brackets s.operand) s.line 33) bs body
+abbrev pub by_47 : (zones : List ℕ) → List Statement → List Refusal
+by_47 zones body = with_zones (λ zones s. broken_if (ends_none zones s) s.line 47) zones body
 
-right_from : (body pre post : List Statement)
-    → unknown_labels (labels_of body) post ≡ []
-    → by_29 (behind_all [] pre) post ≡ []
-    → by_31 (behind_all [] pre) post ≡ []
-    → lists_from (labels_of pre) post ≡ []
-    → by_33 (labels_of body) (lists_at_labels [] body) (behind_all [] pre) post ≡ []
-    → AreRightFrom body pre post
-right_from body pre [] e26 e29 e31 e32 e33 = tt
-right_from body pre (s ∷ post) e26 e29 e31 e32 e33 =
+abbrev pub by_49 : (zones : List ℕ) → List Statement → List Refusal
+by_49 zones body = with_zones (λ zones s. broken_if (is_ninth zones s) s.line 49) zones body
+
+abbrev pub by_33 : (labels : List (List ℕ)) → List Landing → Nesting → List Statement → List Refusal
+by_33 labels landings n body =
+    gathered (λ s. false) (λ n s. broken_if (crosses labels landings n s.operand) s.line 33)
+    nesting_behind n body
+
+-- the statements of a body from a place on break none of these rules
+pub record BreakNone (body pre post : List Statement) : Type 0 where
+  pub by_26 : unknown_labels (labels_of body) post ≡ []
+  pub by_29 : by_29 (behind_all [] pre) post ≡ []
+  pub by_31 : by_31 (behind_all [] pre) post ≡ []
+  pub by_32 : lists_from (labels_of pre) post ≡ []
+  pub by_33 : by_33 (labels_of body) (landings_at_labels outside body) (nesting_after outside pre)
+      post ≡ []
+  pub by_47 : by_47 (zones_behind_all [] pre) post ≡ []
+  pub by_49 : by_49 (zones_behind_all [] pre) post ≡ []
+
+-- so the first of them breaks none
+first_right : (body pre : List Statement) (s : Statement) (post : List Statement)
+    → BreakNone body pre (s ∷ post) → IsRightAt body pre s post
+first_right body pre s post h =
     let labels = labels_of body in
-    let lists = lists_at_labels [] body in
+    let landings = landings_at_labels outside body in
     let bs = behind_all [] pre in
-    let next : behind bs s ≡ behind_all [] (pre ++ s ∷ []) = sym (behind_more [] pre (s ∷ [])) in
-    let more : labels_of pre ++ label_of s.label ≡ labels_of (pre ++ s ∷ []) = sym (labels_one pre s) in
-    let one_26 = broken_if (is_unknown_label labels s.operand) s.line 26 in
-    let one_29 = broken_if (closes_none bs s) s.line 29 in
-    let one_31 = broken_if (is_eighth bs s) s.line 31 in
-    let one_32 = broken_if (is_wrong_list (labels_of pre ++ label_of s.label) s post) s.line 32 in
-    let one_33 = broken_if (crosses labels lists bs s.operand) s.line 33 in (
-      record {
-        known = not_broken _ s.line 26 (none_left one_26 (unknown_labels labels post) e26);
-        closes = not_broken _ s.line 29 (none_left one_29 (by_29 (behind bs s) post) e29);
-        few = not_broken _ s.line 31 (none_left one_31 (by_31 (behind bs s) post) e31);
-        lands = not_broken _ s.line 33 (none_left one_33 (by_33 labels lists (behind bs s) post) e33);
-        listed = ap (λ (z : List (List ℕ)). is_wrong_list z s post) (sym more)
-            ∙ not_broken _ s.line 32 (none_left one_32 (lists_from (labels_of pre ++ label_of s.label) post) e32);
-      },
-      right_from body (pre ++ s ∷ []) post (none_right one_26 (unknown_labels labels post) e26)
-          (ap (λ (z : List Bracket). by_29 z post) (sym next) ∙ none_right one_29 (by_29 (behind bs s) post) e29)
-          (ap (λ (z : List Bracket). by_31 z post) (sym next) ∙ none_right one_31 (by_31 (behind bs s) post) e31)
-          (ap (λ (z : List (List ℕ)). lists_from z post) (sym more)
-          ∙ none_right one_32 (lists_from (labels_of pre ++ label_of s.label) post) e32)
-          (ap (λ (z : List Bracket). by_33 labels lists z post) (sym next)
-          ∙ none_right one_33 (by_33 labels lists (behind bs s) post) e33),
-    )
+    let zones = zones_behind_all [] pre in
+    let n = nesting_after outside pre in
+    let before = labels_of pre ++ label_of s.label in
+    record {
+      known = not_broken _ s.line 26
+          (none_left (broken_if (is_unknown_label labels s.operand) s.line 26)
+          (unknown_labels labels post) h.by_26);
+      closes = not_broken _ s.line 29
+          (none_left (broken_if (closes_none bs s) s.line 29) (by_29 (behind bs s) post) h.by_29);
+      few = not_broken _ s.line 31
+          (none_left (broken_if (is_eighth bs s) s.line 31) (by_31 (behind bs s) post) h.by_31);
+      ends = not_broken _ s.line 47
+          (none_left (broken_if (ends_none zones s) s.line 47) (by_47 (zones_behind zones s) post)
+          h.by_47);
+      ninth = not_broken _ s.line 49
+          (none_left (broken_if (is_ninth zones s) s.line 49) (by_49 (zones_behind zones s) post)
+          h.by_49);
+      lands = not_broken _ s.line 33
+          (none_left (broken_if (crosses labels landings n s.operand) s.line 33)
+          (by_33 labels landings (nesting_behind n s) post) h.by_33);
+      listed = ap (λ (z : List (List ℕ)). is_wrong_list z s post) (labels_one pre s)
+          ∙ not_broken _ s.line 32
+          (none_left (broken_if (is_wrong_list before s post) s.line 32) (lists_from before post)
+          h.by_32);
+    }
 
-pub right_body : (body : List Statement)
-    → unknown_labels (labels_of body) body ≡ []
-    → by_29 [] body ≡ []
-    → by_31 [] body ≡ []
-    → lists_from [] body ≡ []
-    → crossing_jumps (labels_of body) (lists_at_labels [] body) body ≡ []
-    → AreRightFrom body [] body
-right_body body e26 e29 e31 e32 e33 = right_from body [] body e26 e29 e31 e32 e33
+-- and neither do those behind it
+others_right : (body pre : List Statement) (s : Statement) (post : List Statement)
+    → BreakNone body pre (s ∷ post) → BreakNone body (pre ++ s ∷ []) post
+others_right body pre s post h =
+    let labels = labels_of body in
+    let landings = landings_at_labels outside body in
+    let bs = behind_all [] pre in
+    let zones = zones_behind_all [] pre in
+    let n = nesting_after outside pre in
+    let before = labels_of pre ++ label_of s.label in
+    let behind_s : behind_all [] (pre ++ s ∷ []) ≡ behind bs s = behind_more [] pre (s ∷ []) in
+    let zones_behind_s : zones_behind_all [] (pre ++ s ∷ []) ≡ zones_behind zones s =
+    zones_more [] pre (s ∷ []) in
+    record {
+      by_26 = none_right (broken_if (is_unknown_label labels s.operand) s.line 26)
+          (unknown_labels labels post) h.by_26;
+      by_29 = ap (λ (z : List Bracket). by_29 z post) behind_s
+          ∙ none_right (broken_if (closes_none bs s) s.line 29) (by_29 (behind bs s) post) h.by_29;
+      by_31 = ap (λ (z : List Bracket). by_31 z post) behind_s
+          ∙ none_right (broken_if (is_eighth bs s) s.line 31) (by_31 (behind bs s) post) h.by_31;
+      by_32 = ap (λ (z : List (List ℕ)). lists_from z post) (labels_one pre s)
+          ∙ none_right (broken_if (is_wrong_list before s post) s.line 32) (lists_from before post)
+          h.by_32;
+      by_33 = ap (λ (z : Nesting). by_33 labels landings z post) (sym (nesting_more pre s))
+          ∙ none_right (broken_if (crosses labels landings n s.operand) s.line 33)
+          (by_33 labels landings (nesting_behind n s) post) h.by_33;
+      by_47 = ap (λ (z : List ℕ). by_47 z post) zones_behind_s
+          ∙ none_right (broken_if (ends_none zones s) s.line 47) (by_47 (zones_behind zones s) post)
+          h.by_47;
+      by_49 = ap (λ (z : List ℕ). by_49 z post) zones_behind_s
+          ∙ none_right (broken_if (is_ninth zones s) s.line 49) (by_49 (zones_behind zones s) post)
+          h.by_49;
+    }
+
+right_from : (body pre post : List Statement) → BreakNone body pre post → AreRightFrom body pre post
+right_from body pre [] h = tt
+right_from body pre (s ∷ post) h = (
+  first_right body pre s post h,
+  right_from body (pre ++ s ∷ []) post (others_right body pre s post h),
+)
+
+pub right_body : (body : List Statement) → BreakNone body [] body → AreRightFrom body [] body
+right_body body h = right_from body [] body h
 
 -- ---- at most seven brackets
 
@@ -151,29 +228,30 @@ few_open body pre post e by =
 -- ---- the statement of a label
 
 -- the first statement that has a label, with those before it
-pub record IsTarget (body : List Statement) (bs : List Bracket) (name : List ℕ) : Type 0 where
+pub record IsTarget (body : List Statement) (n : Nesting) (name : List ℕ) : Type 0 where
   pub before : List Statement
   pub rest : List Statement
   pub whole : body ≡ before ++ rest
   pub count : target_in name body ≡ count_of before
-  pub list : list_at (labels_of body) (lists_at_labels bs body) name
-      ≡ Some (functions_of (behind_all bs before))
+  pub landing : landing_at (labels_of body) (landings_at_labels n body) name
+      ≡ Some (landing_of (nesting_after n before))
 
 -- the same of statements of which the first has this label
-record IsTargetBy (s : Statement) (ss : List Statement) (bs : List Bracket) (name : List ℕ)
+record IsTargetBy (s : Statement) (ss : List Statement) (n : Nesting) (name : List ℕ)
     (label : Option (List ℕ)) : Type 0 where
   before : List Statement
   rest : List Statement
   whole : s ∷ ss ≡ before ++ rest
   count : (if has_label name label then 0 else counted s + target_in name ss) ≡ count_of before
-  list : list_at (label_of label ++ labels_of ss) (list_here bs label ++ lists_at_labels (behind bs s) ss) name
-      ≡ Some (functions_of (behind_all bs before))
+  landing : landing_at (label_of label ++ labels_of ss)
+      (landing_here n label ++ landings_at_labels (nesting_behind n s) ss) name
+      ≡ Some (landing_of (nesting_after n before))
 
-moved_list : (x : List ℕ) (xs : List (List ℕ)) (place : Option ℕ)
+moved_landing : (x : Landing) (xs : List Landing) (place : Option ℕ)
     → option_and_then (slice_get (x ∷ xs)) (option_map (λ k. suc k) place)
     ≡ option_and_then (slice_get xs) place
-moved_list x xs None = refl
-moved_list x xs (Some place) = refl
+moved_landing x xs None = refl
+moved_landing x xs (Some place) = refl
 
 further_place : (place : Option ℕ) (k : ℕ) → option_map (λ k. suc k) place ≡ Some k
     → (n : ℕ) × (place ≡ Some n)
@@ -185,74 +263,87 @@ no_further None e = refl
 no_further (Some n) e = absurd cc
 
 -- one more statement before
-later : (s : Statement) (ss : List Statement) (bs : List Bracket) (name : List ℕ)
-    → IsTarget ss (behind bs s) name → IsTargetBy s ss bs name None
-later s ss bs name r = record {
+later : (s : Statement) (ss : List Statement) (n : Nesting) (name : List ℕ)
+    → IsTarget ss (nesting_behind n s) name → IsTargetBy s ss n name None
+later s ss n name r = record {
   before = s ∷ r.before;
   rest = r.rest;
   whole = ap (λ (z : List Statement). s ∷ z) r.whole;
   count = ap (λ (k : ℕ). counted s + k) r.count;
-  list = r.list;
+  landing = r.landing;
 }
 
 -- a label that is this one or isn't
-record IsTargetIf (s : Statement) (ss : List Statement) (bs : List Bracket) (name : List ℕ)
+record IsTargetIf (s : Statement) (ss : List Statement) (n : Nesting) (name : List ℕ)
     (same : Bool) : Type 0 where
   before : List Statement
   rest : List Statement
   whole : s ∷ ss ≡ before ++ rest
   count : (if same then 0 else counted s + target_in name ss) ≡ count_of before
-  list : option_and_then (slice_get (functions_of bs ∷ lists_at_labels (behind bs s) ss))
+  landing : option_and_then (slice_get (landing_of n ∷ landings_at_labels (nesting_behind n s) ss))
       (if same then Some 0 else option_map (λ k. suc k) (place_of name (labels_of ss)))
-      ≡ Some (functions_of (behind_all bs before))
+      ≡ Some (landing_of (nesting_after n before))
 
-by_label : (s : Statement) (ss : List Statement) (bs : List Bracket) (name l : List ℕ) (k : ℕ)
-    → ((n : ℕ) → place_of name (labels_of ss) ≡ Some n → IsTarget ss (behind bs s) name)
-    → place_of name (l ∷ labels_of ss) ≡ Some k → IsTargetBy s ss bs name (Some l)
-by_label s ss bs name l k more e =
+by_label : (s : Statement) (ss : List Statement) (n : Nesting) (name l : List ℕ) (k : ℕ)
+    → ((j : ℕ) → place_of name (labels_of ss) ≡ Some j → IsTarget ss (nesting_behind n s) name)
+    → place_of name (l ∷ labels_of ss) ≡ Some k → IsTargetBy s ss n name (Some l)
+by_label s ss n name l k more e =
     let r = by (bytes_eq name l) e in
-    record { before = r.before; rest = r.rest; whole = r.whole; count = r.count; list = r.list }
+    record {
+      before = r.before;
+      rest = r.rest;
+      whole = r.whole;
+      count = r.count;
+      landing = r.landing;
+    }
   where
     by : (same : Bool)
         → (if same then Some 0 else option_map (λ k. suc k) (place_of name (labels_of ss))) ≡ Some k
-        → IsTargetIf s ss bs name same
+        → IsTargetIf s ss n name same
     by true h =
-        record { before = []; rest = s ∷ ss; whole = refl; count = refl; list = refl }
+        record { before = []; rest = s ∷ ss; whole = refl; count = refl; landing = refl }
     by false h =
         let there = further_place (place_of name (labels_of ss)) k h in
-        let r = later s ss bs name (more there.0 there.1) in
+        let r = later s ss n name (more there.0 there.1) in
         record {
           before = r.before;
           rest = r.rest;
           whole = r.whole;
           count = r.count;
-          list = moved_list (functions_of bs) (lists_at_labels (behind bs s) ss) (place_of name (labels_of ss))
-              ∙ r.list;
+          landing = moved_landing (landing_of n) (landings_at_labels (nesting_behind n s) ss)
+              (place_of name (labels_of ss))
+              ∙ r.landing;
         }
 
-target_from : (body : List Statement) (bs : List Bracket) (name : List ℕ) (k : ℕ)
-    → place_of name (labels_of body) ≡ Some k → IsTarget body bs name
+target_from : (body : List Statement) (n : Nesting) (name : List ℕ) (k : ℕ)
+    → place_of name (labels_of body) ≡ Some k → IsTarget body n name
 unfolding target_in
-target_from [] bs name k e = absurd cc
-target_from (s ∷ ss) bs name k e =
-    let r = by (λ n g. target_from ss (behind bs s) name n g) s.label e in
-    record { before = r.before; rest = r.rest; whole = r.whole; count = r.count; list = r.list }
+target_from [] n name k e = absurd cc
+target_from (s ∷ ss) n name k e =
+    let r = by (λ j g. target_from ss (nesting_behind n s) name j g) s.label e in
+    record {
+      before = r.before;
+      rest = r.rest;
+      whole = r.whole;
+      count = r.count;
+      landing = r.landing;
+    }
   where
-    by : ((n : ℕ) → place_of name (labels_of ss) ≡ Some n → IsTarget ss (behind bs s) name)
+    by : ((j : ℕ) → place_of name (labels_of ss) ≡ Some j → IsTarget ss (nesting_behind n s) name)
         → (label : Option (List ℕ)) → place_of name (label_of label ++ labels_of ss) ≡ Some k
-        → IsTargetBy s ss bs name label
-    by more None h = later s ss bs name (more k h)
-    by more (Some l) h = by_label s ss bs name l k more h
+        → IsTargetBy s ss n name label
+    by more None h = later s ss n name (more k h)
+    by more (Some l) h = by_label s ss n name l k more h
 
 -- a label that is known
 pub target_is : (body : List Statement) (name : List ℕ)
-    → is_unknown_label (labels_of body) (operand.Label name) ≡ false → IsTarget body [] name
+    → is_unknown_label (labels_of body) (operand.Label name) ≡ false → IsTarget body outside name
 target_is body name e = by (place_of name (labels_of body)) refl e
   where
     by : (place : Option ℕ) → place_of name (labels_of body) ≡ place → is_none place ≡ false
-        → IsTarget body [] name
+        → IsTarget body outside name
     by None is h = absurd cc
-    by (Some k) is h = target_from body [] name k is
+    by (Some k) is h = target_from body outside name k is
 
 -- ---- a label behind others
 
@@ -309,7 +400,7 @@ has_list body pre s name post h jl label =
     let r = list_is before name post right in
     record { new = r.0; leads = r.1 }
 
--- ---- the lists of brackets at a jump and at its label
+-- ---- what is open at a jump and at its label
 
 -- lists of at most seven are compared
 equal_lists : (xs ys : List ℕ) → length xs ≤ 7 → are_unequal xs ys ≡ false → xs ≡ ys
@@ -327,21 +418,54 @@ functions bs = map (λ b. b.function) bs
 functions_few : (bs : List Bracket) → length bs ≤ 7 → functions_of bs ≡ functions bs
 functions_few bs few = ap functions (take_all 8 bs (omega (arith, few)))
 
-pub same_lists : (body pre before : List Statement) (s : Statement) (post : List Statement) (name : List ℕ)
+-- two landings that don't differ
+alike : (here there : Landing) → differ here there ≡ false
+    → (are_unequal here.functions there.functions ≡ false) × (here.zones ≡ there.zones)
+alike here there e =
+    by (are_unequal here.functions there.functions) refl (nat_eq here.zones there.zones) refl e
+  where
+    by : (a : Bool) → are_unequal here.functions there.functions ≡ a
+        → (b : Bool) → nat_eq here.zones there.zones ≡ b → (a || not b) ≡ false
+        → (are_unequal here.functions there.functions ≡ false) × (here.zones ≡ there.zones)
+    by true a b is h = absurd cc
+    by false a true is h = (a, eqb-true here.zones there.zones is)
+    by false a false is h = absurd cc
+
+-- behind these statements and behind those the same brackets are open, and as many zones
+pub record AreAlike (pre before : List Statement) : Type 0 where
+  pub functions : functions (behind_all [] pre) ≡ functions (behind_all [] before)
+  pub zones : length (zones_behind_all [] pre) ≡ length (zones_behind_all [] before)
+
+pub same_landings : (body pre before : List Statement) (s : Statement) (post : List Statement)
+    (name : List ℕ)
     → IsRightAt body pre s post → s.operand ≡ operand.Label name
     → length (behind_all [] pre) ≤ 7 → length (behind_all [] before) ≤ 7
-    → list_at (labels_of body) (lists_at_labels [] body) name ≡ Some (functions_of (behind_all [] before))
-    → functions (behind_all [] pre) ≡ functions (behind_all [] before)
-same_lists body pre before s post name h label few few' there =
-    equal_lists (functions here) (functions (behind_all [] before)) (omega (arith, few, count))
-    (ap (λ (z : List ℕ). are_unequal z (functions (behind_all [] before))) (sym (functions_few here few))
-    ∙ ap (are_unequal (functions_of here)) (sym (functions_few (behind_all [] before) few'))
-    ∙ ap (lands_elsewhere (functions_of here)) (sym there)
-    ∙ ap (crosses (labels_of body) (lists_at_labels [] body) here) (sym label)
-    ∙ h.lands)
+    → landing_at (labels_of body) (landings_at_labels outside body) name
+    ≡ Some (landing_of (nesting_after outside before))
+    → AreAlike pre before
+same_landings body pre before s post name h label few few' there = record {
+  functions = equal_lists (functions here) (functions there_open) (omega (arith, few, count))
+      (ap (λ (z : List ℕ). are_unequal z (functions there_open)) (sym (functions_few here few))
+      ∙ ap (are_unequal (functions_of here)) (sym (functions_few there_open few'))
+      ∙ same.0);
+  zones = same.1;
+}
   where
     here : List Bracket
     here = behind_all [] pre
 
+    there_open : List Bracket
+    there_open = behind_all [] before
+
     count : length (functions here) ≡ length here
     count = length-map here (λ b. b.function)
+
+    from : Nesting
+    from = nesting_after outside pre
+
+    same : (are_unequal (functions_of here) (functions_of there_open) ≡ false)
+        × (length (zones_behind_all [] pre) ≡ length (zones_behind_all [] before))
+    same = alike (landing_of from) (landing_of (nesting_after outside before))
+        (ap (lands_elsewhere (landing_of from)) (sym there)
+        ∙ ap (crosses (labels_of body) (landings_at_labels outside body) from) (sym label)
+        ∙ h.lands)

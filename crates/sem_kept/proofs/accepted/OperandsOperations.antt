@@ -26,7 +26,7 @@ use Rattle.block_layout.specs.Offsets.{width_of}
 use Rattle.stl_types.specs.Actuals.{is_input_section}
 use Rattle.stl_types.specs.Forms.{form_of}
 use Rattle.stl_types.specs.Kinds.{is_bit, is_composite, is_double_word, is_in_memory, width_in}
-use Rattle.stl_types.specs.Operands.{has_width, is_input, is_on_wrong_side, rule_of, takes, takes_width, writes}
+use Rattle.stl_types.specs.Operands.{composite_rule, has_width, is_input, is_on_wrong_side, rule_of, takes, takes_width, writes}
 use Rattle.stl_types.specs.declared.forms.Form.{Form}
 use Rattle.stl_types.specs.declared.forms.Form.TheVariants as form
 use Rattle.stl_types.specs.declared.views.Register.{Register}
@@ -49,9 +49,9 @@ pub record IsAllowed (f : Form) (v : View) : Type 0 where
   pub side : is_on_wrong_side f v ≡ false
   pub unwritten : (writes f && is_input v) ≡ false
 
-abbrev rule_by : (a b c d e : Bool) → Option ℕ
-rule_by a b c d e =
-    if a then Some 24
+abbrev rule_by : (composite : ℕ) → (a b c d e : Bool) → Option ℕ
+rule_by composite a b c d e =
+    if a then Some composite
     else if not b then Some 25
     else if not c then Some 24
     else if d then Some 25
@@ -61,17 +61,18 @@ rule_by a b c d e =
 pub allowed : (f : Form) (v : View) → rule_of f v ≡ None → IsAllowed f v
 unfolding rule_of
 allowed f v e =
-    let all = chosen (is_composite v) (takes f v) (has_width f (width_in v)) (is_on_wrong_side f v) (writes f && is_input v) e in
+    let all = chosen (composite_rule f v) (is_composite v) (takes f v) (has_width f (width_in v))
+    (is_on_wrong_side f v) (writes f && is_input v) e in
     record { single = all.0; taken = all.1; wide = all.2; side = all.3; unwritten = all.4 }
   where
-    chosen : (a b c d e : Bool) → rule_by a b c d e ≡ None
+    chosen : (composite : ℕ) (a b c d e : Bool) → rule_by composite a b c d e ≡ None
         → (a ≡ false) × (b ≡ true) × (c ≡ true) × (d ≡ false) × (e ≡ false)
-    chosen true b c d e h = absurd cc
-    chosen false false c d e h = absurd cc
-    chosen false true false d e h = absurd cc
-    chosen false true true true e h = absurd cc
-    chosen false true true false true h = absurd cc
-    chosen false true true false false h = (refl, refl, refl, refl, refl)
+    chosen composite true b c d e h = absurd cc
+    chosen composite false false c d e h = absurd cc
+    chosen composite false true false d e h = absurd cc
+    chosen composite false true true true e h = absurd cc
+    chosen composite false true true false true h = absurd cc
+    chosen composite false true true false false h = (refl, refl, refl, refl, refl)
 
 -- ---- operations
 

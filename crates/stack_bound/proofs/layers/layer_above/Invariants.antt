@@ -1,13 +1,12 @@
-use Rattle.std.proofs.Common.{◌≡◌, ◌+◌, ◌++◌, length}
-use Rattle.image_file.specs.Readers.{ids_of}
-use Rattle.stack_bound.specs.Layers.{AreLow, bounds_above}
+use Rattle.std.proofs.Common.{◌≡◌, ◌+◌, ◌++◌, length, map}
+use Rattle.stack_bound.specs.Layers.{AreLow}
+use Rattle.stack_bound.specs.Places.{bound_by}
 use Rattle.stack_bound.proofs.layers.layer_above.Given as goal
 
 -- the bounds so far and those of what is left are the layer
 abbrev pub invariant-loop-left : goal.invariant-loop-left
 invariant-loop-left l =
-    (bounds_above l.l.program l.below (ids_of l.l.program)
-    ≡ l.layer.items ++ bounds_above l.l.program l.below l.left)
+    (map (bound_by l.below) l.callers ≡ l.layer.items ++ map (bound_by l.below) l.left)
     × AreLow (l.highest + 65536) l.layer.items
 
 abbrev pub decreases-loop-left : goal.decreases-loop-left

@@ -1,28 +1,27 @@
 use Rattle.std.proofs.Common.{Bool, false, refl, ◌∙◌, ap, List}
 use Rattle.stl_ast.specs.declared.statements.Statement.{Statement}
+use Rattle.plc_base.specs.Gathered.{gathered}
 use Rattle.plc_base.specs.Least.{broken_if, least}
 use Rattle.plc_base.proofs.GatheredLemmas.{gathered_done, gathered_next}
 use Rattle.plc_base.proofs.LeastLemmas.{lesser_first}
-use Rattle.stl_types.specs.Brackets.{behind, with_brackets}
-use Rattle.stl_types.specs.Landings.{crosses}
-use Rattle.stl_types.specs.declared.brackets.Bracket.{Bracket}
+use Rattle.stl_types.specs.Landings.{Nesting, crosses, nesting_behind}
 use Rattle.stl_types.proofs.landings.crossing_jumps.Goals as goal
 
 pub loop-statement-init : goal.loop-statement-init
 loop-statement-init c =
-    let at = c.args.landings.now in
-    lesser_first _ ∙ ap (λ (l : List Bracket). least (with_brackets (λ brackets s. broken_if (crosses at.labels at.lists.items brackets s.operand) s.line 33) l c.args.body.now)) c.new-brackets.ensures.items
+    let at = c.args.targets.now in
+    lesser_first _ ∙ ap (λ (n : Nesting). least (gathered (λ s. false) (λ n (s : Statement). broken_if (crosses at.labels at.landings.items n s.operand) s.line 33) nesting_behind n c.args.body.now)) c.new-nesting.ensures
 
 pub loop-statement-preserved : goal.loop-statement-preserved
 loop-statement-preserved c =
-    let at = c.args.landings.now in
-    let one = c.broken_if.ensures ∙ ap (λ (v : Bool). least (broken_if v c.statement-item.result.line 33)) (let a = c.as_slice.ensures.value in let k = c.in_ok-wrong.ensures in cc) in
-    gathered_next (λ s. false) (λ brackets (s : Statement). broken_if (crosses at.labels at.lists.items brackets s.operand) s.line 33) behind
-    c.loop-statement.brackets.items c.pass.new.brackets.items c.args.body.now c.loop-statement.statement-index c.statement-item.result _ _ _ _ c.loop-statement-test.true c.statement-item.is refl
+    let at = c.args.targets.now in
+    let one = c.broken_if.ensures ∙ ap (λ (v : Bool). least (broken_if v c.statement-item.result.line 33)) c.in_ok-wrong.ensures in
+    gathered_next (λ s. false) (λ n (s : Statement). broken_if (crosses at.labels at.landings.items n s.operand) s.line 33) nesting_behind
+    c.loop-statement.nesting c.pass.new.self c.args.body.now c.loop-statement.statement-index c.statement-item.result _ _ _ _ c.loop-statement-test.true c.statement-item.is refl
     one c.lesser-found.ensures c.in_ok-pass.ensures c.loop-statement.invariant
 
 pub returns : goal.returns
 returns c =
-    let at = c.args.landings.now in
-    gathered_done (λ s. false) (λ brackets (s : Statement). broken_if (crosses at.labels at.lists.items brackets s.operand) s.line 33) behind
-    c.loop-statement.brackets.items c.args.body.now _ _ _ c.loop-statement-test.false c.loop-statement.invariant
+    let at = c.args.targets.now in
+    gathered_done (λ s. false) (λ n (s : Statement). broken_if (crosses at.labels at.landings.items n s.operand) s.line 33) nesting_behind
+    c.loop-statement.nesting c.args.body.now _ _ _ c.loop-statement-test.false c.loop-statement.invariant

@@ -1,0 +1,120 @@
+-- The calls of a program by places: each block has a place among bounds, and calls blocks by their places.
+-- Layers and marks come to the same by places as by blocks, and need no search for a block.
+use Rattle.std.specs.Prelude.{ℕ, zero, suc, ◌+◌, max, Bool, true, if◌then◌else◌, List, [], ◌∷◌, map, slice_get, slice_set, Option, Some, None}
+use Rattle.std.specs.Option.{option_map}
+use Rattle.plc_base.specs.declared.blocks.BlockId.{BlockId}
+use Rattle.flat_code.specs.Ops.{OpData}
+use Rattle.flat_code.specs.Programs.{CodeBlock, Program}
+use Rattle.image_file.specs.Readers.{block_of, same_id}
+use Rattle.stack_bound.specs.Calls.{callee_of}
+use Rattle.stack_bound.specs.Layers.{number_if, with_bound}
+use Rattle.stack_bound.specs.Marks.{ob_marks}
+use Rattle.stack_bound.specs.declared.certificates.Bound.{Bound}
+use Rattle.stack_bound.specs.declared.measures.Measure.{Measure}
+use Rattle.stack_bound.specs.declared.measures.Measure.TheVariants.{Depth, Bytes}
+
+-- ---- places
+
+-- the place where a block stands first among bounds
+abbrev pub place_of : BlockId → List Bound → Option ℕ
+place_of block [] = None
+place_of block (b ∷ rest) =
+    if same_id b.block block then Some 0 else option_map suc (place_of block rest)
+
+-- that of a block that may be called
+abbrev pub place_in : List Bound → Option BlockId → Option ℕ
+place_in list None = None
+place_in list (Some block) = place_of block list
+
+-- a place that may be there, in front of others
+abbrev pub with_place : Option ℕ → List ℕ → List ℕ
+with_place None rest = rest
+with_place (Some place) rest = place ∷ rest
+
+-- the places of the blocks that ops call
+abbrev pub places_called : List Bound → List OpData → List ℕ
+places_called list [] = []
+places_called list (op ∷ ops) = with_place (place_in list (callee_of op)) (places_called list ops)
+
+-- a block, with its local bytes and the places of the blocks that it calls
+pub record CallerData : Type 0 where
+  pub block : BlockId
+  pub local_len : ℕ
+  pub called : List ℕ
+
+-- a code block among those of a list
+abbrev pub caller_of : List Bound → BlockId → CodeBlock → CallerData
+caller_of list id b = record { block = id; local_len = b.local_len; called = places_called list b.code }
+
+-- a block of a program, if it is a code block
+abbrev pub caller_in : Program → List Bound → BlockId → Option CallerData
+caller_in p list id = option_map (caller_of list id) (block_of id p.code_blocks)
+
+-- a caller that may be there, in front of others
+abbrev pub with_caller : Option CallerData → List CallerData → List CallerData
+with_caller None rest = rest
+with_caller (Some c) rest = c ∷ rest
+
+-- the callers among blocks
+abbrev pub callers_of : Program → List Bound → List BlockId → List CallerData
+callers_of p list [] = []
+callers_of p list (id ∷ ids) = with_caller (caller_in p list id) (callers_of p list ids)
+
+-- ---- layers
+
+-- what a layer says in a place
+abbrev pub number_at : Measure → List Bound → (place : ℕ) → ℕ
+number_at m layer place = number_if m (slice_get layer place)
+
+-- the most that it says in some places
+abbrev pub most_at : Measure → List Bound → List ℕ → ℕ
+most_at m layer [] = 0
+most_at m layer (place ∷ places) = max (number_at m layer place) (most_at m layer places)
+
+-- the bound of a caller above a layer
+abbrev pub bound_by : List Bound → CallerData → Bound
+bound_by layer c = record {
+  block = c.block;
+  depth = 1 + most_at Depth layer c.called;
+  bytes = c.local_len + most_at Bytes layer c.called;
+}
+
+-- so many layers above another one
+abbrev pub layers_by : List CallerData → (first : List Bound) → ℕ → List Bound
+layers_by callers first zero = first
+layers_by callers first (suc k) = map (bound_by (layers_by callers first k)) callers
+
+-- the bound of a block that calls none
+abbrev pub bound_alone : BlockId → CodeBlock → Bound
+bound_alone block b = record { block = block; depth = 1; bytes = b.local_len }
+
+-- so of a block of a program, if it is a code block
+abbrev pub bound_alone_in : Program → BlockId → Option Bound
+bound_alone_in p id = option_map (bound_alone id) (block_of id p.code_blocks)
+
+-- and of each of some blocks
+abbrev pub bounds_alone : Program → List BlockId → List Bound
+bounds_alone p [] = []
+bounds_alone p (id ∷ ids) = with_bound (bound_alone_in p id) (bounds_alone p ids)
+
+-- ---- marks
+
+-- places are marked
+abbrev pub mark_places : List Bool → List ℕ → List Bool
+mark_places marks [] = marks
+mark_places marks (place ∷ places) = mark_places (slice_set marks place true) places
+
+-- what a caller calls, if the caller had a mark
+abbrev pub mark_if : Bool → List Bool → CallerData → List Bool
+mark_if m marks c = if m then mark_places marks c.called else marks
+
+-- what the callers call that had a mark before
+abbrev pub mark_callers : List Bool → (before : List Bool) → List CallerData → List Bool
+mark_callers marks [] callers = marks
+mark_callers marks (m ∷ before) [] = marks
+mark_callers marks (m ∷ before) (c ∷ callers) = mark_callers (mark_if m marks c) before callers
+
+-- the marks of a round
+abbrev pub marks_by : List CallerData → List Bound → ℕ → List Bool
+marks_by callers list zero = ob_marks list
+marks_by callers list (suc k) = mark_callers (ob_marks list) (marks_by callers list k) callers
