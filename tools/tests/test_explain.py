@@ -106,7 +106,7 @@ class Explanations(ToolTest):
 
     def test_each_rule_of_the_help_has_its_sentences(self):
         numbers = [number for number in range(100) if documents.rule(number)]
-        self.assertEqual(len(numbers), 43)
+        self.assertEqual(len(numbers), 46)
         self.assertEqual([number for number in numbers if documents.short_rule(number).startswith("docs/")], [])
         for kind in ("history", "stimuli", "script 4"):
             self.assertEqual([number for number in range(100) if documents.rule(number, kind)], list(range(1, 7)))
