@@ -3,8 +3,6 @@
 #![tactic(auto)]
 
 #[cfg(test)]
-mod bound_tests;
-#[cfg(test)]
 mod calls;
 #[cfg(test)]
 mod compare;
@@ -35,8 +33,6 @@ mod long_history_tests;
 #[cfg(test)]
 mod outside_tests;
 #[cfg(test)]
-mod publish_tests;
-#[cfg(test)]
 mod relay_tests;
 #[cfg(test)]
 mod request_tests;
@@ -46,9 +42,5 @@ mod run_tests;
 mod symbols_tests;
 #[cfg(test)]
 mod upgrade_tests;
-#[cfg(test)]
-mod watch_status_tests;
-#[cfg(test)]
-mod watch_tests;
 #[cfg(test)]
 mod words_tests;
