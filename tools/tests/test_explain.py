@@ -108,10 +108,10 @@ class Explanations(ToolTest):
         numbers = [number for number in range(100) if documents.rule(number)]
         self.assertEqual(len(numbers), 46)
         self.assertEqual([number for number in numbers if documents.short_rule(number).startswith("docs/")], [])
-        for kind in ("history", "stimuli", "script 4"):
-            self.assertEqual([number for number in range(100) if documents.rule(number, kind)], list(range(1, 7)))
+        for kind in ("history", "stimuli", "vars", "script 4"):
+            self.assertEqual([number for number in range(100) if documents.rule(number, kind)], list(range(1, 8)))
         for number in numbers:
             self.assertIn(f"rule {number}, broken where: ", self.explained(2, f"source refused: line 1 rule {number}", "check", "nowhere"))
         self.assertEqual([code for code in range(100) if documents.fault(code)], list(range(1, 11)))
-        limits = {"source": 1048576, "symbols": 1048576, "image": 8388608, "history": 4194304, "stimuli": 4194304, "script": 1048576}
+        limits = {"source": 1048576, "symbols": 1048576, "image": 8388608, "history": 4194304, "stimuli": 4194304, "vars": 1048576, "script": 1048576, "certificate": 1048576}
         self.assertEqual(documents.limits(), limits)

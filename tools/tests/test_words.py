@@ -41,7 +41,11 @@ class Words(unittest.TestCase):
             ("run a b", "image a, history b"),
             ("live a b c d --steps 7", "image a, stimuli b, script 1 c, script 2 d"),
             ("live --steps=7 a b c d e f", "image a, stimuli b, script 1 c, script 2 d, script 3 e, script 4 f"),
+            ("watch a b c d --steps 7", "image a, stimuli b, vars c, script 1 d"),
+            ("watch a b c d e f --steps=7", "image a, stimuli b, vars c, script 1 d, script 2 e, script 3 f"),
             ("upgrade a b", "image a"),
+            ("bound a b", "image a"),
+            ("recheck a b", "image a, certificate b"),
             ("gen 7", ""),
             ("fly a b", ""),
         ):
@@ -49,9 +53,9 @@ class Words(unittest.TestCase):
             self.assertEqual(told, inputs, words)
 
     def test_the_file_that_is_written(self):
-        for command in ("compile", "upgrade"):
+        for command in ("compile", "upgrade", "bound"):
             self.assertEqual(read_call([command, "a", "b"]).written_word(), (2, "", "b"))
-        for words in (["compile", "a"], ["go", "a", "b"], ["run", "a", "b"], ["gen", "1"], []):
+        for words in (["compile", "a"], ["go", "a", "b"], ["run", "a", "b"], ["recheck", "a", "b"], ["gen", "1"], []):
             self.assertIsNone(read_call(words).written_word())
 
 

@@ -7,7 +7,8 @@ from texts.tool import Refused
 
 HELP_FILE = TOP / "crates" / "s7_cli" / "src" / "help.rt"
 TEXT_RULES = "Rules of histories, stimuli and scripts"
-TEXTS = ("history", "stimuli", "script")
+# where the rules of a file stand that is no source and no symbols file
+RULES_OF = {"history": TEXT_RULES, "stimuli": TEXT_RULES, "vars": TEXT_RULES, "script": TEXT_RULES, "certificate": "Rules of certificates"}
 CONSTANTS = {"help": "HELP", "version": "VERSION"}
 ESCAPES = {"\\n": "\n", '\\"': '"', "\\\\": "\\"}
 
@@ -69,9 +70,9 @@ def rows(name, first, second):
 
 def rule(number, kind="source"):
     """The row of a rule in docs/REFUSALS.md for this kind of file, or None."""
-    of_text = kind.partition(" ")[0] in TEXTS
-    found = rows("REFUSALS.md", "Rule", "Broken where")
-    return next((row for row in found if row.cells[0] == str(number) and (row.heading == TEXT_RULES) == of_text), None)
+    of_text = RULES_OF.get(kind.partition(" ")[0])
+    found = [row for row in rows("REFUSALS.md", "Rule", "Broken where") if row.cells[0] == str(number)]
+    return next((row for row in found if (row.heading if row.heading in RULES_OF.values() else None) == of_text), None)
 
 
 def fault(code):

@@ -11,7 +11,10 @@ WORDS_BY_COMMAND = {
     "run": ("image", "history"),
     "gen": (None,),
     "live": ("image", "stimuli", *SCRIPTS),
+    "watch": ("image", "stimuli", "vars", *SCRIPTS[:3]),
     "upgrade": ("image", "written"),
+    "bound": ("image", "written"),
+    "recheck": ("image", "certificate"),
 }
 QUESTIONS = {"--help": "help", "-h": "help", "--version": "version", "-V": "version"}
 

@@ -5,8 +5,8 @@ use Rattle.plc_io.specs.Counts.{Rose, SameCounts, NeverFell}
 use Rattle.plc_io.specs.FileCalls.{Unchanged}
 use Rattle.plc_io.specs.Moments.{FilesAt, SinkAt}
 use Rattle.s7_cli.specs.declared.failures.Failure.{Failure}
-use Rattle.s7_cli.specs.declared.failures.Failure.TheVariants.{WordsRefused, ReadFault, TooLong, Refused, ImageRefused, WriteFault, NoMemory}
-use Rattle.s7_cli.specs.Answer.{Answer, Outcome, done, refused, refused_image, read_fault, too_long}
+use Rattle.s7_cli.specs.declared.failures.Failure.TheVariants.{WordsRefused, ReadFault, TooLong, Refused, ImageRefused, SaysNo, TooDeep, WriteFault, NoMemory}
+use Rattle.s7_cli.specs.Answer.{Answer, Outcome, done, refused, refused_image, says_no, read_fault, too_long}
 use Rattle.s7_cli.specs.Command.{Command, Input, inputs_of, outputs_of}
 use Rattle.s7_cli.specs.Ends.{Taking, taking, Answers, ChangesOutputs, WritesOutputs}
 use Rattle.s7_cli.specs.Inner.{OnlyReads, FileRead, HasRead, StopsAmong, AllRead, RefusedBy, TextWritten, Comes}
@@ -134,6 +134,8 @@ file-fails view views d i more NoMemory only = only
 file-fails view views d i more WordsRefused read = absurd read
 file-fails view views d i more (Refused file refusal) read = absurd read
 file-fails view views d i more (ImageRefused fault) read = absurd read
+file-fails view views d i more SaysNo read = absurd read
+file-fails view views d i more TooDeep read = absurd read
 file-fails view views d i more WriteFault read = absurd read
 
 pub file-unread : {V W : Type 0} (view : V → List ℕ) (views : W → List (List ℕ)) (d : Disk) (i : Input) (failure : Failure) (r : Result W Failure)
@@ -163,6 +165,8 @@ fails-then view views start middle now is js contents NoMemory first only = sinc
 fails-then view views start middle now is js contents WordsRefused first read = absurd read
 fails-then view views start middle now is js contents (Refused file refusal) first read = absurd read
 fails-then view views start middle now is js contents (ImageRefused fault) first read = absurd read
+fails-then view views start middle now is js contents SaysNo first read = absurd read
+fails-then view views start middle now is js contents TooDeep first read = absurd read
 fails-then view views start middle now is js contents WriteFault first read = absurd read
 
 -- files were read, and then one isn't
@@ -200,6 +204,8 @@ not-read view c start now at is rest NoMemory are only = wanting (Some c) (disk 
 not-read view c start now at is rest WordsRefused are read = absurd read
 not-read view c start now at is rest (Refused file refusal) are read = absurd read
 not-read view c start now at is rest (ImageRefused fault) are read = absurd read
+not-read view c start now at is rest SaysNo are read = absurd read
+not-read view c start now at is rest TooDeep are read = absurd read
 not-read view c start now at is rest WriteFault are read = absurd read
 
 pub comes-unread : {V : Type 0} (view : V → List (List ℕ)) (c : Command) (start now : FilesAt) (at : SinkAt) (is rest : List Input)
@@ -230,6 +236,15 @@ refuses V c start now at contents (ImageRefused fault) read said = record {
   counts = read.same.reads;
   only_reads = only-reads start now read.same;
 }
+refuses V c start now at contents SaysNo read said = record {
+  line = says_no.text;
+  has_line = refl;
+  answers = reads-all (disk start now) (inputs_of c) contents (Says c) says_no read.hold said;
+  sink = refl;
+  counts = read.same.reads;
+  only_reads = only-reads start now read.same;
+}
+refuses V c start now at contents TooDeep read said = absurd said
 refuses V c start now at contents NoMemory read said = wanting (Some c) (disk start now) at (only-reads start now read.same)
 refuses V c start now at contents WordsRefused read said = absurd said
 refuses V c start now at contents ReadFault read said = absurd said
@@ -240,6 +255,8 @@ allowed : (V : Type 0) (said says : Answer → Type 0) (failure : Failure) → (
     → RefusedBy {V = V} said (Err failure) → RefusedBy {V = V} says (Err failure)
 allowed V said says (Refused file refusal) each told = each (refused file refusal) told
 allowed V said says (ImageRefused fault) each told = each (refused_image fault) told
+allowed V said says SaysNo each told = each says_no told
+allowed V said says TooDeep each told = told
 allowed V said says NoMemory each told = tt
 allowed V said says WordsRefused each told = told
 allowed V said says ReadFault each told = told
@@ -298,6 +315,8 @@ writes c start now s text (Err ReadFault) same none answers took = absurd took
 writes c start now s text (Err (TooLong file)) same none answers took = absurd took
 writes c start now s text (Err (Refused file refusal)) same none answers took = absurd took
 writes c start now s text (Err (ImageRefused fault)) same none answers took = absurd took
+writes c start now s text (Err SaysNo) same none answers took = absurd took
+writes c start now s text (Err TooDeep) same none answers took = absurd took
 
 pub comes-written : (c : Command) (start now : FilesAt) (s : Taking) (contents : List (List ℕ)) (text : List ℕ) (came : Outcome)
     → outputs_of c ≡ [] → HasRead start now (inputs_of c) contents → Says c contents (done text)

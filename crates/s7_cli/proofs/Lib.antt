@@ -1,3 +1,5 @@
+pub mod BoardLemmas
+pub mod BoundLemmas
 pub mod ComesLemmas
 mod CompileLemmas
 pub mod FinishLemmas
@@ -19,5 +21,10 @@ pub mod StepperLemmas
 pub mod SummaryLemmas
 pub mod TableLemmas
 pub mod UpgradeLemmas
+pub mod Verdicts
+pub mod WatchingLemmas
+pub mod WatchRunLemmas
+pub mod WatchSaysLemmas
+pub mod WatchTextLemmas
 pub mod WorkingLemmas
 pub mod run

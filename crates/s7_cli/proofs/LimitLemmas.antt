@@ -7,8 +7,8 @@ use Rattle.clap.specs.Walk.{Row, is_empty}
 use Rattle.clap.specs.Words.{all_of, fault_of, first_of, matches_of}
 use Rattle.plc_base.specs.Decimal.{decimal_up_to, decimal_value, is_decimal}
 use Rattle.stl_parser.proofs.OptionLemmas.{both, chained, mapped, none_holds, passed}
-use Rattle.s7_cli.specs.Command.{Command, Gen, Live}
-use Rattle.s7_cli.specs.Words.{the_line, number_up_to, one_word_command, two_word_command, short_command, live_command, asked_for, asked_by, command_of, CommandsKeepLimits, KeepsLimits}
+use Rattle.s7_cli.specs.Command.{Command, Gen, Live, Watch}
+use Rattle.s7_cli.specs.Words.{the_line, number_up_to, one_word_command, two_word_command, short_command, live_command, stepped_command, watch_command, asked_for, asked_by, command_of, CommandsKeepLimits, KeepsLimits}
 
 decimal-limit : (most : ℕ) (word : List ℕ) → IfSome (decimal_up_to most word) (λ n. n ≤ most)
 unfolding decimal_up_to
@@ -32,7 +32,9 @@ two-limits command first second symbols =
     both (bytes_eq command (codes "go")) _ _ KeepsLimits tt
     (both (bytes_eq command (codes "compile")) _ _ KeepsLimits tt
     (both (bytes_eq command (codes "run") && not (is_some symbols)) _ _ KeepsLimits tt
-    (passed (bytes_eq command (codes "upgrade") && not (is_some symbols)) _ KeepsLimits (λ _. tt))))
+    (both (bytes_eq command (codes "upgrade") && not (is_some symbols)) _ _ KeepsLimits tt
+    (both (bytes_eq command (codes "bound") && not (is_some symbols)) _ _ KeepsLimits tt
+    (passed (bytes_eq command (codes "recheck") && not (is_some symbols)) _ KeepsLimits (λ _. tt))))))
 
 short-limits : (command : List ℕ) (words : List (List ℕ)) (symbols : Option (List ℕ)) → IfSome (short_command command words symbols) KeepsLimits
 short-limits command [] symbols = tt
@@ -51,9 +53,23 @@ live-limits command (image ∷ stimuli ∷ script ∷ scripts) steps =
     let most : length (script ∷ scripts) ≤ 4 = grind (arith, nat_tests) in
     mapped (number_up_to 1000000 steps) (Live image stimuli (script ∷ scripts)) _ KeepsLimits (number-limits 1000000 steps) (λ n within. (some, most, within.0, within.1)))
 
+watch-limits : (words : List (List ℕ)) (steps : List ℕ) → IfSome (watch_command words steps) KeepsLimits
+watch-limits [] steps = tt
+watch-limits (image ∷ []) steps = tt
+watch-limits (image ∷ stimuli ∷ []) steps = tt
+watch-limits (image ∷ stimuli ∷ vars ∷ []) steps = tt
+watch-limits (image ∷ stimuli ∷ vars ∷ script ∷ scripts) steps =
+    passed (nat_le (length scripts) 2) _ KeepsLimits
+    (λ h. let some : 1 ≤ length (script ∷ scripts) = grind (arith, nat_tests) in
+    let most : length (script ∷ scripts) ≤ 3 = grind (arith, nat_tests) in
+    mapped (number_up_to 1000000 steps) (Watch image stimuli vars (script ∷ scripts)) _ KeepsLimits (number-limits 1000000 steps) (λ n within. (some, most, within.0, within.1)))
+
+stepped-limits : (command : List ℕ) (words : List (List ℕ)) (steps : List ℕ) → IfSome (stepped_command command words steps) KeepsLimits
+stepped-limits command words steps = both (bytes_eq command (codes "watch")) _ _ KeepsLimits (watch-limits words steps) (live-limits command words steps)
+
 asked-limits : (command : List ℕ) (words : List (List ℕ)) (symbols steps : Option (List ℕ)) → IfSome (asked_for command words symbols steps) KeepsLimits
 asked-limits command words symbols None = short-limits command words symbols
-asked-limits command words symbols (Some steps) = both (is_some symbols) None _ KeepsLimits tt (live-limits command words steps)
+asked-limits command words symbols (Some steps) = both (is_some symbols) None _ KeepsLimits tt (stepped-limits command words steps)
 
 found-limits : (found : List Row) → IfSome (asked_by found) KeepsLimits
 found-limits found =

@@ -14,7 +14,7 @@ use Rattle.s7_cli.specs.Working.{AreReady, CanWork, HaveBegun, IsFresh, entries_
 abbrev flag : Bool → ℕ
 flag b = cond b 1 0
 
-fresh_one : (s : Locked Opening) (k : ℕ) → IsFresh s (fresh_pass s k)
+pub fresh_one : (s : Locked Opening) (k : ℕ) → IsFresh s (fresh_pass s k)
 fresh_one s k = record { lock = refl; out = refl; made = refl; agrees = (refl, tt) }
 
 are_ready : (s : Locked Opening) (k : ℕ) (xs : List (List Entry)) → AreRegularBy (suc k) xs → AreReady s (fresh_passes s k (length xs)) xs

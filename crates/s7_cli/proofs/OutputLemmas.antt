@@ -6,7 +6,7 @@ use Rattle.plc_io.specs.Counts.{Rose, SameCounts}
 use Rattle.plc_io.specs.FileCalls.{Unchanged}
 use Rattle.plc_io.specs.Moments.{FilesAt, SinkAt}
 use Rattle.s7_cli.specs.declared.failures.Failure.{Failure}
-use Rattle.s7_cli.specs.declared.failures.Failure.TheVariants.{WordsRefused, ReadFault, TooLong, Refused, ImageRefused, WriteFault, NoMemory}
+use Rattle.s7_cli.specs.declared.failures.Failure.TheVariants.{WordsRefused, ReadFault, TooLong, Refused, ImageRefused, SaysNo, TooDeep, WriteFault, NoMemory}
 use Rattle.s7_cli.specs.Answer.{Outcome, done}
 use Rattle.s7_cli.specs.Command.{Command, inputs_of, outputs_of}
 use Rattle.s7_cli.specs.Ends.{Taking, taking, Answers, ChangesOutputs, WritesOutputs, HoldsFront, HoldsWhole, RoseAmong, WritesTo}
@@ -108,6 +108,8 @@ fails c start middle now at contents name bytes ReadFault are read writes left =
 fails c start middle now at contents name bytes (TooLong file) are read writes left = absurd left
 fails c start middle now at contents name bytes (Refused file refusal) are read writes left = absurd left
 fails c start middle now at contents name bytes (ImageRefused fault) are read writes left = absurd left
+fails c start middle now at contents name bytes SaysNo are read writes left = absurd left
+fails c start middle now at contents name bytes TooDeep are read writes left = absurd left
 
 pub comes-unwritten : (c : Command) (start middle now : FilesAt) (at : SinkAt) (contents : List (List ℕ)) (name bytes : List ℕ)
     (failure : Failure) (came : Outcome) → came ≡ Err failure → outputs_of c ≡ name ∷ [] → HasRead start middle (inputs_of c) contents
@@ -184,3 +186,5 @@ comes-output c start middle now s contents name bytes text came are read writes 
     by (Err (TooLong file)) took = absurd took
     by (Err (Refused file refusal)) took = absurd took
     by (Err (ImageRefused fault)) took = absurd took
+    by (Err SaysNo) took = absurd took
+    by (Err TooDeep) took = absurd took

@@ -1,7 +1,7 @@
 -- How clap's walk goes over words that are no options, of themselves or behind `--`: the first is COMMAND, and all others are FILES. `behind` says
 -- whether `--` stood at the front. An option may stand in any place among them.
 use Rattle.std.proofs.Common.{◌≡◌, ℕ, Bool, true, false, not, ◌&&◌, ◌||◌, ◌==◌, List, [], ◌∷◌, ◌++◌, length, nat_le, refl, ap, sym, ◌∙◌, arith, codes, if◌then◌else◌, true≢false, append-nil, append_assoc, length-append}
-use Rattle.std.specs.Prelude.{Option, Some, None, bytes_eq, is_some}
+use Rattle.std.specs.Prelude.{Option, Some, None, bytes_eq, is_some, option_map}
 use Rattle.std.specs.List.{fold, list_all}
 use Rattle.std.proofs.lemmas.Bool.{and_parts}
 use Rattle.std.proofs.lemmas.Bool.Decides.{nat_tests}
@@ -12,8 +12,8 @@ use Rattle.clap.specs.Faults.{check_fault, defaults_fault, entered_fault, settle
 use Rattle.clap.specs.Simple.{Shape, built, entered}
 use Rattle.clap.specs.Walk.{Row, Rule, Text, Waiting, Walk, finished, idle, is_empty, option, positional, settled, settled_rows, walked}
 use Rattle.clap.specs.declared.builder.value_parser.ValueParser.TheVariants as parser
-use Rattle.s7_cli.specs.Command.{Command}
-use Rattle.s7_cli.specs.Words.{the_line, asked_by, command_of, is_plain_word, plain_command, live_command, short_command, ReadsPlainWords, ReadsStepsAnywhere, ReadsSymbolsAnywhere, ReadsWordsBehindDashes, RefusesNoValue}
+use Rattle.s7_cli.specs.Command.{Command, Watch}
+use Rattle.s7_cli.specs.Words.{the_line, asked_by, command_of, is_plain_word, plain_command, live_command, stepped_command, watch_command, short_command, number_up_to, ReadsPlainWords, ReadsStepsAnywhere, ReadsSymbolsAnywhere, ReadsWordsBehindDashes, RefusesNoValue}
 
 -- ---- one word
 
@@ -244,6 +244,28 @@ none-live command (a ∷ []) number h = refl
 none-live command (a ∷ b ∷ []) number h = refl
 none-live command (a ∷ b ∷ c ∷ more) number h = not_both (bytes_eq command (codes "live")) _ _ (grind (arith, nat_tests))
 
+none-if : (test : Bool) (asked : Option Command) → test ≡ false → (if test then asked else None) ≡ None
+none-if test asked e = rw e refl
+
+none-watch : (words : List Text) (number : Text) → are_few words ≡ false → watch_command words number ≡ None
+none-watch [] number h = refl
+none-watch (a ∷ []) number h = refl
+none-watch (a ∷ b ∷ []) number h = refl
+none-watch (a ∷ b ∷ c ∷ []) number h = refl
+none-watch (a ∷ b ∷ c ∷ d ∷ more) number h =
+    none-if (nat_le (length more) 2) (option_map (Watch a b c (d ∷ more)) (number_up_to 1000000 number)) (grind (arith, nat_tests))
+
+none-chosen : (test : Bool) (one other : Option Command) → one ≡ None → other ≡ None → (if test then one else other) ≡ None
+none-chosen true one other e f = e
+none-chosen false one other e f = f
+
+none-stepped : (command : Text) (words : List Text) (number : Text) → are_few words ≡ false → stepped_command command words number ≡ None
+none-stepped command words number h = none-chosen (bytes_eq command (codes "watch")) _ _ (none-watch words number h) (none-live command words number h)
+
+-- steps alone, without a file
+none-alone : (command number : Text) → stepped_command command [] number ≡ None
+none-alone command number = none-chosen (bytes_eq command (codes "watch")) None None refl refl
+
 none-short : (command : Text) (words : List Text) (given : Option Text) → are_few words ≡ false → short_command command words given ≡ None
 none-short command [] given h = refl
 none-short command (a ∷ []) given h = absurd (true≢false h)
@@ -253,7 +275,7 @@ none-short command (a ∷ b ∷ c ∷ more) given h = refl
 none-many : (command : Text) (words : List Text) (given : Option Given) → are_few words ≡ false → asked_with given (command ∷ words) ≡ None
 none-many command words None h = none-short command words None h
 none-many command words (Some (symbols file)) h = none-short command words (Some file) h
-none-many command words (Some (steps number)) h = none-live command words number h
+none-many command words (Some (steps number)) h = none-stepped command words number h
 
 -- ---- words that are no options
 
@@ -285,12 +307,12 @@ no_words (Some (steps number)) = refl
 one_word : (behind : Bool) (given : Option Given) (command : Text) → asked_by (finished the_rules (at_command behind given command).held) ≡ None
 one_word behind None command = refl
 one_word behind (Some (symbols file)) command = refl
-one_word behind (Some (steps number)) command = refl
+one_word behind (Some (steps number)) command = none-alone command number
 
 one_word-asked : (given : Option Given) (command : Text) → None ≡ asked_with given (command ∷ [])
 one_word-asked None command = refl
 one_word-asked (Some (symbols file)) command = refl
-one_word-asked (Some (steps number)) command = refl
+one_word-asked (Some (steps number)) command = sym (none-alone command number)
 
 all_words : (behind : Bool) (given : Option Given) (command file : Text) (files : List Text)
     → asked_by (finished the_rules (at_files behind (rows_at_files given command) (file ∷ files)).held) ≡ asked_with given (command ∷ file ∷ files)
@@ -524,7 +546,7 @@ words-behind (steps n) command (a ∷ front) file files = refl
 
 one_word-option : (given : Given) (command : Text) → asked_by (finished the_rules (behind_option given (command ∷ [])).held) ≡ None
 one_word-option (symbols f) command = refl
-one_word-option (steps n) command = refl
+one_word-option (steps n) command = none-alone command n
 
 few-back : (front back : List Text) → are_few (front ++ back) ≡ true → are_few back ≡ true
 few-back front back few = let sum = length-append front back in grind (arith, nat_tests)

@@ -24,7 +24,7 @@ each_holds : {A : Type 0} (P : A → Type 0) (es : List A) → ((e : A) → P e)
 each_holds P [] f = tt
 each_holds P (e ∷ es) f = (f e, each_holds P es f)
 
-each_copy : {A : Type 0} (P : A → Type 0) (n : ℕ) (e : A) → P e → AllByRecursion P (replicate n e)
+pub each_copy : {A : Type 0} (P : A → Type 0) (n : ℕ) (e : A) → P e → AllByRecursion P (replicate n e)
 each_copy P zero e p = tt
 each_copy P (suc n) e p = (p, each_copy P n e p)
 

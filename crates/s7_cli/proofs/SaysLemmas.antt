@@ -32,7 +32,8 @@ use Rattle.s7_cli.specs.declared.failures.File.TheVariants.{Source, Symbols, His
 use Rattle.s7_cli.specs.declared.failures.Failure.{Failure}
 use Rattle.s7_cli.specs.declared.files.ProgramText.{ProgramText}
 use Rattle.s7_cli.specs.Answer.{Answer, done, refused, refused_image}
-use Rattle.s7_cli.specs.Command.{Command, Go, Check, Compile, Run, Gen, Live, Upgrade, symbols_inputs, program_inputs}
+use Rattle.s7_cli.specs.BoundSays.{BoundSays, RecheckSays}
+use Rattle.s7_cli.specs.Command.{Command, Go, Check, Compile, Run, Gen, Live, Watch, Upgrade, Bound, Recheck, symbols_inputs, program_inputs}
 use Rattle.s7_cli.specs.Faults.{failure_of_compiling, failure_of_history, failure_of_loading}
 use Rattle.s7_cli.specs.GenText.{summary_text}
 use Rattle.s7_cli.specs.Inner.{RefusedBy}
@@ -43,8 +44,11 @@ use Rattle.s7_cli.specs.Reading.{HoldAll}
 use Rattle.s7_cli.specs.Says.{GoSays, CheckSays, RunSays, GenSays, UpgradeSays, refused_program, go_answer, check_answer, run_answer, ran, gen_answer, upgrade_answer, Says, Writes}
 use Rattle.s7_cli.specs.StatusTable.{HasOneText}
 use Rattle.s7_cli.specs.Texts.{IsWithin, contents_of, symbols_file}
+use Rattle.s7_cli.proofs.BoundLemmas.{bound-outcome, bound-verdict, recheck-one, recheck-verdict}
 use Rattle.s7_cli.proofs.LoadLemmas.{loads-one}
 use Rattle.s7_cli.proofs.ReadingLemmas.{AnswersAlike}
+use Rattle.s7_cli.proofs.Verdicts.{IsVerdict}
+use Rattle.s7_cli.proofs.WatchSaysLemmas.{watch-one, watch-verdict}
 
 -- ---- one answer
 
@@ -109,9 +113,15 @@ says-one one (Run _ _) text (x ∷ y ∷ more ∷ rest) a b p q = absurd p
 says-one one (Gen number) text [] a b p q = gen-one one number a b p q
 says-one one (Gen number) text (more ∷ rest) a b p q = absurd p
 says-one one (Live _ _ _ _) text contents a b p q = absurd text
+says-one one (Watch _ _ _ _ _) text contents a b p q = absurd text
 says-one one (Upgrade _ _) text [] a b p q = absurd p
 says-one one (Upgrade _ _) text (image ∷ []) a b p q = upgrade-one image a b p q
 says-one one (Upgrade _ _) text (x ∷ more ∷ rest) a b p q = absurd p
+says-one one (Bound _ _) text contents a b p q = absurd text
+says-one one (Recheck _ _) text [] a b p q = absurd p
+says-one one (Recheck _ _) text (x ∷ []) a b p q = absurd p
+says-one one (Recheck _ _) text (image ∷ certificate ∷ []) a b p q = recheck-one image certificate a b p q
+says-one one (Recheck _ _) text (x ∷ y ∷ more ∷ rest) a b p q = absurd p
 
 -- `live` has one outcome
 stimulated-one : (p : LoadedProgram) (steps : ℕ) (s : Result (List Entry) Refusal) (r : Result (List (List Entry)) RefusedScript) (a b : Answer)
@@ -138,10 +148,18 @@ says-outcome one (Check s y) contents a b p q = ap (λ (x : Answer). x.outcome) 
 says-outcome one (Compile s y i) contents a b p q = ap (λ (x : Answer). x.outcome) (says-one one (Compile s y i) tt contents a b p q)
 says-outcome one (Run i h) contents a b p q = ap (λ (x : Answer). x.outcome) (says-one one (Run i h) tt contents a b p q)
 says-outcome one (Upgrade i u) contents a b p q = ap (λ (x : Answer). x.outcome) (says-one one (Upgrade i u) tt contents a b p q)
+says-outcome one (Recheck i k) contents a b p q = ap (λ (x : Answer). x.outcome) (says-one one (Recheck i k) tt contents a b p q)
+says-outcome one (Bound i k) [] a b p q = absurd p
+says-outcome one (Bound i k) (image ∷ []) a b p q = bound-outcome image a b p q
+says-outcome one (Bound i k) (x ∷ more ∷ rest) a b p q = absurd p
 says-outcome one (Gen n) contents a b p q = ap (λ (x : Answer). x.outcome) (says-one one (Gen n) tt contents a b p q)
 says-outcome one (Live i s o n) [] a b p q = absurd p
 says-outcome one (Live i s o n) (x ∷ []) a b p q = absurd p
 says-outcome one (Live i s o n) (image ∷ stimuli ∷ scripts) a b p q = live-one n image stimuli scripts a b p q
+says-outcome one (Watch i s v o n) [] a b p q = absurd p
+says-outcome one (Watch i s v o n) (x ∷ []) a b p q = absurd p
+says-outcome one (Watch i s v o n) (x ∷ y ∷ []) a b p q = absurd p
+says-outcome one (Watch i s v o n) (image ∷ stimuli ∷ vars ∷ scripts) a b p q = watch-one n image stimuli vars scripts a b p q
 
 -- two answers of a command that told files allow
 abbrev pub Alike : Command → Answer → Answer → Type 0
@@ -154,12 +172,6 @@ pub says-alike : MeansOne → (k : Command) → AnswersAlike (Alike k) (Says k)
 says-alike one k contents a b p q = (says-outcome one k contents a b p q, λ text. says-one one k text contents a b p q)
 
 -- ---- which answers there are
-
--- it is done, or refuses a file
-abbrev pub IsVerdict : Answer → Type 0
-IsVerdict a =
-    ((text : List ℕ) × (a ≡ done text)) ⊎ ((file : File) × (refusal : Refusal) × (a ≡ refused file refusal))
-    ⊎ ((fault : LoadFault) × (a ≡ refused_image fault))
 
 refused-verdict : (a : Answer) (why : Refused) → a ≡ refused_program why → IsVerdict a
 refused-verdict a (InSymbols refusal) gives = inr (inl (Symbols, refusal, gives))
@@ -179,11 +191,11 @@ ran-verdict a l (Err refusal) gives = inr (inl (History, refusal, gives))
 ran-verdict a l (Ok entries) gives = inl (run_text l.profile (code_of l.program) entries, gives)
 
 run-verdict : (a : Answer) (v : Result LoadedProgram LoadFault) (history : List ℕ) → a ≡ run_answer v history → IsVerdict a
-run-verdict a (Err fault) history gives = inr (inr (fault, gives))
+run-verdict a (Err fault) history gives = inr (inr (inl (fault, gives)))
 run-verdict a (Ok l) history gives = ran-verdict a l (history_of l.program.names history) gives
 
 upgrade-verdict : (a : Answer) (v : Result LoadedProgram LoadFault) → a ≡ upgrade_answer v → IsVerdict a
-upgrade-verdict a (Err fault) gives = inr (inr (fault, gives))
+upgrade-verdict a (Err fault) gives = inr (inr (inl (fault, gives)))
 upgrade-verdict a (Ok l) gives = inl (ok_line, gives)
 
 gen-verdict : (a : Answer) (number : ℕ) (v : Result Code Refused) → a ≡ gen_answer number v → IsVerdict a
@@ -198,7 +210,7 @@ stimulated-verdict p steps (Ok stimuli) (Ok scripts) a said = inl (live_text p s
 
 live-verdict : (v : Result LoadedProgram LoadFault) (steps : ℕ) (stimuli : List ℕ) (scripts : List (List ℕ)) (a : Answer)
     → LoadedLive v steps stimuli scripts a → IsVerdict a
-live-verdict (Err fault) steps stimuli scripts a said = inr (inr (fault, said))
+live-verdict (Err fault) steps stimuli scripts a said = inr (inr (inl (fault, said)))
 live-verdict (Ok p) steps stimuli scripts a said =
     stimulated-verdict p steps (stimuli_of stimuli) (scripts_from p.program.names 1 scripts) a said
 
@@ -235,9 +247,20 @@ says-verdict (Gen number) (more ∷ rest) a said = absurd said
 says-verdict (Upgrade _ _) [] a said = absurd said
 says-verdict (Upgrade _ _) (image ∷ []) a said = upgrade-verdict a said.0 said.2
 says-verdict (Upgrade _ _) (x ∷ more ∷ rest) a said = absurd said
+says-verdict (Bound _ _) [] a said = absurd said
+says-verdict (Bound _ _) (image ∷ []) a said = bound-verdict said.0 a said.2
+says-verdict (Bound _ _) (x ∷ more ∷ rest) a said = absurd said
+says-verdict (Recheck _ _) [] a said = absurd said
+says-verdict (Recheck _ _) (x ∷ []) a said = absurd said
+says-verdict (Recheck _ _) (image ∷ certificate ∷ []) a said = recheck-verdict said.0 certificate a said.2
+says-verdict (Recheck _ _) (x ∷ y ∷ more ∷ rest) a said = absurd said
 says-verdict (Live _ _ _ _) [] a said = absurd said
 says-verdict (Live _ _ _ _) (x ∷ []) a said = absurd said
 says-verdict (Live _ _ _ steps) (image ∷ stimuli ∷ scripts) a said = live-verdict said.0 steps stimuli scripts a said.2
+says-verdict (Watch _ _ _ _ _) [] a said = absurd said
+says-verdict (Watch _ _ _ _ _) (x ∷ []) a said = absurd said
+says-verdict (Watch _ _ _ _ _) (x ∷ y ∷ []) a said = absurd said
+says-verdict (Watch _ _ _ _ steps) (image ∷ stimuli ∷ vars ∷ scripts) a said = watch-verdict steps image stimuli vars scripts a said
 
 -- ---- of what was read
 

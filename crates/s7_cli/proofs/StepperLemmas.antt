@@ -92,7 +92,7 @@ runs_none o who before after e is own many = absurd (omega (arith, ap length is,
 runs_fewer : (o : Opening) (who : ℕ) (xs : List Entry) → RunsBefore 0 o who xs → RunsBefore 1 o who xs
 runs_fewer o who xs h before after e is own many = h before after e is own (omega arith)
 
-one_more : (n : ℕ) (e : Entry) → replicate n e ++ e ∷ [] ≡ replicate (n + 1) e
+pub one_more : (n : ℕ) (e : Entry) → replicate n e ++ e ∷ [] ≡ replicate (n + 1) e
 one_more zero e = refl
 one_more (suc n) e = let k : suc (n + 1) ≡ suc n + 1 = omega arith in ap (λ l. e ∷ l) (one_more n e) ∙ ap (λ m. replicate m e) k
 

@@ -5,29 +5,33 @@ use Rattle.plc_io.specs.Contents.{SameFiles}
 use Rattle.plc_io.specs.Counts.{Rose}
 use Rattle.plc_io.specs.Taken.{Took}
 use Rattle.s7_cli.specs.declared.failures.File.{File}
-use Rattle.s7_cli.specs.declared.failures.File.TheVariants.{Source, Symbols, Image, History, Stimuli, Script}
+use Rattle.s7_cli.specs.declared.failures.File.TheVariants.{Source, Symbols, Image, History, Stimuli, Vars, Script, Certificate}
 use Rattle.s7_cli.specs.declared.failures.Failure.{Failure}
-use Rattle.s7_cli.specs.declared.failures.Failure.TheVariants.{WordsRefused, ReadFault, TooLong, Refused, ImageRefused, WriteFault, NoMemory}
-use Rattle.s7_cli.specs.Answer.{Answer, Outcome, refused, refused_image, read_fault, too_long, words_refused, code_of}
+use Rattle.s7_cli.specs.declared.failures.Failure.TheVariants.{WordsRefused, ReadFault, TooLong, Refused, ImageRefused, SaysNo, TooDeep, WriteFault, NoMemory}
+use Rattle.s7_cli.specs.Answer.{Answer, Outcome, refused, refused_image, says_no, too_deep, read_fault, too_long, words_refused, code_of}
+use Rattle.stack_bound.specs.Overflow.{CertificatesKeepStacks}
+use Rattle.s7_cli.specs.BoundSays.{StacksSuffice}
 use Rattle.s7_cli.specs.Command.{Command, inputs_of}
 use Rattle.s7_cli.specs.Ends.{Taking, Answers, InputRose, OutputRose, CountsReads, LeavesFiles, ChangesOutputs, WritesOutputs, IsSaid, IsCut, SinkFailed, OutputFailed, IsWriteFault, IsNoMemory, Ends, Ended}
-use Rattle.s7_cli.specs.Lines.{line_of}
+use Rattle.s7_cli.specs.Lines.{IsLineOf}
 use Rattle.s7_cli.specs.Reading.{Disk, Reads, FailsOnTheWay}
 use Rattle.s7_cli.specs.Says.{Says}
-use Rattle.s7_cli.specs.StatusTable.{IsDecided, IsCutOff, StatusTable}
+use Rattle.s7_cli.specs.StatusTable.{IsDecided, IsCutOff, IsStatus, StatusTable}
+use Rattle.s7_cli.proofs.BoundLemmas.{stacks-suffice}
 use Rattle.s7_cli.proofs.ComesLemmas.{same-files}
 use Rattle.s7_cli.proofs.ReadingLemmas.{reads-told, reads-kinds, allows-alike, fails-rose}
-use Rattle.s7_cli.proofs.SaysLemmas.{Alike, MeansOne, IsVerdict, same-alike, says-alike, says-verdict}
+use Rattle.s7_cli.proofs.SaysLemmas.{Alike, MeansOne, same-alike, says-alike, says-verdict}
+use Rattle.s7_cli.proofs.Verdicts.{IsVerdict}
 
 -- ---- the rows that go by the answer alone
 
 record Rows (c : Option Command) (d : Disk) (s : Taking) (code : ℕ) : Type 0 where
-  statuses : code ≤ 8
+  statuses : IsStatus code
   whole : IsCutOff code → ⊥
   words_refused_only : code ≡ 1 → c ≡ None
   words_refused : c ≡ None → code ≡ 1
   takes_line : code ≢ 0
-      → (failure : Failure) × (line : List ℕ) × (code ≡ code_of (Err failure)) × (line_of failure ≡ Some line) × Took s.before s.after line
+      → (failure : Failure) × (line : List ℕ) × (code ≡ code_of (Err failure)) × IsLineOf failure line × Took s.before s.after line
   read_fault : code ≡ 5 → InputRose c d
 
 not-cut : (code : ℕ) → code ≢ 6 → code ≢ 7 → IsCutOff code → ⊥
@@ -37,10 +41,10 @@ not-cut code six seven (inr e) = seven e
 is-command : (c : Option Command) (k : Command) → c ≡ Some k → c ≡ None → ⊥
 is-command c k is none = let e : Some k ≡ None = sym is ∙ none in cc
 
-rows-words : (c : Option Command) (d : Disk) (s : Taking) (line : List ℕ) → line_of WordsRefused ≡ Some line → Took s.before s.after line
+rows-words : (c : Option Command) (d : Disk) (s : Taking) (line : List ℕ) → IsLineOf WordsRefused line → Took s.before s.after line
     → c ≡ None → Rows c d s 1
 rows-words c d s line has took none = record {
-  statuses = omega arith;
+  statuses = inl (omega arith);
   whole = not-cut 1 (λ e. omega arith) (λ e. omega arith);
   words_refused_only = λ e. none;
   words_refused = λ e. refl;
@@ -48,10 +52,10 @@ rows-words c d s line has took none = record {
   read_fault = λ e. absurd (omega arith);
 }
 
-rows-read : (c : Option Command) (d : Disk) (s : Taking) (k : Command) (line : List ℕ) → c ≡ Some k → line_of ReadFault ≡ Some line
+rows-read : (c : Option Command) (d : Disk) (s : Taking) (k : Command) (line : List ℕ) → c ≡ Some k → IsLineOf ReadFault line
     → Took s.before s.after line → InputRose c d → Rows c d s 5
 rows-read c d s k line is has took rose = record {
-  statuses = omega arith;
+  statuses = inl (omega arith);
   whole = not-cut 5 (λ e. omega arith) (λ e. omega arith);
   words_refused_only = λ e. absurd (omega arith);
   words_refused = λ none. absurd (is-command c k is none);
@@ -59,17 +63,17 @@ rows-read c d s k line is has took rose = record {
   read_fault = λ e. rose;
 }
 
--- the status of a file that is too long or refused
+-- the status of a file that is too long or refused, or of a certificate
 record IsFileStatus (code : ℕ) : Type 0 where
   some : 2 ≤ code
-  few : code ≤ 8
+  one : IsStatus code
   isnt_read : code ≢ 5
   isnt_cut : IsCutOff code → ⊥
 
 refused-status : (code : ℕ) → 2 ≤ code → code ≤ 4 → IsFileStatus code
 refused-status code some few = record {
   some = some;
-  few = omega (arith, few);
+  one = inl (omega (arith, few));
   isnt_read = λ e. omega (arith, few, e);
   isnt_cut = not-cut code (λ e. omega (arith, few, e)) (λ e. omega (arith, few, e));
 }
@@ -77,15 +81,23 @@ refused-status code some few = record {
 too-long-status : IsFileStatus 8
 too-long-status = record {
   some = omega arith;
-  few = omega arith;
+  one = inl (omega arith);
   isnt_read = λ e. omega arith;
   isnt_cut = not-cut 8 (λ e. omega arith) (λ e. omega arith);
 }
 
+certificate-status : IsFileStatus 10
+certificate-status = record {
+  some = omega arith;
+  one = inr refl;
+  isnt_read = λ e. omega arith;
+  isnt_cut = not-cut 10 (λ e. omega arith) (λ e. omega arith);
+}
+
 rows-file : (c : Option Command) (d : Disk) (s : Taking) (k : Command) (failure : Failure) (line : List ℕ) (code : ℕ) → c ≡ Some k
-    → code ≡ code_of (Err failure) → line_of failure ≡ Some line → Took s.before s.after line → IsFileStatus code → Rows c d s code
+    → code ≡ code_of (Err failure) → IsLineOf failure line → Took s.before s.after line → IsFileStatus code → Rows c d s code
 rows-file c d s k failure line code is status has took which = record {
-  statuses = which.few;
+  statuses = which.one;
   whole = which.isnt_cut;
   words_refused_only = λ e. absurd (omega (arith, which.some, e));
   words_refused = λ none. absurd (is-command c k is none);
@@ -95,7 +107,7 @@ rows-file c d s k failure line code is status has took which = record {
 
 rows-done : (c : Option Command) (d : Disk) (s : Taking) (k : Command) → c ≡ Some k → Rows c d s 0
 rows-done c d s k is = record {
-  statuses = omega arith;
+  statuses = inl (omega arith);
   whole = not-cut 0 (λ e. omega arith) (λ e. omega arith);
   words_refused_only = λ e. absurd (omega arith);
   words_refused = λ none. absurd (is-command c k is none);
@@ -109,7 +121,9 @@ file-status Symbols refusal = refused-status 2 (omega arith) (omega arith)
 file-status Image refusal = refused-status 3 (omega arith) (omega arith)
 file-status History refusal = refused-status 4 (omega arith) (omega arith)
 file-status Stimuli refusal = refused-status 4 (omega arith) (omega arith)
+file-status Vars refusal = refused-status 4 (omega arith) (omega arith)
 file-status (Script number) refusal = refused-status 4 (omega arith) (omega arith)
+file-status Certificate refusal = refused-status 4 (omega arith) (omega arith)
 
 rows-verdict : (c : Option Command) (d : Disk) (s : Taking) (k : Command) (a : Answer) → c ≡ Some k → IsVerdict a
     → Took s.before s.after a.text → Rows c d s (code_of a.outcome)
@@ -119,10 +133,18 @@ rows-verdict c d s k a is (inr (inl (file, refusal, gives))) took =
     subst (λ (b : Answer). Rows c d s (code_of b.outcome)) (sym gives)
     (rows-file c d s k (Refused file refusal) (refused file refusal).text (code_of (refused file refusal).outcome) is refl refl
     (subst (λ (b : Answer). Took s.before s.after b.text) gives took) (file-status file refusal))
-rows-verdict c d s k a is (inr (inr (fault, gives))) took =
+rows-verdict c d s k a is (inr (inr (inl (fault, gives)))) took =
     subst (λ (b : Answer). Rows c d s (code_of b.outcome)) (sym gives)
     (rows-file c d s k (ImageRefused fault) (refused_image fault).text 3 is refl refl
     (subst (λ (b : Answer). Took s.before s.after b.text) gives took) (refused-status 3 (omega arith) (omega arith)))
+rows-verdict c d s k a is (inr (inr (inr (inl gives)))) took =
+    subst (λ (b : Answer). Rows c d s (code_of b.outcome)) (sym gives)
+    (rows-file c d s k SaysNo says_no.text 10 is refl refl
+    (subst (λ (b : Answer). Took s.before s.after b.text) gives took) certificate-status)
+rows-verdict c d s k a is (inr (inr (inr (inr (chain, gives))))) took =
+    subst (λ (b : Answer). Rows c d s (code_of b.outcome)) (sym gives)
+    (rows-file c d s k TooDeep (too_deep chain).text 10 is refl (chain, refl)
+    (subst (λ (b : Answer). Took s.before s.after b.text) gives took) certificate-status)
 
 rows-command : (k : Command) (d : Disk) (s : Taking) (a : Answer) → Reads d (inputs_of k) (Says k) a
     → Took s.before s.after a.text → Rows (Some k) d s (code_of a.outcome)
@@ -196,7 +218,9 @@ not-done (Refused Symbols refusal) e = omega arith
 not-done (Refused Image refusal) e = omega arith
 not-done (Refused History refusal) e = omega arith
 not-done (Refused Stimuli refusal) e = omega arith
+not-done (Refused Vars refusal) e = omega arith
 not-done (Refused (Script number) refusal) e = omega arith
+not-done (Refused Certificate refusal) e = omega arith
 not-done failure e = omega arith
 
 unchanged-said : (c : Option Command) (d : Disk) (outcome : Outcome) → LeavesFiles c d outcome → code_of outcome ≢ 0
@@ -212,10 +236,15 @@ whole-said : (c : Option Command) (d : Disk) (outcome : Outcome) → LeavesFiles
 whole-said c d (Ok ok) leaves e = leaves.1
 whole-said c d (Err failure) leaves e = absurd (not-done failure e)
 
+stacks-said : CertificatesKeepStacks → (c : Option Command) (d : Disk) (a : Answer) → Answers c d a → code_of a.outcome ≡ 0
+    → (k : Command) → c ≡ Some k → StacksSuffice k d
+stacks-said keep c d a answers zero k is =
+    stacks-suffice keep k d a (subst (λ (o : Option Command). Answers o d a) is answers) zero
+
 -- ---- the table
 
-table-said : MeansOne → (c : Option Command) (d : Disk) (s : Taking) (a : Answer) → IsSaid c d s a → StatusTable c d s (code_of a.outcome)
-table-said one c d s a said =
+table-said : MeansOne → CertificatesKeepStacks → (c : Option Command) (d : Disk) (s : Taking) (a : Answer) → IsSaid c d s a → StatusTable c d s (code_of a.outcome)
+table-said one keep c d s a said =
     let r : Rows c d s (code_of a.outcome) = rows c d s a said.answers said.took in
     let six : code_of a.outcome ≡ 6 → Rose s.before.faults s.after.faults ⊎ OutputRose c d = λ e. absurd (r.whole (inl e)) in record {
       statuses = r.statuses;
@@ -233,6 +262,7 @@ table-said one c d s a said =
       unchanged = λ isnt whole. unchanged-said c d a.outcome said.files isnt;
       outputs_alone = outputs-said c d a.outcome said.files;
       outputs_whole = whole-said c d a.outcome said.files;
+      stacks = stacks-said keep c d a said.answers;
     }
 
 table-cut : (c : Option Command) (d : Disk) (s : Taking) (code : ℕ) → IsCutOff code → IsCut c d s
@@ -240,7 +270,7 @@ table-cut : (c : Option Command) (d : Disk) (s : Taking) (code : ℕ) → IsCutO
     → ((name : List ℕ) → d.before.failed_writes name < d.after.failed_writes name → code ≡ 6)
     → (s.before.faults < s.after.faults → code ≡ 6) → StatusTable c d s code
 table-cut c d s code off cut six writes faults = record {
-  statuses = elim off [ inl e ↦ omega (arith, e) | inr e ↦ omega (arith, e) ];
+  statuses = inl (elim off [ inl e ↦ omega (arith, e) | inr e ↦ omega (arith, e) ]);
   decided = λ k is told. inr (inl off);
   complete = complete c d s code (λ k is told. inr (inl off)) six;
   words_refused_only = λ e. absurd (elim off [ inl f ↦ omega (arith, e, f) | inr f ↦ omega (arith, e, f) ]);
@@ -255,6 +285,7 @@ table-cut c d s code off cut six writes faults = record {
   unchanged = λ isnt whole. absurd (whole off);
   outputs_alone = cut.files;
   outputs_whole = λ e. absurd (elim off [ inl f ↦ omega (arith, e, f) | inr f ↦ omega (arith, e, f) ]);
+  stacks = λ e. absurd (elim off [ inl f ↦ omega (arith, e, f) | inr f ↦ omega (arith, e, f) ]);
 }
 
 table-write : (c : Option Command) (d : Disk) (s : Taking) → IsWriteFault c d s → StatusTable c d s 6
@@ -270,18 +301,20 @@ table-memory c d s wanting =
     table-cut c d s 7 (inr refl) wanting.cut (λ e. absurd (omega arith)) (λ name more. absurd (omega (arith, wanting.writes name)))
     (λ more. absurd (omega (arith, wanting.faults)))
 
-table-ends : MeansOne → (c : Option Command) (d : Disk) (s : Taking) (outcome : Outcome) → Ends c d s outcome
+table-ends : MeansOne → CertificatesKeepStacks → (c : Option Command) (d : Disk) (s : Taking) (outcome : Outcome) → Ends c d s outcome
     → StatusTable c d s (code_of outcome)
-table-ends one c d s (Err WriteFault) ends = table-write c d s ends
-table-ends one c d s (Err NoMemory) ends = table-memory c d s ends
-table-ends one c d s (Ok ok) ends = table-said one c d s _ ends.1
-table-ends one c d s (Err WordsRefused) ends = table-said one c d s _ ends.1
-table-ends one c d s (Err ReadFault) ends = table-said one c d s _ ends.1
-table-ends one c d s (Err (TooLong file)) ends = table-said one c d s _ ends.1
-table-ends one c d s (Err (Refused file refusal)) ends = table-said one c d s _ ends.1
-table-ends one c d s (Err (ImageRefused fault)) ends = table-said one c d s _ ends.1
+table-ends one keep c d s (Err WriteFault) ends = table-write c d s ends
+table-ends one keep c d s (Err NoMemory) ends = table-memory c d s ends
+table-ends one keep c d s (Ok ok) ends = table-said one keep c d s _ ends.1
+table-ends one keep c d s (Err WordsRefused) ends = table-said one keep c d s _ ends.1
+table-ends one keep c d s (Err ReadFault) ends = table-said one keep c d s _ ends.1
+table-ends one keep c d s (Err (TooLong file)) ends = table-said one keep c d s _ ends.1
+table-ends one keep c d s (Err (Refused file refusal)) ends = table-said one keep c d s _ ends.1
+table-ends one keep c d s (Err (ImageRefused fault)) ends = table-said one keep c d s _ ends.1
+table-ends one keep c d s (Err SaysNo) ends = table-said one keep c d s _ ends.1
+table-ends one keep c d s (Err TooDeep) ends = table-said one keep c d s _ ends.1
 
--- the rows of the table; that a source has one meaning makes its rows exact
-pub table : MeansOne → (c : Option Command) (d : Disk) (s : Taking) (code : ℕ) → Ended c d s code → StatusTable c d s code
-table one c d s code ended =
-    subst (λ (n : ℕ). StatusTable c d s n) (sym ended.1) (table-ends one c d s ended.0 ended.2)
+-- the rows of the table; that a source has one meaning makes its rows exact, that certificates keep stacks is its last one
+pub table : MeansOne → CertificatesKeepStacks → (c : Option Command) (d : Disk) (s : Taking) (code : ℕ) → Ended c d s code → StatusTable c d s code
+table one keep c d s code ended =
+    subst (λ (n : ℕ). StatusTable c d s n) (sym ended.1) (table-ends one keep c d s ended.0 ended.2)

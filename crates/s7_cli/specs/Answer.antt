@@ -1,12 +1,14 @@
 -- What a call answers: how it comes out, its text, and its exit status.
 use Rattle.std.specs.Prelude.{ℕ, List, Result, Ok, Err}
+use Rattle.plc_base.specs.declared.blocks.BlockId.{BlockId}
 use Rattle.plc_base.specs.declared.refusals.Refusal.{Refusal}
 use Rattle.image_file.specs.declared.faults.LoadFault.{LoadFault}
+use Rattle.stack_bound.specs.ChainText.{chain_text}
 use Rattle.s7_cli.specs.declared.failures.File.{File}
-use Rattle.s7_cli.specs.declared.failures.File.TheVariants.{Source, Symbols, Image, History, Stimuli, Script}
+use Rattle.s7_cli.specs.declared.failures.File.TheVariants.{Source, Symbols, Image, History, Stimuli, Vars, Script, Certificate}
 use Rattle.s7_cli.specs.declared.failures.Failure.{Failure}
-use Rattle.s7_cli.specs.declared.failures.Failure.TheVariants.{WordsRefused, ReadFault, TooLong, Refused, ImageRefused, WriteFault, NoMemory}
-use Rattle.s7_cli.specs.Lines.{words_refused_text, read_fault_text, too_long_text, refusal_text, image_refused_text}
+use Rattle.s7_cli.specs.declared.failures.Failure.TheVariants.{WordsRefused, ReadFault, TooLong, Refused, ImageRefused, SaysNo, TooDeep, WriteFault, NoMemory}
+use Rattle.s7_cli.specs.Lines.{words_refused_text, read_fault_text, too_long_text, refusal_text, image_refused_text, says_no_text}
 
 -- done, or why not
 abbrev pub Outcome : Type 0
@@ -38,6 +40,14 @@ too_long file = record { outcome = Err (TooLong file); text = too_long_text file
 abbrev pub read_fault : Answer
 read_fault = record { outcome = Err ReadFault; text = read_fault_text }
 
+-- a certificate doesn't hold
+abbrev pub says_no : Answer
+says_no = record { outcome = Err SaysNo; text = says_no_text }
+
+-- a chain of calls is too deep, and this is such a chain
+abbrev pub too_deep : List BlockId → Answer
+too_deep chain = record { outcome = Err TooDeep; text = chain_text chain }
+
 -- the words aren't those of a command
 abbrev pub words_refused : Answer
 words_refused = record { outcome = Err WordsRefused; text = words_refused_text }
@@ -49,7 +59,9 @@ refused_code Symbols = 2
 refused_code Image = 3
 refused_code History = 4
 refused_code Stimuli = 4
+refused_code Vars = 4
 refused_code (Script number) = 4
+refused_code Certificate = 4
 
 -- the exit status
 abbrev pub code_of : Outcome → ℕ
@@ -61,3 +73,5 @@ code_of (Err ReadFault) = 5
 code_of (Err WriteFault) = 6
 code_of (Err NoMemory) = 7
 code_of (Err (TooLong file)) = 8
+code_of (Err SaysNo) = 10
+code_of (Err TooDeep) = 10

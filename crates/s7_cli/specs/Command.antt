@@ -1,13 +1,14 @@
 -- What the words of a call ask for, and which files that reads and writes.
 use Rattle.std.specs.Prelude.{ℕ, ◌+◌, List, [], ◌∷◌, ◌++◌, Option, Some, None}
 use Rattle.s7_cli.specs.declared.failures.File.{File}
-use Rattle.s7_cli.specs.declared.failures.File.TheVariants.{Source, Symbols, Image, History, Stimuli, Script}
+use Rattle.s7_cli.specs.declared.failures.File.TheVariants.{Source, Symbols, Image, History, Stimuli, Vars, Script, Certificate}
 
 -- `go SRC HIST` runs a source along a history, `check SRC` checks a source, `compile SRC IMG` writes
 -- its image; each with a file of symbols where `--symbols FILE` names one. `run IMG HIST` runs an
 -- image along a history, `gen NUMBER` a program and a history that are made of a number.
--- `live IMG STIM OPS.. --steps N` has several workers run an image, `upgrade IMG IMG2` writes an image
--- once more, in version 2
+-- `live IMG STIM OPS.. --steps N` has several workers run an image, `watch IMG STIM VARS OPS.. --steps N`
+-- besides watches variables of it, `upgrade IMG IMG2` writes an image
+-- once more, in version 2. `bound IMG CERT` writes the certificate of an image, `recheck IMG CERT` checks one
 pub data Command : Type 0 where
   Go : (source : List ℕ) (symbols : Option (List ℕ)) (history : List ℕ) → Command
   Check : (source : List ℕ) (symbols : Option (List ℕ)) → Command
@@ -15,7 +16,10 @@ pub data Command : Type 0 where
   Run : (image history : List ℕ) → Command
   Gen : (number : ℕ) → Command
   Live : (image stimuli : List ℕ) (scripts : List (List ℕ)) (steps : ℕ) → Command
+  Watch : (image stimuli vars : List ℕ) (scripts : List (List ℕ)) (steps : ℕ) → Command
   Upgrade : (image upgraded : List ℕ) → Command
+  Bound : (image certificate : List ℕ) → Command
+  Recheck : (image certificate : List ℕ) → Command
 
 -- a file that a command reads: what it is read as, and its name
 pub record Input : Type 0 where
@@ -43,6 +47,12 @@ live_inputs image stimuli scripts =
     record { file = Image; name = image } ∷ record { file = Stimuli; name = stimuli }
     ∷ script_inputs 1 scripts
 
+-- an image, stimuli, variables and scripts
+abbrev pub watch_inputs : (image stimuli vars : List ℕ) (scripts : List (List ℕ)) → List Input
+watch_inputs image stimuli vars scripts =
+    record { file = Image; name = image } ∷ record { file = Stimuli; name = stimuli }
+    ∷ record { file = Vars; name = vars } ∷ script_inputs 1 scripts
+
 -- in the order in which they are read
 abbrev pub inputs_of : Command → List Input
 inputs_of (Go source symbols history) =
@@ -53,7 +63,11 @@ inputs_of (Run image history) =
     record { file = Image; name = image } ∷ record { file = History; name = history } ∷ []
 inputs_of (Gen number) = []
 inputs_of (Live image stimuli scripts steps) = live_inputs image stimuli scripts
+inputs_of (Watch image stimuli vars scripts steps) = watch_inputs image stimuli vars scripts
 inputs_of (Upgrade image upgraded) = record { file = Image; name = image } ∷ []
+inputs_of (Bound image certificate) = record { file = Image; name = image } ∷ []
+inputs_of (Recheck image certificate) =
+    record { file = Image; name = image } ∷ record { file = Certificate; name = certificate } ∷ []
 
 -- the files that a command writes
 abbrev pub outputs_of : Command → List (List ℕ)
@@ -63,7 +77,10 @@ outputs_of (Compile source symbols image) = image ∷ []
 outputs_of (Run image history) = []
 outputs_of (Gen number) = []
 outputs_of (Live image stimuli scripts steps) = []
+outputs_of (Watch image stimuli vars scripts steps) = []
 outputs_of (Upgrade image upgraded) = upgraded ∷ []
+outputs_of (Bound image certificate) = certificate ∷ []
+outputs_of (Recheck image certificate) = []
 
 -- the most bytes that each file may hold
 abbrev pub limit_of : File → ℕ
@@ -72,4 +89,6 @@ limit_of Symbols = 1048576
 limit_of Image = 8388608
 limit_of History = 4194304
 limit_of Stimuli = 4194304
+limit_of Vars = 1048576
 limit_of (Script number) = 1048576
+limit_of Certificate = 1048576

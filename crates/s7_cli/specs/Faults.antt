@@ -3,10 +3,12 @@ use Rattle.event_text.specs.declared.TextFault.{TextFault}
 use Rattle.event_text.specs.declared.TextFault.TheVariants as text
 use Rattle.image_file.specs.declared.refusing.LoadError.{LoadError}
 use Rattle.image_file.specs.declared.refusing.LoadError.TheVariants as loading
+use Rattle.stack_bound.specs.declared.texts.CertificateFault.{CertificateFault}
+use Rattle.stack_bound.specs.declared.texts.CertificateFault.TheVariants as certificate
 use Rattle.s7_cli.specs.declared.faults.CompileFault.{CompileFault}
 use Rattle.s7_cli.specs.declared.faults.CompileFault.TheVariants as compiling
 use Rattle.s7_cli.specs.declared.failures.File.{File}
-use Rattle.s7_cli.specs.declared.failures.File.TheVariants.{Source, Symbols, History}
+use Rattle.s7_cli.specs.declared.failures.File.TheVariants.{Source, Symbols, History, Certificate}
 use Rattle.s7_cli.specs.declared.failures.Failure.{Failure}
 use Rattle.s7_cli.specs.declared.failures.Failure.TheVariants.{Refused, ImageRefused, NoMemory}
 
@@ -30,3 +32,9 @@ failure_of_history fault = failure_of_text History fault
 abbrev pub failure_of_loading : LoadError → Failure
 failure_of_loading (loading.Fault fault) = ImageRefused fault
 failure_of_loading loading.NoMemory = NoMemory
+
+-- a certificate is refused, or there is no memory
+abbrev pub failure_of_certificate : CertificateFault → Failure
+failure_of_certificate (certificate.BadLine line rule) =
+    Refused Certificate (record { line = line; rule = rule })
+failure_of_certificate certificate.NoMemory = NoMemory

@@ -7,8 +7,8 @@ use Rattle.plc_io.specs.Moments.{FilesAt}
 use Rattle.plc_io.specs.Taken.{Took, TookPrefix}
 use Rattle.plc_io.specs.declared.faults.IoFault.TheVariants as fault
 use Rattle.s7_cli.specs.declared.failures.Failure.{Failure}
-use Rattle.s7_cli.specs.declared.failures.Failure.TheVariants.{ReadFault, TooLong, Refused, ImageRefused, WriteFault, NoMemory}
-use Rattle.s7_cli.specs.Answer.{Answer, Outcome, refused, refused_image, too_long, read_fault}
+use Rattle.s7_cli.specs.declared.failures.Failure.TheVariants.{ReadFault, TooLong, Refused, ImageRefused, SaysNo, TooDeep, WriteFault, NoMemory}
+use Rattle.s7_cli.specs.Answer.{Answer, Outcome, refused, refused_image, says_no, too_long, read_fault}
 use Rattle.s7_cli.specs.Command.{Command, Input}
 use Rattle.s7_cli.specs.Ends.{Taking, Answers, CountsReads, IsSaid, IsWriteFault, IsNoMemory}
 use Rattle.s7_cli.specs.Lines.{line_of}
@@ -50,11 +50,12 @@ AllRead view d is (Err (TooLong file)) =
 AllRead view d is (Err NoMemory) = OnlyReads d
 AllRead view d is (Err failure) = ⊥
 
--- what files hold was refused, where it was: this is said of it
+-- what files hold was refused, or a certificate doesn't hold of it: this is said of it
 abbrev pub RefusedBy : {V : Type 0} → (Answer → Type 0) → Result V Failure → Type 0
 RefusedBy says (Ok v) = Unit {0}
 RefusedBy says (Err (Refused file refusal)) = says (refused file refusal)
 RefusedBy says (Err (ImageRefused fault)) = says (refused_image fault)
+RefusedBy says (Err SaysNo) = says says_no
 RefusedBy says (Err NoMemory) = Unit {0}
 RefusedBy says (Err failure) = ⊥
 
@@ -85,11 +86,13 @@ pub record Fails (c : Option Command) (d : Disk) (s : Taking) (failure : Failure
   pub counts : CountsReads d (Err failure)
   pub only_reads : OnlyReads d
 
--- how a command came out before the line of its failure is written
+-- how a command came out before the line of its failure is written; that of a chain which is too deep was written
 abbrev pub Comes : Option Command → Disk → Taking → Outcome → Type 0
 Comes c d s (Ok done) = (text : List ℕ) × IsSaid c d s (record { outcome = Ok done; text = text })
 Comes c d s (Err WriteFault) = IsWriteFault c d s
 Comes c d s (Err NoMemory) = IsNoMemory c d s
+Comes c d s (Err TooDeep) =
+    (text : List ℕ) × IsSaid c d s (record { outcome = Err TooDeep; text = text })
 Comes c d s (Err failure) = Fails c d s failure
 
 -- the writing of a failure's line, if it has one

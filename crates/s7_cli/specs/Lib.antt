@@ -1,4 +1,6 @@
 pub mod Answer
+pub mod BoundSays
+pub mod BoundTexts
 pub mod Command
 pub mod Compiling
 pub mod Ends
@@ -18,5 +20,8 @@ pub mod Says
 pub mod StatusTable
 pub mod Texts
 pub mod Upgrades
+pub mod Watching
+pub mod WatchSays
+pub mod WatchTexts
 pub mod Words
 pub mod Working

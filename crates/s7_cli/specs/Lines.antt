@@ -1,11 +1,13 @@
 -- The one line of each refusal.
-use Rattle.std.specs.Prelude.{ℕ, List, ◌++◌, codes, decimal, Option, Some, None}
+use Rattle.std.specs.Prelude.{◌≡◌, ℕ, List, ◌++◌, codes, decimal, Option, Some, None}
+use Rattle.plc_base.specs.declared.blocks.BlockId.{BlockId}
 use Rattle.plc_base.specs.declared.refusals.Refusal.{Refusal}
 use Rattle.image_file.specs.declared.faults.LoadFault.{LoadFault}
+use Rattle.stack_bound.specs.ChainText.{chain_text}
 use Rattle.s7_cli.specs.declared.failures.File.{File}
-use Rattle.s7_cli.specs.declared.failures.File.TheVariants.{Source, Symbols, Image, History, Stimuli, Script}
+use Rattle.s7_cli.specs.declared.failures.File.TheVariants.{Source, Symbols, Image, History, Stimuli, Vars, Script, Certificate}
 use Rattle.s7_cli.specs.declared.failures.Failure.{Failure}
-use Rattle.s7_cli.specs.declared.failures.Failure.TheVariants.{WordsRefused, ReadFault, TooLong, Refused, ImageRefused, WriteFault, NoMemory}
+use Rattle.s7_cli.specs.declared.failures.Failure.TheVariants.{WordsRefused, ReadFault, TooLong, Refused, ImageRefused, SaysNo, TooDeep, WriteFault, NoMemory}
 
 -- the word for a file
 unfoldable pub file_text : File → List ℕ
@@ -14,7 +16,9 @@ file_text Symbols = codes "symbols"
 file_text Image = codes "image"
 file_text History = codes "history"
 file_text Stimuli = codes "stimuli"
+file_text Vars = codes "vars"
 file_text (Script number) = codes "script " ++ decimal number
+file_text Certificate = codes "certificate"
 
 -- the words of the call are refused
 unfoldable pub words_refused_text : List ℕ
@@ -38,16 +42,28 @@ unfoldable pub image_refused_text : LoadFault → List ℕ
 image_refused_text fault =
     codes "image refused: offset " ++ decimal fault.at ++ codes " code " ++ decimal fault.code ++ codes "\n"
 
--- what `check` writes for a source that is accepted, and `compile` and `upgrade` where they have written the image
+-- a certificate doesn't hold
+unfoldable pub says_no_text : List ℕ
+says_no_text = codes "certificate says no\n"
+
+-- what `check` writes for a source that is accepted, `recheck` for a certificate that holds, and `compile`, `upgrade` and `bound`
+-- where they have written their file
 unfoldable pub ok_line : List ℕ
 ok_line = codes "OK\n"
 
--- the line of a failure; a failed write and want of memory have none of their own
+-- the line of a failure; a failed write and want of memory have none of their own, and that of a chain which is too deep goes by the chain
 abbrev pub line_of : Failure → Option (List ℕ)
 line_of WordsRefused = Some words_refused_text
 line_of ReadFault = Some read_fault_text
 line_of (TooLong file) = Some (too_long_text file)
 line_of (Refused file refusal) = Some (refusal_text file refusal)
 line_of (ImageRefused fault) = Some (image_refused_text fault)
+line_of SaysNo = Some says_no_text
+line_of TooDeep = None
 line_of WriteFault = None
 line_of NoMemory = None
+
+-- the same, and for a chain that is too deep the line of such a chain
+abbrev pub IsLineOf : Failure → List ℕ → Type 0
+IsLineOf TooDeep line = (chain : List BlockId) × (line ≡ chain_text chain)
+IsLineOf failure line = line_of failure ≡ Some line

@@ -18,12 +18,14 @@ use Rattle.event_text.specs.Texts.{history_of}
 use Rattle.s7_cli.specs.run_text.RunText.{run_text}
 use Rattle.s7_cli.specs.declared.failures.File.TheVariants.{Source, Symbols, History}
 use Rattle.s7_cli.specs.Answer.{Answer, done, refused, refused_image}
-use Rattle.s7_cli.specs.Command.{Command, Go, Check, Compile, Run, Gen, Live, Upgrade}
+use Rattle.s7_cli.specs.BoundSays.{BoundSays, IsCertificate, RecheckSays}
+use Rattle.s7_cli.specs.Command.{Command, Go, Check, Compile, Run, Gen, Live, Watch, Upgrade, Bound, Recheck}
 use Rattle.s7_cli.specs.Compiling.{IsCompiled}
 use Rattle.s7_cli.specs.GenText.{summary_text}
 use Rattle.s7_cli.specs.Lines.{ok_line}
 use Rattle.s7_cli.specs.LiveSays.{LiveSays}
 use Rattle.s7_cli.specs.Loads.{LoadsAs}
+use Rattle.s7_cli.specs.WatchSays.{WatchSays}
 
 -- a source is refused by what its symbols break, or by what it breaks itself
 abbrev pub refused_program : Refused → Answer
@@ -113,7 +115,11 @@ Says (Run _ _) (image ∷ history ∷ []) answer = RunSays image history answer
 Says (Gen number) [] answer = GenSays number answer
 Says (Live _ _ _ steps) (image ∷ stimuli ∷ scripts) answer =
     LiveSays steps image stimuli scripts answer
+Says (Watch _ _ _ _ steps) (image ∷ stimuli ∷ vars ∷ scripts) answer =
+    WatchSays steps image stimuli vars scripts answer
 Says (Upgrade _ _) (image ∷ []) answer = UpgradeSays image answer
+Says (Bound _ _) (image ∷ []) answer = BoundSays image answer
+Says (Recheck _ _) (image ∷ certificate ∷ []) answer = RecheckSays image certificate answer
 Says _ contents answer = ⊥
 
 -- what the command writes to an output file, over the same contents
@@ -128,5 +134,10 @@ Writes (Check _ _) contents name bytes = ⊥
 Writes (Run _ _) contents name bytes = ⊥
 Writes (Gen _) contents name bytes = ⊥
 Writes (Live _ _ _ _) contents name bytes = ⊥
+Writes (Watch _ _ _ _ _) contents name bytes = ⊥
 Writes (Upgrade _ upgraded) (image ∷ []) name bytes = (name ≡ upgraded) × IsUpgraded bytes image
 Writes (Upgrade _ _) contents name bytes = ⊥
+Writes (Bound _ certificate) (image ∷ []) name bytes =
+    (name ≡ certificate) × IsCertificate bytes image
+Writes (Bound _ _) contents name bytes = ⊥
+Writes (Recheck _ _) contents name bytes = ⊥

@@ -5,9 +5,10 @@ use Rattle.plc_io.specs.Counts.{Rose}
 use Rattle.plc_io.specs.Taken.{Took}
 use Rattle.s7_cli.specs.declared.failures.Failure.{Failure}
 use Rattle.s7_cli.specs.Answer.{Answer, code_of}
-use Rattle.s7_cli.specs.Command.{Command, Live, inputs_of}
+use Rattle.s7_cli.specs.BoundSays.{StacksSuffice}
+use Rattle.s7_cli.specs.Command.{Command, Live, Watch, Bound, inputs_of}
 use Rattle.s7_cli.specs.Ends.{Taking, InputRose, OutputRose, CutShort, ChangesOutputs, WritesOutputs}
-use Rattle.s7_cli.specs.Lines.{line_of}
+use Rattle.s7_cli.specs.Lines.{IsLineOf}
 use Rattle.s7_cli.specs.Reading.{Disk, Allows, FailsOnTheWay}
 use Rattle.s7_cli.specs.Says.{Says}
 
@@ -15,13 +16,16 @@ use Rattle.s7_cli.specs.Says.{Says}
 abbrev pub IsAllowed : Command → Disk → Answer → Type 0
 IsAllowed k d answer = Allows d.before.contents (inputs_of k) (Says k) answer
 
--- told files allow one text of such a command. The workers of `live` take turns in many ways, and each way has a text of its own
+-- told files allow one text of such a command. The workers of `live` and `watch` take turns in many ways, and each way has a text of its own;
+-- `bound` tells one of the chains that are too deep
 abbrev pub HasOneText : Command → Type 0
 HasOneText (Live _ _ _ _) = ⊥
+HasOneText (Watch _ _ _ _ _) = ⊥
+HasOneText (Bound _ _) = ⊥
 HasOneText command = Unit {0}
 
--- told files allow one outcome, and one answer where there is one text, and the call gave it: 0, 2, 3, 4 and 8 come exactly where the
--- files say so
+-- told files allow one outcome, and one answer where there is one text, and the call gave it: 0, 2, 3, 4, 8 and 10 come exactly where
+-- the files say so
 pub record IsDecided (k : Command) (d : Disk) (s : Taking) (code : ℕ) : Type 0 where
   pub answer : Answer
   pub allowed : IsAllowed k d answer
@@ -30,6 +34,10 @@ pub record IsDecided (k : Command) (d : Disk) (s : Taking) (code : ℕ) : Type 0
   pub status : code ≡ code_of answer.outcome
   pub took : Took s.before s.after answer.text
 
+-- the statuses that there are
+abbrev pub IsStatus : ℕ → Type 0
+IsStatus code = (code ≤ 8) ⊎ (code ≡ 10)
+
 -- a write failed, or memory was wanting
 abbrev pub IsCutOff : ℕ → Type 0
 IsCutOff code = (code ≡ 6) ⊎ (code ≡ 7)
@@ -37,8 +45,8 @@ IsCutOff code = (code ≡ 6) ⊎ (code ≡ 7)
 -- the table of statuses
 pub record StatusTable (c : Option Command) (d : Disk) (s : Taking) (code : ℕ) : Type 0 where
   -- no other status than these
-  pub statuses : code ≤ 8
-  -- over files that tell what they hold: the outcome and, but for `live`, the one answer that they allow, unless a read of a file on the way fails (5), a write fails
+  pub statuses : IsStatus code
+  -- over files that tell what they hold: the outcome and, but for `live`, `watch` and `bound`, the one answer that they allow, unless a read of a file on the way fails (5), a write fails
   -- (6), or memory is wanting (7); an input file that is absent allows 5 alone
   pub decided : (k : Command) → c ≡ Some k → d.before.contents.told ≡ true
       → ((code ≡ 5) × FailsOnTheWay d (inputs_of k)) ⊎ IsCutOff code ⊎ IsDecided k d s code
@@ -49,9 +57,9 @@ pub record StatusTable (c : Option Command) (d : Disk) (s : Taking) (code : ℕ)
   -- 1: exactly where the words are refused, whatever the files hold; a write may fail, or memory be wanting, at its line
   pub words_refused_only : code ≡ 1 → c ≡ None
   pub words_refused : c ≡ None → (code ≡ 1) ⊎ IsCutOff code
-  -- 1, 2, 3, 4, 5, 8: the sink took the one line of the failure
+  -- 1, 2, 3, 4, 5, 8, 10: the sink took the one line of the failure
   pub takes_line : code ≢ 0 → (IsCutOff code → ⊥)
-      → (failure : Failure) × (line : List ℕ) × (code ≡ code_of (Err failure)) × (line_of failure ≡ Some line) × Took s.before s.after line
+      → (failure : Failure) × (line : List ℕ) × (code ≡ code_of (Err failure)) × IsLineOf failure line × Took s.before s.after line
   -- 5: only where the count of failed reads of an input file rose
   pub read_fault : code ≡ 5 → InputRose c d
   -- 6: only where the count of failed writes of an output file rose, or that of the sink
@@ -68,3 +76,5 @@ pub record StatusTable (c : Option Command) (d : Disk) (s : Taking) (code : ℕ)
   pub unchanged : code ≢ 0 → (IsCutOff code → ⊥) → SameFiles d.before.contents d.after.contents
   pub outputs_alone : ChangesOutputs c d
   pub outputs_whole : code ≡ 0 → WritesOutputs c d
+  -- 0 of `bound` and of `recheck`: no history of the image stops for want of stack
+  pub stacks : code ≡ 0 → (k : Command) → c ≡ Some k → StacksSuffice k d

@@ -10,7 +10,7 @@ use Rattle.clap.specs.declared.builder.action.ArgAction.TheVariants.{Set, Append
 use Rattle.plc_base.specs.Decimal.{decimal_up_to}
 use Rattle.s7_cli.specs.declared.words.Asked.{Asked}
 use Rattle.s7_cli.specs.declared.words.Asked.TheVariants as asked
-use Rattle.s7_cli.specs.Command.{Command, Go, Check, Compile, Run, Gen, Live, Upgrade}
+use Rattle.s7_cli.specs.Command.{Command, Go, Check, Compile, Run, Gen, Live, Watch, Upgrade, Bound, Recheck}
 
 -- COMMAND: a word that has to be there
 abbrev pub command_rule : Rule
@@ -47,14 +47,17 @@ one_word_command command word symbols =
     else (if bytes_eq command (codes "gen") && not (is_some symbols) then option_map Gen (number_up_to 10000 word)
     else None)
 
--- `go SRC HIST` and `compile SRC IMG`, with `--symbols FILE` or without, `run IMG HIST` and `upgrade IMG IMG2`
+-- `go SRC HIST` and `compile SRC IMG`, with `--symbols FILE` or without, `run IMG HIST`, `upgrade IMG IMG2`,
+-- `bound IMG CERT` and `recheck IMG CERT`
 abbrev pub two_word_command : (command first second : List ℕ) (symbols : Option (List ℕ)) → Option Command
 two_word_command command first second symbols =
     if bytes_eq command (codes "go") then Some (Go first symbols second)
     else (if bytes_eq command (codes "compile") then Some (Compile first symbols second)
     else (if bytes_eq command (codes "run") && not (is_some symbols) then Some (Run first second)
     else (if bytes_eq command (codes "upgrade") && not (is_some symbols) then Some (Upgrade first second)
-    else None)))
+    else (if bytes_eq command (codes "bound") && not (is_some symbols) then Some (Bound first second)
+    else (if bytes_eq command (codes "recheck") && not (is_some symbols) then Some (Recheck first second)
+    else None)))))
 
 -- a command with one word or two behind it
 abbrev pub short_command : (command : List ℕ) (words : List (List ℕ)) (symbols : Option (List ℕ)) → Option Command
@@ -69,10 +72,21 @@ live_command command (image ∷ stimuli ∷ script ∷ scripts) steps =
     else None
 live_command command words steps = None
 
--- the command that its word, the words behind it and the options ask for; `--steps N` goes with `live`, and with nothing else
+-- `watch IMG STIM VARS OPS.. --steps N`, with one script to three
+abbrev pub watch_command : (words : List (List ℕ)) (steps : List ℕ) → Option Command
+watch_command (image ∷ stimuli ∷ vars ∷ script ∷ scripts) steps =
+    if nat_le (length scripts) 2 then option_map (Watch image stimuli vars (script ∷ scripts)) (number_up_to 1000000 steps) else None
+watch_command words steps = None
+
+-- a command with steps
+abbrev pub stepped_command : (command : List ℕ) (words : List (List ℕ)) (steps : List ℕ) → Option Command
+stepped_command command words steps =
+    if bytes_eq command (codes "watch") then watch_command words steps else live_command command words steps
+
+-- the command that its word, the words behind it and the options ask for; `--steps N` goes with `live` and `watch`, and with nothing else
 abbrev pub asked_for : (command : List ℕ) (words : List (List ℕ)) (symbols steps : Option (List ℕ)) → Option Command
 asked_for command words symbols None = short_command command words symbols
-asked_for command words symbols (Some steps) = if is_some symbols then None else live_command command words steps
+asked_for command words symbols (Some steps) = if is_some symbols then None else stepped_command command words steps
 
 -- the command that what was found of the four asks for
 abbrev pub asked_by : List Row → Option Command
@@ -89,6 +103,7 @@ command_of words = if is_empty (fault_of the_line words) then asked_by (matches_
 abbrev pub KeepsLimits : Command → Type 0
 KeepsLimits (Gen number) = (1 ≤ number) × (number ≤ 10000)
 KeepsLimits (Live image stimuli scripts steps) = (1 ≤ length scripts) × (length scripts ≤ 4) × (1 ≤ steps) × (steps ≤ 1000000)
+KeepsLimits (Watch image stimuli vars scripts steps) = (1 ≤ length scripts) × (length scripts ≤ 3) × (1 ≤ steps) × (steps ≤ 1000000)
 KeepsLimits command = Unit {0}
 
 -- the command that was read
@@ -99,7 +114,10 @@ command_value (asked.Compile source symbols image) = Compile source.now (option_
 command_value (asked.Run image history) = Run image.now history.now
 command_value (asked.Gen number) = Gen number
 command_value (asked.Upgrade image upgraded) = Upgrade image.now upgraded.now
+command_value (asked.Bound image certificate) = Bound image.now certificate.now
+command_value (asked.Recheck image certificate) = Recheck image.now certificate.now
 command_value (asked.Live image stimuli scripts steps) = Live image.now stimuli.now (map (λ s. s.now) scripts.items) steps
+command_value (asked.Watch image stimuli vars scripts steps) = Watch image.now stimuli.now vars.now (map (λ s. s.now) scripts.items) steps
 
 -- a word that can be no option: it doesn't begin with a hyphen (45), or is nothing else
 abbrev pub is_plain_word : List ℕ → Bool

@@ -1,11 +1,12 @@
 ghost use Rattle.std.specs.Prelude.{◌≡◌};
 ghost use Rattle.s7_cli.specs.Answer.{code_of, refused_code};
-ghost use Rattle.s7_cli.specs.Faults.{failure_of_compiling, failure_of_history, failure_of_loading, failure_of_text};
+ghost use Rattle.s7_cli.specs.Faults.{failure_of_certificate, failure_of_compiling, failure_of_history, failure_of_loading, failure_of_text};
 
 use crate::faults::CompileFault;
 use event_text::TextFault;
 use image_file::{LoadError, LoadFault};
 use plc_base::Refusal;
+use stack_bound::CertificateFault;
 use std::alloc::AllocError;
 
 /// A file that a command reads.
@@ -16,8 +17,11 @@ pub enum File {
     Image,
     History,
     Stimuli,
+    /// What the last operator of a watch reads.
+    Vars,
     /// The script of an operator, by his number.
     Script { number: u8 },
+    Certificate,
 }
 
 /// Why a command wasn't done.
@@ -33,6 +37,10 @@ pub enum Failure {
     Refused { file: File, refusal: Refusal },
     /// An image isn't that of a program that verifies.
     ImageRefused { fault: LoadFault },
+    /// A certificate doesn't hold.
+    SaysNo,
+    /// A chain of calls is too deep, and its line was written.
+    TooDeep,
     /// The sink or an output file couldn't be written.
     WriteFault,
     /// Memory ran out.
@@ -99,6 +107,20 @@ impl From<TextFault> for Failure {
     }
 }
 
+impl From<CertificateFault> for Failure {
+    ghost from_gives = { λ fault failure. failure ≡ failure_of_certificate fault };
+
+    fn from(fault: CertificateFault) -> Failure {
+        match fault {
+            CertificateFault::BadLine { line, rule } => Failure::Refused {
+                file: File::Certificate,
+                refusal: Refusal { line, rule },
+            },
+            CertificateFault::NoMemory => Failure::NoMemory,
+        }
+    }
+}
+
 /// The exit status of a call.
 #[derive(Clone, Copy, Debug, PartialEq, Eq)]
 pub struct Status {
@@ -112,7 +134,7 @@ fn refused_code(file: File) -> u8
     match file {
         File::Source | File::Symbols => 2,
         File::Image => 3,
-        File::History | File::Stimuli | File::Script { .. } => 4,
+        File::History | File::Stimuli | File::Vars | File::Script { .. } | File::Certificate => 4,
     }
 }
 
@@ -130,6 +152,7 @@ impl Status {
             Err(Failure::WriteFault) => 6,
             Err(Failure::NoMemory) => 7,
             Err(Failure::TooLong { .. }) => 8,
+            Err(Failure::SaysNo | Failure::TooDeep) => 10,
         };
         Status { code }
     }

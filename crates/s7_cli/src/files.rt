@@ -23,8 +23,14 @@ const IMAGE_LIMIT: usize = 8_388_608;
 /// The most bytes of a history, and of stimuli.
 const HISTORY_LIMIT: usize = 4_194_304;
 
+/// The most bytes of the file of a watch's variables.
+const VARS_LIMIT: usize = 1_048_576;
+
 /// The most bytes of a script.
 const SCRIPT_LIMIT: usize = 1_048_576;
+
+/// The most bytes of a certificate.
+const CERTIFICATE_LIMIT: usize = 1_048_576;
 
 /// What the files of a program hold.
 #[derive(Drop)]
@@ -67,7 +73,9 @@ fn limit_of(file: File) -> usize
         File::Symbols => SYMBOLS_LIMIT,
         File::Image => IMAGE_LIMIT,
         File::History | File::Stimuli => HISTORY_LIMIT,
+        File::Vars => VARS_LIMIT,
         File::Script { .. } => SCRIPT_LIMIT,
+        File::Certificate => CERTIFICATE_LIMIT,
     }
 }
 
@@ -122,7 +130,7 @@ pub fn read_program<F: Files>(
 }
 
 /// Reads the scripts of operators whole, one after the other.
-fn read_scripts<F: Files>(
+pub fn read_scripts<F: Files>(
     alloc: Global,
     files: &mut F,
     names: &[&str],

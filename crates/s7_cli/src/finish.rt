@@ -12,7 +12,8 @@ use crate::failures::{Failure, Status};
 use crate::texts::failure_line;
 use plc_io::{IoFault, Sink, push_all};
 
-/// What `check` writes for a source that is accepted, and `compile` and `upgrade` behind their image.
+/// What `check` writes for a source that is accepted, `recheck` for a certificate that holds, and
+/// `compile`, `upgrade` and `bound` behind their file.
 pub const OK_LINE: &[u8] = b"OK\n";
 
 /// How a command came out whose text was written so.
@@ -71,5 +72,6 @@ pub fn end_command<K: Sink>(out: &mut K, came: Result<(), Failure>) -> Status
 {
     // a source has one meaning or one refusal
     sem_kept::laws::law_of_sources();
+    stack_bound::laws::certificates_keep_stacks();
     Status::of(finish(out, came))
 }

@@ -30,21 +30,31 @@ Calls:
                       N steps, one feeds the stimuli STIM, and one to four more
                       ask what their scripts OPS say; write the history that
                       came of it, a line ---, and the run
+  s7 watch IMG STIM VARS OPS.. --steps N
+                      the same with one to three scripts, while one more asks
+                      a hundred times for the values of the line VARS, and
+                      one views the replies; write a line --- more, and a
+                      line for each view
   s7 upgrade IMG IMG2 write the image IMG in version 2 to the file IMG2, then OK
+  s7 bound IMG CERT   write how deep the calls of the image IMG go, and how many
+                      local bytes they take, to the file CERT, then OK; or write
+                      a chain of calls that is too deep
+  s7 recheck IMG CERT write OK where the certificate CERT holds of the image IMG
   s7 --help           write this text (also -h)
   s7 --version        write the version (also -V)
 
 Options, anywhere among the words:
   --symbols FILE   the symbols of the source, as STEP 7 exports them: with go,
                    check and compile
-  --steps N        the most steps, 1 to 1,000,000: with live, which needs it
+  --steps N        the most steps, 1 to 1,000,000: with live and watch, which
+                   need it
 
 Behind -- no word is an option, so a file may begin with a hyphen.
 
 Supported: organization blocks, functions, function blocks, data blocks and
 types of the whole-number subset of STL, nine system functions, interrupts,
 time and synchronous errors, timers and counters, requests of operators.
-Not supported: REAL, STRING, ANY, German mnemonics.
+Not supported: REAL, STRING, ANY, German mnemonics, the master control relay.
 
 Lines of a history (numbers are decimal, h is a hexadecimal digit):
   step               one step: one statement, or a cycle point
@@ -63,7 +73,8 @@ Lines of a history (numbers are decimal, h is a hexadecimal digit):
                      V is an address, as M 0.1, MW 2, DB1.DBW 0, or a symbol
                      in double quotes; h has two digits a byte, or is 0 or 1
   // ..              a comment; empty lines are skipped too
-Stimuli have the lines in, arrive and tick alone, a script requests alone.
+Stimuli have the lines in, arrive and tick alone, a script requests alone,
+VARS of watch a single read.
 
 Lines of a run (N is the number of the entry, from 1):
   @N MON KIND n LINE l STW hhhh A1 hhhhhhhh A2 hhhhhhhh
@@ -130,13 +141,18 @@ Rules of a symbols file:
   14  a line isn't four fields
   15  an address, type or name isn't right, or too many symbols
   16  a name stands twice
-Rules of a history, of stimuli and of a script:
+Rules of a history, of stimuli, of a script and of VARS:
    1  a line isn't as above
    2  a number is out of its range, or a value doesn't fit its variable
    3  a name is unknown
    4  a line of another of these texts, as a request without its operator
    5  an operator isn't 1 to 4
    6  more than 1,000,000 steps so far
+   7  not a single line, a read (VARS)
+Rules of a certificate:
+   1  a line isn't KIND n DEPTH d BYTES b
+   2  a number is above 65,535
+   3  the block isn't loaded, or doesn't stand behind the one before
 Faults of an image:
    1  it doesn't begin with S7FB
    2  the version isn't 1 or 2
@@ -157,17 +173,23 @@ Exit status, and the line that is written in place of a result:
   3  the image has fault C at byte A     image refused: offset A code C
   4  the history breaks a rule           history refused: line L rule R
      the stimuli break a rule            stimuli refused: line L rule R
+     VARS breaks a rule                  vars refused: line L rule R
      script k, from 1, breaks a rule     script k refused: line L rule R
+     the certificate breaks a rule       certificate refused: line L rule R
   5  a file can't be read                read fault
-  6  standard output failed, or IMG of compile or IMG2 of upgrade can't be
-     written
+  6  standard output failed, or IMG of compile, IMG2 of upgrade or CERT of bound
+     can't be written
   7  memory ran out
   8  a file is too long                  too long: source (1,048,576 bytes)
                                          too long: symbols (1,048,576 bytes)
                                          too long: image (8,388,608 bytes)
                                          too long: history (4,194,304 bytes)
                                          too long: stimuli (4,194,304 bytes)
+                                         too long: vars (1,048,576 bytes)
                                          too long: script k (1,048,576 bytes)
+                                         too long: certificate (1,048,576 bytes)
+ 10  a chain of calls is too deep        chain: KIND n, KIND n ..
+     the certificate doesn't hold        certificate says no
 
 Example:
   s7 go examples/interlock/source.awl examples/interlock/history.txt

@@ -70,7 +70,7 @@ pub fn judge(
 }
 
 /// The program of an image, with its profile.
-fn loaded(alloc: Global, image: &[u8]) -> Result<Loaded, LoadError>
+pub(crate) fn loaded(alloc: Global, image: &[u8]) -> Result<Loaded, LoadError>
     ensures loads { IfOk result (λ l. LoadsAs image.now (Ok l)) }
     ensures refused { IfErr result (λ e. IsRefusedBy e (faults_of image.now)) }
 {
@@ -119,7 +119,7 @@ pub struct LiveWork {
 }
 
 /// Checks the scripts of operators, in their order.
-fn judge_scripts(
+pub(crate) fn judge_scripts(
     alloc: Global,
     texts: &[Vec<u8>],
     names: &Names,

@@ -1,6 +1,7 @@
 //! The program behind `main`: what its words ask for, what it reads, and what it writes.
 #![tactic(auto)]
 
+mod bound_command;
 mod checking;
 mod compile_command;
 mod compiling;
@@ -18,15 +19,22 @@ mod live_command;
 mod living;
 mod nowhere;
 mod program;
+mod recheck_command;
 mod run_command;
 mod run_text;
 mod summaries;
 mod texts;
 mod upgrade_command;
 mod upgraded_images;
+mod watch_command;
+mod watch_files;
+mod watch_judging;
+mod watch_run;
+mod watching;
 mod words;
 mod working;
 
+pub use bound_command::cmd_bound;
 pub use checking::cmd_check;
 pub use compile_command::cmd_compile;
 pub use compiling::{compiled, compiled_image, judged};
@@ -38,10 +46,13 @@ pub use help::{Question, question_in, write_answer};
 pub use kept_images::law_of_kept_images;
 pub use live_command::cmd_live;
 pub use program::s7_main;
+pub use recheck_command::cmd_recheck;
 pub use run_command::cmd_run;
 pub use run_text::replay_text;
 pub use texts::failure_line;
 pub use upgrade_command::cmd_upgrade;
 pub use upgraded_images::law_of_upgrades;
+pub use watch_command::cmd_watch;
+pub use watching::publish_read;
 pub use words::law_of_words;
 pub use working::work;

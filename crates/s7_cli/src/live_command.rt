@@ -66,7 +66,11 @@ fn entries_of(alloc: Global, runs: &[Run]) -> Result<Entries, NoMemory>
 }
 
 /// Writes the history of a controller, a line `---`, and the text of the history's run.
-fn write_live<K: Sink>(alloc: Global, controller: Controller, out: &mut K) -> Result<(), IoFault>
+pub fn write_live<K: Sink>(
+    alloc: Global,
+    controller: Controller,
+    out: &mut K,
+) -> Result<(), IoFault>
     requires { All IsValid controller.history }
     ensures { Wrote (K.shown out.old) (K.shown out.new)
         (live_text (program_of controller) controller.history) result }

@@ -23,7 +23,7 @@ use var_access::Entry;
 
 /// The controller of a station, once all workers have ended. The station is closed before the refusal is
 /// looked at: only the whole history says that it isn't full.
-fn ended(
+pub(crate) fn ended(
     station: Station,
     pass: Pass<Shared>,
     outcome: Result<(), StationFault>,

@@ -4,6 +4,7 @@ ghost use Rattle.s7_cli.specs.Ends.{Ended, taking};
 ghost use Rattle.s7_cli.specs.Reading.{disk};
 ghost use Rattle.s7_cli.specs.StatusTable.{StatusTable};
 
+use crate::bound_command::cmd_bound;
 use crate::checking::cmd_check;
 use crate::compile_command::cmd_compile;
 use crate::failures::{Failure, Status};
@@ -11,8 +12,10 @@ use crate::finish::end_command;
 use crate::gen_command::cmd_gen;
 use crate::going::cmd_go;
 use crate::live_command::cmd_live;
+use crate::recheck_command::cmd_recheck;
 use crate::run_command::cmd_run;
 use crate::upgrade_command::cmd_upgrade;
+use crate::watch_command::cmd_watch;
 use crate::words::{Asked, read_words};
 use plc_io::{Files, Gate, Sink};
 use std::alloc::Global;
@@ -24,8 +27,10 @@ use std::thread::Threads;
 /// gives each of them a file of symbols. `run IMG HIST` runs an image along a history, `gen NUMBER`
 /// a program and a history that are made of a number. `live IMG STIM OPS.. --steps N` has a stepper, a
 /// feeder and one to four operators run an image beside each other, each of whom passes `gate` before
-/// each entry. `upgrade IMG IMG2` writes the image of version 2 of what an image holds. The status is
-/// that of the text that `out` took:
+/// each entry. `watch IMG STIM VARS OPS.. --steps N` does the same with one to three operators, and a
+/// fourth whose replies are viewed beside them. `upgrade IMG IMG2` writes the image of version 2 of what an image holds. `bound IMG CERT`
+/// writes the certificate of an image, or tells a chain of calls that is too deep, `recheck IMG CERT`
+/// checks a certificate. The status is that of the text that `out` took:
 ///
 /// | Status | When |
 /// |---|---|
@@ -33,11 +38,12 @@ use std::thread::Threads;
 /// | 1 | the words are refused |
 /// | 2 | the symbols or the source are refused |
 /// | 3 | the image is refused |
-/// | 4 | the history, the stimuli or a script is refused |
+/// | 4 | the history, the stimuli, the variables, a script or the certificate is refused |
 /// | 5 | a file can't be read |
 /// | 6 | the sink or an output file couldn't be written |
 /// | 7 | memory ran out |
 /// | 8 | a file holds a byte past its limit |
+/// | 10 | a chain of calls is too deep, or the certificate doesn't hold |
 pub fn s7_main<R: Threads + Wait + Sync, F: Files, K: Sink, G: Gate + Sync>(
     rt: &R,
     alloc: Global,
@@ -95,8 +101,36 @@ pub fn s7_main<R: Threads + Wait + Sync, F: Files, K: Sink, G: Gate + Sync>(
             out,
             gate,
         ),
+        Ok(
+            Some(
+                Asked::Watch {
+                    image,
+                    stimuli,
+                    vars,
+                    scripts,
+                    steps,
+                },
+            ),
+        ) => cmd_watch(
+            rt,
+            alloc,
+            image,
+            stimuli,
+            vars,
+            scripts.as_slice(),
+            steps,
+            files,
+            out,
+            gate,
+        ),
         Ok(Some(Asked::Upgrade { image, upgraded })) => {
             cmd_upgrade(alloc, image, upgraded, files, out)
+        }
+        Ok(Some(Asked::Bound { image, certificate })) => {
+            cmd_bound(alloc, image, certificate, files, out)
+        }
+        Ok(Some(Asked::Recheck { image, certificate })) => {
+            cmd_recheck(alloc, image, certificate, files, out)
         }
         Ok(None) => end_command(out, Err(Failure::WordsRefused)),
         Err(_) => end_command(out, Err(Failure::NoMemory)),

@@ -5,6 +5,7 @@ ghost use Rattle.s7_cli.specs.Lines.{
   line_of,
   read_fault_text,
   refusal_text,
+  says_no_text,
   too_long_text,
   words_refused_text,
 };
@@ -27,10 +28,12 @@ fn add_file(line: &mut Line, file: File)
         File::Image => line.add(b"image"),
         File::History => line.add(b"history"),
         File::Stimuli => line.add(b"stimuli"),
+        File::Vars => line.add(b"vars"),
         File::Script { number } => {
             line.add(b"script ");
             line.add_number(u64::from(number));
         }
+        File::Certificate => line.add(b"certificate"),
     }
 }
 
@@ -85,8 +88,9 @@ fn fixed_line(text: &[u8]) -> Line
     line
 }
 
-/// The line of a failure; none where a write failed or memory is wanting.
-#[tactic(auto, unfolding(crate::specs::Lines::words_refused_text, crate::specs::Lines::read_fault_text))]
+/// The line of a failure; none where a write failed or memory is wanting, and where the line of a chain
+/// was written.
+#[tactic(auto, unfolding(crate::specs::Lines::words_refused_text, crate::specs::Lines::read_fault_text, crate::specs::Lines::says_no_text))]
 pub fn failure_line(failure: Failure) -> Option<Line>
     ensures { result ≡ line_of failure }
 {
@@ -96,6 +100,7 @@ pub fn failure_line(failure: Failure) -> Option<Line>
         Failure::TooLong { file } => Some(too_long_line(file)),
         Failure::Refused { file, refusal } => Some(refusal_line(file, refusal)),
         Failure::ImageRefused { fault } => Some(image_refused_line(fault)),
-        Failure::WriteFault | Failure::NoMemory => None,
+        Failure::SaysNo => Some(fixed_line(b"certificate says no\n")),
+        Failure::TooDeep | Failure::WriteFault | Failure::NoMemory => None,
     }
 }

@@ -1,7 +1,7 @@
 ghost use Rattle.std.specs.Prelude.{◌≡◌, ◌≢◌, false, map, string_bytes, option_map, IfOk, None};
 ghost use Rattle.clap.specs.Words.{FailsBy, app_of, fault_of, found_of, kind_of, matches_of, rows_of, rule_of};
 ghost use Rattle.clap.specs.declared.error.kind.ErrorKind.TheVariants.{OutOfMemory};
-ghost use Rattle.s7_cli.specs.Words.{the_line, command_rule, files_rule, symbols_rule, steps_rule, number_up_to, one_word_command, two_word_command, short_command, live_command, asked_for, asked_by, command_of, command_value, CommandsKeepLimits, ReadsPlainWords, ReadsStepsAnywhere, ReadsSymbolsAnywhere, ReadsWordsBehindDashes, RefusesNoValue};
+ghost use Rattle.s7_cli.specs.Words.{the_line, command_rule, files_rule, symbols_rule, steps_rule, number_up_to, one_word_command, two_word_command, short_command, live_command, stepped_command, watch_command, asked_for, asked_by, command_of, command_value, CommandsKeepLimits, ReadsPlainWords, ReadsStepsAnywhere, ReadsSymbolsAnywhere, ReadsWordsBehindDashes, RefusesNoValue};
 
 use arrayvec::ArrayVec;
 use clap::error::ErrorKind;
@@ -17,6 +17,9 @@ const MOST_STEPS: u32 = 1_000_000;
 
 /// The most operators of a live run.
 const MOST_SCRIPTS: usize = 4;
+
+/// The most operators with scripts of a watch.
+const MOST_WATCH_SCRIPTS: usize = 3;
 
 /// What the words of a call ask for.
 #[derive(Drop)]
@@ -55,10 +58,29 @@ pub enum Asked<'a> {
         scripts: ArrayVec<&'a str, MOST_SCRIPTS>,
         steps: u32,
     },
+    /// The same with one to three scripts, and the variables that a further operator reads, which are
+    /// viewed.
+    Watch {
+        image: &'a str,
+        stimuli: &'a str,
+        vars: &'a str,
+        scripts: ArrayVec<&'a str, MOST_WATCH_SCRIPTS>,
+        steps: u32,
+    },
     /// Write an image once more, in version 2.
     Upgrade {
         image: &'a str,
         upgraded: &'a str,
+    },
+    /// Write the certificate of an image.
+    Bound {
+        image: &'a str,
+        certificate: &'a str,
+    },
+    /// Check a certificate of an image.
+    Recheck {
+        image: &'a str,
+        certificate: &'a str,
     },
 }
 
@@ -178,6 +200,14 @@ fn two_word_command<'a>(
             image: first,
             upgraded: second,
         }),
+        "bound" if symbols.is_none() => Some(Asked::Bound {
+            image: first,
+            certificate: second,
+        }),
+        "recheck" if symbols.is_none() => Some(Asked::Recheck {
+            image: first,
+            certificate: second,
+        }),
         _ => None,
     }
 }
@@ -216,6 +246,35 @@ fn live_command<'a>(command: &str, words: &[&'a str], steps: &str) -> Option<Ask
     }
 }
 
+/// The command `watch`, with these words behind it and so many steps.
+fn watch_command<'a>(words: &[&'a str], steps: &str) -> Option<Asked<'a>>
+    ensures { option_map command_value result ≡
+        watch_command (map (λ w. w.now) words.now) steps.now }
+{
+    match words {
+        [image, stimuli, vars, scripts @ ..] if !scripts.is_empty() => Some(Asked::Watch {
+            image,
+            stimuli,
+            vars,
+            scripts: ArrayVec::try_from(scripts).ok()?,
+            steps: number_up_to(steps, MOST_STEPS)?,
+        }),
+        _ => None,
+    }
+}
+
+/// A command with so many steps.
+fn stepped_command<'a>(command: &str, words: &[&'a str], steps: &str) -> Option<Asked<'a>>
+    ensures { option_map command_value result ≡
+        stepped_command command.now (map (λ w. w.now) words.now) steps.now }
+{
+    if command == "watch" {
+        watch_command(words, steps)
+    } else {
+        live_command(command, words, steps)
+    }
+}
+
 /// The command that its word, the words behind it and the options ask for.
 fn asked_for<'a>(
     command: &str,
@@ -229,7 +288,7 @@ fn asked_for<'a>(
 {
     match steps {
         None => short_command(command, words, symbols),
-        Some(steps) if symbols.is_none() => live_command(command, words, steps),
+        Some(steps) if symbols.is_none() => stepped_command(command, words, steps),
         Some(_) => None,
     }
 }
@@ -268,7 +327,10 @@ fn refusal<'a>(error: &Error) -> Result<Option<Asked<'a>>, AllocError>
 /// | `run IMG HIST` | none |
 /// | `gen NUMBER` | none |
 /// | `live IMG STIM OPS..`, with one script to four | `--steps N` |
+/// | `watch IMG STIM VARS OPS..`, with one script to three | `--steps N` |
 /// | `upgrade IMG IMG2` | none |
+/// | `bound IMG CERT` | none |
+/// | `recheck IMG CERT` | none |
 ///
 /// An option may stand anywhere. NUMBER is 1 to 10,000 and N is 1 to 1,000,000, in decimal digits
 /// without a sign; zeros may lead. Any other words are refused, by `None`. Fails where memory is

@@ -17,7 +17,7 @@ use std::thread::{Threads, join};
 use var_access::{Entry, What};
 
 /// What a worker leaves: its pass, and its refusal if it was refused.
-type Worked = (Pass<Shared>, Result<(), StationFault>);
+pub(crate) type Worked = (Pass<Shared>, Result<(), StationFault>);
 
 /// Whether the controller is in STOP.
 fn is_stop(mode: Mode) -> bool
@@ -108,13 +108,14 @@ fn make_entries<R: Wait, G: Gate>(
 }
 
 /// The first pass with the numbers of both, and the first refusal.
-fn together(s: &Station, first: Worked, others: Worked) -> Worked
+pub(crate) fn together(s: &Station, first: Worked, others: Worked) -> Worked
     requires lock { (first.0.lock ≡ s.now) × (others.0.lock ≡ s.now) }
     requires free { (first.0.out ≡ false) × (others.0.out ≡ false) }
     requires fault { KnowsFault s.now first.0.seen first.1
         × KnowsFault s.now others.0.seen others.1 }
     ensures pass { (result.0.lock ≡ s.now) × (result.0.out ≡ false) }
     ensures seen { IsPrefix first.0.seen result.0.seen }
+    ensures others { IsPrefix others.0.seen result.0.seen }
     ensures agrees { IsMadeOf (λ e. e.who) result.0.seen result.0.made }
     ensures made { result.0.made ≡ first.0.made ++ others.0.made }
     ensures ok { OnOk result.1 (IsOk first.1 × IsOk others.1) }

@@ -21,6 +21,7 @@ fn all_files(alloc: Global) -> Result<MemFiles, Fail> {
     files.put("history", ONE_RUN)?;
     files.put("image", &IMAGE)?;
     files.put("cycle", b"step 4\n")?;
+    files.put("certificate", b"OB 1 DEPTH 1 BYTES 20\n")?;
     Ok(files)
 }
 
@@ -29,13 +30,19 @@ const RUN_CYCLE: [&str; 3] = ["run", "image", "cycle"];
 /// Over itself, so that the file that is written is the one that each test looks at.
 const UPGRADE: [&str; 3] = ["upgrade", "image", "image"];
 
+const BOUND: [&str; 3] = ["bound", "image", "image"];
+
+const RECHECK: [&str; 3] = ["recheck", "image", "certificate"];
+
 // Words, and how many reads the call makes: a file in one piece, and the end behind it.
-static READS: [(&[&str], u64); 5] = [
+static READS: [(&[&str], u64); 7] = [
     (&GO, 4),
     (&CHECK, 2),
     (&COMPILE, 2),
     (&RUN_CYCLE, 4),
     (&UPGRADE, 2),
+    (&BOUND, 2),
+    (&RECHECK, 4),
 ];
 
 #[test]
@@ -69,13 +76,16 @@ fn no_further_reads(rt: HostRuntime) -> Result<(), Fail> {
     Ok(())
 }
 
-// How often each command writes a file: `compile` and `upgrade` their image, and the others none.
-static WRITES: [(&[&str], u64); 5] = [
+// How often each command writes a file: `compile` and `upgrade` their image, `bound` its certificate, and the
+// others none.
+static WRITES: [(&[&str], u64); 7] = [
     (&GO, 0),
     (&CHECK, 0),
     (&COMPILE, 1),
     (&RUN_CYCLE, 0),
     (&UPGRADE, 1),
+    (&BOUND, 1),
+    (&RECHECK, 0),
 ];
 
 #[test]
@@ -89,10 +99,10 @@ fn writes_of_commands(rt: HostRuntime) -> Result<(), Fail> {
     Ok(())
 }
 
-// The one write of `compile`, and of `upgrade`, fails: the image is what it was, and nothing is said.
+// The one write of `compile`, of `upgrade` and of `bound` fails: the file is what it was, and nothing is said.
 #[test]
 fn failed_write(rt: HostRuntime) -> Result<(), Fail> {
-    let writing: [&[&str]; 2] = [&COMPILE, &UPGRADE];
+    let writing: [&[&str]; 3] = [&COMPILE, &UPGRADE, &BOUND];
     for words in writing {
         let mut files = all_files(rt.alloc())?;
         files.fail_writes(only(1));
@@ -107,8 +117,8 @@ fn failed_write(rt: HostRuntime) -> Result<(), Fail> {
 }
 
 // The words of a call, how many bytes the sink takes before it fails, the status, and the text. The text of
-// `compile` and `upgrade` has three bytes.
-static CUT_OFF: [(&[&str], usize, u8, &[u8]); 15] = [
+// `compile`, `upgrade`, `bound` and `recheck` has three bytes.
+static CUT_OFF: [(&[&str], usize, u8, &[u8]); 19] = [
     (&GO, 0, 6, b""),
     (&GO, 1, 6, b"@"),
     (&GO, 9, 6, b"@7 PQ 4 ="),
@@ -118,6 +128,10 @@ static CUT_OFF: [(&[&str], usize, u8, &[u8]); 15] = [
     (&UPGRADE, 0, 6, b""),
     (&UPGRADE, 1, 6, b"O"),
     (&UPGRADE, 9, 0, b"OK\n"),
+    (&BOUND, 0, 6, b""),
+    (&BOUND, 1, 6, b"O"),
+    (&RECHECK, 0, 6, b""),
+    (&RECHECK, 9, 0, b"OK\n"),
     (&RUN_CYCLE, 0, 6, b""),
     (&RUN_CYCLE, 1, 6, b"E"),
     (&RUN_CYCLE, 9, 6, b"END 4 RUN"),
@@ -175,11 +189,13 @@ fn failed_read_and_push(rt: HostRuntime) -> Result<(), Fail> {
 }
 
 // A sink that takes one byte a push takes the whole text.
-static WHOLE: [(&[&str], &[u8]); 6] = [
+static WHOLE: [(&[&str], &[u8]); 8] = [
     (&GO, RUNG_TEXT),
     (&CHECK, b"OK\n"),
     (&COMPILE, b"OK\n"),
     (&UPGRADE, b"OK\n"),
+    (&BOUND, b"OK\n"),
+    (&RECHECK, b"OK\n"),
     (&RUN_CYCLE, CYCLE_TEXT),
     (&GEN, GEN_TEXT),
 ];

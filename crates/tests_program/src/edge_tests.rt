@@ -172,11 +172,12 @@ fn too_long(file: File) -> Failure {
     Failure::TooLong { file }
 }
 
-// A failed write and want of memory have no line.
+// A failed write and want of memory have no line, and that of a chain was written.
 #[test]
 fn lines_of_failures(rt: HostRuntime) {
     let (source, symbols, history) = (File::Source, File::Symbols, File::History);
-    let lines: [(Failure, u8, &str); 10] = [
+    let certificate = File::Certificate;
+    let lines: [(Failure, u8, &str); 14] = [
         (Failure::WordsRefused, 1, "words refused\n"),
         (refused(source), 2, "source refused: line 4 rule 20\n"),
         (refused(symbols), 2, "symbols refused: line 4 rule 20\n"),
@@ -187,6 +188,14 @@ fn lines_of_failures(rt: HostRuntime) {
         (too_long(symbols), 8, "too long: symbols\n"),
         (too_long(source), 8, "too long: source\n"),
         (too_long(history), 8, "too long: history\n"),
+        (
+            refused(certificate),
+            4,
+            "certificate refused: line 4 rule 20\n",
+        ),
+        (too_long(certificate), 8, "too long: certificate\n"),
+        (Failure::SaysNo, 10, "certificate says no\n"),
+        (Failure::TooDeep, 10, ""),
     ];
     for (failure, code, text) in lines {
         spells(&rt, failure_line(failure).unwrap_or(Line::new()), text);

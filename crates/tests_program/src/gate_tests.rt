@@ -24,9 +24,17 @@ fn no_command_passes_the_gate(rt: HostRuntime) -> Result<(), Fail> {
     let gate = WatchedGate {
         passed: AtomicBool::new(false),
     };
-    // `run` and `upgrade` have the image that `compile` writes
-    let upgrade = ["upgrade", "image", "image"];
-    let commands: [&[&str]; 6] = [&GO, &CHECK, &COMPILE, &RUN, &upgrade, &["gen", "1"]];
+    // those of images have the one that `compile` writes, and `recheck` the certificate of `bound`
+    let commands: [&[&str]; 8] = [
+        &GO,
+        &CHECK,
+        &COMPILE,
+        &RUN,
+        &["upgrade", "image", "image"],
+        &["bound", "image", "certificate"],
+        &["recheck", "image", "certificate"],
+        &["gen", "1"],
+    ];
     let mut files = two_files(rt.alloc(), RUNG, ONE_RUN)?;
     for words in commands {
         let list = list_of(rt.alloc(), words)?;

@@ -3,6 +3,8 @@
 #![tactic(auto)]
 
 #[cfg(test)]
+mod bound_tests;
+#[cfg(test)]
 mod calls;
 #[cfg(test)]
 mod compare;
@@ -33,6 +35,8 @@ mod long_history_tests;
 #[cfg(test)]
 mod outside_tests;
 #[cfg(test)]
+mod publish_tests;
+#[cfg(test)]
 mod relay_tests;
 #[cfg(test)]
 mod request_tests;
@@ -42,5 +46,9 @@ mod run_tests;
 mod symbols_tests;
 #[cfg(test)]
 mod upgrade_tests;
+#[cfg(test)]
+mod watch_status_tests;
+#[cfg(test)]
+mod watch_tests;
 #[cfg(test)]
 mod words_tests;

@@ -104,7 +104,7 @@ fn live_files(
 }
 
 /// Calls with these words, and compares the status with 0; what the sink took.
-fn written_by<R: Abort + Threads + Wait + Sync, G: Gate + Sync>(
+pub(crate) fn written_by<R: Abort + Threads + Wait + Sync, G: Gate + Sync>(
     rt: &R,
     alloc: Global,
     words: &[&str],
@@ -125,7 +125,7 @@ fn parts_of(text: &[u8]) -> (&str, &str) {
 }
 
 /// Runs the image along the printed history, and compares what that writes with the text behind it.
-fn runs_again<R: Abort + Threads + Wait + Sync>(
+pub(crate) fn runs_again<R: Abort + Threads + Wait + Sync>(
     rt: &R,
     alloc: Global,
     files: &mut MemFiles,
@@ -139,7 +139,7 @@ fn runs_again<R: Abort + Threads + Wait + Sync>(
 }
 
 /// The lines of a history that begin so.
-fn count_of(history: &str, head: &str) -> usize {
+pub(crate) fn count_of(history: &str, head: &str) -> usize {
     history
         .lines()
         .filter(|line| line.starts_with(head))

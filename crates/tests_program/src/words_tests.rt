@@ -39,7 +39,7 @@ fn is_told<R: Abort + Threads + Wait + Sync>(
 // No command, or a count of words behind it that isn't its own.
 #[test]
 fn commands(rt: HostRuntime) -> Result<(), Fail> {
-    let calls: [&[&str]; 26] = [
+    let calls: [&[&str]; 35] = [
         &[],
         &["help"],
         &["go"],
@@ -56,6 +56,11 @@ fn commands(rt: HostRuntime) -> Result<(), Fail> {
         &["upgrade"],
         &["upgrade", "image"],
         &["upgrade", "image", "upgraded", "more"],
+        &["bound", "image"],
+        &["bound", "image", "certificate", "more"],
+        &["recheck"],
+        &["recheck", "image"],
+        &["recheck", "image", "certificate", "more"],
         &["gen"],
         &["gen", "1", "2"],
         &["live", "--steps", "5"],
@@ -63,6 +68,12 @@ fn commands(rt: HostRuntime) -> Result<(), Fail> {
         &["live", "image", "stimuli", "--steps", "5"],
         &[
             "live", "image", "stimuli", "1", "2", "3", "4", "5", "--steps", "5",
+        ],
+        &["watch", "image", "stimuli", "vars", "--steps", "5"],
+        &["watch", "image", "stimuli", "--steps", "5"],
+        &["watch", "--steps", "5"],
+        &[
+            "watch", "image", "stimuli", "vars", "1", "2", "3", "4", "--steps", "5",
         ],
         &["GO", "source", "history"],
         &["", "source", "history"],
@@ -102,12 +113,24 @@ fn options(rt: HostRuntime) -> Result<(), Fail> {
     is_told(&rt, rt.alloc(), &calls, 1, REFUSED)
 }
 
-// `--symbols` goes with the commands that have a source, `--steps` with `live` alone, which needs it.
+// `--symbols` goes with the commands that have a source, `--steps` with `live` and `watch`, which need it.
 #[test]
 fn options_of_others(rt: HostRuntime) -> Result<(), Fail> {
-    let calls: [&[&str]; 13] = [
+    let calls: [&[&str]; 19] = [
+        &["watch", "image", "stimuli", "vars", "ops"],
+        &[
+            "watch",
+            "image",
+            "stimuli",
+            "vars",
+            "ops",
+            "--steps=5",
+            "--symbols=none",
+        ],
         &["run", "image", "history", "--symbols", "none"],
         &["upgrade", "image", "upgraded", "--symbols", "none"],
+        &["bound", "image", "certificate", "--symbols", "none"],
+        &["recheck", "--symbols=none", "image", "certificate"],
         &["gen", "--symbols=none", "1"],
         &["live", "image", "stimuli", "ops", "--symbols", "none"],
         &[
@@ -125,6 +148,8 @@ fn options_of_others(rt: HostRuntime) -> Result<(), Fail> {
         &["compile", "source", "image", "--steps=5"],
         &["run", "--steps=5", "image", "history"],
         &["upgrade", "--steps=5", "image", "upgraded"],
+        &["bound", "image", "certificate", "--steps=5"],
+        &["recheck", "image", "certificate", "--steps", "5"],
         &["gen", "1", "--steps", "5"],
         &["live", "image", "stimuli", "ops"],
         &["--", "live", "image", "stimuli", "ops", "--steps", "5"],
@@ -210,14 +235,18 @@ fn missing_names(rt: HostRuntime) -> Result<(), Fail> {
     is_told(&rt, rt.alloc(), &calls, 5, READ_FAULT)
 }
 
-// The words of `live`, `run` and `upgrade` are taken, so the image is asked for, which isn't there.
+// The words of `live`, `watch`, `run`, `upgrade`, `bound` and `recheck` are taken, so the image is asked for, which
+// isn't there.
 #[test]
 fn images(rt: HostRuntime) -> Result<(), Fail> {
-    let calls: [&[&str]; 14] = [
+    let calls: [&[&str]; 20] = [
         &["run", "image", "history"],
         &["--", "run", "image", "history"],
         &["upgrade", "image", "upgraded"],
         &["--", "upgrade", "image", "image"],
+        &["bound", "image", "certificate"],
+        &["recheck", "image", "certificate"],
+        &["--", "recheck", "image", "image"],
         &["--steps", "5", "live", "image", "stimuli", "1"],
         &["live", "--steps", "5", "image", "stimuli", "1"],
         &["live", "image", "--steps=5", "stimuli", "1"],
@@ -230,6 +259,20 @@ fn images(rt: HostRuntime) -> Result<(), Fail> {
         &["live", "image", "stimuli", "1", "--steps", "1000000"],
         &["live", "image", "stimuli", "1", "--steps", "00000001"],
         &["--steps", "5", "--", "live", "image", "stimuli", "--steps"],
+        &["watch", "image", "stimuli", "vars", "1", "--steps", "1"],
+        &[
+            "--steps", "5", "watch", "image", "stimuli", "vars", "1", "2",
+        ],
+        &[
+            "watch",
+            "image",
+            "stimuli",
+            "vars",
+            "1",
+            "2",
+            "3",
+            "--steps=1000000",
+        ],
     ];
     is_told(&rt, rt.alloc(), &calls, 5, READ_FAULT)
 }

@@ -9,4 +9,5 @@ pub returns-clause-table : goal.returns-clause-table
 returns-clause-table g c = λ command d start comes.
     table
     (means-one c.law_of_sources.ensures.one_meaning c.law_of_sources.ensures.meaning_or_refusal c.law_of_sources.ensures.one_refusal)
+    c.certificates_keep_stacks.ensures
     command d _ _ (c.finish.result, c.of.ensures, c.finish.ensures command d start comes)

@@ -4,7 +4,7 @@ use Rattle.std.specs.Option.{option_map}
 use Rattle.plc_io.specs.Moments.{FilesAt, SinkAt}
 use Rattle.s7_cli.specs.declared.failures.Failure.TheVariants.{WordsRefused, NoMemory}
 use Rattle.s7_cli.specs.Answer.{words_refused}
-use Rattle.s7_cli.specs.Command.{Command, Gen, Live}
+use Rattle.s7_cli.specs.Command.{Command, Gen, Live, Watch}
 use Rattle.s7_cli.specs.Ends.{Ended, taking}
 use Rattle.s7_cli.specs.Inner.{Comes}
 use Rattle.s7_cli.specs.Reading.{disk}
@@ -75,5 +75,23 @@ cmd_live-requires-clause-steps g c κs within =
     let scripts = c.in-Ok-Some-Live.scripts.items in
     let is : Some (Live c.in-Ok-Some-Live.image.now c.in-Ok-Some-Live.stimuli.now (map (λ s. s.now) scripts) c.in-Ok-Some-Live.steps) ≡ command_of (map string_bytes c.args.words.now) =
     sym (ap (option_map command_value) (c.in-Ok-Some-Live.field-0-is ∙ ap Some c.in-Ok-Some-Live.field-0-0-is)) ∙ c.in-Ok-Some-Live.ensures in
+    let keeps = read-limits _ _ is in
+    (keeps.2, keeps.3)
+
+pub cmd_watch-requires-clause-ops : goal.cmd_watch-requires-clause-ops
+cmd_watch-requires-clause-ops g c κs within =
+    let scripts = c.in-Ok-Some-Watch.scripts.items in
+    let is : Some (Watch c.in-Ok-Some-Watch.image.now c.in-Ok-Some-Watch.stimuli.now c.in-Ok-Some-Watch.vars.now (map (λ s. s.now) scripts) c.in-Ok-Some-Watch.steps) ≡ command_of (map string_bytes c.args.words.now) =
+    sym (ap (option_map command_value) (c.in-Ok-Some-Watch.field-0-is ∙ ap Some c.in-Ok-Some-Watch.field-0-0-is)) ∙ c.in-Ok-Some-Watch.ensures in
+    let keeps = read-limits _ _ is in
+    let many = length_items (λ s. s.now) scripts in
+    let same = ap length c.as_slice-in-Ok-Some-Watch.ensures.value in
+    (omega (arith, many, same, keeps.0), omega (arith, many, same, keeps.1))
+
+pub cmd_watch-requires-clause-steps : goal.cmd_watch-requires-clause-steps
+cmd_watch-requires-clause-steps g c κs within =
+    let scripts = c.in-Ok-Some-Watch.scripts.items in
+    let is : Some (Watch c.in-Ok-Some-Watch.image.now c.in-Ok-Some-Watch.stimuli.now c.in-Ok-Some-Watch.vars.now (map (λ s. s.now) scripts) c.in-Ok-Some-Watch.steps) ≡ command_of (map string_bytes c.args.words.now) =
+    sym (ap (option_map command_value) (c.in-Ok-Some-Watch.field-0-is ∙ ap Some c.in-Ok-Some-Watch.field-0-0-is)) ∙ c.in-Ok-Some-Watch.ensures in
     let keeps = read-limits _ _ is in
     (keeps.2, keeps.3)

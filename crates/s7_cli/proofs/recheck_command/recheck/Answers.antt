@@ -1,0 +1,78 @@
+use Rattle.std.proofs.Common.{◌≤◌, ap, refl, sym, ◌∙◌, subst, List, [], ◌∷◌, length, ℕ, Vec, Global, Ok, Err, arith}
+use Rattle.std.proofs.lemmas.Result.{err_from_is_err_and}
+use Rattle.s7_cli.specs.declared.failures.File.TheVariants.{Image, Certificate}
+use Rattle.s7_cli.specs.Answer.{Answer}
+use Rattle.s7_cli.specs.BoundSays.{RecheckSays}
+use Rattle.s7_cli.specs.BoundTexts.{IsHeld}
+use Rattle.s7_cli.specs.Command.{Recheck, Input}
+use Rattle.s7_cli.specs.Lines.{ok_line}
+use Rattle.s7_cli.proofs.BoundLemmas.{yes-said}
+use Rattle.s7_cli.proofs.ComesLemmas.{comes-unread, comes-refused, comes-written, file-read, file-unread, read-then, unread-then}
+use Rattle.s7_cli.proofs.recheck_command.recheck.Goals as goal
+
+-- the two input files
+abbrev image_input : List ℕ → Input
+image_input name = record { file = Image; name = name }
+
+abbrev certificate_input : List ℕ → Input
+certificate_input name = record { file = Certificate; name = name }
+
+abbrev bytes_of : Vec ℕ Global → List ℕ
+bytes_of v = v.items
+
+abbrev alone : Vec ℕ Global → List (List ℕ)
+alone v = v.items ∷ []
+
+pub returns-in_err-image : goal.returns-in_err-image
+returns-in_err-image g c =
+    let fault = err_from_is_err_and c.from_residual.result c.from_residual.ensures.1 in
+    let first : Input = image_input c.args.img.now in
+    comes-unread alone (Recheck c.args.img.now c.args.cert.now) _ _ _ (first ∷ []) (certificate_input c.args.cert.now ∷ []) _ _ refl
+    (fault.1 ∙ ap Err fault.2)
+    (file-unread bytes_of alone _ first _ _ refl c.in_err-image.ensures)
+
+pub returns-in_err-certificate : goal.returns-in_err-certificate
+returns-in_err-certificate g c =
+    let fault = err_from_is_err_and c.from_residual-in_err-certificate.result c.from_residual-in_err-certificate.ensures.1 in
+    let first : Input = image_input c.args.img.now in
+    let last : Input = certificate_input c.args.cert.now in
+    comes-unread alone (Recheck c.args.img.now c.args.cert.now) _ _ _ (first ∷ last ∷ []) [] _ _ refl
+    (fault.1 ∙ ap Err fault.2)
+    (unread-then alone alone _ _ _ (first ∷ []) (last ∷ []) (c.in_ok-image.image.items ∷ []) _ _ refl
+    (file-read bytes_of _ _ first c.in_ok-image.image c.in_ok-image.ensures)
+    (file-unread bytes_of alone _ last _ _ refl c.in_err-certificate.ensures))
+
+pub judge_recheck-requires : goal.judge_recheck-requires
+judge_recheck-requires g c =
+    let within : length c.in_ok-certificate.certificate.items ≤ 1048576 = c.in_ok-certificate.ensures.1.within in
+    subst (λ (bytes : List ℕ). length bytes ≤ 4194304) (sym c.deref-2.ensures.value) (omega (arith, within))
+
+pub returns-in_err-judge_recheck : goal.returns-in_err-judge_recheck
+returns-in_err-judge_recheck g c =
+    let fault = err_from_is_err_and c.from_residual-in_err-judge_recheck.result c.from_residual-in_err-judge_recheck.ensures.1 in
+    let image : List ℕ = c.in_ok-image.image.items in
+    let text : List ℕ = c.in_ok-certificate.certificate.items in
+    comes-refused Unit (Recheck c.args.img.now c.args.cert.now) _ _ _ (image ∷ text ∷ [])
+    (RecheckSays c.deref.result.now c.deref-2.result.now) _ _ (fault.1 ∙ ap Err fault.2)
+    (read-then _ _ _ (image_input c.args.img.now ∷ []) (certificate_input c.args.cert.now ∷ []) (image ∷ []) (text ∷ [])
+    (file-read bytes_of _ _ (image_input c.args.img.now) c.in_ok-image.image c.in_ok-image.ensures)
+    (file-read bytes_of _ _ (certificate_input c.args.cert.now) c.in_ok-certificate.certificate c.in_ok-certificate.ensures))
+    (λ (a : Answer) said.
+    subst (λ (b : List ℕ). RecheckSays b text a) c.deref.ensures.value
+    (subst (λ (t : List ℕ). RecheckSays c.deref.result.now t a) c.deref-2.ensures.value said))
+    c.in_err-judge_recheck.ensures.refused
+
+pub returns : goal.returns
+unfolding ok_line
+returns g c =
+    let image : List ℕ = c.in_ok-image.image.items in
+    let text : List ℕ = c.in_ok-certificate.certificate.items in
+    let held : IsHeld image text =
+    subst (λ (b : List ℕ). IsHeld b text) c.deref.ensures.value
+    (subst (λ (t : List ℕ). IsHeld c.deref.result.now t) c.deref-2.ensures.value c.in_ok-judge_recheck.ensures.holds) in
+    comes-written (Recheck c.args.img.now c.args.cert.now) _ _ _ (image ∷ text ∷ []) ok_line _ refl
+    (read-then _ _ _ (image_input c.args.img.now ∷ []) (certificate_input c.args.cert.now ∷ []) (image ∷ []) (text ∷ [])
+    (file-read bytes_of _ _ (image_input c.args.img.now) c.in_ok-image.image c.in_ok-image.ensures)
+    (file-read bytes_of _ _ (certificate_input c.args.cert.now) c.in_ok-certificate.certificate c.in_ok-certificate.ensures))
+    (yes-said image text held)
+    c.write_text.ensures

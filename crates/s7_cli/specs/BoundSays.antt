@@ -1,0 +1,81 @@
+-- What `bound` and `recheck` answer for what their files hold, and which certificate is written.
+use Rattle.std.specs.Prelude.{◌≡◌, ◌⊎◌, ℕ, List, Option, Some, None, Result, Ok, Err, true}
+use Rattle.plc_base.specs.declared.blocks.BlockId.{BlockId}
+use Rattle.plc_base.specs.declared.refusals.Refusal.{Refusal}
+use Rattle.image_file.specs.Loaded.{LoadedProgram}
+use Rattle.image_file.specs.declared.faults.LoadFault.{LoadFault}
+use Rattle.stack_bound.specs.Certificates.{Holds}
+use Rattle.stack_bound.specs.CertificateText.{certificate_of, certificate_text}
+use Rattle.stack_bound.specs.Finding.{IsDeepChain, IsLeastCertificate}
+use Rattle.stack_bound.specs.Overflow.{NeverOverflows}
+use Rattle.stack_bound.specs.declared.certificates.Bound.{Bound}
+use Rattle.s7_cli.specs.declared.failures.File.TheVariants.{Certificate}
+use Rattle.s7_cli.specs.Answer.{Answer, done, refused, refused_image, says_no, too_deep}
+use Rattle.s7_cli.specs.Command.{Command, Bound as BoundCommand, Recheck}
+use Rattle.s7_cli.specs.Lines.{ok_line}
+use Rattle.s7_cli.specs.Loads.{LoadsAs}
+use Rattle.s7_cli.specs.Reading.{Disk}
+
+-- ---- `bound`: the image is loaded
+
+-- no chain of calls is too deep, so there is a least certificate
+abbrev pub Fits : LoadedProgram → Type 0
+Fits l = (list : List Bound) × IsLeastCertificate l.profile l.program list
+
+-- the certificate is written, or a chain is told that is too deep
+abbrev pub BoundAnswer : Result LoadedProgram LoadFault → Answer → Type 0
+BoundAnswer (Err fault) answer = answer ≡ refused_image fault
+BoundAnswer (Ok l) answer =
+    (Fits l × (answer ≡ done ok_line))
+    ⊎ ((chain : List BlockId) × IsDeepChain l.profile l.program chain × (answer ≡ too_deep chain))
+
+-- what `bound` answers, over the contents of its file
+abbrev pub BoundSays : (image : List ℕ) → Answer → Type 0
+BoundSays image answer =
+    (loaded : Result LoadedProgram LoadFault) × LoadsAs image loaded × BoundAnswer loaded answer
+
+-- bytes are the text of the least certificate of what an image loads as
+abbrev pub IsCertificate : (bytes image : List ℕ) → Type 0
+IsCertificate bytes image =
+    (l : LoadedProgram) × LoadsAs image (Ok l) × (list : List Bound)
+    × IsLeastCertificate l.profile l.program list × (bytes ≡ certificate_text list)
+
+-- ---- `recheck`: the image is loaded first, and then the certificate is read
+
+-- the certificate holds, or says no
+abbrev pub HeldAnswer : LoadedProgram → List Bound → Answer → Type 0
+HeldAnswer l list answer =
+    (Holds l.profile l.program list × (answer ≡ done ok_line))
+    ⊎ ((Holds l.profile l.program list → ⊥) × (answer ≡ says_no))
+
+-- a text that is no certificate is refused by its first bad line
+abbrev pub CheckedAnswer : LoadedProgram → Result (List Bound) Refusal → Answer → Type 0
+CheckedAnswer l (Err refusal) answer = answer ≡ refused Certificate refusal
+CheckedAnswer l (Ok list) answer = HeldAnswer l list answer
+
+-- the blocks of the certificate are those of the image
+abbrev pub RecheckAnswer : Result LoadedProgram LoadFault → (certificate : List ℕ) → Answer → Type 0
+RecheckAnswer (Err fault) certificate answer = answer ≡ refused_image fault
+RecheckAnswer (Ok l) certificate answer =
+    CheckedAnswer l (certificate_of l.program certificate) answer
+
+-- what `recheck` answers, over the contents of its files
+abbrev pub RecheckSays : (image certificate : List ℕ) → Answer → Type 0
+RecheckSays image certificate answer =
+    (loaded : Result LoadedProgram LoadFault) × LoadsAs image loaded
+    × RecheckAnswer loaded certificate answer
+
+-- ---- what both promise
+
+-- the image of which a command says whether its stacks suffice
+abbrev pub image_bounded : Command → Option (List ℕ)
+image_bounded (BoundCommand image certificate) = Some image
+image_bounded (Recheck image certificate) = Some image
+image_bounded command = None
+
+-- no valid history of the program in that image, at its profile, leads to a STOP by block depth or local data
+abbrev pub StacksSuffice : Command → Disk → Type 0
+StacksSuffice k d =
+    (name bytes : List ℕ) (l : LoadedProgram) → image_bounded k ≡ Some name
+    → d.before.contents.told ≡ true → d.before.contents.at name ≡ Some bytes
+    → LoadsAs bytes (Ok l) → NeverOverflows l.profile l.program

@@ -1,0 +1,38 @@
+-- What `bound` and `recheck` find out before they write.
+use Rattle.std.specs.Prelude.{◌≡◌, ℕ, List, Ok}
+use Rattle.plc_base.specs.declared.blocks.BlockId.{BlockId}
+use Rattle.image_file.specs.Loaded.{LoadedProgram}
+use Rattle.stack_bound.specs.Certificates.{Holds}
+use Rattle.stack_bound.specs.CertificateText.{Spells, certificate_text}
+use Rattle.stack_bound.specs.ChainText.{chain_text}
+use Rattle.stack_bound.specs.Finding.{IsDeepChain}
+use Rattle.stack_bound.specs.declared.certificates.Bound.{Bound}
+use Rattle.stack_bound.specs.declared.finding.Found.{Found}
+use Rattle.stack_bound.specs.declared.finding.Found.TheVariants as found
+use Rattle.s7_cli.specs.declared.bound_command.Told.{Told}
+use Rattle.s7_cli.specs.declared.bound_command.Told.TheVariants as told
+use Rattle.s7_cli.specs.BoundSays.{IsCertificate}
+use Rattle.s7_cli.specs.Loads.{LoadsAs}
+
+-- the text of what was found
+abbrev pub IsToldOf : Found → Told → Type 0
+IsToldOf (found.Fits list) (told.Fits certificate) = certificate.items ≡ certificate_text list.items
+IsToldOf (found.Deep chain) (told.Deep line) = line.items ≡ chain_text chain.items
+IsToldOf _ _ = ⊥
+
+-- bytes are the line of a chain of an image that is too deep
+abbrev pub IsChainLine : (line image : List ℕ) → Type 0
+IsChainLine line image =
+    (l : LoadedProgram) × LoadsAs image (Ok l) × (chain : List BlockId)
+    × IsDeepChain l.profile l.program chain × (line ≡ chain_text chain)
+
+-- what is told of an image
+abbrev pub TellsOf : (image : List ℕ) → Told → Type 0
+TellsOf image (told.Fits certificate) = IsCertificate certificate.items image
+TellsOf image (told.Deep line) = IsChainLine line.items image
+
+-- a text spells a certificate that holds of an image
+abbrev pub IsHeld : (image certificate : List ℕ) → Type 0
+IsHeld image certificate =
+    (l : LoadedProgram) × LoadsAs image (Ok l) × (list : List Bound)
+    × Spells l.program certificate list × Holds l.profile l.program list

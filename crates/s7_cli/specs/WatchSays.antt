@@ -1,0 +1,71 @@
+-- What `watch` answers for what its files hold.
+use Rattle.std.specs.Prelude.{◌≡◌, ℕ, List, ◌++◌, codes, decimal, Option, Some, None, Result, Ok, Err}
+use Rattle.std.specs.List.{flat_map}
+use Rattle.plc_base.specs.declared.Refusal.{Refusal}
+use Rattle.var_access.specs.declared.Entry.{Entry}
+use Rattle.var_access.specs.declared.Reply.{Reply}
+use Rattle.var_access.specs.declared.Request.TheVariants.{ReadVars}
+use Rattle.var_access.specs.declared.Var.{Var}
+use Rattle.image_file.specs.Loaded.{LoadedProgram}
+use Rattle.image_file.specs.declared.faults.LoadFault.{LoadFault}
+use Rattle.event_text.specs.HistoryText.{history_text}
+use Rattle.event_text.specs.Replies.{outcome_text}
+use Rattle.event_text.specs.Texts.{history_of, stimuli_of}
+use Rattle.event_text.specs.WatchedVars.{vars_of}
+use Rattle.watch_board.specs.declared.shown.Shown.{Shown}
+use Rattle.s7_cli.specs.declared.failures.File.TheVariants.{Stimuli, Script, Vars}
+use Rattle.s7_cli.specs.Answer.{Answer, done, refused, refused_image}
+use Rattle.s7_cli.specs.LiveSays.{RefusedScript, live_text, scripts_from}
+use Rattle.s7_cli.specs.Living.{IsLive, opened_on}
+use Rattle.s7_cli.specs.Loads.{LoadsAs}
+use Rattle.s7_cli.specs.Watching.{AreViews, reading, watch_lists}
+
+-- how often the variables are read and published, and how often the board is viewed
+abbrev pub watch_count : ℕ
+watch_count = 100
+
+-- what a view says of a reply; the opening item of a board has none
+abbrev pub seen_reply : List Var → (number : ℕ) → Option Reply → List ℕ
+seen_reply vars number None = codes " NONE\n"
+seen_reply vars number (Some reply) = outcome_text number (ReadVars vars) reply
+
+-- the line of a view: `SEEN n REPLY`, or `SEEN 0 NONE`
+abbrev pub seen_line : List Var → Shown → List ℕ
+seen_line vars item = codes "SEEN " ++ (decimal item.length ++ seen_reply vars item.length item.reply)
+
+-- the lines of all views, in their order
+unfoldable pub seen_text : List Var → List Shown → List ℕ
+seen_text vars seen = flat_map (seen_line vars) seen
+
+-- the text of a live run, a line `---`, and what was seen
+abbrev pub watch_text : LoadedProgram → (history : List Entry) → List Var → (seen : List Shown) → List ℕ
+watch_text loaded history vars seen = live_text loaded history ++ (codes "---\n" ++ seen_text vars seen)
+
+-- the workers made some live history of these lists, in which operator 4 read the variables again and again. Each line of a view but that
+-- of the opening item has the number and the reply of one of operator 4's entries, and the numbers never fall
+pub record RanWatch (loaded : LoadedProgram) (steps : ℕ) (stimuli : List Entry) (vars : List Var) (scripts : List (List Entry)) (answer : Answer) : Type 0 where
+  pub history : List Entry
+  pub live : IsLive loaded steps stimuli (watch_lists watch_count scripts vars) history
+  -- where it isn't longer than a history may be, `run` gives the written history the same text
+  pub read_back : history_of loaded.program.names (history_text history) ≡ Ok history
+  pub seen : List Shown
+  pub views : AreViews (reading 6 vars) (opened_on loaded) history watch_count seen
+  pub says : answer ≡ done (watch_text loaded history vars seen)
+
+-- the stimuli are checked first, then the variables, then the scripts in their order
+abbrev pub WatchAnswer : LoadedProgram → (steps : ℕ) → Result (List Entry) Refusal → Result (List Var) Refusal → Result (List (List Entry)) RefusedScript → Answer → Type 0
+WatchAnswer loaded steps (Err refusal) vars scripts answer = answer ≡ refused Stimuli refusal
+WatchAnswer loaded steps (Ok stimuli) (Err refusal) scripts answer = answer ≡ refused Vars refusal
+WatchAnswer loaded steps (Ok stimuli) (Ok vars) (Err script) answer = answer ≡ refused (Script script.number) script.refusal
+WatchAnswer loaded steps (Ok stimuli) (Ok vars) (Ok scripts) answer = RanWatch loaded steps stimuli vars scripts answer
+
+-- the image is loaded before
+abbrev pub LoadedWatch : Result LoadedProgram LoadFault → (steps : ℕ) → (stimuli vars : List ℕ) (scripts : List (List ℕ)) → Answer → Type 0
+LoadedWatch (Err fault) steps stimuli vars scripts answer = answer ≡ refused_image fault
+LoadedWatch (Ok loaded) steps stimuli vars scripts answer =
+    WatchAnswer loaded steps (stimuli_of stimuli) (vars_of loaded.program.names vars) (scripts_from loaded.program.names 1 scripts) answer
+
+-- what `watch` answers, over the contents of its files
+abbrev pub WatchSays : (steps : ℕ) (image stimuli vars : List ℕ) (scripts : List (List ℕ)) → Answer → Type 0
+WatchSays steps image stimuli vars scripts answer =
+    (loaded : Result LoadedProgram LoadFault) × LoadsAs image loaded × LoadedWatch loaded steps stimuli vars scripts answer

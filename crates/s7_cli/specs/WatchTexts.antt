@@ -1,0 +1,55 @@
+-- What was read of the files of a watch, and what was found in it.
+use Rattle.std.specs.Prelude.{◌≡◌, ℕ, ◌+◌, ◌≤◌, List, ◌∷◌, length, map, Result, Ok, Err}
+use Rattle.plc_base.specs.declared.Refusal.{Refusal}
+use Rattle.image_file.specs.Loaded.{LoadedProgram}
+use Rattle.var_access.specs.declared.Entry.{Entry}
+use Rattle.var_access.specs.declared.Var.{Var}
+use Rattle.event_text.specs.Regular.{IsRegularOf}
+use Rattle.event_text.specs.Texts.{stimuli_of}
+use Rattle.event_text.specs.WatchedVars.{vars_of}
+use Rattle.s7_cli.specs.declared.failures.Failure.{Failure}
+use Rattle.s7_cli.specs.declared.failures.Failure.TheVariants.{Refused}
+use Rattle.s7_cli.specs.declared.failures.File.TheVariants.{Vars}
+use Rattle.s7_cli.specs.declared.watch_files.WatchText.{WatchText}
+use Rattle.s7_cli.specs.Answer.{Answer}
+use Rattle.s7_cli.specs.LiveSays.{scripts_from}
+use Rattle.s7_cli.specs.LiveTexts.{AreScriptsWithin}
+use Rattle.s7_cli.specs.Living.{AreRegularBy, total_length}
+use Rattle.s7_cli.specs.Loads.{LoadsAs}
+use Rattle.s7_cli.specs.WatchSays.{WatchSays}
+use Rattle.s7_cli.specs.Watching.{reading}
+
+-- the bytes of the scripts, in their order
+abbrev pub watch_scripts : WatchText → List (List ℕ)
+watch_scripts text = map (λ v. v.items) text.scripts.items
+
+-- the contents of the files, in the order of reading
+abbrev pub watch_contents : WatchText → List (List ℕ)
+watch_contents text = text.image.items ∷ text.stimuli.items ∷ text.vars.items ∷ watch_scripts text
+
+-- no file but the image is longer than it may be, and there are one to three scripts
+pub record IsWatchText (text : WatchText) : Type 0 where
+  pub stimuli : length text.stimuli.items ≤ 4194304
+  pub vars : length text.vars.items ≤ 1048576
+  pub scripts : AreScriptsWithin (watch_scripts text)
+  pub some : 1 ≤ length text.scripts.items
+  pub few : length text.scripts.items ≤ 3
+
+-- what `watch` answers for these files
+abbrev pub WatchTextSays : (steps : ℕ) → WatchText → Answer → Type 0
+WatchTextSays steps text answer = WatchSays steps text.image.items text.stimuli.items text.vars.items (watch_scripts text) answer
+
+-- why the variables are refused is told
+abbrev pub TellsVars : Result (List Var) Refusal → Failure → Type 0
+TellsVars vars failure = (refusal : Refusal) × (vars ≡ Err refusal) × (failure ≡ Refused Vars refusal)
+
+-- the program, the lists of the workers and the variables; an entry has four bytes of its text at least
+pub record FindsWatch (text : WatchText) (loaded : LoadedProgram) (stimuli : List Entry) (vars : List Var) (scripts : List (List Entry)) : Type 0 where
+  pub loads : LoadsAs text.image.items (Ok loaded)
+  pub are_stimuli : stimuli_of text.stimuli.items ≡ Ok stimuli
+  pub are_vars : vars_of loaded.program.names text.vars.items ≡ Ok vars
+  pub are_scripts : scripts_from loaded.program.names 1 (watch_scripts text) ≡ Ok scripts
+  pub regular : AreRegularBy 2 (stimuli ∷ scripts)
+  pub reads : IsRegularOf 6 (reading 6 vars)
+  pub few : length stimuli + total_length scripts ≤ 2097152
+  pub many : length scripts ≡ length text.scripts.items

@@ -1,0 +1,102 @@
+ghost use Rattle.std.specs.Prelude.{Some, IfOk};
+ghost use Rattle.s7_cli.specs.BoundSays.{BoundSays};
+ghost use Rattle.s7_cli.specs.BoundTexts.{IsToldOf, TellsOf};
+ghost use Rattle.s7_cli.specs.Command.{Bound};
+ghost use Rattle.s7_cli.specs.Ends.{Ended, taking};
+ghost use Rattle.s7_cli.specs.Inner.{Comes, RefusedBy};
+ghost use Rattle.s7_cli.specs.Reading.{disk};
+ghost use Rattle.s7_cli.specs.StatusTable.{StatusTable};
+
+use crate::failures::{Failure, File, Status};
+use crate::files::{read_file, write_file};
+use crate::finish::{OK_LINE, end_command, write_text};
+use crate::judging::loaded;
+use plc_base::NoMemory;
+use plc_io::{Files, Sink};
+use stack_bound::{Found, find, write_certificate, write_chain};
+use std::alloc::Global;
+
+/// What is found of a program, as text.
+#[derive(Drop)]
+enum Told {
+    /// The certificate.
+    Fits { certificate: Vec<u8> },
+    /// The line of a chain that is too deep.
+    Deep { line: Vec<u8> },
+}
+
+/// The text of what was found.
+fn told_of(alloc: Global, found: &Found) -> Result<Told, NoMemory>
+    ensures { IfOk result (IsToldOf found.now) }
+{
+    let mut text = Vec::new(alloc);
+    match found {
+        Found::Fits { list } => {
+            write_certificate(list, &mut text)?;
+            Ok(Told::Fits { certificate: text })
+        }
+        Found::Deep { chain } => {
+            write_chain(chain, &mut text)?;
+            Ok(Told::Deep { line: text })
+        }
+    }
+}
+
+/// Checks an image, and finds the certificate of its program, or a chain that is too deep.
+#[tactic(auto, using(crate::proofs::BoundLemmas::tells))]
+fn judge_bound(alloc: Global, image: &[u8]) -> Result<Told, Failure>
+    ensures tells { IfOk result (TellsOf image.now) }
+    ensures refused { RefusedBy (BoundSays image.now) result }
+{
+    let loaded = loaded(alloc, image)?;
+    let found = find(alloc, &loaded)?;
+    Ok(told_of(alloc, &found)?)
+}
+
+/// Reads an image, and writes its certificate and then `OK`, or the line of a chain.
+fn bound<F: Files, K: Sink>(
+    alloc: Global,
+    img: &str,
+    cert: &str,
+    files: &mut F,
+    out: &mut K,
+) -> Result<(), Failure>
+    ensures { let went = disk (F.shown files.old) (F.shown files.new) in
+        let took = taking (K.shown out.old) (K.shown out.new) in
+        Comes (Some (Bound img.now cert.now)) went took result }
+{
+    let image = read_file(alloc, files, File::Image, img)?;
+    let told = judge_bound(alloc, &image)?;
+    match told {
+        Told::Fits { certificate } => {
+            write_file(files, cert, &certificate)?;
+            write_text(out, OK_LINE)
+        }
+        Told::Deep { line } => {
+            write_text(out, &line)?;
+            Err(Failure::TooDeep)
+        }
+    }
+}
+
+/// Loads the image in the file `img`, makes the least certificate of its stacks the whole of the file
+/// `cert`, and then writes `OK`; or writes a chain of calls that is too deep, or the line of a refusal,
+/// and no file. Where the status is 0, no valid history of the image leads to a STOP by block depth or
+/// local data.
+pub fn cmd_bound<F: Files, K: Sink>(
+    alloc: Global,
+    img: &str,
+    cert: &str,
+    files: &mut F,
+    out: &mut K,
+) -> Status
+    ensures ends { let went = disk (F.shown files.old) (F.shown files.new) in
+        Ended (Some (Bound img.now cert.now)) went (taking (K.shown out.old) (K.shown out.new))
+        result.code }
+    ensures table { let went = disk (F.shown files.old) (F.shown files.new) in
+        StatusTable (Some (Bound img.now cert.now)) went
+        (taking (K.shown out.old) (K.shown out.new)) result.code }
+{
+    let came = bound(alloc, img, cert, files, out);
+    end_command(out, came)
+}

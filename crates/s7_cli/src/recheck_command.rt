@@ -1,0 +1,69 @@
+ghost use Rattle.std.specs.Prelude.{◌≤◌, length, Some, OnOk};
+ghost use Rattle.s7_cli.specs.BoundSays.{RecheckSays};
+ghost use Rattle.s7_cli.specs.BoundTexts.{IsHeld};
+ghost use Rattle.s7_cli.specs.Command.{Recheck};
+ghost use Rattle.s7_cli.specs.Ends.{Ended, taking};
+ghost use Rattle.s7_cli.specs.Inner.{Comes, RefusedBy};
+ghost use Rattle.s7_cli.specs.Reading.{disk};
+ghost use Rattle.s7_cli.specs.StatusTable.{StatusTable};
+
+use crate::failures::{Failure, File, Status};
+use crate::files::read_file;
+use crate::finish::{OK_LINE, end_command, write_text};
+use crate::judging::loaded;
+use plc_io::{Files, Sink};
+use stack_bound::{holds, read_certificate};
+use std::alloc::Global;
+
+/// Checks an image, and then a certificate of it.
+fn judge_recheck(alloc: Global, image: &[u8], certificate: &[u8]) -> Result<(), Failure>
+    requires { length certificate.now ≤ 4194304 }
+    ensures holds { OnOk result (IsHeld image.now certificate.now) }
+    ensures refused { RefusedBy (RecheckSays image.now certificate.now) result }
+{
+    let loaded = loaded(alloc, image)?;
+    let list = read_certificate(alloc, &loaded, certificate)?;
+    if holds(&loaded, &list) {
+        return Ok(());
+    }
+    Err(Failure::SaysNo)
+}
+
+/// Reads an image and a certificate, checks both, and writes `OK`.
+fn recheck<F: Files, K: Sink>(
+    alloc: Global,
+    img: &str,
+    cert: &str,
+    files: &mut F,
+    out: &mut K,
+) -> Result<(), Failure>
+    ensures { let went = disk (F.shown files.old) (F.shown files.new) in
+        let took = taking (K.shown out.old) (K.shown out.new) in
+        Comes (Some (Recheck img.now cert.now)) went took result }
+{
+    let image = read_file(alloc, files, File::Image, img)?;
+    let certificate = read_file(alloc, files, File::Certificate, cert)?;
+    judge_recheck(alloc, &image, &certificate)?;
+    write_text(out, OK_LINE)
+}
+
+/// Loads the image in the file `img`, reads the certificate in the file `cert`, and writes `OK` where it
+/// holds of the image, else the line of a refusal, or that it says no. Where the status is 0, no valid
+/// history of the image leads to a STOP by block depth or local data.
+pub fn cmd_recheck<F: Files, K: Sink>(
+    alloc: Global,
+    img: &str,
+    cert: &str,
+    files: &mut F,
+    out: &mut K,
+) -> Status
+    ensures ends { let went = disk (F.shown files.old) (F.shown files.new) in
+        Ended (Some (Recheck img.now cert.now)) went (taking (K.shown out.old) (K.shown out.new))
+        result.code }
+    ensures table { let went = disk (F.shown files.old) (F.shown files.new) in
+        StatusTable (Some (Recheck img.now cert.now)) went
+        (taking (K.shown out.old) (K.shown out.new)) result.code }
+{
+    let came = recheck(alloc, img, cert, files, out);
+    end_command(out, came)
+}
