@@ -14,6 +14,7 @@ use Rattle.frames.specs.declared.FrameFault.{FrameFault}
 use Rattle.frames.specs.declared.running.Running.{Running}
 use Rattle.flat_code.specs.Instr.{Instr, Does, Passing}
 use Rattle.flat_code.specs.Ops.{OpData}
+use Rattle.flat_code.specs.Placed.{op_placed}
 use Rattle.flat_code.specs.Programs.{CodeBlock, Program}
 use Rattle.flat_code.specs.Operations.{operation_of}
 use Rattle.flat_code.specs.declared.operands.Operand.{Operand}
@@ -38,6 +39,7 @@ use Rattle.machine.proofs.Fetching.{fetched_nowhere, found_walk}
 use Rattle.machine.proofs.Keeping.{IfDone}
 use Rattle.machine.proofs.Outputs.{Stay, params_in_stay}
 use Rattle.machine.proofs.Steps.{call_comes, moved_to, return_comes, went_comes}
+use Rattle.machine.proofs.Walks.{first_ends}
 
 -- ---- one statement
 
@@ -99,6 +101,19 @@ found_there b at walk what operand opens next c kind a after w v answer words op
         → GoesOrStays (performed c (instr_of (operation_of walk.last.code) walk.last.operand walk.opens passings walk.next b.code) walk.next a w)
         (kind (instr_of (operation_of walk.last.code) walk.last.operand walk.opens passings walk.next b.code) a) a after w v answer
     at_walk passings pass = rw (sym words, sym operands, sym opened, sym behind) (goes passings pass)
+
+-- the same of a statement of one op
+pub found_alone :
+    (r : OpData × ℕ) (b : CodeBlock) (at : ℕ) → Some r ≡ op_placed 0 b.code at → (what : Operation) (operand : Operand) (c : Code)
+    (kind : Instr → Activation → Bool) (a after : Activation) (w v : World) (answer : Bool)
+    → what ≡ operation_of r.0.code → operand ≡ r.0.operand → r.0.last ≡ true → Goes (fetched c (statement_at b at) a w)
+    → ((passings : List Passing) → Passes b.code at passings
+    → GoesOrStays (performed c (instr_of what operand None passings r.1 b.code) r.1 a w)
+    (kind (instr_of what operand None passings r.1 b.code) a) a after w v answer)
+    → GoesOrStays (fetched c (statement_at b at) a w) (is_of kind (statement_at b at) a) a after w v answer
+found_alone r b at placed what operand c kind a after w v answer words operands last there goes =
+    found_there b at (record { opens = None; last = r.0; next = r.1 }) what operand None r.1 c kind a after w v answer
+    words operands refl refl (first_ends b.code at r.1 r.0 placed last) there goes
 
 -- and where it finds none, no statement is there
 pub found_nowhere :

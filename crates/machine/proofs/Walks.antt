@@ -135,11 +135,19 @@ pub first_ends :
     → Some (record { opens = None; last = op; next = next }) ≡ option_map (walk_with None) (run_at 64 ops at)
 first_ends ops at next op h last = walk_ends 64 0 ops at next op None (omega arith) h last
 
+pub first_leads_on :
+    (r : OpData × ℕ) (ops : List OpData) (at : ℕ) (opens : Option ℕ) → Some r ≡ op_placed 0 ops at → r.0.last ≡ false
+    → opens ≡ opens_after None r.0.operand
+    → option_map (walk_with None) (run_at 64 ops at) ≡ option_map (walk_with opens) (run_at 63 ops r.1)
+first_leads_on r ops at opens h more is =
+    walk_goes_on 64 0 ops at r.1 r.0 None (omega arith) h more
+    ∙ ap (λ (z : Option ℕ). option_map (walk_with z) (run_at 63 ops r.1)) (sym is)
+
 pub first_goes_on :
     (ops : List OpData) (at next : ℕ) (op : OpData) (walk : Option Walk) → Some (op, next) ≡ op_placed 0 ops at → op.last ≡ false
     → walk ≡ option_map (walk_with (opens_after None op.operand)) (run_at 63 ops next)
     → walk ≡ option_map (walk_with None) (run_at 64 ops at)
-first_goes_on ops at next op walk h more is = is ∙ sym (walk_goes_on 64 0 ops at next op None (omega arith) h more)
+first_goes_on ops at next op walk h more is = is ∙ sym (first_leads_on (op, next) ops at (opens_after None op.operand) h more refl)
 
 -- the bindings along the ops
 bound_none :

@@ -1,5 +1,6 @@
 //! Statements one after another that leave the peripheral outputs as they are.
-ghost use Rattle.std.specs.Prelude.{◌≡◌, ◌<◌, ◌≤◌, length, true, false, ℕ, List, Option, Some};
+ghost use Rattle.std.specs.Prelude.{◌≡◌, ◌<◌, ◌≤◌, length, true, false, ℕ, List, None, Option, Some};
+ghost use Rattle.std.specs.Option.{option_map};
 ghost use Rattle.timers_counters.specs.Timer.{Timer};
 ghost use Rattle.timers_counters.specs.Counter.{Counter};
 ghost use Rattle.frames.specs.Activations.{frames_of};
@@ -8,18 +9,18 @@ ghost use Rattle.flat_code.specs.Ops.{OpData};
 ghost use Rattle.machine.specs.Code.{Code};
 ghost use Rattle.machine.specs.Does.{does_with as does_with_of};
 ghost use Rattle.machine.specs.Entering.{call};
-ghost use Rattle.machine.specs.Flat.{code_of, head_of, instr_of, jump_instr, statement_at};
+ghost use Rattle.machine.specs.Flat.{code_of, head_of, instr_of, jump_instr, most_ops, run_at, statement_at};
 ghost use Rattle.machine.specs.Lasting.{IsReady};
 ghost use Rattle.machine.specs.Parts.{parts_of};
 ghost use Rattle.machine.specs.Quiet.{GoesOrStays, RunsQuietly, StaysReady, goes_as, has_place_inside as has_place_inside_of, is_bound_inside as is_bound_inside_of, is_inside as is_inside_of, is_named_inside as is_named_inside_of, is_of, is_quiet, is_quiet_across, is_quiet_inside, keeps_outputs as keeps_outputs_of, may_write as may_write_of};
 ghost use Rattle.machine.specs.Statement.{Goes, World, after_call, callee_of, fetched, performed, statement as statement_of, went_on, world};
-ghost use Rattle.machine.specs.Walking.{Passes};
+ghost use Rattle.machine.specs.Walking.{Passes, walk_with};
 
 use crate::entering::{Callee, enter_if_room};
 use crate::performing::jump_to;
 use crate::returning::return_from_block;
 use crate::statements::{instance_named, is_called, is_ended, is_jl};
-use crate::walking::{bind_all, jump_of, walk_from};
+use crate::walking::{bind_all, jump_of, opens_after, walk_from, walk_on};
 use crate::whole::does_with;
 use flat_code::{CallOperation, EndOperation, JumpOperation, Operand, Operation, kind_of_code};
 use frames::{Activation, Binding, Bindings, Running};
@@ -161,6 +162,49 @@ fn pass_op(
     }
 }
 
+// The statement of a block at which the innermost frame stands, from its second op on, with what the
+// first one opens, under the same conditions. Nothing is inlined, so that the way of one op stays
+// short.
+#[inline(never)]
+fn pass_ops(
+    code: &LoadedCode<'_>,
+    at: u32,
+    opens: Option<u16>,
+    a: &mut Activation,
+    m: &mut Memory,
+    t: &mut Timers,
+    n: &mut Counters,
+) -> bool
+    requires { option_map (walk_with None)
+        (run_at most_ops code.now.code a.old.running.frame.at)
+        ≡ option_map (walk_with opens) (run_at 63 code.now.code at) }
+    ensures goes { (c : Code)
+        → Goes (fetched c (statement_at code.now a.old.running.frame.at) a.old
+        (world m.old t.old n.old))
+        → GoesOrStays (fetched c (statement_at code.now a.old.running.frame.at) a.old
+        (world m.old t.old n.old))
+        (is_of is_quiet_inside (statement_at code.now a.old.running.frame.at) a.old)
+        a.old a.new (world m.old t.old n.old) (world m.new t.new n.new) result }
+    ensures block { a.new.running.frame.block ≡ a.old.running.frame.block }
+{
+    match walk_on(code, at, opens) {
+        Some(walk) => {
+            let last = &walk.last;
+            pass_op(
+                walk.opens,
+                last.operation(),
+                &last.operand,
+                walk.next,
+                a,
+                m,
+                t,
+                n,
+            )
+        }
+        None => false,
+    }
+}
+
 // The statement of a block at which the innermost frame stands, under the same conditions.
 #[inline(always)]
 fn pass_statement(
@@ -179,19 +223,14 @@ fn pass_statement(
         a.old a.new (world m.old t.old n.old) (world m.new t.new n.new) result }
     ensures block { a.new.running.frame.block ≡ a.old.running.frame.block }
 {
-    match walk_from(code, a.running.frame.at) {
-        Some(walk) => {
-            let last = &walk.last;
-            pass_op(
-                walk.opens,
-                last.operation(),
-                &last.operand,
-                walk.next,
-                a,
-                m,
-                t,
-                n,
-            )
+    match code.op(a.running.frame.at) {
+        Some((op, next)) => {
+            if op.last {
+                pass_op(None, op.operation(), &op.operand, next, a, m, t, n)
+            } else {
+                let opens = opens_after(None, &op.operand);
+                pass_ops(code, next, opens, a, m, t, n)
+            }
         }
         None => false,
     }

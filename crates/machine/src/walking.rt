@@ -40,8 +40,8 @@ impl Model for Walk {
     ghost view = { λ w. record { opens = w.opens; last = w.last; next = w.next } };
 }
 
-// What stands open after a further op.
-fn opens_after(opens: Option<u16>, operand: &Operand) -> Option<u16>
+/// What stands open after a further op.
+pub(crate) fn opens_after(opens: Option<u16>, operand: &Operand) -> Option<u16>
     ensures { result ≡ opens_after_op opens operand.now }
 {
     match opens {
@@ -71,10 +71,10 @@ pub(crate) fn walk_from(code: &LoadedCode<'_>, at: u32) -> Option<Walk>
     walk_on(code, next, opens_after(None, &op.operand))
 }
 
-// The rest of a statement, from its second op on, with what stands open.
+/// The rest of a statement, from its second op on, with what stands open.
 #[tactic(auto, using(crate::proofs::Walks::walk_nowhere, crate::proofs::Walks::walk_stops, crate::proofs::Walks::walk_ends, crate::proofs::Walks::walk_goes_on))]
 #[inline(never)]
-fn walk_on(code: &LoadedCode<'_>, at: u32, opens: Option<u16>) -> Option<Walk>
+pub(crate) fn walk_on(code: &LoadedCode<'_>, at: u32, opens: Option<u16>) -> Option<Walk>
     ensures { result ≡ option_map (walk_with opens) (run_at 63 code.now.code at) }
 {
     let mut opens = opens;
