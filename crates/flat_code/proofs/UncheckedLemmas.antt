@@ -1,12 +1,18 @@
 -- Ops that are known to stand where they are read: the tests that aren't made would be met.
-use Rattle.std.proofs.Common.{◌≡◌, ℕ, suc, ◌+◌, ◌-◌, ◌%◌, ◌<◌, ◌≤◌, Bool, true, false, cond, leb, ltb, is_some, get_or, List, [], ◌∷◌, length, take, drop, Option, Some, None, refl, sym, ap, ◌∙◌, length-append, length-drop, arith}
+use Rattle.std.proofs.Common.{◌≡◌, ℕ, suc, ◌+◌, ◌-◌, ◌%◌, ◌<◌, ◌≤◌, Bool, true, false, cond, leb, ltb, is_some, get_or, slice_index_or, List, [], ◌∷◌, length, take, drop, Option, Some, None, refl, sym, ap, ◌∙◌, length-append, length-drop, arith}
 use Rattle.std.specs.Option.{option_map, option_and_then}
+use Rattle.std.specs.Int.{w16, from_be_bytes}
 use Rattle.std.proofs.lemmas.Bool.{ltb-true}
 use Rattle.std.proofs.lemmas.Bool.Decides.{nat_tests}
 use Rattle.std.proofs.lemmas.List.{take_rest}
+use Rattle.plc_base.specs.declared.places.Area.{Area}
+use Rattle.plc_base.specs.declared.places.Width.{Width}
 use Rattle.flat_code.specs.declared.operands.Operand.{Operand}
+use Rattle.flat_code.specs.declared.operands.Operand.TheVariants as operand
+use Rattle.flat_code.specs.declared.operands.Passed.{Passed}
+use Rattle.flat_code.specs.declared.operands.Passed.TheVariants as passed
 use Rattle.flat_code.specs.Codes.{size}
-use Rattle.flat_code.specs.Forms.{form_of_operand, payload, payload_in}
+use Rattle.flat_code.specs.Forms.{actual_in, direct, form_of_operand, payload, payload_in}
 use Rattle.flat_code.specs.Ops.{OpData, code_byte, is_op, op_at, op_bytes, op_of}
 use Rattle.flat_code.specs.Table.{admits, takes_of}
 use Rattle.flat_code.proofs.CodingLemmas.{IsBytes}
@@ -102,3 +108,71 @@ is_first (b ∷ n ∷ rest) operand len are h read sized =
           op = payload_is_op (b % 128) n rest operand r.1 (λ i. are (suc (suc i))) (e ∙ ap (λ (z : Operand). Some (z, r.1)) same) (omega arith) taken;
           is = rw (e, same, taken) (ap (λ (n : ℕ). Some (op_of (b % 128) (leb 128 b) operand, n)) long);
         }
+
+-- ---- fixed places: the payload of form 02, in an op and passed, and with a number in form 0C
+
+-- area, width, byte and bit
+abbrev FixedPlace : Type 0
+FixedPlace = Area × (Width × (ℕ × ℕ))
+
+-- where something is made of what was read, something was read
+made_there : {A B : Type 0} (make : A → B) (o : Option (A × List ℕ)) → is_some {T = B × List ℕ} (option_map (λ (r : A × List ℕ). (make r.0, r.1)) o) ≡ true → is_some o ≡ true
+made_there make None h = h
+made_there make (Some r) h = refl
+
+-- what is made of what was read
+made_is : {A B : Type 0} (make : A → B) (o : Option (A × List ℕ)) (x : A) → option_map (λ (r : A × List ℕ). r.0) o ≡ Some x
+    → option_map (λ (r : B × List ℕ). r.0) (option_map (λ (r : A × List ℕ). (make r.0, r.1)) o) ≡ Some (make x)
+made_is make None x h = absurd cc
+made_is make (Some r) x h = ap (option_map make) h
+
+passed_place : FixedPlace → Passed
+passed_place x = passed.Direct x.0 x.1.0 x.1.1.0 x.1.1.1
+
+operand_place : FixedPlace → Operand
+operand_place x = operand.Direct x.0 x.1.0 x.1.1.0 x.1.1.1
+
+-- a fixed place that is passed
+pub place_there : (bytes : List ℕ) → is_some (actual_in 2 bytes) ≡ true → is_some (direct.read bytes) ≡ true
+unfolding passed_place
+place_there bytes h = made_there passed_place (direct.read bytes) h
+
+pub place_passed : (bytes : List ℕ) (x : FixedPlace) → option_map (λ (r : FixedPlace × List ℕ). r.0) (direct.read bytes) ≡ Some x
+    → option_map (λ (r : Passed × List ℕ). r.0) (actual_in 2 bytes) ≡ Some (passed.Direct x.0 x.1.0 x.1.1.0 x.1.1.1)
+unfolding passed_place
+place_passed bytes x h = made_is passed_place (direct.read bytes) x h
+
+-- a fixed place of an operand
+pub place_read : (bytes : List ℕ) (x : FixedPlace) → option_map (λ (r : FixedPlace × List ℕ). r.0) (direct.read bytes) ≡ Some x
+    → option_map (λ (r : Operand × List ℕ). r.0) (payload_in 2 bytes) ≡ Some (operand.Direct x.0 x.1.0 x.1.1.0 x.1.1.1)
+unfolding payload_in operand_place
+place_read bytes x h = made_is operand_place (direct.read bytes) x h
+
+-- a fixed place in a data block that is named
+with_number : ℕ → FixedPlace → ℕ × FixedPlace
+with_number number x = (number, x)
+
+in_named : ℕ × FixedPlace → Passed
+in_named x = passed.InBlock x.0 x.1.0 x.1.1.0 x.1.1.1.0 x.1.1.1.1
+
+pub block_there : (bytes : List ℕ) → is_some (actual_in 12 bytes) ≡ true → is_some (direct.read (behind_form bytes)) ≡ true
+unfolding with_number in_named
+block_there [] h = absurd cc
+block_there (a ∷ []) h = absurd cc
+block_there (a ∷ b ∷ rest) h =
+    let number : ℕ = from_be_bytes w16 (a ∷ b ∷ []) in
+    ap (λ (z : List ℕ). is_some (direct.read z)) (take_rest (a ∷ b ∷ rest) 2)
+    ∙ made_there (with_number number) (direct.read rest)
+    (made_there in_named (option_map (λ (r : FixedPlace × List ℕ). (with_number number r.0, r.1)) (direct.read rest)) h)
+
+pub block_passed : (bytes : List ℕ) (number : ℕ) (x : FixedPlace)
+    → number ≡ from_be_bytes w16 (slice_index_or bytes 0 0 ∷ slice_index_or bytes 1 0 ∷ [])
+    → option_map (λ (r : FixedPlace × List ℕ). r.0) (direct.read (behind_form bytes)) ≡ Some x
+    → option_map (λ (r : Passed × List ℕ). r.0) (actual_in 12 bytes) ≡ Some (passed.InBlock number x.0 x.1.0 x.1.1.0 x.1.1.1)
+unfolding direct with_number in_named
+block_passed [] number x is h = absurd cc
+block_passed (a ∷ []) number x is h = absurd cc
+block_passed (a ∷ b ∷ rest) number x is h = rw is
+    (made_is in_named (option_map (λ (r : FixedPlace × List ℕ). (with_number (from_be_bytes w16 (a ∷ b ∷ [])) r.0, r.1)) (direct.read rest)) _
+    (made_is (with_number (from_be_bytes w16 (a ∷ b ∷ []))) (direct.read rest) x
+    (ap (λ (z : List ℕ). option_map (λ (r : FixedPlace × List ℕ). r.0) (direct.read z)) (sym (take_rest (a ∷ b ∷ rest) 2)) ∙ h)))

@@ -43,4 +43,4 @@ pub use record_numbers::{
 pub use stamps::Stamp;
 pub use system_functions::{system_function_params, system_function_records};
 pub use table::{Takes, taken_by, taken_by_operation};
-pub use unchecked_decoding::decode_op_unchecked;
+pub use unchecked_decoding::{decode_op_unchecked, decode_part_unchecked};

@@ -4,7 +4,7 @@ use crate::copies::params_again;
 use crate::heads::Head;
 use crate::loaded_blocks::LoadedBlock;
 use crate::tables::NOWHERE;
-use flat_code::{Op, Param, decode_op_unchecked};
+use flat_code::{Op, Param, decode_op_unchecked, decode_part_unchecked};
 use std::marker::Model;
 
 /// The code of a loaded block, from whose bytes each op is decoded in place. It takes no memory.
@@ -84,6 +84,18 @@ impl<'a> LoadedCode<'a> {
             return None;
         }
         Some(decode_op_unchecked(self.bytes, at))
+    }
+
+    /// The same, for an op of a statement that has several.
+    #[inline(always)]
+    pub fn part(&self, at: u32) -> Option<(Op, u32)>
+        ensures { result ≡ op_placed 0 self.now.code at }
+    {
+        let mark = mark_at(self.marks, at)?;
+        if mark == NOWHERE {
+            return None;
+        }
+        Some(decode_part_unchecked(self.bytes, at))
     }
 
     /// The source line of the statement that begins at an offset in bytes. `None` exactly where no

@@ -11,7 +11,7 @@ use Rattle.flat_code.specs.declared.operands.Operand.TheVariants as operand
 use Rattle.flat_code.specs.declared.programs.Param.{Param}
 use Rattle.machine.specs.Parts.{Own, then_ok}
 use Rattle.machine.specs.Flat.{Run, run_at, run_with, use_db_of, use_db_first, list_of, listed_with, with_op}
-use Rattle.machine.specs.Walking.{Walk, walk_with, first_of, opens_after, picked, bound_from, bound_by, bound_next}
+use Rattle.machine.specs.Walking.{Walk, walk_by, walk_with, first_of, opens_after, picked, bound_from, bound_by, bound_next}
 
 -- what is behind a count of which some are done
 one_less : (k most : ℕ) → k < most → most - k ≡ suc (most - suc k)
@@ -98,6 +98,14 @@ pub walk_ends :
 walk_ends most k ops at next op opens less h last =
     rw (one_less k most less) (rw (run_last (most - suc k) ops at next op h last)
     (rw (first_alone opens) refl))
+
+-- and where it is read once more
+pub walk_ends_there :
+    (most k : ℕ) (ops : List OpData) (at next : ℕ) (op : OpData) (opens : Option ℕ) (walk : Option Walk) → k < most
+    → Some (op, next) ≡ op_placed 0 ops at → op.last ≡ true → walk ≡ option_map (walk_by opens) (op_placed 0 ops at)
+    → walk ≡ option_map (walk_with opens) (run_at (most - k) ops at)
+walk_ends_there most k ops at next op opens walk less h last is =
+    is ∙ sym (ap (option_map (walk_by opens)) h) ∙ walk_ends most k ops at next op opens less h last
 
 -- an op before it
 run_more :

@@ -36,6 +36,10 @@ walk_with opens r = record {
   next = r.next;
 }
 
+-- of its last op with the offset behind it
+abbrev pub walk_by : Option ℕ → OpData × ℕ → Walk
+walk_by opens r = record { opens = opens; last = r.0; next = r.1 }
+
 -- what stands open after a further op
 abbrev pub opens_after : Option ℕ → Operand → Option ℕ
 opens_after opens o = first_of opens (use_db_first o None)

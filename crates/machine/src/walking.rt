@@ -7,7 +7,7 @@ ghost use Rattle.machine.specs.Parts.{own_of};
 ghost use Rattle.machine.specs.Bindings.{unsupplied as unsupplied_of};
 ghost use Rattle.machine.specs.Flat.{run_at, most_ops, list_of, most_listed};
 ghost use Rattle.machine.specs.Jumps.{listed};
-ghost use Rattle.machine.specs.Walking.{walk_with, opens_after as opens_after_op, bound_by, bound_from};
+ghost use Rattle.machine.specs.Walking.{walk_with, walk_by, opens_after as opens_after_op, bound_by, bound_from};
 
 use crate::bindings::{bind_none, bound_for};
 use flat_code::{JUMPS, JumpOperation, Op, Operand, Param};
@@ -71,8 +71,18 @@ pub(crate) fn walk_from(code: &LoadedCode<'_>, at: u32) -> Option<Walk>
     walk_on(code, next, opens_after(None, &op.operand))
 }
 
+// A statement whose last op begins at an offset. It is read once more there, so that of an op on the
+// way nothing is kept but where it ends and what it opens.
+#[inline(always)]
+fn walk_to(code: &LoadedCode<'_>, at: u32, opens: Option<u16>) -> Option<Walk>
+    ensures { result ≡ option_map (walk_by opens) (op_placed 0 code.now.code at) }
+{
+    let (last, next) = code.part(at)?;
+    Some(Walk { opens, last, next })
+}
+
 /// The rest of a statement, from its second op on, with what stands open.
-#[tactic(auto, using(crate::proofs::Walks::walk_nowhere, crate::proofs::Walks::walk_stops, crate::proofs::Walks::walk_ends, crate::proofs::Walks::walk_goes_on))]
+#[tactic(auto, using(crate::proofs::Walks::walk_nowhere, crate::proofs::Walks::walk_stops, crate::proofs::Walks::walk_ends_there, crate::proofs::Walks::walk_goes_on))]
 #[inline(never)]
 pub(crate) fn walk_on(code: &LoadedCode<'_>, at: u32, opens: Option<u16>) -> Option<Walk>
     ensures { result ≡ option_map (walk_with opens) (run_at 63 code.now.code at) }
@@ -80,15 +90,11 @@ pub(crate) fn walk_on(code: &LoadedCode<'_>, at: u32, opens: Option<u16>) -> Opt
     let mut opens = opens;
     let mut at = at;
     for _ in 0..MORE_OPS {
-        match code.op(at) {
+        match code.part(at) {
             None => return None,
             Some((op, next)) => {
                 if op.last {
-                    return Some(Walk {
-                        opens,
-                        last: op,
-                        next,
-                    });
+                    return walk_to(code, at, opens);
                 }
                 opens = opens_after(opens, &op.operand);
                 at = next;
@@ -189,7 +195,7 @@ pub(crate) fn bind_all(
     bind_none(params, bindings);
     let mut at = at;
     for _ in 0..MOST_OPS {
-        match code.op(at) {
+        match code.part(at) {
             None => return Ok(()),
             Some((op, next)) => {
                 if op.last {
