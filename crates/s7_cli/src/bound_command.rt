@@ -79,10 +79,10 @@ fn bound<F: Files, K: Sink>(
     }
 }
 
-/// Loads the image in the file `img`, makes the least certificate of its stacks the whole of the file
-/// `cert`, and then writes `OK`; or writes a chain of calls that is too deep, or the line of a refusal,
-/// and no file. Where the status is 0, no valid history of the image leads to a STOP by block depth or
-/// local data.
+/// Loads the image in the file `img`, makes the least certificate of its stacks the whole of the
+/// file `cert`, and then writes `OK`; or writes a chain of calls that is too deep, or the line of a
+/// refusal, and no file. Where the status is 0, no valid history of the image leads to a STOP by
+/// block depth or local data.
 pub fn cmd_bound<F: Files, K: Sink>(
     alloc: Global,
     img: &str,

@@ -23,14 +23,16 @@ use std::sync::Wait;
 use std::thread::Threads;
 
 /// Does what the words of a call ask for, without the program's name: `go SRC HIST` runs a source
-/// along a history, `check SRC` checks a source, `compile SRC IMG` writes its image; `--symbols FILE`
-/// gives each of them a file of symbols. `run IMG HIST` runs an image along a history, `gen NUMBER`
-/// a program and a history that are made of a number. `live IMG STIM OPS.. --steps N` has a stepper, a
-/// feeder and one to four operators run an image beside each other, each of whom passes `gate` before
-/// each entry. `watch IMG STIM VARS OPS.. --steps N` does the same with one to three operators, and a
-/// fourth whose replies are viewed beside them. `upgrade IMG IMG2` writes the image of version 2 of what an image holds. `bound IMG CERT`
-/// writes the certificate of an image, or tells a chain of calls that is too deep, `recheck IMG CERT`
-/// checks a certificate. The status is that of the text that `out` took:
+/// along a history, `check SRC` checks a source, `compile SRC IMG` writes its image;
+/// `--symbols FILE` gives each of them a file of symbols. `run IMG HIST` runs an image along a
+/// history, `gen NUMBER` a program and a history that are made of a number.
+/// `live IMG STIM OPS.. --steps N` has a stepper, a feeder and one to four operators run an image
+/// beside each other, each of whom passes `gate` before each entry.
+/// `watch IMG STIM VARS OPS.. --steps N` does the same with one to three operators, and a fourth
+/// whose replies are viewed beside them. `upgrade IMG IMG2` writes the image of version 2 of what
+/// an image holds. `bound IMG CERT` writes the certificate of an image, or tells a chain of calls
+/// that is too deep, `recheck IMG CERT` checks a certificate. The status is that of the text that
+/// `out` took:
 ///
 /// | Status | When |
 /// |---|---|

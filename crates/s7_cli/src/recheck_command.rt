@@ -47,9 +47,9 @@ fn recheck<F: Files, K: Sink>(
     write_text(out, OK_LINE)
 }
 
-/// Loads the image in the file `img`, reads the certificate in the file `cert`, and writes `OK` where it
-/// holds of the image, else the line of a refusal, or that it says no. Where the status is 0, no valid
-/// history of the image leads to a STOP by block depth or local data.
+/// Loads the image in the file `img`, reads the certificate in the file `cert`, and writes `OK`
+/// where it holds of the image, else the line of a refusal, or that it says no. Where the status is
+/// 0, no valid history of the image leads to a STOP by block depth or local data.
 pub fn cmd_recheck<F: Files, K: Sink>(
     alloc: Global,
     img: &str,

@@ -1,5 +1,5 @@
-//! A watch: workers run an image while a viewer views what one of them reads, and the history that they
-//! made is written, its run, and the views.
+//! A watch: workers run an image while a viewer views what one of them reads, and the history that
+//! they made is written, its run, and the views.
 ghost use Rattle.std.specs.Prelude.{◌≡◌, ◌++◌, ◌≤◌, length, map, All, IfOk, OnOk, Some};
 ghost use Rattle.plc_io.specs.Taken.{Wrote};
 ghost use Rattle.var_access.specs.Entry.{IsValid};
@@ -131,8 +131,8 @@ fn write_watch<K: Sink>(alloc: Global, watched: Watched, out: &mut K) -> Result<
     push_all(out, &lines)
 }
 
-/// Reads an image, stimuli, variables and scripts, checks all, lets the workers work and the viewer view,
-/// and writes what they made and saw.
+/// Reads an image, stimuli, variables and scripts, checks all, lets the workers work and the viewer
+/// view, and writes what they made and saw.
 fn watch<R: Threads + Wait + Sync, F: Files, K: Sink, G: Gate + Sync>(
     rt: &R,
     alloc: Global,
@@ -158,10 +158,10 @@ fn watch<R: Threads + Wait + Sync, F: Files, K: Sink, G: Gate + Sync>(
 }
 
 /// Lets several workers run the image in the file `img` beside each other, as `live` does, with an
-/// operator for each file of `ops`, and one more, the fourth, who makes the read in the file `vars` a
-/// hundred times and publishes each reply on a board, which a viewer views a hundred times beside them.
-/// Then the text of a live run is written, a line `---`, and a line for each view; or the line of a
-/// refusal.
+/// operator for each file of `ops`, and one more, the fourth, who makes the read in the file `vars`
+/// a hundred times and publishes each reply on a board, which a viewer views a hundred times beside
+/// them. Then the text of a live run is written, a line `---`, and a line for each view; or the
+/// line of a refusal.
 pub fn cmd_watch<R: Threads + Wait + Sync, F: Files, K: Sink, G: Gate + Sync>(
     rt: &R,
     alloc: Global,

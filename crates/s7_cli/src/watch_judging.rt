@@ -40,8 +40,8 @@ fn judge_vars(bytes: &[u8], names: &Names) -> Result<Vars, Failure>
     }
 }
 
-/// Checks an image, then stimuli, the variables, and the scripts in their order; variables and scripts
-/// may name those whose names stand in the image.
+/// Checks an image, then stimuli, the variables, and the scripts in their order; variables and
+/// scripts may name those whose names stand in the image.
 pub fn judge_watch(alloc: Global, text: &WatchText) -> Result<WatchWork, Failure>
     requires { IsWatchText text.now }
     ensures finds { IfOk result (λ w. FindsWatch text.now w.program w.stimuli.items w.vars

@@ -1,5 +1,5 @@
-//! A watch: from a program and what the workers are to make to a controller with its history, and what was
-//! seen of it.
+//! A watch: from a program and what the workers are to make to a controller with its history, and
+//! what was seen of it.
 ghost use Rattle.std.specs.Prelude.{◌≡◌, ◌+◌, ◌-◌, ◌<◌, ◌≤◌, ◌∷◌, ◌++◌, [], length, map, replicate, All, IfOk};
 ghost use Rattle.event_text.specs.Regular.{IsRegular, IsRegularOf};
 ghost use Rattle.event_text.specs.Texts.{steps_in};
@@ -52,9 +52,10 @@ fn last_pass(passes: &mut Vec<Pass<Shared>>) -> Pass<Shared>
     }
 }
 
-/// Lets a stepper, a feeder and an operator for each script work beside each other on a program, with one
-/// more operator, the last, who reads the variables again and again and publishes the replies, and with
-/// one who views what is published. Gives the controller with the history that they made, and the views.
+/// Lets a stepper, a feeder and an operator for each script work beside each other on a program,
+/// with one more operator, the last, who reads the variables again and again and publishes the
+/// replies, and with one who views what is published. Gives the controller with the history that
+/// they made, and the views.
 ///
 /// # Errors
 ///

@@ -1,5 +1,5 @@
-//! A watch: a worker of a station reads variables and publishes what it reads on a board, which a viewer
-//! views beside the workers.
+//! A watch: a worker of a station reads variables and publishes what it reads on a board, which a
+//! viewer views beside the workers.
 ghost use Rattle.std.specs.Prelude.{◌≡◌, ◌⊎◌, ◌<◌, ◌∷◌, ◌++◌, [], false, Err, length, map, is_ok, replicate, IfErr, IfOk, OnOk};
 ghost use mathlib.Core.List.{IsPrefix};
 ghost use Rattle.var_access.specs.Entry.{IsRequest};
@@ -29,14 +29,14 @@ pub(crate) const PUBLISHED: u32 = 100;
 /// How often the board is viewed.
 pub(crate) const VIEWED: u32 = 100;
 
-/// Reads variables under a pass of a station, and publishes the reply on a board, with the number of the
-/// entry that asked for it, counted from 1 as `Pass::seen` does. It waits for its turn, and may wait for
-/// the viewer.
+/// Reads variables under a pass of a station, and publishes the reply on a board, with the number
+/// of the entry that asked for it, counted from 1 as `Pass::seen` does. It waits for its turn, and
+/// may wait for the viewer.
 ///
 /// # Errors
 ///
-/// `Full` as of `Station::ask`. `NoMemory` for want of memory: the entry may have been made, and the
-/// board shows what it showed.
+/// `Full` as of `Station::ask`. `NoMemory` for want of memory: the entry may have been made, and
+/// the board shows what it showed.
 pub fn publish_read<R: Wait>(
     rt: &R,
     s: &Station,
@@ -68,8 +68,8 @@ pub fn publish_read<R: Wait>(
     }
 }
 
-/// The publisher: reads the variables and publishes them again and again, each time after the gate. It
-/// gives the note of the last item.
+/// The publisher: reads the variables and publishes them again and again, each time after the gate.
+/// It gives the note of the last item.
 fn publish_all<R: Wait, G: Gate>(
     rt: &R,
     s: &Station,
@@ -251,8 +251,9 @@ fn end_views<R: Wait>(
     Ok(())
 }
 
-/// Lets the workers of a station work beside a publisher, which has the pass `p`, and a viewer, whose
-/// views are added to `views`. The board ends with it. The pass that comes back has all numbers.
+/// Lets the workers of a station work beside a publisher, which has the pass `p`, and a viewer,
+/// whose views are added to `views`. The board ends with it. The pass that comes back has all
+/// numbers.
 pub(crate) fn watch_station<R: Threads + Wait + Sync, G: Gate + Sync>(
     rt: &R,
     alloc: Global,
