@@ -122,6 +122,22 @@ fn statuses_by_files(rt: HostRuntime) -> Result<(), Fail> {
     Ok(())
 }
 
+/// An image in which OB 1 loads peripheral byte 200, which isn't there; it has no OB 122.
+const STOPPING: &[u8] =
+    b"S7FB\0\x02\0\x02\0\0\0\x35\0\x01\0\0\0\0\0\0\x01\0\0\x01\0\x14\0\0\0\x02\0\0\0\0\0\x09\xA0\x02\x80\x02\0\xC8\0\xFB\0\0\0\0\x03\0\0\0\x04";
+
+// A step that leaves STOP is the last one: the second, behind the start of OB 1.
+#[test]
+fn a_stop_ends_the_steps(rt: HostRuntime) -> Result<(), Fail> {
+    let files = files_of(rt.alloc(), STOPPING, b"", b"", b"")?;
+    let out = MemSink::new(rt.alloc(), 64);
+    let words = [
+        "live", "image", "stimuli", "first", "second", "--steps", "9",
+    ];
+    let text = b"step 2\n---\n@2 MODE STOP 4 AT OB 1 LINE 3\nEND 2 STOP 4\n".as_slice();
+    answers(&rt, rt.alloc(), "stop", &words, files, out, (0, text))
+}
+
 // A file that is one byte longer than it may be, and the files behind it needn't be there.
 static LONG: [(&str, usize, &[u8]); 4] = [
     ("image", 8_388_609, b"too long: image\n"),
