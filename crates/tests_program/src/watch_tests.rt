@@ -57,7 +57,39 @@ fn are_replies<R: Abort>(rt: &R, alloc: Global, run: &str, views: &str) -> Resul
     Ok(())
 }
 
-/// Watches with these words, and compares what is written: so many entries, and a hundred views.
+/// The line at the end of a run of so many entries.
+fn end_of(alloc: Global, entries: u64) -> Result<String, Fail> {
+    let mut end = String::new(alloc);
+    write!(end, "END {entries} RUN\n")?;
+    Ok(end)
+}
+
+/// Compares the end of a run.
+fn is_ended<R: Abort>(rt: &R, alloc: Global, run: &str, entries: u64) -> Result<(), Fail> {
+    let end = end_of(alloc, entries)?;
+    same(rt, run, run.ends_with(end.as_str()), true);
+    Ok(())
+}
+
+/// Compares what is written: so many entries, among them the reads and writes, and a hundred views.
+fn is_told<R: Abort + Threads + Wait + Sync>(
+    rt: &R,
+    alloc: Global,
+    files: &mut MemFiles,
+    text: &[u8],
+    entries: u64,
+) -> Result<(), Fail> {
+    let (history, run, views) = parts_of(text);
+    same(rt, "reads", count_of(history, "op 4 read MB3"), 100);
+    same(rt, "reads", count_of(history, "op 4"), 100);
+    same(rt, "writes", count_of(history, "op 1 write MB3"), 3);
+    same(rt, views, views.lines().count(), 100);
+    is_ended(rt, alloc, run, entries)?;
+    are_replies(rt, alloc, run, views)?;
+    runs_again(rt, alloc, files, history, run)
+}
+
+/// Watches with these words, and compares what is written.
 fn is_watched<R: Abort + Threads + Wait + Sync>(
     rt: &R,
     alloc: Global,
@@ -67,16 +99,7 @@ fn is_watched<R: Abort + Threads + Wait + Sync>(
 ) -> Result<(), Fail> {
     let mut files = watch_files(alloc, image)?;
     let text = written_by(rt, alloc, words, &mut files, &OpenGate)?;
-    let (history, run, views) = parts_of(text.as_slice());
-    same(rt, "reads", count_of(history, "op 4 read MB3"), 100);
-    same(rt, "reads", count_of(history, "op 4"), 100);
-    same(rt, "writes", count_of(history, "op 1 write MB3"), 3);
-    let mut end = String::new(alloc);
-    write!(end, "END {entries} RUN\n")?;
-    same(rt, run, run.ends_with(end.as_str()), true);
-    same(rt, views, views.lines().count(), 100);
-    are_replies(rt, alloc, run, views)?;
-    runs_again(rt, alloc, &mut files, history, run)
+    is_told(rt, alloc, &mut files, text.as_slice(), entries)
 }
 
 // Entries: the steps, two inputs, three writes, a hundred reads, and one read of operator 3.
