@@ -243,24 +243,20 @@ fn no_blocks(rt: HostRuntime) -> Result<(), Fail> {
     answers(&rt, rt.alloc(), "none", &RECHECK, files, out, (0, b"OK\n"))
 }
 
-/// Puts a file, if there is one.
-fn put_some(files: &mut MemFiles, name: &str, bytes: Option<&[u8]>) -> Result<(), Fail> {
-    match bytes {
-        Some(bytes) => Ok(files.put(name, bytes)?),
-        None => Ok(()),
-    }
-}
-
-/// An image, if there is one, and a certificate, if there is one: the files come first, then the
-/// image, then the certificate.
+/// An image, if there is one, and a certificate, if there is one: the files come first, then the image, then
+/// the certificate.
 fn some_files(
     alloc: Global,
     image: Option<&[u8]>,
     certificate: Option<&[u8]>,
 ) -> Result<MemFiles, Fail> {
     let mut files = MemFiles::new(alloc);
-    put_some(&mut files, "image", image)?;
-    put_some(&mut files, "certificate", certificate)?;
+    if let Some(image) = image {
+        files.put("image", image)?;
+    }
+    if let Some(certificate) = certificate {
+        files.put("certificate", certificate)?;
+    }
     Ok(files)
 }
 
