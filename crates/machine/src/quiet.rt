@@ -143,7 +143,8 @@ fn jump_quietly(operation: JumpOperation, target: u32, next: u32, a: &mut Activa
     true
 }
 
-// A call of a function or function block with these parameters, unless it fails.
+// A call of a function or function block with these parameters, unless it fails. What they stand for
+// is found in `spare`, whatever that held.
 fn enter_quietly(
     called: &Callee<'_>,
     code: &LoadedCode<'_>,
@@ -151,6 +152,7 @@ fn enter_quietly(
     next: u32,
     a: &mut Activation,
     m: &mut Memory,
+    spare: &mut Bindings,
 ) -> bool
     requires depth { length a.old.running.locals.starts ≡ length (frames_of a.old) }
     requires params { length called.now.params ≤ 60 }
@@ -159,10 +161,9 @@ fn enter_quietly(
         → GoesOrStays (after_call (call called.now passings next a.old m.old) next a.old
         (world m.old t n)) true a.old a.new (world m.old t n) (world m.new t n) result }
 {
-    let mut bindings = Bindings::new();
-    match bind_all(code, at, called.params, &a.running, m, &mut bindings) {
+    match bind_all(code, at, called.params, &a.running, m, spare) {
         Err(_) => false,
-        Ok(()) => enter_if_room(called, &bindings, next, a, m).is_ok(),
+        Ok(()) => enter_if_room(called, spare, next, a, m).is_ok(),
     }
 }
 
@@ -176,6 +177,7 @@ fn enter_loaded(
     next: u32,
     a: &mut Activation,
     m: &mut Memory,
+    spare: &mut Bindings,
 ) -> bool
     requires { length a.old.running.locals.starts ≡ length (frames_of a.old) }
     ensures { (passings : List Passing) (t : List Timer) (n : List Counter)
@@ -190,7 +192,7 @@ fn enter_loaded(
         local_len: callee.local_len(),
         params: callee.params(),
     };
-    enter_quietly(&called, code, at, next, a, m)
+    enter_quietly(&called, code, at, next, a, m, spare)
 }
 
 // CALL, UC and CC of a function or function block, where they call and don't fail.
@@ -204,6 +206,7 @@ fn call_quietly(
     next: u32,
     a: &mut Activation,
     m: &mut Memory,
+    spare: &mut Bindings,
 ) -> bool
     requires { length a.old.running.locals.starts ≡ length (frames_of a.old) }
     ensures { (passings : List Passing) (t : List Timer) (n : List Counter)
@@ -219,7 +222,7 @@ fn call_quietly(
         return false;
     }
     match c.block(block) {
-        Some(callee) => enter_loaded(&callee, code, at, block, instance, next, a, m),
+        Some(callee) => enter_loaded(&callee, code, at, block, instance, next, a, m, spare),
         None => false,
     }
 }
@@ -257,6 +260,7 @@ fn call_named(
     next: u32,
     a: &mut Activation,
     m: &mut Memory,
+    spare: &mut Bindings,
 ) -> bool
     requires { length a.old.running.locals.starts ≡ length (frames_of a.old) }
     ensures { (opens : Option ℕ) (passings : List Passing) (t : List Timer) (n : List Counter)
@@ -276,7 +280,7 @@ fn call_named(
             Some(kind) => {
                 let block = BlockId { kind, number };
                 let instance = instance_named(instance);
-                call_quietly(c, code, at, how, block, instance, next, a, m)
+                call_quietly(c, code, at, how, block, instance, next, a, m, spare)
             }
             None => false,
         },
@@ -315,6 +319,7 @@ fn pass_op(
     m: &mut Memory,
     t: &mut Timers,
     n: &mut Counters,
+    spare: &mut Bindings,
 ) -> Pass
     requires ready { IsReady c.now.program a.old }
     requires block { (code_of c.now.program).head a.old.running.frame.block
@@ -335,7 +340,7 @@ fn pass_op(
             }
             _ => Pass::Not,
         },
-        Operation::Call(how) => across(call_named(c, code, how, operand, next, a, m)),
+        Operation::Call(how) => across(call_named(c, code, how, operand, next, a, m, spare)),
         Operation::End(how) => across(return_quietly(code, how, a, m)),
         _ => inside(perform_quietly(opens, operation, operand, next, a, m, t, n)),
     }
@@ -354,6 +359,7 @@ fn pass_ops(
     m: &mut Memory,
     t: &mut Timers,
     n: &mut Counters,
+    spare: &mut Bindings,
 ) -> Pass
     requires ready { IsReady c.now.program a.old }
     requires block { (code_of c.now.program).head a.old.running.frame.block
@@ -384,6 +390,7 @@ fn pass_ops(
                 m,
                 t,
                 n,
+                spare,
             )
         }
         None => Pass::Not,
@@ -399,6 +406,7 @@ fn pass_statement(
     m: &mut Memory,
     t: &mut Timers,
     n: &mut Counters,
+    spare: &mut Bindings,
 ) -> Pass
     requires ready { IsReady c.now.program a.old }
     requires block { (code_of c.now.program).head a.old.running.frame.block
@@ -415,10 +423,22 @@ fn pass_statement(
     match code.op(a.running.frame.at) {
         Some((op, next)) => {
             if op.last {
-                pass_op(c, code, None, op.operation(), &op.operand, next, a, m, t, n)
+                pass_op(
+                    c,
+                    code,
+                    None,
+                    op.operation(),
+                    &op.operand,
+                    next,
+                    a,
+                    m,
+                    t,
+                    n,
+                    spare,
+                )
             } else {
                 let opens = opens_after(None, &op.operand);
-                pass_ops(c, code, next, opens, a, m, t, n)
+                pass_ops(c, code, next, opens, a, m, t, n, spare)
             }
         }
         None => Pass::Not,
@@ -434,6 +454,7 @@ fn run_inside(
     n: &mut Counters,
     a: &mut Activation,
     most: u64,
+    spare: &mut Bindings,
 ) -> (u64, bool)
     requires { StaysReady c.now.program a.old (world m.old t.old n.old) }
     ensures few { result.0 ≤ most }
@@ -449,7 +470,7 @@ fn run_inside(
     };
     let mut done = 0;
     while done < most {
-        match pass_statement(c, &code, a, m, t, n) {
+        match pass_statement(c, &code, a, m, t, n, spare) {
             Pass::Inside => done += 1,
             Pass::Across => return (done + 1, true),
             Pass::Not => return (done, false),
@@ -463,7 +484,8 @@ fn run_inside(
 /// that isn't of the quiet kind or doesn't go on: what it leaves is for `statement`. Quiet are the
 /// instructions inside a block that don't write to a peripheral place, by their operand or what a
 /// parameter stands for; jumps but JL; a call that is made, but of a system function; and a return
-/// to a caller from a block without an instance.
+/// to a caller from a block without an instance. `spare` is room for what the parameters of a call stand
+/// for; what it holds before and after says nothing.
 pub fn quiet_statements(
     c: &Loaded,
     m: &mut Memory,
@@ -471,6 +493,7 @@ pub fn quiet_statements(
     n: &mut Counters,
     a: &mut Activation,
     most: u64,
+    spare: &mut Bindings,
 ) -> u64
     requires { StaysReady c.now.program a.old (world m.old t.old n.old) }
     ensures few { result ≤ most }
@@ -481,7 +504,7 @@ pub fn quiet_statements(
 {
     let mut done = 0;
     while done < most {
-        let (more, crosses) = run_inside(c, m, t, n, a, most - done);
+        let (more, crosses) = run_inside(c, m, t, n, a, most - done, spare);
         done += more;
         if !crosses {
             return done;
