@@ -20,7 +20,7 @@ use crate::errors::failure;
 use crate::serving::{Answer, serve};
 use crate::spots::spot_at;
 use arrayvec::ArrayVec;
-use frames::{Activation, Binding, Bindings, Frame};
+use frames::{Activation, Binding, Frame};
 use image_file::Loaded;
 use machine::{Inputs, Outcome, give_result, quiet_statements, statement};
 use ob_sched::{Sched, StartInfo};
@@ -46,13 +46,11 @@ pub(crate) struct Stand {
 
 /// The running activation and those that it and others interrupted. A contract sees them as a list
 /// from the running one down. They stay where they are: behind those that stand are such as have ended,
-/// and the next one begins in the place of one of them. Beside them is room for what the parameters of a
-/// call stand for: to make it new for each call would write all sixty.
+/// and the next one begins in the place of one of them.
 #[derive(Drop)]
 pub(crate) struct Activations {
     all: Vec<Activation>,
     standing: usize,
-    spare: Bindings,
 }
 
 impl Model for Activations {
@@ -147,11 +145,7 @@ impl Activations {
         ensures { IfOk result (λ a. a ≡ []) }
     {
         let all = Vec::with_capacity(alloc, ACTIVATIONS)?;
-        Ok(Activations {
-            all,
-            standing: 0,
-            spare: Bindings::new(),
-        })
+        Ok(Activations { all, standing: 0 })
     }
 
     /// Ends all activations.
@@ -351,7 +345,7 @@ impl Activations {
             return 0;
         };
         let running = &mut self.all.as_mut_slice()[place];
-        quiet_statements(program, m, t, n, running, most, &mut self.spare)
+        quiet_statements(program, m, t, n, running, most)
     }
 
     /// The running activation calls a system function, whose result goes where it is bound. The
