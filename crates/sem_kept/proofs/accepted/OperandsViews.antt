@@ -39,7 +39,7 @@ use Rattle.stl_ast.specs.declared.operands.PathHead.TheVariants as head
 use Rattle.stl_ast.specs.declared.statements.Actual.{Actual}
 use Rattle.stl_ast.specs.declared.statements.Statement.{Statement}
 use Rattle.plc_base.specs.Folding.{folded}
-use Rattle.stl_symbols.specs.Symbol.{Symbol, symbol_named}
+use Rattle.stl_symbols.specs.Symbol.{Symbol, has_symbols, symbol_named}
 use Rattle.stl_symbols.specs.declared.targets.Target.{Target}
 use Rattle.stl_symbols.specs.declared.targets.Target.TheVariants as target
 use Rattle.block_layout.specs.Around.{Outside, of_sections, of_structure, onto}
@@ -83,7 +83,7 @@ use Rattle.sem_kept.proofs.accepted.Accepted.{IsSound, IsSoundTree, context_at}
 use Rattle.sem_kept.proofs.accepted.OperandsCells.{IsFoundBlock, IsOrigin, all_there, are_right, cells_are, found_there, layout_of_block, measured_ids, measured_symbols, origin}
 use Rattle.sem_kept.proofs.accepted.OperandsPaths.{Moves, data_goes, local_goes, local_moves}
 use Rattle.sem_kept.proofs.accepted.OperandsPlaces.{AreParameters, GivesOne, IsElementary, IsParameterCell, IsPlaced, Stays, count_each, data_fits, elementary, function_components, in_its_order, instance_fits, local_fits, local_stays, one_each, placed_sees, reached_place}
-use Rattle.sem_kept.proofs.accepted.OperandsSymbols.{SymbolFits, TargetFits, is_symbols_area, named_fits}
+use Rattle.sem_kept.proofs.accepted.OperandsSymbols.{SymbolFits, TargetFits, named_fits}
 use Rattle.sem_kept.proofs.accepted.OperandsWalks.{AreRight, Goes, Lies, structure_even}
 use Rattle.sem_kept.proofs.accepted.OperandsOperations.{ViewFits}
 use Rattle.sem_kept.proofs.accepted.Shared.{or_second, kind_there}
@@ -332,7 +332,7 @@ address_fits a ar w byte bit h ends =
     or_from (is_odd_bit w bit) (is_past_locals a (area_of ar) w byte) (no_odd_bit w bit h)
     (no_past a ar w byte ends)
 
-outside_locals : (a : Around) (ar : Area) (w : Width) (byte : ℕ) → is_symbols_area ar ≡ true
+outside_locals : (a : Around) (ar : Area) (w : Width) (byte : ℕ) → has_symbols ar ≡ true
     → is_past_locals a ar w byte ≡ false
 outside_locals a area.L w byte h = absurd cc
 outside_locals a area.I w byte h = refl
