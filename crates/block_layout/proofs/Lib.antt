@@ -20,3 +20,5 @@ pub mod DirectoryLemmas
 pub mod HeadLemmas
 pub mod AloneLemmas
 pub mod OperandLemmas
+pub mod ListedLemmas
+pub mod RebuiltLemmas

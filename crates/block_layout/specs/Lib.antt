@@ -22,6 +22,8 @@ pub mod Layouts
 pub mod Paths
 pub mod Offsets
 pub mod InitialBytes
+pub mod Listed
+pub mod Rebuilt
 pub mod Places
 pub mod Rule21
 pub mod Rule22

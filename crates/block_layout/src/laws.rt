@@ -1,7 +1,9 @@
 //! Laws of the definitions that contracts cite, each of them a function with an empty body.
 
 ghost use Rattle.std.specs.Prelude.{◌≡◌, ◌<◌, ℕ, List};
+ghost use Rattle.block_layout.specs.Listed.{LengthStays, OffsetsStay};
 ghost use Rattle.block_layout.specs.Places.{AreOffsets, siblings, sound_offsets};
+ghost use Rattle.block_layout.specs.Rebuilt.{AreRebuilt};
 ghost use Rattle.block_layout.specs.Sizes.{end_of, largest};
 ghost use Rattle.block_layout.specs.declared.cells.Cell.{Cell};
 
@@ -15,4 +17,18 @@ pub fn law_of_offsets()
     ensures alone { (level : ℕ) (cells : List Cell) (places : List ℕ)
         → end_of level 0 cells < largest → AreOffsets 0 (siblings level cells) places
         → places ≡ sound_offsets level cells }
+{}
+
+/// Parameters that are declared again with other names and types of the same sizes lie where they
+/// lay, whatever stands behind them, and an array of bytes up to the same end makes the instance as
+/// long as it was.
+pub fn law_of_listed()
+    ensures offsets { OffsetsStay }
+    ensures length { LengthStays }
+{}
+
+/// Bytes are there again where each write writes what they have, and each bit that is set is reached
+/// by one.
+pub fn law_of_rebuilt()
+    ensures { AreRebuilt }
 {}

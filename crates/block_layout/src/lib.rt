@@ -42,7 +42,7 @@ pub use blocks::{BlockLayout, Section, Shape};
 pub use cells::{Cell, Element, Preset};
 pub use constants::{bits_of, fits};
 pub use heads::is_parameter;
-pub use laws::law_of_offsets;
+pub use laws::{law_of_listed, law_of_offsets, law_of_rebuilt};
 pub use laying::{Layouts, lay_out, lay_out_sound};
 pub use layouts::Layout;
 pub use members::{Member, Scope};
