@@ -59,13 +59,13 @@ use Rattle.stl_types.specs.Forms.{form_of}
 use Rattle.stl_types.specs.Kinds.{is_called as is_called_view}
 use Rattle.stl_types.specs.Operands.{operand_rule, rule_of, rule_seen}
 use Rattle.stl_types.specs.Parameters.{Callee, callee_at, callee_by, callee_of, formals_of, is_sound_formal, source_callee, system_callee, system_formals}
-use Rattle.stl_types.specs.Seen.{called_seen, id_at, instance_number as instance_of_name, seen, whole_block}
-use Rattle.stl_types.specs.declared.forms.Form.{Form}
-use Rattle.stl_types.specs.declared.forms.Form.TheVariants as form
+use Rattle.stl_types.specs.Resolution.{called_seen, id_at, instance_number as instance_of_name, seen, whole_block}
+use Rattle.stl_types.specs.declared.forms.OperandRule.{OperandRule}
+use Rattle.stl_types.specs.declared.forms.OperandRule.TheVariants as form
 use Rattle.stl_types.specs.declared.parameters.Formal.{Formal}
-use Rattle.stl_types.specs.declared.views.Seen.{Seen}
-use Rattle.stl_types.specs.declared.views.Seen.TheVariants.{Sees}
-use Rattle.stl_types.specs.declared.views.View.TheVariants as view
+use Rattle.stl_types.specs.declared.views.Resolution.{Resolution}
+use Rattle.stl_types.specs.declared.views.Resolution.TheVariants.{Resolved}
+use Rattle.stl_types.specs.declared.views.ResolvedOperand.TheVariants as view
 use Rattle.stl_codegen.specs.Compiled.{compiled}
 use Rattle.stl_codegen.specs.Emitted.{instance_number, passing, preparing}
 use Rattle.stl_codegen.specs.Generated.{code_blocks_of, data_blocks_of, instance_len, params_of}
@@ -200,21 +200,21 @@ record IsCall (c : Context) (name : BlockName) (inst : Option BlockName) (id : B
   whole : is_system_function id.kind ≡ false → (p : ℕ) × (whole_place c id ≡ Some p)
   with_instance : IsInstanceOf c inst instance
 
-called_same : (a b : BlockId) (m n : Option ℕ) → Sees (view.Called a m) ≡ Sees (view.Called b n) → a ≡ b
+called_same : (a b : BlockId) (m n : Option ℕ) → Resolved (view.Called a m) ≡ Resolved (view.Called b n) → a ≡ b
 called_same a b m n e = cc
 
-instance_same : (a b : BlockId) (m n : Option ℕ) → Sees (view.Called a m) ≡ Sees (view.Called b n)
+instance_same : (a b : BlockId) (m n : Option ℕ) → Resolved (view.Called a m) ≡ Resolved (view.Called b n)
     → m ≡ n
 instance_same a b m n e = cc
 
 seen_call : (c : Context) (name : BlockName) (inst : Option BlockName) (id : BlockId)
-    (instance : Option ℕ) → seen c (operand.Called name inst) ≡ Sees (view.Called id instance)
+    (instance : Option ℕ) → seen c (operand.Called name inst) ≡ Resolved (view.Called id instance)
     → IsCall c name inst id instance
 unfolding seen
 seen_call c name inst id instance e = by (named_block c.symbols name) refl e
   where
     given : (x : BlockId) (inst : Option BlockName)
-        → called_seen (Some x) inst (instance_of_name c inst) ≡ Sees (view.Called id instance)
+        → called_seen (Some x) inst (instance_of_name c inst) ≡ Resolved (view.Called id instance)
         → (x ≡ id) × IsInstanceOf c inst instance
     given x None h = (
       called_same x id None instance h,
@@ -223,7 +223,7 @@ seen_call c name inst id instance e = by (named_block c.symbols name) refl e
     given x (Some nm) h = number (data_number c nm) refl h
       where
         number : (o : Option ℕ) → data_number c nm ≡ o
-            → called_seen (Some x) (Some nm) o ≡ Sees (view.Called id instance)
+            → called_seen (Some x) (Some nm) o ≡ Resolved (view.Called id instance)
             → (x ≡ id) × IsInstanceOf c (Some nm) instance
         number None is h = absurd cc
         number (Some n) is h = (
@@ -233,7 +233,7 @@ seen_call c name inst id instance e = by (named_block c.symbols name) refl e
 
     made : (x : BlockId) → named_block c.symbols name ≡ Some x
         → (is_system_function x.kind ≡ false → (p : ℕ) × (whole_place c x ≡ Some p))
-        → called_seen (Some x) inst (instance_of_name c inst) ≡ Sees (view.Called id instance)
+        → called_seen (Some x) inst (instance_of_name c inst) ≡ Resolved (view.Called id instance)
         → IsCall c name inst id instance
     made x is whole h =
         let both = given x inst h in
@@ -245,19 +245,19 @@ seen_call c name inst id instance e = by (named_block c.symbols name) refl e
 
     placed : (x : BlockId) → named_block c.symbols name ≡ Some x → is_system_function x.kind ≡ false
         → (o : Option ℕ) → whole_place c x ≡ o
-        → called_seen (id_at x o) inst (instance_of_name c inst) ≡ Sees (view.Called id instance)
+        → called_seen (id_at x o) inst (instance_of_name c inst) ≡ Resolved (view.Called id instance)
         → IsCall c name inst id instance
     placed x is other None w h = absurd cc
     placed x is other (Some p) w h = made x is (λ k. (p, w)) h
 
     whether : (x : BlockId) → named_block c.symbols name ≡ Some x → (t : Bool) → is_system_function x.kind ≡ t
-        → called_seen (if t then Some x else id_at x (whole_place c x)) inst (instance_of_name c inst) ≡ Sees (view.Called id instance)
+        → called_seen (if t then Some x else id_at x (whole_place c x)) inst (instance_of_name c inst) ≡ Resolved (view.Called id instance)
         → IsCall c name inst id instance
     whether x is true sys h = made x is (λ k. absurd cc) h
     whether x is false sys h = placed x is sys (whole_place c x) refl h
 
     by : (o : Option BlockId) → named_block c.symbols name ≡ o
-        → called_seen (whole_block c o) inst (instance_of_name c inst) ≡ Sees (view.Called id instance)
+        → called_seen (whole_block c o) inst (instance_of_name c inst) ≡ Resolved (view.Called id instance)
         → IsCall c name inst id instance
     by None is h = absurd cc
     by (Some x) is h = whether x is (is_system_function x.kind) refl h
@@ -768,7 +768,7 @@ module _ (symbols : List Symbol) (t : Tree) (tree : IsSoundTree symbols t)
     rules : IsSoundCall (context_at symbols t k) cal.of_source s
 
   made : (how : CallOperation) (id : BlockId) (instance : Option ℕ) → call_of s.code ≡ Some how
-      → seen (context_at symbols t k) s.operand ≡ Sees (view.Called id instance)
+      → seen (context_at symbols t k) s.operand ≡ Resolved (view.Called id instance)
       → IsMade how id instance
   made how id instance word e = record {
     name = o.0;
@@ -784,7 +784,7 @@ module _ (symbols : List Symbol) (t : Tree) (tree : IsSoundTree symbols t)
       o : (name : BlockName) × (inst : Option BlockName) × (s.operand ≡ operand.Called name inst)
       o = operand_called s.operand (sound.well_formed.called ∙ calls_are s.code how word)
 
-      seen_is : seen (context_at symbols t k) (operand.Called o.0 o.1) ≡ Sees (view.Called id instance)
+      seen_is : seen (context_at symbols t k) (operand.Called o.0 o.1) ≡ Resolved (view.Called id instance)
       seen_is = ap (seen (context_at symbols t k)) (sym o.2) ∙ e
 
       call : IsCall (context_at symbols t k) o.0 o.1 id instance
@@ -792,8 +792,8 @@ module _ (symbols : List Symbol) (t : Tree) (tree : IsSoundTree symbols t)
 
       rule : rule_of form.Calls (view.Called id instance) ≡ None
       rule =
-          ap (λ (f : Form). rule_of f (view.Called id instance)) (sym (calls_form s.code how word))
-          ∙ ap (λ (x : Seen). rule_seen (form_of s.code) x) (sym seen_is)
+          ap (λ (f : OperandRule). rule_of f (view.Called id instance)) (sym (calls_form s.code how word))
+          ∙ ap (λ (x : Resolution). rule_seen (form_of s.code) x) (sym seen_is)
           ∙ ap (λ (x : Operand). operand_rule (context_at symbols t k) (form_of s.code) x) (sym o.2)
           ∙ sound.allowed
 
