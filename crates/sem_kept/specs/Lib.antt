@@ -8,6 +8,7 @@ pub mod Meaning
 pub mod Operands
 pub mod Records
 pub mod Resumption
+pub mod Settled
 pub mod Sizes
 pub mod Stages
 pub mod Statements

@@ -43,7 +43,7 @@ filler_fits : (a : Around) (lens : List (ℕ × ℕ)) → InstrFits a lens fille
 filler_fits a lens = (refl, tt, tt)
 
 -- what isn't called by a word isn't a call
-no_call : (m : Mnemonic) → call_of m ≡ None → is_call m ≡ false
+pub no_call : (m : Mnemonic) → call_of m ≡ None → is_call m ≡ false
 no_call code.Call e = absurd cc
 no_call code.Uc e = absurd cc
 no_call code.Cc e = absurd cc
@@ -99,7 +99,7 @@ does_fits a lens c s v e h fits None = (
 )
 does_fits a lens c s v e h fits (Some how) = tt
 
-resolved_is : (c : Context) (s : Statement) → statement_rule c s ≡ None
+pub resolved_is : (c : Context) (s : Statement) → statement_rule c s ≡ None
     → resolved c s ≡ seen_view (seen c s.operand)
 unfolding resolved
 resolved_is c s h =
