@@ -20,5 +20,3 @@ pub mod DirectoryLemmas
 pub mod HeadLemmas
 pub mod AloneLemmas
 pub mod OperandLemmas
-pub mod ListedLemmas
-pub mod RebuiltLemmas

@@ -22,8 +22,6 @@ pub mod Layouts
 pub mod Paths
 pub mod Offsets
 pub mod InitialBytes
-pub mod Listed
-pub mod Rebuilt
 pub mod Places
 pub mod Rule21
 pub mod Rule22

@@ -11,7 +11,7 @@ use crate::blocks::BlockLayout;
 use crate::constants::fits;
 use crate::paths::Path;
 use crate::routes::{elementary_at, setting_structure, walk_setting};
-use crate::walks::PathEnd;
+use crate::walks::Walk;
 use plc_base::{Refusal, broken_if, lesser, try_least_of};
 use std::alloc::{AllocError, Global};
 use stl_ast::{Block, Literal, Setting, Simple};
@@ -33,11 +33,11 @@ fn fits_kind(value: &Literal, kind: Option<Simple>) -> bool
 }
 
 /// Whether the value doesn't fit what a path leads to.
-fn misfits(layouts: &[BlockLayout], value: &Literal, target: PathEnd) -> bool
+fn misfits(layouts: &[BlockLayout], value: &Literal, target: Walk) -> bool
     ensures { result ≡ misfits layouts.now value.now target }
 {
     match target {
-        PathEnd::Reaches { spot } => !fits_kind(value, elementary_at(layouts, spot)),
+        Walk::Reaches { spot } => !fits_kind(value, elementary_at(layouts, spot)),
         _ => false,
     }
 }

@@ -8,7 +8,7 @@ use Rattle.stl_ast.specs.declared.blocks.Tree.{Tree}
 use Rattle.stl_parser.specs.Source.{IsTreeUnique, TreeExcludesViolation, IsViolationUnique as OneClauseViolation, HasTreeOrViolation, IsTotal as EachHasTree}
 use Rattle.plc_base.specs.Least.{least}
 use Rattle.stl_symbols.specs.Symbol.{Symbol}
-use Rattle.stl_symbols.specs.Symbols.{symbols_in, symbols_of, with_lines}
+use Rattle.stl_symbols.specs.Symbols.{symbols_of, with_lines}
 use Rattle.sem_kept.specs.Stages.{InTurn, Told, HasOneOutcome, HasOutcome}
 use Rattle.sem_kept.specs.Meaning.{HasSymbols, HasTokens, HasTree, refusals_of, sound_by, IsSound, code_in, HasCode, IsJudgedWith, Refused, InSymbols, InSource, IsJudged, MeansCode, IsRefusedSource, IsMeaningUnique, ExcludesRefusal, IsRefusalUnique, IsTotal, NoFileHasNone}
 use Rattle.sem_kept.proofs.StageLemmas.{same_refusal, one_by_parts, in_turn_one, in_turn_some, told_one, told_some}
@@ -27,7 +27,7 @@ pub record Laws : Type 0 where
 -- ---- symbols
 
 pub no_file : NoFileHasNone
-unfolding symbols_in with_lines
+unfolding symbols_of with_lines
 no_file = refl
 
 -- ---- one outcome at most

@@ -37,7 +37,6 @@ pub mod RecordNames
 pub mod RecordOrder
 pub mod RecordParams
 pub mod Records
-pub mod Settled
 pub mod Shared
 pub mod Sizes
 pub mod SizesBlocks

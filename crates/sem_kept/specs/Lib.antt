@@ -8,7 +8,6 @@ pub mod Meaning
 pub mod Operands
 pub mod Records
 pub mod Resumption
-pub mod Settled
 pub mod Sizes
 pub mod Stages
 pub mod Statements

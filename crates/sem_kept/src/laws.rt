@@ -17,7 +17,6 @@ ghost use Rattle.sem_kept.specs.Meaning.{
   NoFileHasNone,
 };
 ghost use Rattle.sem_kept.specs.Resumption.{SourcesResume, ImagesResume};
-ghost use Rattle.sem_kept.specs.Settled.{StatementsSettle};
 
 /// At the offset of each statement of a block stands the statement that was compiled, with offsets
 /// as its targets, and behind the last one none begins.
@@ -45,13 +44,6 @@ pub fn verified_is_compilable()
 /// fields, and no op of its blocks has a fault.
 pub fn accepted_verifies()
     ensures { AcceptedVerifies }
-{}
-
-/// Of a source that breaks no rule no statement comes to the instruction that stands in for what names
-/// nothing: each is a jump to a label of its body, a call of a block that it names, or names what its
-/// instruction takes, and each actual parameter names what is passed.
-pub fn statements_settle()
-    ensures { StatementsSettle }
 {}
 
 /// The program of statements is at each profile after every history in the state in which the

@@ -30,7 +30,7 @@ use crate::literals::unquoted;
 use crate::lookups::{mnemonic_of, opening_mnemonic_of};
 use crate::operands::operand;
 use crate::parameters::actuals;
-use crate::tables::OperandSyntax;
+use crate::tables::Form;
 use std::alloc::{AllocError, Global};
 use stl_ast::{Actual, BlockName, Mnemonic, Name, Operand, Sequence, Statement};
 use stl_lexer::{Mark, Token, TokenKind};
@@ -251,18 +251,18 @@ fn open(
 fn behind_word(
     alloc: Global,
     source: &[u8],
-    form: OperandSyntax,
+    form: Form,
     code: Mnemonic,
     tokens: &[Token],
 ) -> Result<Option<BareStatement>, AllocError>
     ensures { IfOk result (λ found. found ≡ behind_word source.now form code tokens.now) }
 {
     match form {
-        OperandSyntax::Operand => with_operand(alloc, source, code, tokens),
-        OperandSyntax::Jump => jump(alloc, source, code, tokens),
-        OperandSyntax::Open => open(alloc, source, code, tokens),
-        OperandSyntax::BlockCall => block_call(alloc, source, code, tokens),
-        OperandSyntax::Call => call(alloc, source, code, tokens),
+        Form::Operand => with_operand(alloc, source, code, tokens),
+        Form::Jump => jump(alloc, source, code, tokens),
+        Form::Open => open(alloc, source, code, tokens),
+        Form::BlockCall => block_call(alloc, source, code, tokens),
+        Form::Call => call(alloc, source, code, tokens),
     }
 }
 

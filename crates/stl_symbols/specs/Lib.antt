@@ -1,6 +1,5 @@
 pub mod Address
 pub mod Fields
-pub mod Laws
 pub mod Line
 pub mod Names
 pub mod Numbers

@@ -1,7 +1,7 @@
 pub mod Context
 pub mod Addresses
 pub mod Variables
-pub mod Resolution
+pub mod Seen
 pub mod Forms
 pub mod Constants
 pub mod Kinds

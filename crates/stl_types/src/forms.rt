@@ -5,7 +5,7 @@ use stl_ast::{Mnemonic, Simple};
 
 /// The operands that an instruction takes; instructions of one form take the same ones.
 #[derive(Clone, Copy, Debug, PartialEq, Eq)]
-pub enum OperandRule {
+pub enum Form {
     /// No operand: the empty statement, `A(` to `)`, SET, `MCR(`, +I, BEU and many others.
     Bare,
     /// A, AN, ON, X, XN.
@@ -53,32 +53,31 @@ pub enum OperandRule {
 
 /// The form of an instruction.
 #[tactic(auto, unfolding(crate::specs::Forms::form_of))]
-pub(crate) fn form_of(code: Mnemonic) -> OperandRule
+pub(crate) fn form_of(code: Mnemonic) -> Form
     ensures { result ≡ form_of code }
 {
     match code {
-        Mnemonic::Nop => OperandRule::Counts { most: 1 },
-        Mnemonic::Bld | Mnemonic::Inc | Mnemonic::Dec => OperandRule::Counts { most: 255 },
-        Mnemonic::A | Mnemonic::An | Mnemonic::On | Mnemonic::X | Mnemonic::Xn =>
-            OperandRule::ReadsBit,
-        Mnemonic::O => OperandRule::ReadsBitOrBare,
-        Mnemonic::Assign | Mnemonic::Fp | Mnemonic::Fn => OperandRule::WritesBit,
-        Mnemonic::S => OperandRule::Sets,
-        Mnemonic::R => OperandRule::Resets,
-        Mnemonic::L => OperandRule::Loads,
-        Mnemonic::T => OperandRule::Transfers,
-        Mnemonic::Lc => OperandRule::LoadsBcd,
-        Mnemonic::Lar1 => OperandRule::LoadsAr1,
-        Mnemonic::Lar2 => OperandRule::LoadsAr2,
-        Mnemonic::Tar1 => OperandRule::StoresAr1,
-        Mnemonic::Tar2 => OperandRule::StoresAr2,
-        Mnemonic::AddAr1 | Mnemonic::AddAr2 => OperandRule::AddsToAr,
-        Mnemonic::Add => OperandRule::Adds,
-        Mnemonic::Aw | Mnemonic::Ow | Mnemonic::Xow => OperandRule::Combines { of: Simple::Word },
-        Mnemonic::Ad | Mnemonic::Od | Mnemonic::Xod => OperandRule::Combines { of: Simple::Dword },
-        Mnemonic::Ssi | Mnemonic::Slw | Mnemonic::Srw => OperandRule::Shifts { most: 15 },
+        Mnemonic::Nop => Form::Counts { most: 1 },
+        Mnemonic::Bld | Mnemonic::Inc | Mnemonic::Dec => Form::Counts { most: 255 },
+        Mnemonic::A | Mnemonic::An | Mnemonic::On | Mnemonic::X | Mnemonic::Xn => Form::ReadsBit,
+        Mnemonic::O => Form::ReadsBitOrBare,
+        Mnemonic::Assign | Mnemonic::Fp | Mnemonic::Fn => Form::WritesBit,
+        Mnemonic::S => Form::Sets,
+        Mnemonic::R => Form::Resets,
+        Mnemonic::L => Form::Loads,
+        Mnemonic::T => Form::Transfers,
+        Mnemonic::Lc => Form::LoadsBcd,
+        Mnemonic::Lar1 => Form::LoadsAr1,
+        Mnemonic::Lar2 => Form::LoadsAr2,
+        Mnemonic::Tar1 => Form::StoresAr1,
+        Mnemonic::Tar2 => Form::StoresAr2,
+        Mnemonic::AddAr1 | Mnemonic::AddAr2 => Form::AddsToAr,
+        Mnemonic::Add => Form::Adds,
+        Mnemonic::Aw | Mnemonic::Ow | Mnemonic::Xow => Form::Combines { of: Simple::Word },
+        Mnemonic::Ad | Mnemonic::Od | Mnemonic::Xod => Form::Combines { of: Simple::Dword },
+        Mnemonic::Ssi | Mnemonic::Slw | Mnemonic::Srw => Form::Shifts { most: 15 },
         Mnemonic::Ssd | Mnemonic::Sld | Mnemonic::Srd | Mnemonic::Rld | Mnemonic::Rrd => {
-            OperandRule::Shifts { most: 32 }
+            Form::Shifts { most: 32 }
         }
         Mnemonic::Ju
         | Mnemonic::Jl
@@ -97,14 +96,14 @@ pub(crate) fn form_of(code: Mnemonic) -> OperandRule
         | Mnemonic::Jpz
         | Mnemonic::Jmz
         | Mnemonic::Juo
-        | Mnemonic::Loop => OperandRule::Jumps,
+        | Mnemonic::Loop => Form::Jumps,
         Mnemonic::Sp | Mnemonic::Se | Mnemonic::Sd | Mnemonic::Ss | Mnemonic::Sf => {
-            OperandRule::StartsTimer
+            Form::StartsTimer
         }
-        Mnemonic::Fr => OperandRule::Enables,
-        Mnemonic::Cu | Mnemonic::Cd => OperandRule::StepsCounter,
-        Mnemonic::Call | Mnemonic::Uc | Mnemonic::Cc => OperandRule::Calls,
-        Mnemonic::Opn => OperandRule::Opens,
+        Mnemonic::Fr => Form::Enables,
+        Mnemonic::Cu | Mnemonic::Cd => Form::StepsCounter,
+        Mnemonic::Call | Mnemonic::Uc | Mnemonic::Cc => Form::Calls,
+        Mnemonic::Opn => Form::Opens,
         Mnemonic::Empty
         | Mnemonic::AOpen
         | Mnemonic::AnOpen
@@ -116,9 +115,8 @@ pub(crate) fn form_of(code: Mnemonic) -> OperandRule
         | Mnemonic::Set
         | Mnemonic::Clr
         | Mnemonic::Not
-        | Mnemonic::Save => OperandRule::Bare,
-        Mnemonic::Mcra | Mnemonic::Mcrd | Mnemonic::McrOpen | Mnemonic::McrClose =>
-            OperandRule::Bare,
+        | Mnemonic::Save => Form::Bare,
+        Mnemonic::Mcra | Mnemonic::Mcrd | Mnemonic::McrOpen | Mnemonic::McrClose => Form::Bare,
         Mnemonic::Car
         | Mnemonic::Tak
         | Mnemonic::Push
@@ -130,7 +128,7 @@ pub(crate) fn form_of(code: Mnemonic) -> OperandRule
         | Mnemonic::Be
         | Mnemonic::Bec
         | Mnemonic::Beu
-        | Mnemonic::Cdb => OperandRule::Bare,
+        | Mnemonic::Cdb => Form::Bare,
         Mnemonic::AddI
         | Mnemonic::SubI
         | Mnemonic::MulI
@@ -143,7 +141,7 @@ pub(crate) fn form_of(code: Mnemonic) -> OperandRule
         | Mnemonic::Invi
         | Mnemonic::Invd
         | Mnemonic::Negi
-        | Mnemonic::Negd => OperandRule::Bare,
+        | Mnemonic::Negd => Form::Bare,
         Mnemonic::EqI
         | Mnemonic::NeI
         | Mnemonic::GtI
@@ -155,8 +153,7 @@ pub(crate) fn form_of(code: Mnemonic) -> OperandRule
         | Mnemonic::GtD
         | Mnemonic::LtD
         | Mnemonic::GeD
-        | Mnemonic::LeD => OperandRule::Bare,
-        Mnemonic::Bti | Mnemonic::Itb | Mnemonic::Btd | Mnemonic::Dtb | Mnemonic::Itd =>
-            OperandRule::Bare,
+        | Mnemonic::LeD => Form::Bare,
+        Mnemonic::Bti | Mnemonic::Itb | Mnemonic::Btd | Mnemonic::Dtb | Mnemonic::Itd => Form::Bare,
     }
 }

@@ -22,120 +22,120 @@ ghost use Rattle.stl_types.specs.Kinds.{
   width_in,
 };
 
-use crate::views::{Register, ResolvedOperand};
+use crate::views::{Register, View};
 use block_layout::width_of;
 use plc_base::{BlockKind, Width};
 use stl_ast::Numbered;
 
-pub(crate) fn is_nothing(view: ResolvedOperand) -> bool
+pub(crate) fn is_nothing(view: View) -> bool
     ensures { result ≡ is_nothing view }
 {
-    matches!(view, ResolvedOperand::Nothing)
+    matches!(view, View::Nothing)
 }
 
 /// Whether a place has an address of its own.
-pub(crate) fn is_direct(view: ResolvedOperand) -> bool
+pub(crate) fn is_direct(view: View) -> bool
     ensures { result ≡ is_direct view }
 {
-    matches!(view, ResolvedOperand::Direct { .. })
+    matches!(view, View::Direct { .. })
 }
 
 /// Whether a place in memory is meant: direct, a parameter of a function, or by a pointer.
-pub(crate) fn is_in_memory(view: ResolvedOperand) -> bool
+pub(crate) fn is_in_memory(view: View) -> bool
     ensures { result ≡ is_in_memory view }
 {
     matches!(
         view,
-        ResolvedOperand::Direct { .. }
-            | ResolvedOperand::Parameter { .. }
-            | ResolvedOperand::ByMemory { .. }
-            | ResolvedOperand::ByRegister { .. }
+        View::Direct { .. }
+            | View::Parameter { .. }
+            | View::ByMemory { .. }
+            | View::ByRegister { .. }
     )
 }
 
-pub(crate) fn is_timer(view: ResolvedOperand) -> bool
+pub(crate) fn is_timer(view: View) -> bool
     ensures { result ≡ is_timer view }
 {
     match view {
-        ResolvedOperand::Timer { .. } => true,
-        ResolvedOperand::NumberBy { what, .. } => matches!(what, Numbered::Timer),
+        View::Timer { .. } => true,
+        View::NumberBy { what, .. } => matches!(what, Numbered::Timer),
         _ => false,
     }
 }
 
-pub(crate) fn is_counter(view: ResolvedOperand) -> bool
+pub(crate) fn is_counter(view: View) -> bool
     ensures { result ≡ is_counter view }
 {
     match view {
-        ResolvedOperand::Counter { .. } => true,
-        ResolvedOperand::NumberBy { what, .. } => matches!(what, Numbered::Counter),
+        View::Counter { .. } => true,
+        View::NumberBy { what, .. } => matches!(what, Numbered::Counter),
         _ => false,
     }
 }
 
 /// Whether a data block is opened.
-pub(crate) fn is_opened(view: ResolvedOperand) -> bool
+pub(crate) fn is_opened(view: View) -> bool
     ensures { result ≡ is_opened view }
 {
     match view {
-        ResolvedOperand::OpenBlock { .. } => true,
-        ResolvedOperand::NumberBy { what, .. } => matches!(what, Numbered::Db | Numbered::Di),
+        View::OpenBlock { .. } => true,
+        View::NumberBy { what, .. } => matches!(what, Numbered::Db | Numbered::Di),
         _ => false,
     }
 }
 
-pub(crate) fn is_condition(view: ResolvedOperand) -> bool
+pub(crate) fn is_condition(view: View) -> bool
     ensures { result ≡ is_condition view }
 {
-    matches!(view, ResolvedOperand::OfStatus { .. })
+    matches!(view, View::OfStatus { .. })
 }
 
-pub(crate) fn is_pointer(view: ResolvedOperand) -> bool
+pub(crate) fn is_pointer(view: View) -> bool
     ensures { result ≡ is_pointer view }
 {
-    matches!(view, ResolvedOperand::Pointer { .. })
+    matches!(view, View::Pointer { .. })
 }
 
-pub(crate) fn is_label(view: ResolvedOperand) -> bool
+pub(crate) fn is_label(view: View) -> bool
     ensures { result ≡ is_label view }
 {
-    matches!(view, ResolvedOperand::Label)
+    matches!(view, View::Label)
 }
 
-pub(crate) fn is_status_word(view: ResolvedOperand) -> bool
+pub(crate) fn is_status_word(view: View) -> bool
     ensures { result ≡ is_status_word view }
 {
     match view {
-        ResolvedOperand::Register { which } => matches!(which, Register::Stw),
+        View::Register { which } => matches!(which, Register::Stw),
         _ => false,
     }
 }
 
-pub(crate) fn is_second_register(view: ResolvedOperand) -> bool
+pub(crate) fn is_second_register(view: View) -> bool
     ensures { result ≡ is_second_register view }
 {
     match view {
-        ResolvedOperand::Register { which } => matches!(which, Register::Ar2),
+        View::Register { which } => matches!(which, Register::Ar2),
         _ => false,
     }
 }
 
 /// Whether a register can be loaded by L.
-pub(crate) fn is_loaded(view: ResolvedOperand) -> bool
+pub(crate) fn is_loaded(view: View) -> bool
     ensures { result ≡ is_loaded view }
 {
     match view {
-        ResolvedOperand::Register { which } => !matches!(which, Register::Ar2),
+        View::Register { which } => !matches!(which, Register::Ar2),
         _ => false,
     }
 }
 
 /// Whether a block can be called so: only a function block has an instance.
-pub(crate) fn is_called(view: ResolvedOperand) -> bool
+pub(crate) fn is_called(view: View) -> bool
     ensures { result ≡ is_called view }
 {
     match view {
-        ResolvedOperand::Called { block, instance } => match instance {
+        View::Called { block, instance } => match instance {
             None => block.kind.is_callable(),
             Some(_) => matches!(block.kind, BlockKind::Fb),
         },
@@ -143,27 +143,27 @@ pub(crate) fn is_called(view: ResolvedOperand) -> bool
     }
 }
 
-pub(crate) fn is_composite(view: ResolvedOperand) -> bool
+pub(crate) fn is_composite(view: View) -> bool
     ensures { result ≡ is_composite view }
 {
-    matches!(view, ResolvedOperand::Composite | ResolvedOperand::Date)
+    matches!(view, View::Composite | View::Date)
 }
 
-pub(crate) fn is_date(view: ResolvedOperand) -> bool
+pub(crate) fn is_date(view: View) -> bool
     ensures { result ≡ is_date view }
 {
-    matches!(view, ResolvedOperand::Date)
+    matches!(view, View::Date)
 }
 
 /// The width of a place in memory.
-pub(crate) fn width_in(view: ResolvedOperand) -> Option<Width>
+pub(crate) fn width_in(view: View) -> Option<Width>
     ensures { result ≡ width_in view }
 {
     match view {
-        ResolvedOperand::Direct { width, .. } => Some(width),
-        ResolvedOperand::Parameter { declared, .. } => Some(width_of(declared)),
-        ResolvedOperand::ByMemory { width, .. } => Some(width),
-        ResolvedOperand::ByRegister { width, .. } => Some(width),
+        View::Direct { width, .. } => Some(width),
+        View::Parameter { declared, .. } => Some(width_of(declared)),
+        View::ByMemory { width, .. } => Some(width),
+        View::ByRegister { width, .. } => Some(width),
         _ => None,
     }
 }

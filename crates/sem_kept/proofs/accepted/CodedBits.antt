@@ -18,7 +18,7 @@ use Rattle.stl_ast.specs.declared.operands.Operand.TheVariants as operand
 use Rattle.block_layout.specs.Fits.{bits_of, fits, number_from, or_0, twos}
 use Rattle.stl_types.specs.Constants.{is_count, takes_constant}
 use Rattle.stl_types.specs.Forms.{form_of}
-use Rattle.stl_types.specs.declared.views.ResolvedOperand.TheVariants as view
+use Rattle.stl_types.specs.declared.views.View.TheVariants as view
 use Rattle.stl_codegen.specs.Operations.{add_operation, operation_for}
 use Rattle.sem_kept.specs.Coded.{HasBytes}
 

@@ -55,8 +55,8 @@ use Rattle.stl_parser.specs.declared.places.ClausePlace.TheVariants as place
 use Rattle.stl_parser.specs.declared.statements.BareStatement.{BareStatement}
 use Rattle.stl_parser.specs.declared.tables.Address.{Address}
 use Rattle.stl_parser.specs.declared.tables.Address.TheVariants as address
-use Rattle.stl_parser.specs.declared.tables.OperandSyntax.{OperandSyntax}
-use Rattle.stl_parser.specs.declared.tables.OperandSyntax.TheVariants as form
+use Rattle.stl_parser.specs.declared.tables.Form.{Form}
+use Rattle.stl_parser.specs.declared.tables.Form.TheVariants as form
 use Rattle.stl_parser.specs.declared.tables.HeadWord.{HeadWord}
 use Rattle.stl_parser.specs.declared.tables.Keyword.{Keyword}
 use Rattle.stl_parser.specs.declared.tables.Keyword.TheVariants as keyword
@@ -515,7 +515,7 @@ call_has source code tokens h =
     (λ i. mapped (states.actuals_of source i.1) _ AreHeld BareHas (actuals_has source i.1 h)
     (λ actuals k. record { operand = tt; actuals = k })))
 
-behind_word_has : (source : List ℕ) (f : OperandSyntax) (code : Mnemonic) (tokens : List Token)
+behind_word_has : (source : List ℕ) (f : Form) (code : Mnemonic) (tokens : List Token)
     → AreBytes source → IfSome (states.behind_word source f code tokens) BareHas
 unfolding states.behind_word
 behind_word_has source form.Operand code tokens h = with_operand_has source code tokens h

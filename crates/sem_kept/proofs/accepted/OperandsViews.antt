@@ -39,7 +39,7 @@ use Rattle.stl_ast.specs.declared.operands.PathHead.TheVariants as head
 use Rattle.stl_ast.specs.declared.statements.Actual.{Actual}
 use Rattle.stl_ast.specs.declared.statements.Statement.{Statement}
 use Rattle.plc_base.specs.Folding.{folded}
-use Rattle.stl_symbols.specs.Symbol.{Symbol, has_symbols, symbol_named}
+use Rattle.stl_symbols.specs.Symbol.{Symbol, symbol_named}
 use Rattle.stl_symbols.specs.declared.targets.Target.{Target}
 use Rattle.stl_symbols.specs.declared.targets.Target.TheVariants as target
 use Rattle.block_layout.specs.Around.{Outside, of_sections, of_structure, onto}
@@ -63,27 +63,27 @@ use Rattle.block_layout.specs.declared.cells.Cell.{Cell}
 use Rattle.block_layout.specs.declared.cells.Element.{Element}
 use Rattle.block_layout.specs.declared.cells.Element.TheVariants.{Plain, Structure, DateAndTime, Udt}
 use Rattle.block_layout.specs.declared.cells.Element.TheVariants as cell_element
-use Rattle.block_layout.specs.declared.walks.ComponentAt.{ComponentAt}
-use Rattle.block_layout.specs.declared.walks.PathEnd.{PathEnd}
-use Rattle.block_layout.specs.declared.walks.PathEnd.TheVariants as walk
+use Rattle.block_layout.specs.declared.walks.Spot.{Spot}
+use Rattle.block_layout.specs.declared.walks.Walk.{Walk}
+use Rattle.block_layout.specs.declared.walks.Walk.TheVariants as walk
 use Rattle.stl_types.specs.Actuals.{is_input_section}
 use Rattle.stl_types.specs.Addresses.{address, address_in, area_left, area_of}
 use Rattle.stl_types.specs.Context.{data_number, data_place, in_function, is_of_function, number_of}
-use Rattle.stl_types.specs.Resolution.{opened_seen, path_seen, register_of, seen, symbol_seen, target_view}
+use Rattle.stl_types.specs.Seen.{opened_seen, path_seen, register_of, seen, symbol_seen, target_view}
 use Rattle.stl_types.specs.Unknown.{is_unknown}
 use Rattle.stl_types.specs.Variables.{composite, data_at, date_or_composite, data_path, data_variable, data_walked, in_area, own_at, own_elementary, own_variable, own_walked, parameter, parameter_at, parameter_index}
-use Rattle.stl_types.specs.declared.views.Resolution.{Resolution}
-use Rattle.stl_types.specs.declared.views.Resolution.TheVariants.{Resolved}
+use Rattle.stl_types.specs.declared.views.Seen.{Seen}
+use Rattle.stl_types.specs.declared.views.Seen.TheVariants.{Sees}
 use Rattle.stl_types.specs.declared.views.Side.TheVariants as side
-use Rattle.stl_types.specs.declared.views.ResolvedOperand.{ResolvedOperand}
-use Rattle.stl_types.specs.declared.views.ResolvedOperand.TheVariants as view
+use Rattle.stl_types.specs.declared.views.View.{View}
+use Rattle.stl_types.specs.declared.views.View.TheVariants as view
 use Rattle.stl_codegen.specs.Generated.{param, param_here, param_of, params_of, section_number}
 use Rattle.stl_codegen.specs.Instruction.{return_last}
 use Rattle.sem_kept.proofs.accepted.Accepted.{IsSound, IsSoundTree, context_at}
 use Rattle.sem_kept.proofs.accepted.OperandsCells.{IsFoundBlock, IsOrigin, all_there, are_right, cells_are, found_there, layout_of_block, measured_ids, measured_symbols, origin}
 use Rattle.sem_kept.proofs.accepted.OperandsPaths.{Moves, data_goes, local_goes, local_moves}
 use Rattle.sem_kept.proofs.accepted.OperandsPlaces.{AreParameters, GivesOne, IsElementary, IsParameterCell, IsPlaced, Stays, count_each, data_fits, elementary, function_components, in_its_order, instance_fits, local_fits, local_stays, one_each, placed_sees, reached_place}
-use Rattle.sem_kept.proofs.accepted.OperandsSymbols.{SymbolFits, TargetFits, named_fits}
+use Rattle.sem_kept.proofs.accepted.OperandsSymbols.{SymbolFits, TargetFits, is_symbols_area, named_fits}
 use Rattle.sem_kept.proofs.accepted.OperandsWalks.{AreRight, Goes, Lies, structure_even}
 use Rattle.sem_kept.proofs.accepted.OperandsOperations.{ViewFits}
 use Rattle.sem_kept.proofs.accepted.Shared.{or_second, kind_there}
@@ -229,9 +229,9 @@ no_components y b h is =
 -- ---- what is seen
 
 -- an operand is seen, and what it names fits
-pub record IsSeen (a : Around) (s : Resolution) : Type 0 where
-  pub view : ResolvedOperand
-  pub is : s ≡ Resolved view
+pub record IsSeen (a : Around) (s : Seen) : Type 0 where
+  pub view : View
+  pub is : s ≡ Sees view
   pub fits : ViewFits a view
 
 composite_fits : (a : Around) (o : Option Cell) → ViewFits a (composite o)
@@ -332,7 +332,7 @@ address_fits a ar w byte bit h ends =
     or_from (is_odd_bit w bit) (is_past_locals a (area_of ar) w byte) (no_odd_bit w bit h)
     (no_past a ar w byte ends)
 
-outside_locals : (a : Around) (ar : Area) (w : Width) (byte : ℕ) → has_symbols ar ≡ true
+outside_locals : (a : Around) (ar : Area) (w : Width) (byte : ℕ) → is_symbols_area ar ≡ true
     → is_past_locals a ar w byte ≡ false
 outside_locals a area.L w byte h = absurd cc
 outside_locals a area.I w byte h = refl
@@ -428,7 +428,7 @@ module _ (symbols : List Symbol) (t : Tree) (tree : IsSoundTree symbols t) (k : 
   function_here = ap (λ (o : Option Block). is_of_function o) block.block_there
 
   -- a temporary variable
-  temporary_seen : (s : ComponentAt) → Lies (layouts_of t symbols) (structure_bits (cells_at (layouts_of t symbols) k true)) s
+  temporary_seen : (s : Spot) → Lies (layouts_of t symbols) (structure_bits (cells_at (layouts_of t symbols) k true)) s
       → (o : Option Simple) → elementary_at (layouts_of t symbols) s ≡ o
       → IsSeen a (own_at (context_at symbols t k) true s o)
   temporary_seen s h None e = record {
@@ -465,7 +465,7 @@ module _ (symbols : List Symbol) (t : Tree) (tree : IsSoundTree symbols t) (k : 
       few limit local h k = omega (arith, h, k)
 
   -- a variable of a function block
-  instance_seen : (limit : ℕ) → limit ≤ 131072 → is_function b.kind ≡ false → (s : ComponentAt)
+  instance_seen : (limit : ℕ) → limit ≤ 131072 → is_function b.kind ≡ false → (s : Spot)
       → Lies (layouts_of t symbols) limit s
       → (o : Option Simple) → elementary_at (layouts_of t symbols) s ≡ o
       → IsSeen a (own_at (context_at symbols t k) false s o)
@@ -487,7 +487,7 @@ module _ (symbols : List Symbol) (t : Tree) (tree : IsSoundTree symbols t) (k : 
       at = reached_place (layouts_of t symbols) limit s kind h e
 
   -- a parameter of a function
-  parameter_seen : b.kind ≡ kinds.Fc → (s : ComponentAt) → s.block ≡ k → s.temporary ≡ false
+  parameter_seen : b.kind ≡ kinds.Fc → (s : Spot) → s.block ≡ k → s.temporary ≡ false
       → (o : Option Simple) → elementary_at (layouts_of t symbols) s ≡ o
       → IsSeen a (own_at (context_at symbols t k) false s o)
   parameter_seen is s at own None e = record {
@@ -555,15 +555,15 @@ module _ (symbols : List Symbol) (t : Tree) (tree : IsSoundTree symbols t) (k : 
       right : AreRight (layouts_of t symbols)
       right = are_right symbols t tree
 
-      reads : (temporary : Bool) (limit : ℕ) (w : PathEnd)
-          → ((s : ComponentAt) → w ≡ walk.Reaches s → IsSeen a (own_at (context_at symbols t k) temporary s (elementary_at (layouts_of t symbols) s)))
+      reads : (temporary : Bool) (limit : ℕ) (w : Walk)
+          → ((s : Spot) → w ≡ walk.Reaches s → IsSeen a (own_at (context_at symbols t k) temporary s (elementary_at (layouts_of t symbols) s)))
           → Moves w → is_unknown (own_walked (context_at symbols t k) temporary w) ≡ false
           → IsSeen a (own_walked (context_at symbols t k) temporary w)
       reads temporary limit (walk.Reaches s) f m known = f s refl
       reads temporary limit walk.Unknown f m known = absurd cc
       reads temporary limit walk.Rests f m known = absurd m
 
-      lies : (limit : ℕ) (w : PathEnd) (s : ComponentAt) → w ≡ walk.Reaches s → Goes (layouts_of t symbols) limit w
+      lies : (limit : ℕ) (w : Walk) (s : Spot) → w ≡ walk.Reaches s → Goes (layouts_of t symbols) limit w
           → Lies (layouts_of t symbols) limit s
       lies limit w s e g = subst (Goes (layouts_of t symbols) limit) e g
 
@@ -883,7 +883,7 @@ pub data_seen : (symbols : List Symbol) (t : Tree) → IsSoundTree symbols t →
 data_seen symbols t tree k a name steps there known stays =
     subst (IsSeen a) (sym whole)
     (reads (walked_data (layouts_of t symbols) d.place steps) refl goes
-    (subst (λ (s : Resolution). is_unknown s ≡ false) whole known))
+    (subst (λ (s : Seen). is_unknown s ≡ false) whole known))
   where
     d : IsData symbols t k name
     d = data_there symbols t tree k name there
@@ -904,7 +904,7 @@ data_seen symbols t tree k a name steps there known stays =
         (omega arith)
         (subst (λ (o : Option ℕ). leaves_found (layouts_of t symbols) o steps ≡ false) d.listed stays)
 
-    at : (w : ComponentAt) → Lies (layouts_of t symbols) (structure_bits (cells_at (layouts_of t symbols) s.inside false)) w
+    at : (w : Spot) → Lies (layouts_of t symbols) (structure_bits (cells_at (layouts_of t symbols) s.inside false)) w
         → (o : Option Simple) → elementary_at (layouts_of t symbols) w ≡ o
         → IsSeen a (data_at (context_at symbols t k) d.block.id.number w o)
     at w h None e = record {
@@ -926,7 +926,7 @@ data_seen symbols t tree k a name steps there known stays =
         place : IsPlaced (structure_bits (cells_at (layouts_of t symbols) s.inside false)) w.offset kind
         place = reached_place (layouts_of t symbols) (structure_bits (cells_at (layouts_of t symbols) s.inside false)) w kind h e
 
-    reads : (w : PathEnd) → w ≡ walked_data (layouts_of t symbols) d.place steps
+    reads : (w : Walk) → w ≡ walked_data (layouts_of t symbols) d.place steps
         → Goes (layouts_of t symbols) (structure_bits (cells_at (layouts_of t symbols) s.inside false)) w
         → is_unknown (data_walked (context_at symbols t k) d.block.id.number w) ≡ false
         → IsSeen a (data_walked (context_at symbols t k) d.block.id.number w)

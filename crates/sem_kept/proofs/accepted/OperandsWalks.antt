@@ -17,9 +17,9 @@ use Rattle.block_layout.specs.declared.cells.Element.{Element}
 use Rattle.block_layout.specs.declared.cells.Element.TheVariants.{Plain, Structure, DateAndTime, Udt, Unknown}
 use Rattle.block_layout.specs.Sizes.{largest}
 use Rattle.block_layout.specs.declared.members.Member.{Member}
-use Rattle.block_layout.specs.declared.walks.ComponentAt.{ComponentAt}
-use Rattle.block_layout.specs.declared.walks.PathEnd.{PathEnd}
-use Rattle.block_layout.specs.declared.walks.PathEnd.TheVariants as walk
+use Rattle.block_layout.specs.declared.walks.Spot.{Spot}
+use Rattle.block_layout.specs.declared.walks.Walk.{Walk}
+use Rattle.block_layout.specs.declared.walks.Walk.TheVariants as walk
 
 -- ---- places that meet an alignment
 
@@ -388,14 +388,14 @@ AreRight l = (block place : ℕ) (temporary : Bool) (c : Cell)
     → slice_get (cells_at l block temporary) place ≡ Some c → IsRightCell l c
 
 -- what a spot leaves lies within a limit, at a place that meets its alignment
-pub record Lies (l : List BlockLayout) (limit : ℕ) (s : ComponentAt) : Type 0 where
+pub record Lies (l : List BlockLayout) (limit : ℕ) (s : Spot) : Type 0 where
   pub cell : Cell
   pub there : slice_get (cells_at l s.block s.temporary) s.place ≡ Some cell
   pub even : Meets s.offset (drop s.depth cell.bounds) cell.of
   pub within : s.offset + array_bits (drop s.depth cell.bounds)
       (element_of cell (drop (suc s.place) (cells_at l s.block s.temporary))) ≤ limit
 
-abbrev pub Goes : List BlockLayout → (limit : ℕ) → PathEnd → Type 0
+abbrev pub Goes : List BlockLayout → (limit : ℕ) → Walk → Type 0
 Goes l limit (walk.Reaches s) = Lies l limit s
 Goes l limit walk.Unknown = Unit {0}
 Goes l limit walk.Rests = ⊥
@@ -468,7 +468,7 @@ found_lies l limit right block temporary level first offset name even near fits 
                     → limit < largest → capped (offset + capped more) ≡ offset + more
                 fit offset more size end limit a b c = omega (arith, a, b, c)
 
-            spot : ComponentAt
+            spot : Spot
             spot = record {
               block = block;
               temporary = temporary;

@@ -22,33 +22,33 @@ use Rattle.stl_types.specs.Context.{Context, data_number, whole_place}
 use Rattle.stl_types.specs.Variables.{data_variable, own_variable}
 use Rattle.stl_types.specs.declared.views.Register.{Register}
 use Rattle.stl_types.specs.declared.views.Register.TheVariants as register
-use Rattle.stl_types.specs.declared.views.Resolution.{Resolution}
-use Rattle.stl_types.specs.declared.views.Resolution.TheVariants.{Resolved, Unknown, Unjudged}
+use Rattle.stl_types.specs.declared.views.Seen.{Seen}
+use Rattle.stl_types.specs.declared.views.Seen.TheVariants.{Sees, Unknown, Rests}
 use Rattle.stl_types.specs.declared.views.Side.TheVariants as side
-use Rattle.stl_types.specs.declared.views.ResolvedOperand.{ResolvedOperand}
-use Rattle.stl_types.specs.declared.views.ResolvedOperand.TheVariants as view
+use Rattle.stl_types.specs.declared.views.View.{View}
+use Rattle.stl_types.specs.declared.views.View.TheVariants as view
 
 -- what a symbol stands for
-abbrev pub target_view : Target → ResolvedOperand
+abbrev pub target_view : Target → View
 target_view (target.Variable place width) = view.Direct place width side.Both None
 target_view (target.Timer number) = view.Timer number
 target_view (target.Counter number) = view.Counter number
 target_view (target.Block id) = view.Block
 
 -- a quoted name that is the whole operand
-abbrev pub symbol_seen : Option Symbol → Resolution
+abbrev pub symbol_seen : Option Symbol → Seen
 symbol_seen None = Unknown
-symbol_seen (Some s) = Resolved (target_view s.target)
+symbol_seen (Some s) = Sees (target_view s.target)
 
 -- a path: into the block's own variables, into a data block, or a symbol
-abbrev pub path_seen : Context → PathHead → List PathStep → Resolution
+abbrev pub path_seen : Context → PathHead → List PathStep → Seen
 path_seen c (head.Local name) steps = own_variable c (folded name) (folded_path steps)
 path_seen c (head.InBlock name) steps = data_variable c name (folded_path steps)
 path_seen c (head.Symbol name) steps = symbol_seen (symbol_named name c.symbols)
 
 -- an address, also behind a data block
-abbrev pub direct_seen : Context → Option BlockName → Letters → Width → (byte bit : ℕ) → Resolution
-direct_seen c None a width byte bit = Resolved (address 0 a width byte bit)
+abbrev pub direct_seen : Context → Option BlockName → Letters → Width → (byte bit : ℕ) → Seen
+direct_seen c None a width byte bit = Sees (address 0 a width byte bit)
 direct_seen c (Some name) a width byte bit = address_in (data_number c name) a width byte bit
 
 -- a register by its word; the grammar has these six
@@ -62,16 +62,16 @@ register_of name =
     else register.Ar2
 
 -- a data block that is opened, by its number
-abbrev pub opened_seen : (di : Bool) → Option ℕ → Resolution
-opened_seen di None = Unjudged
-opened_seen di (Some number) = Resolved (view.OpenBlock di number)
+abbrev pub opened_seen : (di : Bool) → Option ℕ → Seen
+opened_seen di None = Rests
+opened_seen di (Some number) = Sees (view.OpenBlock di number)
 
 -- a called block, with the number of its instance
-abbrev pub called_seen : Option BlockId → (named : Option BlockName) → Option ℕ → Resolution
-called_seen None named instance = Unjudged
-called_seen (Some id) None instance = Resolved (view.Called id None)
-called_seen (Some id) (Some name) None = Unjudged
-called_seen (Some id) (Some name) (Some number) = Resolved (view.Called id (Some number))
+abbrev pub called_seen : Option BlockId → (named : Option BlockName) → Option ℕ → Seen
+called_seen None named instance = Rests
+called_seen (Some id) None instance = Sees (view.Called id None)
+called_seen (Some id) (Some name) None = Rests
+called_seen (Some id) (Some name) (Some number) = Sees (view.Called id (Some number))
 
 -- a block of the source that doesn't break a rule itself, or a system function
 abbrev pub id_at : BlockId → Option ℕ → Option BlockId
@@ -89,22 +89,22 @@ instance_number c None = None
 instance_number c (Some name) = data_number c name
 
 -- an operand
-unfoldable pub seen : Context → Operand → Resolution
-seen c operand.Nothing = Resolved view.Nothing
+unfoldable pub seen : Context → Operand → Seen
+seen c operand.Nothing = Sees view.Nothing
 seen c (operand.Direct name a width byte bit) = direct_seen c name a width byte bit
-seen c (operand.Timer number) = Resolved (view.Timer number)
-seen c (operand.Counter number) = Resolved (view.Counter number)
+seen c (operand.Timer number) = Sees (view.Timer number)
+seen c (operand.Counter number) = Sees (view.Counter number)
 seen c (operand.Named path steps) = path_seen c path steps
 seen c (operand.ByMemory a width from byte) =
-    Resolved (view.ByMemory (area_of a) width (area_of from) byte)
-seen c (operand.NumberBy what from byte) = Resolved (view.NumberBy what (area_of from) byte)
+    Sees (view.ByMemory (area_of a) width (area_of from) byte)
+seen c (operand.NumberBy what from byte) = Sees (view.NumberBy what (area_of from) byte)
 seen c (operand.ByRegister a width register bits) =
-    Resolved (view.ByRegister (area_left a) width register bits)
-seen c (operand.Pointer a byte bit) = Resolved (view.Pointer (area_left a) byte bit)
-seen c (operand.Constant value) = Resolved view.Constant
-seen c (operand.Label name) = Resolved view.Label
-seen c (operand.OfStatus flag) = Resolved (view.OfStatus flag)
-seen c (operand.Other name) = Resolved (view.Register (register_of name))
+    Sees (view.ByRegister (area_left a) width register bits)
+seen c (operand.Pointer a byte bit) = Sees (view.Pointer (area_left a) byte bit)
+seen c (operand.Constant value) = Sees view.Constant
+seen c (operand.Label name) = Sees view.Label
+seen c (operand.OfStatus flag) = Sees (view.OfStatus flag)
+seen c (operand.Other name) = Sees (view.Register (register_of name))
 seen c (operand.OpenBlock di name) = opened_seen di (data_number c name)
 seen c (operand.Called name instance) =
     called_seen (whole_block c (named_block c.symbols name)) instance (instance_number c instance)
