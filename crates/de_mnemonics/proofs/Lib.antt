@@ -1,0 +1,3 @@
+pub mod LawLemmas
+pub mod TranslationLemmas
+pub mod WordLemmas

@@ -1,0 +1,234 @@
+ghost use Rattle.std.specs.Prelude.{◌≡◌, ◌≤◌, ◌∷◌, ◌++◌, length, drop, slice_range, Ok, IfOk, IfErr, OnOk};
+ghost use Rattle.std.specs.Option.{option_map};
+ghost use Rattle.stl_lexer.specs.Limits.{source_limit};
+ghost use Rattle.stl_lexer.specs.Tokens.{text_of};
+ghost use Rattle.de_mnemonics.specs.Words.{written};
+ghost use Rattle.de_mnemonics.specs.declared.languages.Direction.TheVariants.{ToEnglish, ToGerman};
+ghost use Rattle.de_mnemonics.specs.Translation.{
+  ExcludesViolation,
+  GoesOn,
+  IsRefused,
+  IsStopped,
+  IsTotal,
+  IsTranslation,
+  IsTranslationUnique,
+  IsViolationUnique,
+  next_class,
+  role_at,
+  spot_behind,
+  translated,
+  translated_from,
+};
+
+use crate::classes::{TokenClass, class_of};
+use crate::languages::Direction;
+use crate::places::{Place, behind, role_of};
+use crate::roles::Role;
+use crate::words::{Spelling, written};
+use plc_base::{Refusal, SourceFault};
+use std::alloc::{AllocError, Global};
+use stl_lexer::{Token, lex};
+
+/// The rule of a word of the other language.
+const FOREIGN_WORD: u16 = 17;
+
+/// Where a translation stands: the byte, the place in the program, and the class of the token before.
+#[derive(Clone, Copy, Debug)]
+pub(crate) struct Spot {
+    pub(crate) from: usize,
+    pub(crate) place: Place,
+    pub(crate) before: TokenClass,
+}
+
+/// The bytes of a source from one place to another.
+fn between(source: &[u8], from: usize, to: usize) -> &[u8]
+    ensures { result.now ≡ slice_range source.now from to }
+{
+    let rest = behind_byte(source, from);
+    rest.get(..to.saturating_sub(from)).unwrap_or(rest)
+}
+
+/// The bytes of a source from a place on.
+fn behind_byte(source: &[u8], from: usize) -> &[u8]
+    ensures { result.now ≡ drop from source.now }
+{
+    source.get(from..).unwrap_or(&[])
+}
+
+/// The class of the first of these tokens.
+fn next_class(source: &[u8], tokens: &[Token]) -> TokenClass
+    ensures { result ≡ next_class source.now tokens.now }
+{
+    match tokens {
+        [next, ..] => class_of(next.kind, next.text(source)),
+        [] => TokenClass::Other,
+    }
+}
+
+/// The role of a token at a spot, with the tokens behind it.
+fn role_at(source: &[u8], spot: &Spot, token: &Token, rest: &[Token]) -> Role
+    ensures { result ≡ role_at source.now spot.now token.now rest.now }
+{
+    let word = token.text(source);
+    let class = class_of(token.kind, word);
+    role_of(
+        spot.place,
+        spot.before,
+        class,
+        word,
+        next_class(source, rest),
+    )
+}
+
+/// The spot behind it.
+fn spot_behind(source: &[u8], spot: &Spot, token: &Token, rest: &[Token]) -> Spot
+    ensures { result ≡ spot_behind source.now spot.now token.now rest.now }
+{
+    let word = token.text(source);
+    let class = class_of(token.kind, word);
+    let next = next_class(source, rest);
+    Spot {
+        from: token.end as usize,
+        place: behind(spot.place, spot.before, class, word, next),
+        before: class,
+    }
+}
+
+/// How a token at a spot is written.
+fn spelling_at<'a>(
+    direction: Direction,
+    source: &'a [u8],
+    spot: &Spot,
+    token: &Token,
+    rest: &[Token],
+) -> Option<Spelling<'a>>
+    ensures { option_map (λ s. s.front.now ++ s.rest.now) result
+        ≡ written direction (role_at source.now spot.now token.now rest.now)
+        (text_of source.now token.now) }
+{
+    written(
+        direction,
+        role_at(source, spot, token, rest),
+        token.text(source),
+    )
+}
+
+/// Writes what stands between two tokens, and the second one.
+fn append_spelling(
+    text: &mut Vec<u8>,
+    gap: &[u8],
+    spelling: &Spelling<'_>,
+) -> Result<(), AllocError>
+    ensures { OnOk result (text.new.items
+        ≡ text.old.items ++ (gap.now ++ (spelling.front.now ++ spelling.rest.now))) }
+{
+    text.extend_from_slice(gap)?;
+    text.extend_from_slice(spelling.front)?;
+    text.extend_from_slice(spelling.rest)?;
+    Ok(())
+}
+
+/// Writes what stands between a spot and a token, and the token.
+#[tactic(auto, using(crate::proofs::TranslationLemmas::goes_on, crate::proofs::TranslationLemmas::stops))]
+fn put_token(
+    text: &mut Vec<u8>,
+    direction: Direction,
+    source: &[u8],
+    spot: &Spot,
+    token: &Token,
+    rest: &[Token],
+) -> Result<Spot, SourceFault>
+    ensures ok { IfOk result (λ next. GoesOn direction source.now text.old.items spot.now
+        (token.now ∷ rest.now) text.new.items next rest.now) }
+    ensures stopped { IfErr result (IsStopped (translated_from direction source.now spot.now
+        (token.now ∷ rest.now))) }
+{
+    let Some(spelling) = spelling_at(direction, source, spot, token, rest) else {
+        return Err(SourceFault::Refused {
+            refusal: Refusal {
+                line: token.line,
+                rule: FOREIGN_WORD,
+            },
+        });
+    };
+    let gap = between(source, spot.from, token.start as usize);
+    append_spelling(text, gap, &spelling)?;
+    Ok(spot_behind(source, spot, token, rest))
+}
+
+/// The translation of a source with these tokens.
+#[tactic(auto, using(crate::proofs::TranslationLemmas::at_front, crate::proofs::TranslationLemmas::at_end))]
+fn translate_tokens(
+    alloc: Global,
+    direction: Direction,
+    source: &[u8],
+    tokens: &[Token],
+) -> Result<Vec<u8>, SourceFault>
+    ensures ok { IfOk result (λ text. translated direction source.now tokens.now ≡ Ok text.items) }
+    ensures stopped { IfErr result (IsStopped (translated direction source.now tokens.now)) }
+{
+    let mut text = Vec::new(alloc);
+    let mut spot = Spot {
+        from: 0,
+        place: Place::Outside,
+        before: TokenClass::Other,
+    };
+    let mut left = tokens;
+    while let [token, rest @ ..] = left {
+        spot = put_token(&mut text, direction, source, &spot, token, rest)?;
+        left = rest;
+    }
+    text.extend_from_slice(behind_byte(source, spot.from))?;
+    Ok(text)
+}
+
+/// The translation of a source.
+#[tactic(auto, using(crate::proofs::TranslationLemmas::is_translation, crate::proofs::TranslationLemmas::refused_by_tokens, crate::proofs::TranslationLemmas::refused_by_word))]
+fn translate(alloc: Global, direction: Direction, bytes: &[u8]) -> Result<Vec<u8>, SourceFault>
+    requires { length bytes.now ≤ source_limit }
+    ensures ok { IfOk result (λ text. IsTranslation direction bytes.now text.items) }
+    ensures refused { IfErr result (IsRefused direction bytes.now) }
+{
+    let tokens = lex(alloc, bytes)?;
+    let text = translate_tokens(alloc, direction, bytes, tokens.list.as_slice())?;
+    Ok(text)
+}
+
+/// The translation of a source with German mnemonics to English ones.
+///
+/// # Errors
+///
+/// The line and the rule of the first violation of the rules of tokens (1 to 4), and where there is
+/// none, of the first word of English mnemonics alone (rule 17); or want of memory.
+pub fn to_english(alloc: Global, bytes: &[u8]) -> Result<Vec<u8>, SourceFault>
+    requires { length bytes.now ≤ source_limit }
+    ensures ok { IfOk result (λ text. IsTranslation ToEnglish bytes.now text.items) }
+    ensures refused { IfErr result (IsRefused ToEnglish bytes.now) }
+{
+    translate(alloc, Direction::ToEnglish, bytes)
+}
+
+/// The translation of a source with English mnemonics to German ones.
+///
+/// # Errors
+///
+/// The line and the rule of the first violation of the rules of tokens (1 to 4), and where there is
+/// none, of the first word of German mnemonics alone (rule 17); or want of memory.
+pub fn to_german(alloc: Global, bytes: &[u8]) -> Result<Vec<u8>, SourceFault>
+    requires { length bytes.now ≤ source_limit }
+    ensures ok { IfOk result (λ text. IsTranslation ToGerman bytes.now text.items) }
+    ensures refused { IfErr result (IsRefused ToGerman bytes.now) }
+{
+    translate(alloc, Direction::ToGerman, bytes)
+}
+
+/// A source has one translation, or none and one violation: so each call refuses exactly the sources
+/// with a violation, with exactly that line and rule.
+pub fn law_of_translations()
+    ensures one_text { IsTranslationUnique }
+    ensures text_or_violation { ExcludesViolation }
+    ensures one_violation { IsViolationUnique }
+    ensures total { IsTotal }
+{
+    stl_lexer::law_of_tokens();
+}
